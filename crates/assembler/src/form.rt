@@ -1,0 +1,21 @@
+use bpf_words::instruction::{
+    Arithmetic, Comparison, Conversion, ConvertedBits, Extension, SignedSize, Size, Width,
+};
+
+/// The form of an instruction, which its mnemonic names: all but its registers, numbers and distance.
+#[derive(Clone, Copy, Debug, PartialEq, Eq)]
+pub enum Form {
+    Compute(Width, Arithmetic),
+    Negate(Width),
+    Extend(Extension),
+    Convert(Conversion, ConvertedBits),
+    Jump,
+    JumpLong,
+    Branch(Width, Comparison),
+    Load(Size),
+    LoadSigned(SignedSize),
+    StoreImmediate(Size),
+    StoreRegister(Size),
+    LoadWide,
+    Exit,
+}

@@ -1,0 +1,96 @@
+use crate::assembly::assemble;
+use crate::fault::{AsmError, LineFault};
+use std::process::Abort;
+use std::test::Fail;
+
+/// Assembles a source, and compares its bytes.
+fn is_assembled(rt: &(impl Abort + AllocGlobal), source: &str, bytes: &[u8]) -> Result<(), Fail> {
+    let assembled = assemble(rt.alloc(), source)?;
+    assert!(rt; assembled.as_slice() == bytes, "{source}");
+    Ok(())
+}
+
+fn is_refused(rt: &(impl Abort + AllocGlobal), source: &str, line: usize, fault: LineFault) {
+    let Err(refusal) = assemble(rt.alloc(), source) else {
+        panic!(rt; "{source}");
+    };
+    assert!(rt;
+        refusal == AsmError::OutOfMemory || refusal == AsmError::Line { line, fault },
+        "{source}"
+    );
+}
+
+#[test]
+fn programs(rt: HostRuntime) -> Result<(), Fail> {
+    is_assembled(&rt, "", &[])?;
+    is_assembled(&rt, " ; nothing \u{e9}\n\t\r\n", &[])?;
+    is_assembled(&rt, "ja end\nend:", &[5, 0, 0, 0, 0, 0, 0, 0])?;
+    is_assembled(
+        &rt,
+        "mov r0, 0xffffffff",
+        &[0xb7, 0, 0, 0, 0xff, 0xff, 0xff, 0xff],
+    )?;
+    is_assembled(
+        &rt,
+        "lddw r0, 0x8000000000000000",
+        &[0x18, 0, 0, 0, 0, 0, 0, 0, 0, 0, 0, 0, 0, 0, 0, 0x80],
+    )?;
+    is_assembled(
+        &rt,
+        "ldxw r2, [r1+24]\nmov r0, 0\njset r2, 1, yes\nexit\nyes:\nmov r0, 1\nexit\n",
+        &[
+            0x61, 0x12, 0x18, 0, 0, 0, 0, 0, 0xb7, 0, 0, 0, 0, 0, 0, 0, 0x45, 2, 1, 0, 1, 0, 0, 0,
+            0x95, 0, 0, 0, 0, 0, 0, 0, 0xb7, 0, 0, 0, 1, 0, 0, 0, 0x95, 0, 0, 0, 0, 0, 0, 0,
+        ],
+    )
+}
+
+#[test]
+fn labels_count_slots(rt: HostRuntime) -> Result<(), Fail> {
+    is_assembled(
+        &rt,
+        "back:\nlddw r1, 1\nja over\nja back\nmov:\nover: ; both are the end\n",
+        &[
+            0x18, 1, 0, 0, 1, 0, 0, 0, 0, 0, 0, 0, 0, 0, 0, 0, 5, 0, 1, 0, 0, 0, 0, 0, 5, 0, 0xfc,
+            0xff, 0, 0, 0, 0,
+        ],
+    )
+}
+
+#[test]
+fn refusals(rt: HostRuntime) {
+    is_refused(&rt, "mov r0", 1, LineFault::Syntax);
+    is_refused(&rt, "exit\nmov r11, 0", 2, LineFault::UnknownName);
+    is_refused(&rt, "mov r0, 2147483648", 1, LineFault::NumberRange);
+    is_refused(&rt, "exit\n\nja nowhere", 3, LineFault::UnknownLabel);
+    is_refused(&rt, "a:\na:\nexit", 2, LineFault::LabelTwice);
+    is_refused(&rt, "ja +32768", 1, LineFault::JumpRange);
+}
+
+#[test]
+fn two_faults(rt: HostRuntime) {
+    is_refused(&rt, "foo 1a", 1, LineFault::Syntax);
+    is_refused(&rt, "foo , , , , , , , , , , ,", 1, LineFault::UnknownName);
+    is_refused(&rt, "mov r11, +1", 1, LineFault::Syntax);
+    is_refused(
+        &rt,
+        "jeq r0, 4294967296, nowhere",
+        1,
+        LineFault::NumberRange,
+    );
+    is_refused(&rt, "ja a\na: exit", 1, LineFault::UnknownLabel);
+    is_refused(&rt, "ja nowhere\nfoo", 1, LineFault::UnknownLabel);
+}
+
+#[test]
+fn refusals_are_printed(rt: HostRuntime) -> Result<(), Fail> {
+    let refusal = AsmError::Line {
+        line: 3,
+        fault: LineFault::Syntax,
+    };
+    let printed = refusal.to_string(rt.alloc())?;
+    assert!(rt; printed.as_str() == "30 Syntax line 3");
+    let printed = AsmError::OutOfMemory.to_string(rt.alloc())?;
+    assert!(rt; printed.as_str() == "36 OutOfMemory");
+    Ok(())
+}

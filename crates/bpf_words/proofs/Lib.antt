@@ -1,0 +1,7 @@
+pub mod Bytes
+pub mod ContextFits
+pub mod Numbers
+pub mod ReadsBack
+pub mod Second
+pub mod Sound
+pub mod Stands

@@ -1,0 +1,79 @@
+ghost use Rattle.std.specs.Prelude.{◌≡◌, ℕ, ◌≤◌, List, length};
+
+use byteorder::{ByteOrder, LittleEndian};
+use std::marker::Model;
+
+/// The address at which the context begins.
+pub const CONTEXT: u64 = 0x1_0000_0000;
+
+/// The address at which the stack ends.
+pub const FRAME: u64 = 0x2_0000_0000;
+
+/// The address at which the text begins.
+pub const TEXT: u64 = 0x4_0000_0000;
+
+/// What a program may learn of a span beside its text.
+#[derive(Clone, Copy, Debug, PartialEq, Eq)]
+pub struct Facts {
+    /// In bytes.
+    pub text_len: u32,
+    pub characters: u32,
+    /// The sum of 1 for strong, 2 for em, 4 for a link, 8 for a color, 16 for at least one comment.
+    pub flags: u32,
+    /// 0 where there is none.
+    pub color: u32,
+    /// In bytes, 0 where there is no link.
+    pub link_len: u32,
+    pub comments: u32,
+    /// The span's place among those of its version, from 0.
+    pub index: u32,
+    /// How many spans the version has.
+    pub count: u32,
+    pub version: u64,
+}
+
+/// The 56 bytes that a program reads of a span.
+#[derive(Drop)]
+pub struct Context {
+    bytes: [u8; 56],
+}
+
+impl Model for Context {
+    ghost Value = { List ℕ };
+
+    ghost view = { λ c. c.bytes };
+}
+
+impl Context {
+    ghost use Rattle.bpf_words.specs.Context.{context_bytes, Fits};
+
+    /// The context of a span with those facts; it fits each text of that length.
+    #[tactic(auto, using(crate::proofs::ContextFits::fitting))]
+    pub fn new(facts: &Facts) -> Self
+        requires { facts.now.text_len ≤ 131072 }
+        ensures value { result ≡ context_bytes facts.now }
+        ensures fits { (text : List ℕ) → length text ≡ facts.now.text_len → Fits result text }
+    {
+        let mut bytes = [0; 56];
+        LittleEndian::write_u64(&mut bytes[0..8], TEXT);
+        LittleEndian::write_u64(&mut bytes[8..16], TEXT + u64::from(facts.text_len));
+        LittleEndian::write_u32(&mut bytes[16..20], facts.text_len);
+        LittleEndian::write_u32(&mut bytes[20..24], facts.characters);
+        LittleEndian::write_u32(&mut bytes[24..28], facts.flags);
+        LittleEndian::write_u32(&mut bytes[28..32], facts.color);
+        LittleEndian::write_u32(&mut bytes[32..36], facts.link_len);
+        LittleEndian::write_u32(&mut bytes[36..40], facts.comments);
+        LittleEndian::write_u32(&mut bytes[40..44], facts.index);
+        LittleEndian::write_u32(&mut bytes[44..48], facts.count);
+        LittleEndian::write_u64(&mut bytes[48..56], facts.version);
+        Context { bytes }
+    }
+
+    /// The bytes, each number's lowest first.
+    pub fn bytes(&self) -> &[u8]
+        ensures value { result.now ≡ self.now }
+        ensures long { length result.now ≡ 56 }
+    {
+        &self.bytes
+    }
+}

@@ -1,0 +1,12 @@
+pub mod Digits
+pub mod Limits
+pub mod Judging
+pub mod Splitting
+pub mod Loop
+pub mod Numerals
+pub mod Grammar
+pub mod Phrases
+pub mod Keys
+pub mod LineLaws
+pub mod ChangeLaws
+pub mod Appending

@@ -1,0 +1,47 @@
+-- Operations: their ids, keys, and the characters that they name (Peritext, CSCW 2022).
+use Rattle.std.specs.Prelude.{◌≡◌, Some, ◌⊎◌, Bool, true, false}
+use Rattle.change_ops.specs.declared.id.OpId.{OpId}
+use Rattle.change_ops.specs.declared.attribute.Key.{Key}
+use Rattle.change_ops.specs.declared.attribute.Key.TheVariants as key
+use Rattle.change_ops.specs.declared.attribute.Attribute.{Attribute}
+use Rattle.change_ops.specs.declared.attribute.Attribute.TheVariants as attribute
+use Rattle.change_ops.specs.declared.operation.Anchor.{Anchor}
+use Rattle.change_ops.specs.declared.operation.Anchor.TheVariants.{TextStart, BeforeCharacter, AfterCharacter, TextEnd}
+use Rattle.change_ops.specs.declared.operation.Op.{Op}
+use Rattle.change_ops.specs.declared.operation.Op.TheVariants.{Insert, Remove, AddMark, RemoveMark}
+
+abbrev pub key_of : Attribute → Key
+key_of attribute.Strong = key.Strong
+key_of attribute.Em = key.Em
+key_of (attribute.Link target) = key.Link
+key_of (attribute.Color rgb) = key.Color
+key_of (attribute.Comment number) = key.Comment number
+
+abbrev pub id_of : Op → OpId
+id_of (Insert id parent character) = id
+id_of (Remove id target) = id
+id_of (AddMark id attribute start end) = id
+id_of (RemoveMark id key start end) = id
+
+abbrev pub AnchorNames : Anchor → OpId → Type 0
+AnchorNames TextStart x = ⊥
+AnchorNames (BeforeCharacter y) x = y ≡ x
+AnchorNames (AfterCharacter y) x = y ≡ x
+AnchorNames TextEnd x = ⊥
+
+-- the operation names the character
+abbrev pub Names : Op → OpId → Type 0
+Names (Insert id parent character) x = parent ≡ Some x
+Names (Remove id target) x = target ≡ x
+Names (AddMark id attribute start end) x = AnchorNames start x ⊎ AnchorNames end x
+Names (RemoveMark id key start end) x = AnchorNames start x ⊎ AnchorNames end x
+
+abbrev pub is_insert : Op → Bool
+is_insert (Insert id parent character) = true
+is_insert (Remove id target) = false
+is_insert (AddMark id attribute start end) = false
+is_insert (RemoveMark id key start end) = false
+
+-- an operation that stands for none
+abbrev pub blank : Op
+blank = let least : OpId = record { counter = 1; node = 1 } in Remove least least

@@ -1,0 +1,92 @@
+-- The text of a change, a form of this project's own: how each of its parts is spelled.
+use Rattle.std.specs.Prelude.{◌≡◌, ℕ, zero, suc, ◌/◌, ◌%◌, false, List, [], ◌∷◌, ◌++◌, length, Option, Some, None, Result, Ok, Err, codes}
+use Rattle.std.specs.Fmt.{decimal, digits, digit_glyph}
+use Rattle.change_ops.specs.Ids.{Id}
+use Rattle.change_ops.specs.Changes.{Edit, IsChange}
+use Rattle.change_ops.specs.declared.attribute.Key.{Key}
+use Rattle.change_ops.specs.declared.attribute.Key.TheVariants as key
+use Rattle.change_ops.specs.declared.attribute.Attribute.{Attribute}
+use Rattle.change_ops.specs.declared.attribute.Attribute.TheVariants as attribute
+use Rattle.change_ops.specs.declared.operation.Anchor.{Anchor}
+use Rattle.change_ops.specs.declared.operation.Anchor.TheVariants.{TextStart, BeforeCharacter, AfterCharacter, TextEnd}
+use Rattle.change_ops.specs.declared.operation.Op.{Op}
+use Rattle.change_ops.specs.declared.operation.Op.TheVariants.{Insert, Remove, AddMark, RemoveMark}
+use Rattle.change_ops.specs.declared.refusal.ChangeError.{ChangeError}
+use Rattle.change_ops.specs.declared.refusal.ChangeError.TheVariants.{BadLine, Truncated, Limit, CharRefused, WrongPeer, OutOfMemory}
+
+-- a word, a space, and what follows
+infixr 5 ◌␣◌
+abbrev pub ◌␣◌ : List ℕ → List ℕ → List ℕ
+word ␣ fields = word ++ 32 ∷ fields
+
+-- lower case, without leading zeros
+abbrev pub hexadecimal : ℕ → List ℕ
+hexadecimal n = digits 16 false n
+
+-- the last so many hexadecimal digits, leading zeros too
+unfoldable pub last_digits : ℕ → ℕ → List ℕ
+last_digits zero n = []
+last_digits (suc count) n = last_digits count (n / 16) ++ digit_glyph false (n % 16) ∷ []
+
+abbrev pub id_text : Id → List ℕ
+id_text id = decimal id.counter ++ 64 ∷ decimal id.node
+
+abbrev pub place_text : Option Id → List ℕ
+place_text None = codes "-"
+place_text (Some id) = id_text id
+
+abbrev pub anchor_text : Anchor → List ℕ
+anchor_text TextStart = codes "^"
+anchor_text (BeforeCharacter id) = 60 ∷ id_text id
+anchor_text (AfterCharacter id) = 62 ∷ id_text id
+anchor_text TextEnd = codes "$"
+
+abbrev pub key_text : Key → List ℕ
+key_text key.Strong = codes "strong"
+key_text key.Em = codes "em"
+key_text key.Link = codes "link"
+key_text key.Color = codes "color"
+key_text (key.Comment number) = codes "comment" ++ 58 ∷ decimal number
+
+-- a key, and its value
+abbrev pub attribute_text : Attribute → List ℕ
+attribute_text attribute.Strong = codes "strong" ␣ codes "-"
+attribute_text attribute.Em = codes "em" ␣ codes "-"
+attribute_text (attribute.Link target) = codes "link" ␣ target
+attribute_text (attribute.Color rgb) = codes "color" ␣ last_digits 6 rgb
+attribute_text (attribute.Comment number) = (codes "comment" ++ 58 ∷ decimal number) ␣ codes "-"
+
+-- an operation's line, without its LF
+abbrev pub op_text : Op → List ℕ
+op_text (Insert id parent character) = codes "i" ␣ id_text id ␣ place_text parent ␣ hexadecimal character
+op_text (Remove id target) = codes "d" ␣ id_text id ␣ id_text target
+op_text (AddMark id attribute start end) = codes "m" ␣ id_text id ␣ attribute_text attribute ␣ anchor_text start ␣ anchor_text end
+op_text (RemoveMark id key start end) = codes "u" ␣ id_text id ␣ key_text key ␣ anchor_text start ␣ anchor_text end
+
+unfoldable pub lines_text : List Op → List ℕ
+lines_text [] = []
+lines_text (op ∷ ops) = op_text op ++ 10 ∷ lines_text ops
+
+abbrev pub header_text : Edit → List ℕ
+header_text change = codes "change" ␣ decimal change.node ␣ decimal (length change.operations)
+
+unfoldable pub change_text : Edit → List ℕ
+change_text change = header_text change ++ 10 ∷ lines_text change.operations
+
+-- The front of a text spells the change, and the rest follows it.
+abbrev pub Spells : List ℕ → Edit → List ℕ → Type 0
+Spells text change rest = IsChange change × (text ≡ change_text change ++ rest)
+
+-- What was answered is the change and the rest, unless memory ran out.
+abbrev pub Answers : {X : Type 0} → Result X ChangeError → (X → Edit × List ℕ) → Edit × List ℕ → Type 0
+Answers (Ok x) view wanted = view x ≡ wanted
+Answers (Err OutOfMemory) view wanted = Unit {0}
+Answers (Err (BadLine n)) view wanted = ⊥
+Answers (Err Truncated) view wanted = ⊥
+Answers (Err (Limit n)) view wanted = ⊥
+Answers (Err (CharRefused n)) view wanted = ⊥
+Answers (Err (WrongPeer n)) view wanted = ⊥
+
+-- Texts of changes can stand one behind the other: none is another's beginning.
+abbrev pub NoneBeginsAnother : Type 0
+NoneBeginsAnother = (a b : Edit) (x y : List ℕ) → IsChange a → IsChange b → change_text a ++ x ≡ change_text b ++ y → (a ≡ b) × (x ≡ y)

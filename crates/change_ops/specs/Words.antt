@@ -1,0 +1,38 @@
+-- Words of a line, and the numbers that they spell.
+use Rattle.std.specs.Prelude.{ℕ, ◌+◌, ◌*◌, ◌-◌, ◌^◌, nat_lt, ◌==◌, min, if◌then◌else◌, Bool, true, false, List, [], ◌∷◌, length, Option, Some, None}
+use Rattle.std.specs.List.{position_or_len, before_first, after_first}
+use Rattle.std.specs.Borrow.{Bor}
+
+-- what stands before the first of a byte, and what stands after it
+unfoldable pub split : ℕ → List ℕ → Option (List ℕ × List ℕ)
+split mark bytes =
+    if nat_lt (position_or_len (λ b. b == mark) bytes) (length bytes)
+    then Some (before_first (λ b. b == mark) bytes, after_first (λ b. b == mark) bytes) else None
+
+-- two texts that a call lends, as bytes
+abbrev pub seen : Option (Bor (List ℕ) × Bor (List ℕ)) → Option (List ℕ × List ℕ)
+seen None = None
+seen (Some x) = Some (x.0.now, x.1.now)
+
+-- the value of a digit, 0 to 9 and a to f; 255 for what is none
+abbrev pub digit_of : ℕ → ℕ
+digit_of b = if nat_lt b 48 then 255 else if nat_lt b 58 then b - 48 else if nat_lt b 97 then 255 else if nat_lt b 103 then b - 87 else 255
+
+-- the number that digits spell behind those of n
+unfoldable pub digits_after : ℕ → ℕ → List ℕ → Option ℕ
+digits_after base n [] = Some n
+digits_after base n (b ∷ bs) = if nat_lt (digit_of b) base then digits_after base (n * base + digit_of b) bs else None
+
+-- no digit at all, or a zero before another digit
+abbrev pub is_no_front : List ℕ → Bool
+is_no_front [] = true
+is_no_front (b ∷ []) = false
+is_no_front (b ∷ c ∷ bs) = b == 48
+
+-- the number that a whole word spells, of any count of digits
+unfoldable pub number_in : ℕ → List ℕ → Option ℕ
+number_in base word = if is_no_front word then None else digits_after base 0 word
+
+-- a number, or the greatest of 64 bits where it is greater
+abbrev pub saturated : ℕ → ℕ
+saturated n = min n (2 ^ 64 - 1)

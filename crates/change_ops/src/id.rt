@@ -1,0 +1,74 @@
+ghost use Rattle.std.specs.Prelude.{◌≡◌, ◌↔◌, IsTrue};
+ghost use Rattle.change_ops.specs.Ids.{Id, IsId, Less, within_limits, checked};
+
+use std::marker::Model;
+
+/// The name of an operation: a counter, 1 to 2^48 - 1, and the node of its peer, 1 to 65,535.
+/// Ids are ordered by counter, then by node (Peritext, CSCW 2022: operation ids as Lamport timestamps).
+#[derive(Clone, Copy, Debug, PartialEq, Eq, PartialOrd, Ord, Hash)]
+pub struct OpId {
+    counter: u64,
+    node: u16,
+}
+
+impl Model for OpId {
+    ghost use Rattle.change_ops.specs.Ids.{Id, IsId};
+
+    ghost Value = { Id };
+
+    ghost view = { λ i. record { counter = i.counter; node = i.node } };
+
+    ghost invariant = { λ i. IsId i.counter i.node };
+
+    ghost inverse = { λ i. record { counter = i.counter; node = i.node } };
+}
+
+impl OpId {
+    /// The least id.
+    pub fn least() -> Self
+        ensures { result ≡ record { counter = 1; node = 1 } }
+    {
+        OpId {
+            counter: 1,
+            node: 1,
+        }
+    }
+
+    /// The id of these numbers, if they are within the limits.
+    pub fn new(counter: u64, node: u64) -> Option<Self>
+        ensures { result ≡ checked within_limits (record { counter = counter; node = node }) }
+    {
+        if counter >= 1 && counter < 1 << 48 && node >= 1 && node <= 65535 {
+            Some(OpId {
+                counter,
+                node: node as u16,
+            })
+        } else {
+            None
+        }
+    }
+
+    /// The node of the peer that made the operation.
+    pub fn node(self) -> u16
+        ensures value { result ≡ self.node }
+        ensures limits { IsId self.counter self.node }
+    {
+        self.node
+    }
+
+    /// The counter.
+    pub fn counter(self) -> u64
+        ensures value { result ≡ self.counter }
+        ensures limits { IsId self.counter self.node }
+    {
+        self.counter
+    }
+
+    /// Whether this id is the lesser: by counter, then by node.
+    #[tactic(auto, unfolding(crate::specs::Ids::Less))]
+    pub fn is_below(self, other: OpId) -> bool
+        ensures { IsTrue result ↔ Less self other }
+    {
+        self < other
+    }
+}

@@ -1,0 +1,15 @@
+//! Operations on a shared rich text, and their text.
+#![tactic(auto)]
+
+pub mod attribute;
+pub mod change;
+pub mod character;
+mod fields;
+pub mod id;
+mod lines;
+mod numbers;
+pub mod operation;
+pub mod refusal;
+#[cfg(test)]
+mod tests;
+pub mod writing;

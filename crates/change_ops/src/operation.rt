@@ -1,0 +1,132 @@
+ghost use Rattle.std.specs.Prelude.{◌≡◌, ◌⊎◌, ◌↔◌, Some};
+
+use crate::attribute::{Attribute, Key};
+use crate::character::Character;
+use crate::id::OpId;
+use std::alloc::Global;
+use std::default::MadeWith;
+
+/// A place beside a character, or an end of the text (Peritext, CSCW 2022).
+#[derive(Clone, Copy, Debug, PartialEq, Eq)]
+pub enum Anchor {
+    TextStart,
+    BeforeCharacter(OpId),
+    AfterCharacter(OpId),
+    TextEnd,
+}
+
+/// One operation (Peritext, CSCW 2022).
+#[derive(Clone, Debug, Drop, PartialEq, Eq)]
+pub enum Op {
+    /// A character after its parent, or at the start.
+    Insert {
+        id: OpId,
+        parent: Option<OpId>,
+        character: Character,
+    },
+    /// A character is removed, and stays as a tombstone.
+    Remove {
+        id: OpId,
+        target: OpId,
+    },
+    /// A mark between two anchors.
+    AddMark {
+        id: OpId,
+        attribute: Attribute,
+        start: Anchor,
+        end: Anchor,
+    },
+    /// The removal of a key between two anchors.
+    RemoveMark {
+        id: OpId,
+        key: Key,
+        start: Anchor,
+        end: Anchor,
+    },
+}
+
+/// The at most two characters that an operation names.
+#[derive(Clone, Copy, Debug, PartialEq, Eq)]
+pub struct Named {
+    pub first: Option<OpId>,
+    pub second: Option<OpId>,
+}
+
+impl Anchor {
+    ghost use Rattle.change_ops.specs.Operations.{AnchorNames};
+
+    /// The character that the anchor is beside.
+    pub fn character(self) -> Option<OpId>
+        ensures { (x : OpId) → AnchorNames self x ↔ result ≡ Some x }
+    {
+        match self {
+            Anchor::TextStart => None,
+            Anchor::BeforeCharacter(id) => Some(id),
+            Anchor::AfterCharacter(id) => Some(id),
+            Anchor::TextEnd => None,
+        }
+    }
+}
+
+/// The blank that stands in the unused places of a list of operations.
+impl MadeWith<Global> for Op {
+    ghost use Rattle.change_ops.specs.Operations.{blank};
+
+    ghost is_made_with = { λ op. op ≡ blank };
+
+    fn made_with(_alloc: Global) -> Self {
+        Op::Remove {
+            id: OpId::least(),
+            target: OpId::least(),
+        }
+    }
+}
+
+impl Op {
+    ghost use Rattle.change_ops.specs.Operations.{id_of, is_insert, Names};
+
+    /// The operation's own id.
+    pub fn id(&self) -> OpId
+        ensures { result ≡ id_of self.now }
+    {
+        match self {
+            Op::Insert { id, .. } => *id,
+            Op::Remove { id, .. } => *id,
+            Op::AddMark { id, .. } => *id,
+            Op::RemoveMark { id, .. } => *id,
+        }
+    }
+
+    /// Whether the operation inserts a character.
+    pub fn is_insert(&self) -> bool
+        ensures { result ≡ is_insert self.now }
+    {
+        matches!(self, Op::Insert { .. })
+    }
+
+    /// The characters that the operation names: a parent, a removed character, those beside its anchors.
+    pub fn named(&self) -> Named
+        ensures names { (x : OpId) → Names self.now x → (result.first ≡ Some x) ⊎ (result.second ≡ Some x) }
+        ensures first { (x : OpId) → result.first ≡ Some x → Names self.now x }
+        ensures second { (x : OpId) → result.second ≡ Some x → Names self.now x }
+    {
+        match self {
+            Op::Insert { parent, .. } => Named {
+                first: *parent,
+                second: None,
+            },
+            Op::Remove { target, .. } => Named {
+                first: Some(*target),
+                second: None,
+            },
+            Op::AddMark { start, end, .. } => Named {
+                first: start.character(),
+                second: end.character(),
+            },
+            Op::RemoveMark { start, end, .. } => Named {
+                first: start.character(),
+                second: end.character(),
+            },
+        }
+    }
+}

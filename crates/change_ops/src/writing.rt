@@ -1,0 +1,164 @@
+//! Writing the text of a change.
+ghost use Rattle.std.specs.Prelude.{◌≡◌, ◌++◌, ◌∷◌, OnOk, OnErr};
+ghost use Rattle.std.specs.String.{string_bytes};
+ghost use Rattle.change_ops.specs.Changes.{IsChange};
+ghost use Rattle.change_ops.specs.Spelling.{◌␣◌, id_text, place_text, anchor_text, key_text, attribute_text, op_text, lines_text, header_text, change_text};
+
+use crate::attribute::{Attribute, Key};
+use crate::change::Change;
+use crate::id::OpId;
+use crate::operation::{Anchor, Op};
+use std::alloc::AllocError;
+use std::fmt::Write;
+
+fn write_id(id: OpId, out: &mut String) -> Result<(), AllocError>
+    ensures { OnOk result (string_bytes out.new ≡ string_bytes out.old ++ id_text id) }
+{
+    write!(out, "{}@{}", id.counter(), id.node())
+}
+
+fn write_place(place: Option<OpId>, out: &mut String) -> Result<(), AllocError>
+    ensures { OnOk result (string_bytes out.new ≡ string_bytes out.old ++ place_text place) }
+{
+    match place {
+        None => out.push('-'),
+        Some(id) => write_id(id, out),
+    }
+}
+
+fn write_anchor(anchor: Anchor, out: &mut String) -> Result<(), AllocError>
+    ensures { OnOk result (string_bytes out.new ≡ string_bytes out.old ++ anchor_text anchor) }
+{
+    match anchor {
+        Anchor::TextStart => out.push('^'),
+        Anchor::BeforeCharacter(id) => {
+            out.push('<')?;
+            write_id(id, out)
+        }
+        Anchor::AfterCharacter(id) => {
+            out.push('>')?;
+            write_id(id, out)
+        }
+        Anchor::TextEnd => out.push('$'),
+    }
+}
+
+fn write_key(key: Key, out: &mut String) -> Result<(), AllocError>
+    ensures { OnOk result (string_bytes out.new ≡ string_bytes out.old ++ key_text key) }
+{
+    match key {
+        Key::Strong => out.push_str("strong"),
+        Key::Em => out.push_str("em"),
+        Key::Link => out.push_str("link"),
+        Key::Color => out.push_str("color"),
+        Key::Comment(number) => write!(out, "comment:{}", number.number()),
+    }
+}
+
+#[tactic(auto, using(crate::proofs::Numerals::six_written))]
+fn write_attribute(attribute: &Attribute, out: &mut String) -> Result<(), AllocError>
+    ensures { OnOk result (string_bytes out.new ≡ string_bytes out.old ++ attribute_text attribute.now) }
+{
+    match attribute {
+        Attribute::Strong => out.push_str("strong -"),
+        Attribute::Em => out.push_str("em -"),
+        Attribute::Link(link) => write!(out, "link {}", link.target()),
+        Attribute::Color(color) => write!(out, "color {:06x}", color.rgb()),
+        Attribute::Comment(number) => write!(out, "comment:{} -", number.number()),
+    }
+}
+
+fn write_anchors(start: Anchor, end: Anchor, out: &mut String) -> Result<(), AllocError>
+    ensures { OnOk result (string_bytes out.new ≡ string_bytes out.old ++ (anchor_text start ␣ anchor_text end)) }
+{
+    write_anchor(start, out)?;
+    out.push(' ')?;
+    write_anchor(end, out)
+}
+
+fn write_op(op: &Op, out: &mut String) -> Result<(), AllocError>
+    ensures { OnOk result (string_bytes out.new ≡ string_bytes out.old ++ op_text op.now) }
+{
+    match op {
+        Op::Insert {
+            id,
+            parent,
+            character,
+        } => {
+            out.push_str("i ")?;
+            write_id(*id, out)?;
+            out.push(' ')?;
+            write_place(*parent, out)?;
+            write!(out, " {:x}", character.value() as u32)
+        }
+        Op::Remove { id, target } => {
+            out.push_str("d ")?;
+            write_id(*id, out)?;
+            out.push(' ')?;
+            write_id(*target, out)
+        }
+        Op::AddMark {
+            id,
+            attribute,
+            start,
+            end,
+        } => {
+            out.push_str("m ")?;
+            write_id(*id, out)?;
+            out.push(' ')?;
+            write_attribute(attribute, out)?;
+            out.push(' ')?;
+            write_anchors(*start, *end, out)
+        }
+        Op::RemoveMark {
+            id,
+            key,
+            start,
+            end,
+        } => {
+            out.push_str("u ")?;
+            write_id(*id, out)?;
+            out.push(' ')?;
+            write_key(*key, out)?;
+            out.push(' ')?;
+            write_anchors(*start, *end, out)
+        }
+    }
+}
+
+#[tactic(auto, using(crate::proofs::Appending::line_more, crate::proofs::Appending::lines_done))]
+fn write_lines(operations: &[Op], out: &mut String) -> Result<(), AllocError>
+    ensures { OnOk result (string_bytes out.new ≡ string_bytes out.old ++ lines_text operations.now) }
+{
+    for op in operations {
+        write_op(op, out)?;
+        out.push('\n')?;
+    }
+    Ok(())
+}
+
+#[tactic(auto, unfolding(crate::specs::Spelling::change_text))]
+fn write_text(change: &Change, out: &mut String) -> Result<(), AllocError>
+    ensures text { OnOk result (string_bytes out.new ≡ string_bytes out.old ++ change_text change.now) }
+    ensures limits { IsChange change.now }
+{
+    write!(
+        out,
+        "change {} {}\n",
+        change.node(),
+        change.operations().len()
+    )?;
+    write_lines(change.operations(), out)
+}
+
+/// Appends the text of a change, the one that reads as it; the string stays as it was where there is
+/// no memory.
+pub fn write_change(change: &Change, out: &mut String) -> Result<(), AllocError>
+    ensures ok { OnOk result (string_bytes out.new ≡ string_bytes out.old ++ change_text change.now) }
+    ensures err { OnErr result (string_bytes out.new ≡ string_bytes out.old) }
+    ensures limits { IsChange change.now }
+{
+    let mut text = String::new(*out.allocator());
+    write_text(change, &mut text)?;
+    out.push_str(&text)
+}

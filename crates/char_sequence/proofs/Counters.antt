@@ -1,0 +1,93 @@
+-- What a map of last counters says of the operations.
+use Rattle.std.proofs.Common.{◌≡◌, ℕ, ◌<◌, ◌≤◌, true, false, cond, List, [], ◌∷◌, ◌++◌, Some, None, sym, ap, refl, ◌∙◌, arith, ⊎_elim}
+use Rattle.std.specs.Prelude.{nat_eq}
+use Rattle.std.specs.List.{Contains}
+use Rattle.std.specs.Map.{lookup}
+use Rattle.std.specs.Ordering.{nat_cmp}
+use Rattle.std.specs.Cmp.{nat_cmp_total, unsigned_tied}
+use Rattle.std.specs.FinMap.{FinMap, get, from_entries, find, get-from_entries}
+use Rattle.std.proofs.lemmas.Option.{same_Some, none-some}
+use Rattle.std.proofs.lemmas.Bool.{cases_eq, cases_lt, eqb-true}
+use Rattle.std.proofs.lemmas.List.Elements.{Contains-append_left, Contains-push, Contains-push_cases}
+use Rattle.change_ops.specs.Operations.{id_of}
+use Rattle.change_ops.specs.declared.id.OpId.{OpId}
+use Rattle.change_ops.specs.declared.operation.Op.{Op}
+use Rattle.char_sequence.specs.Acceptance.{Used}
+use Rattle.char_sequence.specs.Newest.{IsNewest}
+
+find_lookup : (es : List (ℕ × ℕ)) (q : ℕ) → find nat_cmp q es ≡ lookup (nat_eq q) es
+find_lookup [] q = refl
+find_lookup (e ∷ es) q =
+    ap (λ b. cond b (Some e.1) (find nat_cmp q es)) (unsigned_tied q e.0) ∙ ap (cond (nat_eq q e.0) (Some e.1)) (find_lookup es q)
+
+-- the map of the entries answers as a look-up in them
+pub get_lookup : (es : List (ℕ × ℕ)) (m : FinMap nat_cmp ℕ) → from_entries es ≡ m → (q : ℕ) → get m q ≡ lookup (nat_eq q) es
+get_lookup es m e q = ap (λ n. get n q) (sym e) ∙ get-from_entries nat_cmp_total es q ∙ find_lookup es q
+
+pub newest_none : (m : FinMap nat_cmp ℕ) → ((q : ℕ) → get m q ≡ None) → IsNewest [] m
+newest_none m none = record {
+  covered = λ o h. absurd (let less : h.0 < 0 = h.1 in omega arith);
+  reached = λ node last e. absurd (none-some last (sym (none node) ∙ e));
+}
+
+pub used_from : (ops : List Op) (m : FinMap nat_cmp ℕ) → IsNewest ops m → (id : OpId) (last : ℕ) → get m id.node ≡ Some last → id.counter ≤ last → Used ops id
+used_from ops m n id last e h =
+    let r = n.reached id.node last e in
+    let same : (id_of r.0).counter ≡ last = r.3 in
+    (r.0, r.1, r.2, omega arith)
+
+pub used_to : (ops : List Op) (m : FinMap nat_cmp ℕ) → IsNewest ops m → (id : OpId) (last : ℕ) → get m id.node ≡ Some last → Used ops id → id.counter ≤ last
+used_to ops m n id last e u =
+    let r = n.covered u.0 u.1 in
+    let same : last ≡ r.0 = same_Some last r.0 (sym e ∙ ap (get m) (sym u.2) ∙ r.1) in
+    let upper : (id_of u.0).counter ≤ r.0 = r.2 in
+    let lower : id.counter ≤ (id_of u.0).counter = u.3 in
+    omega arith
+
+pub used_none : (ops : List Op) (m : FinMap nat_cmp ℕ) → IsNewest ops m → (id : OpId) → get m id.node ≡ None → Used ops id → ⊥
+used_none ops m n id e u =
+    let r = n.covered u.0 u.1 in
+    none-some r.0 (sym e ∙ ap (get m) (sym u.2) ∙ r.1)
+
+-- one more operation, whose id takes the place of its peer's last one
+pub newest_noted : (ops : List Op) (op : Op) (id : OpId) (m n : FinMap nat_cmp ℕ) → id_of op ≡ id → (Used ops id → ⊥) → IsNewest ops m → get n id.node ≡ Some id.counter → ((q : ℕ) → (q ≡ id.node → ⊥) → get n q ≡ get m q) → IsNewest (ops ++ op ∷ []) n
+newest_noted ops op id m n is fresh ok here other = record {
+  covered =
+      λ o h.
+      ⊎_elim
+      (λ (old : Contains ops o).
+      let r = ok.covered o old in
+      ⊎_elim
+      (λ (same : (id_of o).node ≡ id.node).
+      let less : (id_of o).counter ≤ id.counter =
+      ⊎_elim
+      (λ (l : (id_of o).counter < id.counter). omega arith)
+      (λ (g : id.counter ≤ (id_of o).counter). absurd (fresh (o, old, same, g)))
+      (cases_lt (id_of o).counter id.counter)
+      in
+      (id.counter, ap (get n) same ∙ here, less))
+      (λ (apart : (id_of o).node ≡ id.node → ⊥). (r.0, other (id_of o).node apart ∙ r.1, r.2))
+      (cases_eq (id_of o).node id.node))
+      (λ (new : op ≡ o).
+      let e : id_of o ≡ id = sym (ap id_of new) ∙ is in
+      let same = ap (λ z. z.counter) e in
+      (id.counter, ap (λ z. get n z.node) e ∙ here, omega (arith, same)))
+      (Contains-push_cases ops op o h);
+  reached =
+      λ node last e.
+      ⊎_elim
+      (λ (same : node ≡ id.node).
+      let counter : id.counter ≡ last = same_Some id.counter last (sym here ∙ ap (get n) (sym same) ∙ e) in
+      (op, Contains-push ops op, ap (λ z. z.node) is ∙ sym same, ap (λ z. z.counter) is ∙ counter))
+      (λ (apart : node ≡ id.node → ⊥).
+      let r = ok.reached node last (sym (other node apart) ∙ e) in
+      (r.0, Contains-append_left ops (op ∷ []) r.0 r.1, r.2, r.3))
+      (cases_eq node id.node);
+}
+
+pub apart_nodes : (k node q : ℕ) → k ≡ node → (q ≡ node → ⊥) → nat_eq k q ≡ false
+apart_nodes k node q e apart =
+    elim (nat_eq k q) as (λ b. nat_eq k q ≡ b → b ≡ false) [
+      | true ↦ λ t. absurd (apart (sym (eqb-true k q t) ∙ e))
+      | false ↦ λ t. refl
+    ] refl

@@ -1,0 +1,61 @@
+-- Ids are equal by their numbers, and are in a strict total order.
+use Rattle.std.proofs.Common.{◌≡◌, ℕ, ◌<◌, ◌≤◌, Bool, true, false, inl, inr, ◌⊎◌, sym, ap, refl, ◌∙◌, arith, ⊎_elim, ◌&&◌}
+use Rattle.std.specs.Prelude.{nat_eq}
+use Rattle.std.proofs.lemmas.Bool.{cases_lt, false≢true, eqb-true, eq-eqb}
+use Rattle.change_ops.specs.Ids.{Less}
+use Rattle.change_ops.specs.declared.id.OpId.{OpId}
+use Rattle.char_sequence.specs.Index.{same_id}
+
+pub same_ids : (a b : OpId) → a.counter ≡ b.counter → a.node ≡ b.node → a ≡ b
+same_ids a b e f =
+    let mk : ℕ → ℕ → OpId = λ c n. record { counter = c; node = n } in
+    ap (λ c. mk c a.node) e ∙ ap (λ n. mk b.counter n) f
+
+both : (x y : Bool) → (x && y) ≡ true → (x ≡ true) × (y ≡ true)
+both true y e = (refl, e)
+both false y e = absurd (false≢true e)
+
+same_id_yes : (a b : OpId) → same_id a b ≡ true → a ≡ b
+same_id_yes a b e =
+    let r = both (nat_eq a.counter b.counter) (nat_eq a.node b.node) e in
+    same_ids a b (eqb-true a.counter b.counter r.0) (eqb-true a.node b.node r.1)
+
+pub same_id_self : (a : OpId) → same_id a a ≡ true
+same_id_self a = ap (λ b. b && nat_eq a.node a.node) (eq-eqb a.counter a.counter refl) ∙ eq-eqb a.node a.node refl
+
+pub same_id_cases : (a b : OpId) → (a ≡ b) ⊎ (same_id a b ≡ false)
+same_id_cases a b =
+    elim (same_id a b) as (λ t. same_id a b ≡ t → (a ≡ b) ⊎ (same_id a b ≡ false)) [ true ↦ λ e. inl (same_id_yes a b e) | false ↦ λ e. inr e ] refl
+
+pub less_irrefl : (a : OpId) → Less a a → ⊥
+unfolding Less
+less_irrefl a h = grind arith
+
+pub less_trans : (a b c : OpId) → Less a b → Less b c → Less a c
+unfolding Less
+less_trans a b c h k = grind arith
+
+pub less_cases : (a b : OpId) → Less a b ⊎ ((a ≡ b) ⊎ Less b a)
+unfolding Less
+less_cases a b =
+    ⊎_elim
+    (λ (h : a.counter < b.counter). inl (inl h))
+    (λ (h : b.counter ≤ a.counter).
+    ⊎_elim
+    (λ (k : b.counter < a.counter). inr (inr (inl k)))
+    (λ (k : a.counter ≤ b.counter).
+    let e : a.counter ≡ b.counter = omega arith in
+    ⊎_elim
+    (λ (l : a.node < b.node). inl (inr (e, l)))
+    (λ (l : b.node ≤ a.node).
+    ⊎_elim
+    (λ (m : b.node < a.node). inr (inr (inr (sym e, m))))
+    (λ (m : a.node ≤ b.node). inr (inl (same_ids a b e (omega arith))))
+    (cases_lt b.node a.node))
+    (cases_lt a.node b.node))
+    (cases_lt b.counter a.counter))
+    (cases_lt a.counter b.counter)
+
+pub less_by_counter : (a b : OpId) → a.counter < b.counter → Less a b
+unfolding Less
+less_by_counter a b h = inl h

@@ -1,0 +1,10 @@
+pub mod Ids
+pub mod TreeLaws
+pub mod Lists
+pub mod Counters
+pub mod Indexing
+pub mod Inserting
+pub mod Holding
+pub mod Steps
+pub mod OneOrder
+pub mod Parts

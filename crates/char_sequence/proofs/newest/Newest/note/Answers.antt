@@ -1,0 +1,14 @@
+use Rattle.std.proofs.Common.{Some, refl, sym, ap, ◌∙◌}
+use Rattle.std.specs.Prelude.{nat_eq}
+use Rattle.std.specs.Map.{lookup}
+use Rattle.char_sequence.proofs.Counters.{get_lookup, newest_noted, apart_nodes}
+use Rattle.char_sequence.proofs.newest.Newest.note.Goals as goal
+
+pub returns-clause-noted : goal.returns-clause-noted
+returns-clause-noted c =
+    λ ops op is fresh ok.
+    let u = c.in_ok-insert.ensures.updates in
+    newest_noted ops op c.args.id c.args.self.now _ is fresh ok
+    (get_lookup c.insert.new.self.entries _ refl c.args.id.node ∙ ap (λ k. lookup (nat_eq k) c.insert.new.self.entries) (sym c.node.ensures.value) ∙ u.1 ∙ ap Some c.counter.ensures.value)
+    (λ q apart.
+    get_lookup c.insert.new.self.entries _ refl q ∙ u.2 q (apart_nodes c.node.result c.args.id.node q c.node.ensures.value apart) ∙ sym (get_lookup c.self.inside.counters.entries c.args.self.now c.self.view_is q))

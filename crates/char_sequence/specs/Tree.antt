@@ -1,0 +1,33 @@
+-- The tree of the inserts among a set of operations (Peritext, CSCW 2022).
+-- A set of operations is a list of which only membership is asked.
+use Rattle.std.specs.Prelude.{◌≡◌, ℕ, List, Option, Some, None, Contains}
+use Rattle.change_ops.specs.Ids.{Less}
+use Rattle.change_ops.specs.declared.id.OpId.{OpId}
+use Rattle.change_ops.specs.declared.operation.Op.{Op}
+use Rattle.change_ops.specs.declared.operation.Op.TheVariants.{Insert, Remove}
+
+-- the operations insert the character x under p; None is the root
+abbrev pub Inserts : List Op → OpId → Option OpId → Type 0
+Inserts ops x p = (c : ℕ) × Contains ops (Insert x p c)
+
+abbrev pub Present : List Op → OpId → Type 0
+Present ops x = (p : Option OpId) × Inserts ops x p
+
+-- an operation removes the character, which stays in the tree
+abbrev pub Removed : List Op → OpId → Type 0
+Removed ops x = (r : OpId) × Contains ops (Remove r x)
+
+-- the second place is the first, or descends from it
+pub data Within (ops : List Op) (a : Option OpId) : Option OpId → Type 0 where
+  itself : Within ops a a
+  below : {p : Option OpId} {x : OpId} → Within ops a p → Inserts ops x p → Within ops a (Some x)
+
+-- the character descends from the place
+abbrev pub Ancestor : List Op → Option OpId → OpId → Type 0
+Ancestor ops a x = (p : Option OpId) × Within ops a p × Inserts ops x p
+
+-- the inserts are a tree: each character has one parent, with a lesser id, and descends from the root
+pub record IsTree (ops : List Op) : Type 0 where
+  pub one : (x : OpId) (p q : Option OpId) → Inserts ops x p → Inserts ops x q → p ≡ q
+  pub grows : (x p : OpId) → Inserts ops x (Some p) → Less p x
+  pub rooted : (x : OpId) (p : Option OpId) → Inserts ops x p → Within ops None p

@@ -1,0 +1,68 @@
+ghost use Rattle.std.specs.Prelude.{◌≡◌, ◌++◌, ◌∷◌, [], List, IsTrue, ◌↔◌, IfOk, IfErr};
+ghost use Rattle.change_ops.specs.Operations.{id_of};
+ghost use Rattle.change_ops.specs.declared.operation.Op.{Op};
+ghost use Rattle.char_sequence.specs.Acceptance.{Used};
+ghost use Rattle.char_sequence.specs.Newest.{IsNewest};
+
+use change_ops::id::OpId;
+use indexmap::IndexMap;
+use std::alloc::{AllocError, Global};
+use std::marker::Model;
+
+/// The last counter of each peer among the operations noted.
+#[derive(Drop)]
+pub struct Newest {
+    counters: IndexMap<u16, u64>,
+}
+
+impl Model for Newest {
+    ghost use Rattle.std.specs.Prelude.{ℕ};
+    ghost use Rattle.std.specs.Ordering.{nat_cmp};
+    ghost use Rattle.std.specs.FinMap.{FinMap, from_entries, code};
+    ghost use Rattle.std.specs.Coded.{coded_ℕ};
+
+    ghost Value = { FinMap nat_cmp ℕ };
+
+    ghost coded = { code coded_ℕ coded_ℕ };
+
+    ghost view = { λ n. from_entries n.counters.entries };
+}
+
+impl Newest {
+    /// No operation is noted.
+    pub fn new(alloc: Global) -> Self
+        ensures { IsNewest [] result }
+    {
+        Newest {
+            counters: IndexMap::new(alloc),
+        }
+    }
+
+    /// Whether an operation of the same peer has a counter as great.
+    pub fn is_used(&self, id: OpId) -> bool
+        ensures { (ops : List Op) → IsNewest ops self.now → IsTrue result ↔ Used ops id }
+    {
+        match self.counters.get(&id.node()) {
+            Some(last) => id.counter() <= *last,
+            None => false,
+        }
+    }
+
+    /// Notes an operation whose id is not used; the error is want of memory, and changes nothing.
+    pub fn note(&mut self, id: OpId) -> Result<(), AllocError>
+        ensures noted { (ops : List Op) (op : Op) → id_of op ≡ id → (Used ops id → ⊥) → IsNewest ops self.old → IfOk result (λ _. IsNewest (ops ++ op ∷ []) self.new) }
+        ensures err { IfErr result (λ _. self.new ≡ self.old) }
+    {
+        self.counters.insert(id.node(), id.counter())?;
+        Ok(())
+    }
+}
+
+impl Clone for Newest {
+    ghost is_clone = { λ old new. new ≡ old };
+
+    fn clone(&self) -> Result<Newest, AllocError> {
+        let counters = self.counters.clone()?;
+        Ok(Newest { counters })
+    }
+}

@@ -1,0 +1,60 @@
+ghost use Rattle.std.specs.Prelude.{◌≡◌, ◌++◌, IfSome, OnOk, OnErr, string_bytes};
+ghost use Rattle.bpf_words.specs.Encoding.{IsInsn};
+ghost use Rattle.bpf_words.specs.Words.{program_of};
+ghost use Rattle.assembler.specs.Text.{AsmText};
+ghost use Rattle.disassembler.specs.Canonical.{line_of, canonical};
+
+use crate::line::Line;
+use bpf_words::instruction::Insn;
+use bpf_words::words::Words;
+use std::alloc::AllocError;
+
+/// Appends the line of a slot, where an instruction begins there.
+#[tactic(auto, unfolding(crate::specs::Canonical::canonical_line))]
+fn push_line(lines: &mut String, insn: Option<Insn>) -> Result<(), AllocError>
+    ensures appended { OnOk result (string_bytes lines.new ≡ string_bytes lines.old ++ line_of insn) }
+    ensures fits { IfSome insn IsInsn }
+{
+    match insn {
+        Some(insn) => writeln!(lines, "{}", Line(insn)),
+        None => Ok(()),
+    }
+}
+
+/// Appends a program's canonical text, which assembles back to the program's bytes. After a refusal the text is as it
+/// was.
+#[tactic(auto, using(crate::proofs::Listing::listing, crate::proofs::Joining::standing))]
+pub fn disassemble(words: &Words<'_>, text: &mut String) -> Result<(), AllocError>
+    ensures appended { OnOk result (string_bytes text.new ≡ string_bytes text.old ++ canonical (program_of words.now)) }
+    ensures assembles { OnOk result (AsmText (canonical (program_of words.now)) words.now) }
+    ensures unchanged { OnErr result (string_bytes text.new ≡ string_bytes text.old) }
+{
+    let mut lines = String::new(*text.allocator());
+    for index in 0..words.len() {
+        push_line(&mut lines, words.insn(index))?;
+    }
+    text.push_str(lines.as_str())
+}
+
+#[cfg(test)]
+mod tests {
+    use super::*;
+    use std::test::Fail;
+
+    #[test]
+    fn a_bounds_check(rt: HostRuntime) -> Result<(), Fail> {
+        let bytes = [
+            0x79, 0x12, 0, 0, 0, 0, 0, 0, 0x79, 0x13, 8, 0, 0, 0, 0, 0, 0xbf, 0x24, 0, 0, 0, 0, 0,
+            0, 0x07, 0x04, 0, 0, 1, 0, 0, 0, 0xb7, 0, 0, 0, 0, 0, 0, 0, 0x2d, 0x34, 1, 0, 0, 0, 0,
+            0, 0x71, 0x20, 0, 0, 0, 0, 0, 0, 0x95, 0, 0, 0, 0, 0, 0, 0,
+        ];
+        let words = Words::new(&bytes)?;
+        let mut text = String::from_str(rt.alloc(), "; in bounds\n")?;
+        disassemble(&words, &mut text)?;
+        assert_eq!(rt;
+            text.as_str(),
+            "; in bounds\nldxdw r2, [r1+0]\nldxdw r3, [r1+8]\nmov r4, r2\nadd r4, 1\nmov r0, 0\njgt r4, r3, +1\nldxb r0, [r2+0]\nexit\n"
+        );
+        Ok(())
+    }
+}

@@ -1,0 +1,7 @@
+//! The canonical text of a program, which assembles back to the same bytes.
+#![tactic(auto)]
+
+pub mod disassemble;
+pub mod form;
+pub mod line;
+mod parts;

@@ -1,0 +1,99 @@
+ghost use Rattle.std.specs.Prelude.{◌≡◌, ◌≤◌, ◌<◌, List, [], ◌++◌, ◌∷◌, length, MatchResult, IfOk};
+ghost use Rattle.change_ops.specs.declared.operation.Op.{Op};
+ghost use Rattle.span_flatten.specs.Version.{IsVersion};
+ghost use Rattle.hub_core.specs.Accepted.{IsAccepted, IsRefused, AreAccepted, operations_of};
+ghost use Rattle.hub_core.specs.Kept.{Keeps, AllApplied, error_at};
+
+use crate::parts::Parts;
+use crate::refusal::{ApplyError, SubmitError};
+use change_ops::change::Change;
+use change_ops::operation::Op;
+use span_flatten::version::Version;
+use std::alloc::{AllocError, Global};
+use std::marker::Model;
+
+/// The most changes that are accepted.
+pub const CHANGE_LIMIT: usize = 4096;
+
+/// The changes that were accepted, in their order, and the text that they make.
+#[derive(Drop)]
+pub struct History {
+    changes: Vec<Change>,
+    parts: Parts,
+}
+
+impl Model for History {
+    ghost use Rattle.std.specs.Prelude.{List};
+    ghost use Rattle.change_ops.specs.Changes.{Edit};
+    ghost use Rattle.hub_core.specs.Kept.{IsHistory};
+
+    ghost Value = { List Edit };
+
+    ghost view = { λ h. h.changes.items };
+
+    ghost invariant = { λ h. IsHistory h.changes.items h.parts };
+}
+
+fn at_index(index: usize, error: ApplyError) -> SubmitError
+    ensures { result ≡ error_at index error }
+{
+    match error {
+        ApplyError::Refused(refusal) => SubmitError::Refused { index, refusal },
+        ApplyError::OutOfMemory => SubmitError::OutOfMemory,
+    }
+}
+
+/// Applies operations in their order, up to the first that is refused.
+fn apply_all(mut parts: Parts, operations: &[Op]) -> Result<Parts, SubmitError>
+    requires { (ops : List Op) × Keeps ops parts }
+    ensures { (ops : List Op) → Keeps ops parts → AllApplied ops operations.now result }
+{
+    for index in 0..operations.len() {
+        if let Err(error) = parts.apply(&operations[index]) {
+            return Err(at_index(index, error));
+        }
+    }
+    Ok(parts)
+}
+
+impl History {
+    /// No change.
+    pub fn new(alloc: Global) -> History
+        ensures { result ≡ [] }
+    {
+        History {
+            changes: Vec::new(alloc),
+            parts: Parts::new(alloc),
+        }
+    }
+
+    /// The number of changes that were accepted.
+    pub fn len(&self) -> usize
+        ensures value { result ≡ length self.now }
+        ensures accepted { AreAccepted self.now }
+    {
+        self.changes.len()
+    }
+
+    /// Takes a change in after those before it, whole; where it is refused the history is given up with it.
+    pub fn accept(self, change: Change) -> Result<History, SubmitError>
+        ensures { MatchResult result (λ new. (new ≡ self ++ change ∷ []) × IsAccepted self change) (IsRefused self change) }
+    {
+        let History { mut changes, parts } = self;
+        if changes.len() >= CHANGE_LIMIT {
+            return Err(SubmitError::HistoryFull);
+        }
+        let parts = apply_all(parts, change.operations())?;
+        match changes.push(change) {
+            Ok(()) => Ok(History { changes, parts }),
+            Err(_) => Err(SubmitError::OutOfMemory),
+        }
+    }
+
+    /// The version that the changes make: its number is how many they are.
+    pub fn version(&self, alloc: Global) -> Result<Version, AllocError>
+        ensures { IfOk result (IsVersion (operations_of self.now) (length self.now)) }
+    {
+        self.parts.version(alloc, self.len() as u64)
+    }
+}

@@ -1,0 +1,130 @@
+use hub_program::command;
+use std::alloc::Global;
+use std::io;
+use std::test::Fail;
+
+/// A reader over bytes that gives one at a time, and whose reads fail once `good` of them are done.
+#[derive(Drop)]
+struct FailingReader<'a> {
+    rest: &'a [u8],
+    good: usize,
+    failed: bool,
+}
+
+impl io::Read for FailingReader<'_> {
+    fn read(&mut self, buf: &mut [u8]) -> io::Result<usize> {
+        if self.good == 0 {
+            self.failed = true;
+            return Err(io::Error::from(io::ErrorKind::Other));
+        }
+        self.good -= 1;
+        let rest = self.rest;
+        let Some(byte) = rest.first() else {
+            return Ok(0);
+        };
+        let Some(place) = buf.first_mut() else {
+            return Ok(0);
+        };
+        *place = *byte;
+        let (_, rest) = rest.split_at(1);
+        self.rest = rest;
+        Ok(1)
+    }
+}
+
+/// A writer that takes one byte at a time, and whose writes fail once `good` of them are done.
+#[derive(Drop)]
+struct FailingWriter {
+    good: usize,
+    failed: bool,
+}
+
+impl io::Write for FailingWriter {
+    fn write(&mut self, buf: &[u8]) -> io::Result<usize> {
+        if self.good == 0 {
+            self.failed = true;
+            return Err(io::Error::from(io::ErrorKind::Other));
+        }
+        self.good -= 1;
+        Ok(buf.len().min(1))
+    }
+
+    fn flush(&mut self) -> io::Result<()> {
+        Ok(())
+    }
+}
+
+/// The command lines and inputs that the devices are tried with.
+static LINES: [(&str, &str, u8); 2] = [
+    ("hub run b7000000010000009500000000000000", "text", 0),
+    ("hub run 9500000000000000", "", 1),
+];
+
+/// The status where the reader fails after so many reads, and whether it came to that.
+fn status_of_failing_reader(
+    alloc: Global,
+    line: &str,
+    input: &str,
+    good: usize,
+) -> Result<(u8, bool), Fail> {
+    let words: Vec<&str> = line.split(' ').collect(alloc)?;
+    let mut output = Vec::new(alloc);
+    let mut reader = FailingReader {
+        rest: input.as_bytes(),
+        good,
+        failed: false,
+    };
+    let status = command(alloc, &words, &mut reader, &mut output);
+    Ok((status, reader.failed))
+}
+
+/// The status where the writer fails after so many writes, and whether it came to that.
+fn status_of_failing_writer(
+    alloc: Global,
+    line: &str,
+    input: &str,
+    good: usize,
+) -> Result<(u8, bool), Fail> {
+    let words: Vec<&str> = line.split(' ').collect(alloc)?;
+    let mut reader = input.as_bytes();
+    let mut writer = FailingWriter {
+        good,
+        failed: false,
+    };
+    let status = command(alloc, &words, &mut reader, &mut writer);
+    Ok((status, writer.failed))
+}
+
+#[test]
+fn a_failed_read_is_told_at_each_read(rt: HostRuntime) -> Result<(), Fail> {
+    let alloc = rt.alloc();
+    for (line, input, ample) in LINES {
+        for good in 0..1000 {
+            let (status, failed) = status_of_failing_reader(alloc, line, input, good)?;
+            if !failed {
+                assert!(rt; good > 0, "{line} reads nothing");
+                assert_eq!(rt; status, ample, "{line}");
+                break;
+            }
+            assert_eq!(rt; status, 3, "{line}, after {good} reads");
+        }
+    }
+    Ok(())
+}
+
+#[test]
+fn a_failed_write_is_told_at_each_write(rt: HostRuntime) -> Result<(), Fail> {
+    let alloc = rt.alloc();
+    for (line, input, ample) in LINES {
+        for good in 0..1000 {
+            let (status, failed) = status_of_failing_writer(alloc, line, input, good)?;
+            if !failed {
+                assert!(rt; good > 0, "{line} writes nothing");
+                assert_eq!(rt; status, ample, "{line}");
+                break;
+            }
+            assert_eq!(rt; status, 3, "{line}, after {good} writes");
+        }
+    }
+    Ok(())
+}

@@ -1,0 +1,382 @@
+use crate::answers::answer;
+use std::alloc::{AllocError, Global};
+use std::fmt::Write;
+use std::test::Fail;
+
+/// An operation's id; ordered by counter, then by node.
+#[derive(Clone, Copy, Debug, PartialEq, Eq, PartialOrd, Ord)]
+struct Id {
+    counter: u64,
+    node: u64,
+}
+
+#[derive(Clone, Copy)]
+struct Letter {
+    id: Id,
+    parent: Option<Id>,
+    code: char,
+    removed: bool,
+}
+
+#[derive(Clone, Copy)]
+enum Place {
+    Start,
+    Before(Id),
+    After(Id),
+    End,
+}
+
+/// An operation on one of the keys of `KEYS`, by its index; a removal has no value.
+#[derive(Clone, Copy)]
+struct Mark {
+    id: Id,
+    key: usize,
+    value: Option<&'static str>,
+    start: Place,
+    end: Place,
+}
+
+/// A key as a line of a change names it, with two values of its marks, each as the line has it and as it is printed.
+static KEYS: [(&str, &str, &str, &str, &str); 6] = [
+    ("strong", "-", "strong", "-", "strong"),
+    ("em", "-", "em", "-", "em"),
+    ("link", "a", "link=a", "b/!", "link=b/!"),
+    ("color", "00000a", "color=00000a", "ff0080", "color=ff0080"),
+    ("comment:2", "-", "comment:2", "-", "comment:2"),
+    ("comment:10", "-", "comment:10", "-", "comment:10"),
+];
+
+/// Numbers that only look random.
+#[derive(Drop)]
+struct Random {
+    state: u64,
+}
+
+impl Random {
+    fn below(&mut self, bound: usize) -> usize {
+        self.state = self
+            .state
+            .wrapping_mul(6_364_136_223_846_793_005)
+            .wrapping_add(1_442_695_040_888_963_407);
+        let number = (self.state >> 33) as usize;
+        number.checked_rem(bound).unwrap_or(0)
+    }
+}
+
+/// A history of three peers: its operations, and the text of each change by rounds. In a round the peers
+/// know what was there before it, so that its changes may be accepted in any order.
+#[derive(Drop)]
+struct History {
+    letters: Vec<Letter>,
+    marks: Vec<Mark>,
+    rounds: Vec<[String; 3]>,
+}
+
+fn place_text(alloc: Global, place: Place) -> Result<String, AllocError> {
+    match place {
+        Place::Start => format!(in alloc; "^"),
+        Place::Before(id) => format!(in alloc; "<{}@{}", id.counter, id.node),
+        Place::After(id) => format!(in alloc; ">{}@{}", id.counter, id.node),
+        Place::End => format!(in alloc; "$"),
+    }
+}
+
+fn any_place(random: &mut Random, known: &[Letter]) -> Place {
+    let letter = known.get(random.below(known.len()));
+    match (letter, random.below(8)) {
+        (_, 0) | (None, _) => Place::Start,
+        (_, 1) => Place::End,
+        (Some(letter), 2 | 3 | 4) => Place::Before(letter.id),
+        (Some(letter), _) => Place::After(letter.id),
+    }
+}
+
+impl History {
+    fn insert(
+        &mut self,
+        random: &mut Random,
+        id: Id,
+        known: usize,
+        text: &mut String,
+    ) -> Result<(), AllocError> {
+        let index = random.below(known.saturating_add(1));
+        let parent = match self.letters.get(index) {
+            Some(letter) if index < known => Some(letter.id),
+            _ => None,
+        };
+        let code = if id.node == 1 { 'x' } else { 'y' };
+        match parent {
+            Some(parent) => write!(
+                text,
+                "i {}@{} {}@{} {:x}\n",
+                id.counter, id.node, parent.counter, parent.node, code as u32
+            )?,
+            None => write!(text, "i {}@{} - {:x}\n", id.counter, id.node, code as u32)?,
+        }
+        self.letters.push(Letter {
+            id,
+            parent,
+            code,
+            removed: false,
+        })?;
+        Ok(())
+    }
+
+    fn remove(
+        &mut self,
+        random: &mut Random,
+        id: Id,
+        known: usize,
+        text: &mut String,
+    ) -> Result<(), AllocError> {
+        if let Some(letter) = self.letters.get_mut(random.below(known)) {
+            letter.removed = true;
+            write!(
+                text,
+                "d {}@{} {}@{}\n",
+                id.counter, id.node, letter.id.counter, letter.id.node
+            )?;
+        }
+        Ok(())
+    }
+
+    fn mark(
+        &mut self,
+        alloc: Global,
+        random: &mut Random,
+        id: Id,
+        known: usize,
+        text: &mut String,
+    ) -> Result<(), AllocError> {
+        let key = random.below(KEYS.len());
+        let adds = random.below(4) > 0;
+        let choice = random.below(2);
+        let front = self
+            .letters
+            .as_slice()
+            .split_at(known.min(self.letters.len()))
+            .0;
+        let start = any_place(random, front);
+        let end = any_place(random, front);
+        let places = format!(in alloc;
+            "{} {}",
+            place_text(alloc, start)?,
+            place_text(alloc, end)?
+        )?;
+        let Some((name, first, first_printed, second, second_printed)) = KEYS.get(key) else {
+            return Ok(());
+        };
+        let (value, printed) = if choice == 0 {
+            (*first, *first_printed)
+        } else {
+            (*second, *second_printed)
+        };
+        if adds {
+            write!(
+                text,
+                "m {}@{} {name} {value} {places}\n",
+                id.counter, id.node
+            )?;
+        } else {
+            write!(text, "u {}@{} {name} {places}\n", id.counter, id.node)?;
+        }
+        let value = if adds { Some(printed) } else { None };
+        self.marks.push(Mark {
+            id,
+            key,
+            value,
+            start,
+            end,
+        })?;
+        Ok(())
+    }
+
+    /// A change of one operation.
+    fn change(
+        &mut self,
+        alloc: Global,
+        random: &mut Random,
+        id: Id,
+        known: usize,
+    ) -> Result<String, AllocError> {
+        let mut text = format!(in alloc; "change {} 1\n", id.node)?;
+        match random.below(10) {
+            0 if known > 0 => self.remove(random, id, known, &mut text)?,
+            1..=4 if known > 0 => self.mark(alloc, random, id, known, &mut text)?,
+            _ => self.insert(random, id, known, &mut text)?,
+        }
+        Ok(text)
+    }
+}
+
+fn made_history(alloc: Global, seed: u64) -> Result<History, AllocError> {
+    let mut random = Random { state: seed };
+    let mut history = History {
+        letters: Vec::new(alloc),
+        marks: Vec::new(alloc),
+        rounds: Vec::new(alloc),
+    };
+    for counter in 1..=16u64 {
+        let known = history.letters.len();
+        let first = history.change(alloc, &mut random, Id { counter, node: 1 }, known)?;
+        let second = history.change(alloc, &mut random, Id { counter, node: 2 }, known)?;
+        let third = history.change(alloc, &mut random, Id { counter, node: 3 }, known)?;
+        history.rounds.push([first, second, third])?;
+    }
+    Ok(history)
+}
+
+/// The ids from the root of the tree down to this character.
+fn path_of(alloc: Global, letters: &[Letter], id: Id) -> Result<Vec<Id>, AllocError> {
+    let mut path = Vec::new(alloc);
+    let mut next = Some(id);
+    for _ in 0..letters.len() {
+        let Some(here) = next else {
+            break;
+        };
+        path.push(here)?;
+        next = letters
+            .iter()
+            .find(|letter| letter.id == here)
+            .and_then(|letter| letter.parent);
+    }
+    path.reverse();
+    Ok(path)
+}
+
+/// Whether a path is a front of the other, or has the greater id where they part.
+fn is_before(path: &[Id], other: &[Id]) -> bool {
+    for (left, right) in path.iter().zip(other) {
+        if left != right {
+            return left > right;
+        }
+    }
+    path.len() < other.len()
+}
+
+/// The number of characters, removed ones too, before this one.
+fn place_of(alloc: Global, letters: &[Letter], id: Id) -> Result<usize, AllocError> {
+    let path = path_of(alloc, letters, id)?;
+    let mut count: usize = 0;
+    for letter in letters {
+        if is_before(&path_of(alloc, letters, letter.id)?, &path) {
+            count = count.saturating_add(1);
+        }
+    }
+    Ok(count)
+}
+
+/// The anchor's place among all anchors, of which each character has two.
+fn anchor_of(alloc: Global, letters: &[Letter], place: Place) -> Result<usize, AllocError> {
+    match place {
+        Place::Start => Ok(0),
+        Place::Before(id) => Ok(
+            place_of(alloc, letters, id)?
+                .saturating_mul(2)
+                .saturating_add(1),
+        ),
+        Place::After(id) => Ok(
+            place_of(alloc, letters, id)?
+                .saturating_mul(2)
+                .saturating_add(2),
+        ),
+        Place::End => Ok(usize::MAX),
+    }
+}
+
+/// What is printed of the character's format: for each key what the covering operation with the greatest id says.
+fn format_of(alloc: Global, history: &History, id: Id) -> Result<String, AllocError> {
+    let before = anchor_of(alloc, &history.letters, Place::Before(id))?;
+    let after = anchor_of(alloc, &history.letters, Place::After(id))?;
+    let mut out = String::new(alloc);
+    for key in 0..KEYS.len() {
+        let mut best: Option<Mark> = None;
+        for mark in &history.marks {
+            let starts = anchor_of(alloc, &history.letters, mark.start)?;
+            let ends = anchor_of(alloc, &history.letters, mark.end)?;
+            let newer = best.map_or(true, |old| old.id < mark.id);
+            if mark.key == key && starts <= before && after <= ends && newer {
+                best = Some(*mark);
+            }
+        }
+        if let Some(value) = best.and_then(|mark| mark.value) {
+            if !out.is_empty() {
+                out.push(',')?;
+            }
+            out.push_str(value)?;
+        }
+    }
+    if out.is_empty() {
+        out.push_str("plain")?;
+    }
+    Ok(out)
+}
+
+/// The character at a place, where it is visible.
+fn visible_at(
+    alloc: Global,
+    letters: &[Letter],
+    place: usize,
+) -> Result<Option<Letter>, AllocError> {
+    for letter in letters {
+        if place_of(alloc, letters, letter.id)? == place && !letter.removed {
+            return Ok(Some(*letter));
+        }
+    }
+    Ok(None)
+}
+
+/// The lines of the spans.
+fn spans_of(alloc: Global, history: &History) -> Result<String, AllocError> {
+    let mut out = String::new(alloc);
+    let mut last = String::new(alloc);
+    let mut index: usize = 0;
+    for place in 0..history.letters.len() {
+        let Some(letter) = visible_at(alloc, &history.letters, place)? else {
+            continue;
+        };
+        let format = format_of(alloc, history, letter.id)?;
+        if format != last {
+            if !out.is_empty() {
+                out.push('\n')?;
+            }
+            write!(out, "{index} {format} ")?;
+            index = index.saturating_add(1);
+            last = format;
+        }
+        out.push(letter.code)?;
+    }
+    if !out.is_empty() {
+        out.push('\n')?;
+    }
+    Ok(out)
+}
+
+/// The changes, the peers of each round in this order.
+fn in_order(alloc: Global, history: &History, order: [usize; 3]) -> Result<String, AllocError> {
+    let mut out = String::new(alloc);
+    for round in &history.rounds {
+        for peer in order {
+            if let Some(change) = round.get(peer) {
+                out.push_str(change.as_str())?;
+            }
+        }
+    }
+    Ok(out)
+}
+
+#[test]
+fn replicas_agree_with_a_plain_reference(rt: HostRuntime) -> Result<(), Fail> {
+    let alloc = rt.alloc();
+    for seed in 1..=8u64 {
+        let history = made_history(alloc, seed)?;
+        let want = spans_of(alloc, &history)?;
+        for order in [[0, 1, 2], [2, 1, 0], [1, 2, 0]] {
+            let input = in_order(alloc, &history, order)?;
+            let (status, output) = answer(alloc, "hub spans", input.as_bytes())?;
+            assert_eq!(rt; output.as_slice(), want.as_bytes(), "seed {seed}, {input}");
+            assert_eq!(rt; status, 0);
+        }
+    }
+    Ok(())
+}

@@ -1,0 +1,259 @@
+ghost use Rattle.std.specs.Prelude.{◌≡◌, ℕ, ◌+◌, ◌<◌, ◌≤◌, ◌^◌, length, OnOk, OnErr, IfErr, Ok, Err};
+ghost use Rattle.bpf_words.specs.Words.{program_of};
+ghost use Rattle.meaning.specs.State.{State, start, register_of, operand_in, written};
+ghost use Rattle.meaning.specs.Memory.{address_of};
+ghost use Rattle.meaning.specs.Step.{Next, go_by, write_and_go, first_of, perform, step};
+ghost use Rattle.interpreter.specs.Progress.{move_of, result_of};
+
+use crate::arithmetic::{convert, extend, holds, negate, sign, value};
+use crate::memory::{load, store, unsigned};
+use bpf_words::context::{CONTEXT, FRAME};
+use bpf_words::instruction::{Arithmetic, Insn, Operand};
+use bpf_words::register::Register;
+use bpf_words::words::Words;
+use meaning::FaultKind;
+use std::marker::Model;
+
+/// The machine between two steps.
+#[derive(Drop)]
+pub struct Machine {
+    slot: usize,
+    registers: [Option<u64>; 11],
+    stack: [Option<u8>; 512],
+}
+
+impl Model for Machine {
+    ghost Value = { State };
+
+    ghost view = { λ m. record { slot = m.slot; registers = m.registers; stack = m.stack } };
+}
+
+impl Machine {
+    pub fn new() -> Self
+        ensures { result ≡ start }
+    {
+        let mut registers = [None; 11];
+        registers[1] = Some(CONTEXT);
+        registers[10] = Some(FRAME);
+        Machine {
+            slot: 0,
+            registers,
+            stack: [None; 512],
+        }
+    }
+
+    pub fn slot(&self) -> usize
+        ensures { result ≡ self.now.slot }
+    {
+        self.slot
+    }
+
+    fn register(&self, register: Register) -> Result<u64, FaultKind>
+        ensures { result ≡ register_of self.now register }
+    {
+        self.registers[register.index()].ok_or(FaultKind::UnsetRegister)
+    }
+
+    fn operand(&self, operand: Operand) -> Result<u64, FaultKind>
+        ensures { result ≡ operand_in self.now operand }
+    {
+        match operand {
+            Operand::Immediate(value) => Ok(i64::from(value).cast_unsigned()),
+            Operand::Source(register) => self.register(register),
+        }
+    }
+
+    fn write(&mut self, register: Register, value: u64) -> Result<(), FaultKind>
+        ensures ok { OnOk result (written self.old register value ≡ Ok self.new) }
+        ensures err { IfErr result (λ kind. written self.old register value ≡ Err kind) }
+        ensures slot { self.new.slot ≡ self.old.slot }
+    {
+        if register.index() == 10 {
+            return Err(FaultKind::WriteR10);
+        }
+        self.registers[register.index()] = Some(value);
+        Ok(())
+    }
+
+    /// A register is written, and on by a distance.
+    fn write_and_go(
+        &mut self,
+        register: Register,
+        value: u64,
+        distance: i32,
+    ) -> Result<Motion, FaultKind>
+        ensures value { move_of result self.new ≡ write_and_go self.old register value distance }
+        ensures slot { self.new.slot ≡ self.old.slot }
+    {
+        self.write(register, value)?;
+        Ok(Motion::By(distance))
+    }
+
+    fn first_operand(&self, operation: Arithmetic, register: Register) -> Result<u64, FaultKind>
+        ensures { result ≡ first_of self.now operation register }
+    {
+        if operation == Arithmetic::Mov {
+            Ok(0)
+        } else {
+            self.register(register)
+        }
+    }
+
+    /// What an instruction does, whatever the program is.
+    fn perform(&mut self, context: &[u8], text: &[u8], insn: Insn) -> Result<Motion, FaultKind>
+        requires context_short { length context.now < 2 ^ 32 }
+        requires text_short { length text.now < 2 ^ 32 }
+        ensures value { move_of result self.new ≡ perform context.now text.now self.old insn }
+        ensures slot { self.new.slot ≡ self.old.slot }
+    {
+        match insn {
+            Insn::Compute {
+                width,
+                operation,
+                destination,
+                operand,
+            } => {
+                let a = self.first_operand(operation, destination)?;
+                let b = self.operand(operand)?;
+                self.write_and_go(destination, value(operation, width, a, b), 0)
+            }
+            Insn::Negate { width, destination } => {
+                let a = self.register(destination)?;
+                self.write_and_go(destination, negate(width, a), 0)
+            }
+            Insn::Extend {
+                extension,
+                destination,
+                source,
+            } => {
+                let a = self.register(source)?;
+                self.write_and_go(destination, extend(extension, a), 0)
+            }
+            Insn::Convert {
+                conversion,
+                bits,
+                destination,
+            } => {
+                let a = self.register(destination)?;
+                self.write_and_go(destination, convert(conversion, bits, a), 0)
+            }
+            Insn::Jump { distance } => Ok(Motion::By(i32::from(distance))),
+            Insn::JumpLong { distance } => Ok(Motion::By(distance)),
+            Insn::Branch {
+                width,
+                comparison,
+                left,
+                right,
+                distance,
+            } => {
+                let a = self.register(left)?;
+                let b = self.operand(right)?;
+                if holds(comparison, width, a, b) {
+                    Ok(Motion::By(i32::from(distance)))
+                } else {
+                    Ok(Motion::By(0))
+                }
+            }
+            Insn::Load {
+                size,
+                destination,
+                base,
+                offset,
+            } => {
+                let address = address(self.register(base)?, offset);
+                let value = load(context, text, &self.stack, address, size)?;
+                self.write_and_go(destination, value, 0)
+            }
+            Insn::LoadSigned {
+                size,
+                destination,
+                base,
+                offset,
+            } => {
+                let address = address(self.register(base)?, offset);
+                let value = load(context, text, &self.stack, address, unsigned(size))?;
+                self.write_and_go(destination, sign(size, value), 0)
+            }
+            Insn::Store {
+                size,
+                base,
+                offset,
+                value,
+            } => {
+                let address = address(self.register(base)?, offset);
+                let value = self.operand(value)?;
+                store(context, text, &mut self.stack, address, size, value)?;
+                Ok(Motion::By(0))
+            }
+            Insn::LoadWide { destination, value } => self.write_and_go(destination, value, 1),
+            Insn::Exit => {
+                let value = self.register(Register::R0)?;
+                Ok(Motion::Stops(value))
+            }
+        }
+    }
+
+    /// On by a distance, counted from the slot after this one.
+    fn go_by(&mut self, words: &Words<'_>, distance: i32) -> Result<(), FaultKind>
+        requires { self.old.slot < length (program_of words.now) }
+        ensures ok { OnOk result (go_by (program_of words.now) self.old distance ≡ Ok (Next self.new)) }
+        ensures err { IfErr result (λ kind. go_by (program_of words.now) self.old distance ≡ Err kind) }
+        ensures stays { self.new.slot < length (program_of words.now) }
+    {
+        let count = words.len();
+        let Some(slot) = (self.slot + 1).checked_add_signed(distance as isize) else {
+            return Err(FaultKind::OutOfCode);
+        };
+        if slot >= count {
+            return Err(FaultKind::OutOfCode);
+        }
+        self.slot = slot;
+        Ok(())
+    }
+
+    /// One step of the machine.
+    pub fn step(
+        &mut self,
+        words: &Words<'_>,
+        context: &[u8],
+        text: &[u8],
+    ) -> Result<Progress, FaultKind>
+        requires within { self.old.slot < length (program_of words.now) }
+        requires context_short { length context.now < 2 ^ 32 }
+        requires text_short { length text.now < 2 ^ 32 }
+        ensures value { result_of result self.new ≡ step (program_of words.now) context.now text.now self.old }
+        ensures stays { self.new.slot < length (program_of words.now) }
+    {
+        let Some(insn) = words.insn(self.slot) else {
+            return Err(FaultKind::BadInstruction);
+        };
+        match self.perform(context, text, insn)? {
+            Motion::By(distance) => {
+                self.go_by(words, distance)?;
+                Ok(Progress::Goes)
+            }
+            Motion::Stops(value) => Ok(Progress::Ends(value)),
+        }
+    }
+}
+
+/// The address that a base register's number and an offset give.
+fn address(base: u64, offset: i16) -> u64
+    ensures { result ≡ address_of base offset }
+{
+    base.wrapping_add_signed(i64::from(offset))
+}
+
+/// What an instruction without a fault does to the run: it goes on by a distance, counted from the slot after it, or ends it.
+#[derive(Clone, Copy, Debug, PartialEq, Eq)]
+pub enum Motion {
+    By(i32),
+    Stops(u64),
+}
+
+/// How a step without a fault ends.
+#[derive(Clone, Copy, Debug, PartialEq, Eq)]
+pub enum Progress {
+    Goes,
+    Ends(u64),
+}

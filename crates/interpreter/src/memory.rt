@@ -1,0 +1,151 @@
+ghost use Rattle.std.specs.Prelude.{◌≡◌, ℕ, ◌+◌, ◌<◌, ◌≤◌, ◌^◌, length, map, drop, Some, IfSome, IfOk, OnOk, IfErr, Ok, Err};
+ghost use Rattle.byteorder.specs.Endian.{little_bytes, little_number};
+ghost use Rattle.meaning.specs.Memory.{load as load_of, store as store_of, bytes_in, bytes_in_signed, lies_in, stack_number, stored};
+
+use bpf_words::context::{CONTEXT, FRAME, TEXT};
+use bpf_words::instruction::{SignedSize, Size};
+use byteorder::{ByteOrder, LittleEndian};
+use meaning::FaultKind;
+
+/// The address at which the stack begins.
+const STACK: u64 = FRAME - 512;
+
+fn count(size: Size) -> usize
+    ensures { result ≡ bytes_in size }
+{
+    match size {
+        Size::Byte => 1,
+        Size::Half => 2,
+        Size::Word => 4,
+        Size::Double => 8,
+    }
+}
+
+/// How much a sign-extending load reads.
+pub fn unsigned(size: SignedSize) -> Size
+    ensures { bytes_in result ≡ bytes_in_signed size }
+{
+    match size {
+        SignedSize::SignedByte => Size::Byte,
+        SignedSize::SignedHalf => Size::Half,
+        SignedSize::SignedWord => Size::Word,
+    }
+}
+
+fn is_in(base: u64, long: usize, address: u64, count: usize) -> bool
+    requires few { base + long < 2 ^ 63 }
+    requires short { count ≤ 8 }
+    ensures { result ≡ lies_in base long address count }
+{
+    let end = base + long as u64;
+    address >= base && address <= end && end - address >= count as u64
+}
+
+fn number(bytes: &[u8], place: usize, size: Size) -> u64
+    requires { place + bytes_in size ≤ length bytes.now }
+    ensures value { result ≡ little_number (bytes_in size) (drop place bytes.now) }
+    ensures small { result < 256 ^ bytes_in size }
+{
+    match size {
+        Size::Byte => u64::from(bytes[place]),
+        Size::Half => u64::from(LittleEndian::read_u16(&bytes[place..])),
+        Size::Word => u64::from(LittleEndian::read_u32(&bytes[place..])),
+        Size::Double => LittleEndian::read_u64(&bytes[place..]),
+    }
+}
+
+#[tactic(auto, using(crate::proofs::Joined::joins))]
+fn number_on_stack(stack: &[Option<u8>; 512], place: usize, count: usize) -> Option<u64>
+    requires short { count ≤ 8 }
+    requires within { place + count ≤ 512 }
+    ensures value { result ≡ stack_number stack.now place count }
+    ensures small { IfSome result (λ number. number < 256 ^ count) }
+{
+    if count == 0 {
+        return Some(0);
+    }
+    let high = number_on_stack(stack, place + 1, count - 1)?;
+    match &stack[place] {
+        Some(low) => Some(u64::from(*low) + 256 * high),
+        None => None,
+    }
+}
+
+/// A number's bytes, the lowest first, all of them set.
+fn set_bytes(value: u64) -> [Option<u8>; 8]
+    ensures { result ≡ map Some (little_bytes 8 value) }
+{
+    let bytes = value.to_le_bytes();
+    [
+        Some(bytes[0]),
+        Some(bytes[1]),
+        Some(bytes[2]),
+        Some(bytes[3]),
+        Some(bytes[4]),
+        Some(bytes[5]),
+        Some(bytes[6]),
+        Some(bytes[7]),
+    ]
+}
+
+/// Writes as many of a number's low bytes as the size says, the lowest first.
+fn store_on_stack(stack: &mut [Option<u8>; 512], place: usize, size: Size, value: u64)
+    requires { place + bytes_in size ≤ 512 }
+    ensures { stack.new ≡ stored stack.old place (bytes_in size) value }
+{
+    let count = count(size);
+    let bytes = set_bytes(value);
+    stack[place..place + count].copy_from_slice(&bytes[..count]);
+}
+
+/// The number in the bytes at an address.
+pub fn load(
+    context: &[u8],
+    text: &[u8],
+    stack: &[Option<u8>; 512],
+    address: u64,
+    size: Size,
+) -> Result<u64, FaultKind>
+    requires context_short { length context.now < 2 ^ 32 }
+    requires text_short { length text.now < 2 ^ 32 }
+    ensures value { result ≡ load_of context.now text.now stack.now address (bytes_in size) }
+    ensures small { IfOk result (λ number. number < 256 ^ bytes_in size) }
+{
+    let count = count(size);
+    if is_in(CONTEXT, context.len(), address, count) {
+        Ok(number(context, (address - CONTEXT) as usize, size))
+    } else if is_in(TEXT, text.len(), address, count) {
+        Ok(number(text, (address - TEXT) as usize, size))
+    } else if is_in(STACK, 512, address, count) {
+        number_on_stack(stack, (address - STACK) as usize, count).ok_or(FaultKind::UnsetStack)
+    } else {
+        Err(FaultKind::BadAddress)
+    }
+}
+
+/// Writes a number's low bytes at an address.
+pub fn store(
+    context: &[u8],
+    text: &[u8],
+    stack: &mut [Option<u8>; 512],
+    address: u64,
+    size: Size,
+    value: u64,
+) -> Result<(), FaultKind>
+    requires context_short { length context.now < 2 ^ 32 }
+    requires text_short { length text.now < 2 ^ 32 }
+    ensures ok { OnOk result (store_of context.now text.now stack.old address (bytes_in size) value ≡ Ok stack.new) }
+    ensures err { IfErr result (λ kind. store_of context.now text.now stack.old address (bytes_in size) value ≡ Err kind) }
+{
+    let count = count(size);
+    if is_in(STACK, 512, address, count) {
+        store_on_stack(stack, (address - STACK) as usize, size, value);
+        Ok(())
+    } else if is_in(CONTEXT, context.len(), address, count)
+        || is_in(TEXT, text.len(), address, count)
+    {
+        Err(FaultKind::ReadOnly)
+    } else {
+        Err(FaultKind::BadAddress)
+    }
+}

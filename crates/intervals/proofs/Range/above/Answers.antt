@@ -1,0 +1,5 @@
+use Rattle.std.proofs.Common.{arith}
+use Rattle.intervals.proofs.Range.above.Goals as goal
+
+pub returns-clause-contains : goal.returns-clause-contains
+returns-clause-contains c = λ x inside within. c.at_least.ensures.contains x inside (omega arith)

@@ -1,0 +1,251 @@
+//! Intervals of 64-bit numbers.
+//!
+//! Each operation answers an interval that contains every result of contained operands, as the
+//! operations of RFC 9669, section 4, define it. Where a result can leave the 64 bits, that is every number.
+#![tactic(auto)]
+
+ghost use Rattle.std.specs.Prelude.{◌≡◌, ℕ, ◌+◌, ◌-◌, ◌*◌, ◌/◌, ◌%◌, ◌^◌, ◌<◌, ◌≤◌, ◌↔◌, IsSome, IfSome, bit_and, min, max};
+
+/// The numbers from `low` to `high`, both included; there is at least one.
+#[derive(Clone, Copy, Debug, PartialEq, Eq)]
+pub struct Range {
+    pub low: u64,
+    pub high: u64,
+    ghost ordered: { low ≤ high },
+}
+
+impl Range {
+    ghost use Rattle.intervals.specs.Range.{Contains, Within, Maps, MapsBoth, Spans, quotient, remainder};
+
+    /// The numbers from `low` to `high`, `None` where there are none.
+    pub fn new(low: u64, high: u64) -> Option<Range>
+        ensures some { IsSome result ↔ (low ≤ high) }
+        ensures ends { IfSome result (λ r. Spans r low high) }
+        ensures contains { (x : ℕ) → low ≤ x → x ≤ high → Within result x }
+    {
+        if low <= high {
+            Some(Range { low, high })
+        } else {
+            None
+        }
+    }
+
+    /// Every number.
+    pub fn full() -> Range
+        ensures ends { Spans result 0 (2 ^ 64 - 1) }
+        ensures contains { (x : ℕ) → x < 2 ^ 64 → Contains result x }
+        ensures wrapped { (x : ℕ) → Contains result (x % 2 ^ 64) }
+    {
+        Range {
+            low: 0,
+            high: u64::MAX,
+        }
+    }
+
+    /// The sum modulo 2^64.
+    pub fn add(self, other: Range) -> Range
+        ensures contains { MapsBoth self other result (λ x y. (x + y) % 2 ^ 64) }
+        ensures ends { self.high + other.high < 2 ^ 64 → Spans result (self.low + other.low) (self.high + other.high) }
+        ensures wraps { 2 ^ 64 ≤ self.high + other.high → Spans result 0 (2 ^ 64 - 1) }
+    {
+        let Some(high) = self.high.checked_add(other.high) else {
+            return Range::full();
+        };
+        Range {
+            low: self.low + other.low,
+            high,
+        }
+    }
+
+    /// The difference modulo 2^64.
+    pub fn sub(self, other: Range) -> Range
+        ensures contains { MapsBoth self other result (λ x y. (x + (2 ^ 64 - y)) % 2 ^ 64) }
+        ensures ends { other.high ≤ self.low → Spans result (self.low - other.high) (self.high - other.low) }
+        ensures wraps { self.low < other.high → Spans result 0 (2 ^ 64 - 1) }
+    {
+        if self.low < other.high {
+            return Range::full();
+        }
+        Range {
+            low: self.low - other.high,
+            high: self.high - other.low,
+        }
+    }
+
+    /// The product modulo 2^64.
+    pub fn mul(self, other: Range) -> Range
+        ensures contains { MapsBoth self other result (λ x y. x * y % 2 ^ 64) }
+        ensures ends { self.high * other.high < 2 ^ 64 → Spans result (self.low * other.low) (self.high * other.high) }
+        ensures wraps { 2 ^ 64 ≤ self.high * other.high → Spans result 0 (2 ^ 64 - 1) }
+    {
+        let Some(high) = self.high.checked_mul(other.high) else {
+            return Range::full();
+        };
+        Range {
+            low: self.low * other.low,
+            high,
+        }
+    }
+
+    /// The quotient, which is 0 where the divisor is 0.
+    pub fn div(self, other: Range) -> Range
+        ensures contains { MapsBoth self other result (λ x y. quotient x y) }
+        ensures ends { 0 < other.low → Spans result (self.low / other.high) (self.high / other.low) }
+        ensures by_zero { other.low ≡ 0 → Spans result 0 self.high }
+    {
+        if other.low == 0 {
+            return Range {
+                low: 0,
+                high: self.high,
+            };
+        }
+        Range {
+            low: self.low / other.high,
+            high: self.high / other.low,
+        }
+    }
+
+    /// The remainder, which is the dividend where the divisor is 0.
+    pub fn rem(self, other: Range) -> Range
+        ensures contains { MapsBoth self other result (λ x y. remainder x y) }
+        ensures ends { 0 < other.low → Spans result 0 (min self.high (other.high - 1)) }
+        ensures by_zero { other.low ≡ 0 → Spans result 0 self.high }
+    {
+        if other.low == 0 {
+            return Range {
+                low: 0,
+                high: self.high,
+            };
+        }
+        Range {
+            low: 0,
+            high: self.high.min(other.high - 1),
+        }
+    }
+
+    /// The bits that both have, which are no more than either number.
+    #[tactic(auto, using(std::proofs::lemmas::Nat::and_le_l, std::proofs::lemmas::Nat::and_le_r))]
+    pub fn and(self, other: Range) -> Range
+        ensures contains { MapsBoth self other result (λ x y. bit_and x y) }
+        ensures ends { Spans result 0 (min self.high other.high) }
+    {
+        Range {
+            low: 0,
+            high: self.high.min(other.high),
+        }
+    }
+
+    /// The shift to the left by `count` modulo 64, modulo 2^64.
+    pub fn shl(self, count: u64) -> Range
+        ensures contains { Maps self result (λ x. x * 2 ^ (count % 64) % 2 ^ 64) }
+        ensures ends { let scale = 2 ^ (count % 64) in self.high * scale < 2 ^ 64 → Spans result (self.low * scale) (self.high * scale) }
+        ensures wraps { 2 ^ 64 ≤ self.high * 2 ^ (count % 64) → Spans result 0 (2 ^ 64 - 1) }
+    {
+        let scale = 1_u64 << (count % 64);
+        let Some(high) = self.high.checked_mul(scale) else {
+            return Range::full();
+        };
+        Range {
+            low: self.low * scale,
+            high,
+        }
+    }
+
+    /// The shift to the right by `count` modulo 64, without sign.
+    pub fn shr(self, count: u64) -> Range
+        ensures contains { Maps self result (λ x. x / 2 ^ (count % 64)) }
+        ensures ends { let scale = 2 ^ (count % 64) in Spans result (self.low / scale) (self.high / scale) }
+    {
+        let count = count % 64;
+        Range {
+            low: self.low >> count,
+            high: self.high >> count,
+        }
+    }
+
+    /// The low 32 bits.
+    pub fn low32(self) -> Range
+        ensures contains { Maps self result (λ x. x % 2 ^ 32) }
+        ensures kept { self.high < 2 ^ 32 → result ≡ self }
+        ensures cut { 2 ^ 32 ≤ self.high → Spans result 0 (2 ^ 32 - 1) }
+    {
+        if self.high <= 0xffff_ffff {
+            return self;
+        }
+        Range {
+            low: 0,
+            high: 0xffff_ffff,
+        }
+    }
+
+    /// The least interval that contains both.
+    pub fn hull(self, other: Range) -> Range
+        ensures left { Maps self result (λ x. x) }
+        ensures right { Maps other result (λ x. x) }
+        ensures ends { Spans result (min self.low other.low) (max self.high other.high) }
+    {
+        Range {
+            low: self.low.min(other.low),
+            high: self.high.max(other.high),
+        }
+    }
+
+    /// The numbers below `bound`, `None` where there are none.
+    pub fn below(self, bound: u64) -> Option<Range>
+        ensures some { IsSome result ↔ (self.low < bound) }
+        ensures ends { IfSome result (λ r. Spans r self.low (min self.high (bound - 1))) }
+        ensures contains { (x : ℕ) → Contains self x → x < bound → Within result x }
+        ensures only { IfSome result (λ r. (x : ℕ) → Contains r x → Contains self x × (x < bound)) }
+    {
+        if bound == 0 {
+            return None;
+        }
+        self.at_most(bound - 1)
+    }
+
+    /// The numbers up to `bound`, `None` where there are none.
+    pub fn at_most(self, bound: u64) -> Option<Range>
+        ensures some { IsSome result ↔ (self.low ≤ bound) }
+        ensures ends { IfSome result (λ r. Spans r self.low (min self.high bound)) }
+        ensures contains { (x : ℕ) → Contains self x → x ≤ bound → Within result x }
+        ensures only { IfSome result (λ r. (x : ℕ) → Contains r x → Contains self x × (x ≤ bound)) }
+    {
+        Range::new(self.low, self.high.min(bound))
+    }
+
+    /// The numbers above `bound`, `None` where there are none.
+    pub fn above(self, bound: u64) -> Option<Range>
+        ensures some { IsSome result ↔ (bound < self.high) }
+        ensures ends { IfSome result (λ r. Spans r (max self.low (bound + 1)) self.high) }
+        ensures contains { (x : ℕ) → Contains self x → bound < x → Within result x }
+        ensures only { IfSome result (λ r. (x : ℕ) → Contains r x → Contains self x × (bound < x)) }
+    {
+        if bound == u64::MAX {
+            return None;
+        }
+        self.at_least(bound + 1)
+    }
+
+    /// The numbers from `bound` on, `None` where there are none.
+    pub fn at_least(self, bound: u64) -> Option<Range>
+        ensures some { IsSome result ↔ (bound ≤ self.high) }
+        ensures ends { IfSome result (λ r. Spans r (max self.low bound) self.high) }
+        ensures contains { (x : ℕ) → Contains self x → bound ≤ x → Within result x }
+        ensures only { IfSome result (λ r. (x : ℕ) → Contains r x → Contains self x × (bound ≤ x)) }
+    {
+        Range::new(self.low.max(bound), self.high)
+    }
+
+    /// The numbers that both contain, `None` where there are none.
+    pub fn meet(self, other: Range) -> Option<Range>
+        ensures some { IsSome result ↔ (max self.low other.low ≤ min self.high other.high) }
+        ensures ends { IfSome result (λ r. Spans r (max self.low other.low) (min self.high other.high)) }
+        ensures contains { (x : ℕ) → Contains self x → Contains other x → Within result x }
+        ensures only { IfSome result (λ r. (x : ℕ) → Contains r x → Contains self x × Contains other x) }
+    {
+        Range::new(self.low.max(other.low), self.high.min(other.high))
+    }
+}
+
+#[cfg(test)]
+mod tests;

@@ -1,0 +1,11 @@
+pub mod Lists
+pub mod Formats
+pub mod Entries
+pub mod MarkLaws
+pub mod Places
+pub mod AnchorOrder
+pub mod Deciding
+pub mod Gathering
+pub mod Values
+pub mod Commenting
+pub mod FormatLaws

@@ -1,0 +1,9 @@
+pub mod Formatting
+pub mod Anchors
+pub mod AnchorList
+pub mod Format
+pub mod Marks
+pub mod Places
+pub mod Placed
+pub mod Commented
+pub mod Resolution

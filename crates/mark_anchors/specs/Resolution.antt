@@ -1,0 +1,22 @@
+-- What is seen of resolved marks, and what they keep.
+use Rattle.std.specs.Prelude.{List}
+use Rattle.change_ops.specs.declared.attribute.Key.TheVariants.{Strong, Em, Link, Color}
+use Rattle.change_ops.specs.declared.operation.Op.{Op}
+use Rattle.char_sequence.specs.declared.sequence.Element.{Element}
+use Rattle.mark_anchors.specs.Placed.{ArePlaced}
+use Rattle.mark_anchors.specs.Commented.{AreCommented}
+use Rattle.mark_anchors.specs.declared.placed.PlacedMark.{PlacedMark}
+use Rattle.mark_anchors.specs.declared.comments.CommentMarks.{CommentMarks}
+
+-- the marks, and the elements against which they were resolved
+pub record Resolution : Type 0 where
+  pub elements : List Element
+  pub marks : List Op
+
+-- the marks of each key
+pub record AreResolved (es : List Element) (operations : List Op) (strongs ems links colors : List PlacedMark) (commented : List CommentMarks) : Type 0 where
+  pub strong : ArePlaced es operations Strong strongs
+  pub em : ArePlaced es operations Em ems
+  pub link : ArePlaced es operations Link links
+  pub color : ArePlaced es operations Color colors
+  pub comments : AreCommented es operations commented

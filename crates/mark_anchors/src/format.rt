@@ -1,0 +1,138 @@
+ghost use Rattle.std.specs.Prelude.{◌≡◌, IsTrue, ◌↔◌, List};
+ghost use Rattle.std.specs.Option.{option_copied};
+ghost use Rattle.std.specs.List.Sorted.{IsStrictlyIncreasing};
+ghost use Rattle.std.specs.Cmp.{partial_equiv_from_equiv};
+ghost use Rattle.change_ops.specs.declared.id.OpId.{OpId};
+ghost use Rattle.change_ops.specs.declared.operation.Op.{Op};
+ghost use Rattle.char_sequence.specs.Order.{SameSet};
+ghost use Rattle.mark_anchors.specs.Format.{IsFormat};
+ghost use Rattle.mark_anchors.specs.Formatting.{plain, formatting_eq, formatting_eq_equiv};
+
+use change_ops::attribute::{Color, CommentNumber, Link};
+use smallvec::SmallVec;
+use std::alloc::{AllocError, Global};
+use std::marker::Model;
+
+/// How a character is formatted: what holds of each key (Peritext, CSCW 2022).
+#[derive(Debug, Drop)]
+pub struct Format {
+    pub(crate) strong: bool,
+    pub(crate) em: bool,
+    pub(crate) link: Option<Link>,
+    pub(crate) color: Option<Color>,
+    pub(crate) comments: SmallVec<CommentNumber, 4>,
+}
+
+impl Model for Format {
+    ghost use Rattle.std.specs.List.Sorted.{IsStrictlyIncreasing};
+    ghost use Rattle.mark_anchors.specs.Formatting.{Formatting};
+
+    ghost Value = { Formatting };
+
+    ghost view = { λ f. record { strong = f.strong; em = f.em; link = f.link; color = f.color; comments = f.comments.items } };
+
+    ghost invariant = { λ f. IsStrictlyIncreasing f.comments.items };
+}
+
+impl Clone for Format {
+    ghost is_clone = { λ old new. new ≡ old };
+
+    fn clone(&self) -> Result<Format, AllocError> {
+        let comments = &self.comments;
+        Ok(Format {
+            strong: self.strong,
+            em: self.em,
+            link: self.link.clone()?,
+            color: self.color,
+            comments: SmallVec::from_slice(*comments.allocator(), comments.as_slice())?,
+        })
+    }
+}
+
+impl PartialEq for Format {
+    ghost eq = { formatting_eq };
+
+    ghost laws = { partial_equiv_from_equiv formatting_eq_equiv };
+
+    fn eq(&self, other: &Format) -> bool
+        ensures eq { result ≡ formatting_eq self.now other.now }
+        ensures same { IsTrue result ↔ (self.now ≡ other.now) }
+    {
+        let flags = self.strong == other.strong && self.em == other.em;
+        flags
+            && self.link == other.link
+            && self.color == other.color
+            && self.comments == other.comments
+    }
+}
+
+impl Eq for Format {
+    ghost laws = { formatting_eq_equiv };
+}
+
+impl Format {
+    /// The format of a character that no mark covers.
+    pub fn plain(alloc: Global) -> Format
+        ensures { result ≡ plain }
+    {
+        Format {
+            strong: false,
+            em: false,
+            link: None,
+            color: None,
+            comments: SmallVec::new(alloc),
+        }
+    }
+
+    /// Whether no key holds.
+    pub fn is_plain(&self) -> bool
+        ensures { IsTrue result ↔ (self.now ≡ plain) }
+    {
+        !self.strong
+            && !self.em
+            && self.link.is_none()
+            && self.color.is_none()
+            && self.comments.is_empty()
+    }
+
+    /// Whether the character is strong.
+    pub fn strong(&self) -> bool
+        ensures { result ≡ self.now.strong }
+    {
+        self.strong
+    }
+
+    /// Whether the character is emphasized.
+    pub fn em(&self) -> bool
+        ensures { result ≡ self.now.em }
+    {
+        self.em
+    }
+
+    /// The link that the character is part of.
+    pub fn link(&self) -> Option<&Link>
+        ensures { option_copied result ≡ self.now.link }
+    {
+        self.link.as_ref()
+    }
+
+    /// The character's color.
+    pub fn color(&self) -> Option<Color>
+        ensures { result ≡ self.now.color }
+    {
+        self.color
+    }
+
+    /// The numbers of the comments on the character, rising.
+    pub fn comments(&self) -> &[CommentNumber]
+        ensures value { result.now ≡ self.now.comments }
+        ensures rising { IsStrictlyIncreasing result.now }
+    {
+        self.comments.as_slice()
+    }
+}
+
+/// Replicas that hold one set of operations format a character alike.
+pub fn same_set_same_format(first: &Format, second: &Format)
+    ensures { (ops others : List Op) (e : OpId) → SameSet ops others → IsFormat ops e first.now → IsFormat others e second.now → first.now ≡ second.now }
+{}

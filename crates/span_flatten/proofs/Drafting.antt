@@ -1,0 +1,107 @@
+-- A text with its rows while its characters are taken in.
+use Rattle.std.proofs.Common.{◌≡◌, ℕ, ◌+◌, ◌-◌, ◌*◌, ◌<◌, ◌≤◌, Bool, true, false, cond, List, [], ◌∷◌, ◌++◌, length, map, set, get_or, take, refl, sym, ap, subst, ◌∙◌, arith, append_assoc, length-append, All}
+use Rattle.std.specs.List.{filter}
+use Rattle.std.specs.Char.{encode_utf8, IsScalar}
+use Rattle.std.proofs.lemmas.List.{length_push, get_or_push, set_at, map_push, get_or_default}
+use Rattle.std.proofs.lemmas.List.Elements.{All-push, filter_more}
+use Rattle.change_ops.specs.declared.operation.Op.{Op}
+use Rattle.char_sequence.specs.declared.sequence.Element.{Element}
+use Rattle.char_sequence.specs.Order.{Shows}
+use Rattle.mark_anchors.specs.Format.{IsFormat}
+use Rattle.mark_anchors.specs.Formatting.{Formatting}
+use Rattle.mark_anchors.specs.Marks.{AreMarks}
+use Rattle.span_flatten.specs.declared.version.Row.{Row}
+use Rattle.span_flatten.specs.Spans.{Shown, Span, Cuts}
+use Rattle.span_flatten.specs.Version.{joined, rows_from, IsLayout, IsDraft}
+use Rattle.span_flatten.proofs.Cutting.{cuts_fresh, cuts_longer}
+use Rattle.span_flatten.proofs.Laying.{joined-push, rows_from-push, length-rows_from}
+use Rattle.span_flatten.proofs.Showing.{element_of, is_visible}
+
+-- a list that is not empty has a last element
+last_of : {X : Type 0} (xs : List X) → 0 < length xs → (front : List X) × ((last : X) × (xs ≡ front ++ last ∷ []))
+last_of [] some = absurd (omega arith)
+last_of (x ∷ []) some = ([], (x, refl))
+last_of (x ∷ (y ∷ ys)) some =
+    let r = last_of (y ∷ ys) (omega arith) in
+    (x ∷ r.0, (r.1.0, ap (λ l. x ∷ l) r.1.1))
+
+-- the last row of spans
+abbrev row_at : ℕ → ℕ → Formatting → Row
+row_at start size format = record { start = start; end = start + size; format = format }
+
+same_rows : (a b : Row) → a.start ≡ b.start → a.end ≡ b.end → a.format ≡ b.format → a ≡ b
+same_rows a b start end format = λ i. record { start = start i; end = end i; format = format i }
+
+last_row : (front : List Span) (last : Span) (text : List ℕ) (rows : List Row) → IsLayout (front ++ last ∷ []) text rows → rows ≡ rows_from 0 front ++ row_at (length (joined front)) (length last.text) last.format ∷ []
+last_row front last text rows l = l.end_to_end ∙ rows_from-push 0 front last (length (joined front)) (omega arith)
+
+count_row : (front : List Span) (last : Span) (text : List ℕ) (rows : List Row) (count : ℕ) → IsLayout (front ++ last ∷ []) text rows → count ≡ length rows → length (rows_from 0 front) ≡ count - 1
+count_row front last text rows count l counted =
+    let row : Row = row_at (length (joined front)) (length last.text) last.format in
+    omega (arith, ap length (last_row front last text rows l), length_push (rows_from 0 front) row)
+
+read_row : (front : List Span) (last : Span) (text : List ℕ) (rows : List Row) (count : ℕ) (d : Row) → IsLayout (front ++ last ∷ []) text rows → count ≡ length rows → get_or rows (count - 1) d ≡ row_at (length (joined front)) (length last.text) last.format
+read_row front last text rows count d l counted =
+    let row : Row = row_at (length (joined front)) (length last.text) last.format in
+    ap (λ r. get_or r (count - 1) d) (last_row front last text rows l)
+    ∙ get_or_push (rows_from 0 front) row d (count - 1) (count_row front last text rows count l counted)
+
+-- the last row is lengthened
+pub draft_longer : (shown : List Shown) (spans : List Span) (text text' : List ℕ) (rows : List Row) (count : ℕ) (was kept now : Row) (s : Shown) → Cuts shown spans → IsLayout spans text rows → count ≡ length rows → 0 < count → was ≡ get_or rows (count - 1) was → kept ≡ get_or rows (count - 1) kept → was.format ≡ s.format → text' ≡ text ++ encode_utf8 s.character → now.start ≡ kept.start → now.end ≡ length text' → now.format ≡ kept.format → IsDraft (shown ++ s ∷ []) text' (set rows (count - 1) now)
+draft_longer shown spans text text' rows count was kept now s cut layout counted some reads reads' same grown start end format =
+    let split = last_of spans (omega (arith, length-rows_from 0 spans, ap length layout.end_to_end)) in
+    let front : List Span = split.0 in
+    let last : Span = split.1.0 in
+    let bytes : List ℕ = encode_utf8 s.character in
+    let layout' : IsLayout (front ++ last ∷ []) text rows = subst (λ z. IsLayout z text rows) split.1.1 layout in
+    let read = reads ∙ read_row front last text rows count was layout' counted in
+    let read' = reads' ∙ read_row front last text rows count kept layout' counted in
+    let more : Span = record { text = last.text ++ bytes; format = last.format } in
+    let whole : text' ≡ joined front ++ (last.text ++ bytes) =
+    grown ∙ ap (λ t. t ++ bytes) (layout'.whole ∙ joined-push front last) ∙ append_assoc (joined front) last.text bytes in
+    let row : Row = row_at (length (joined front)) (length last.text) last.format in
+    let longer : Row = row_at (length (joined front)) (length (last.text ++ bytes)) last.format in
+    let is_row : now ≡ longer =
+    same_rows now longer (start ∙ ap (λ r. r.start) read') (end ∙ ap length whole ∙ length-append (joined front) (last.text ++ bytes)) (format ∙ ap (λ r. r.format) read') in
+    record {
+      spans = front ++ more ∷ [];
+      cut = cuts_longer shown front last more s (subst (λ z. Cuts shown z) split.1.1 cut) (sym (ap (λ r. r.format) read) ∙ same) refl refl;
+      layout = record {
+        whole = whole ∙ sym (joined-push front more);
+        end_to_end =
+            ap (λ r. set r (count - 1) now) (last_row front last text rows layout')
+            ∙ set_at (rows_from 0 front) row [] now (count - 1) (count_row front last text rows count layout' counted)
+            ∙ ap (λ r. rows_from 0 front ++ r ∷ []) is_row ∙ sym (rows_from-push 0 front more (length (joined front)) (omega arith));
+      };
+    }
+
+-- the last row has another format
+pub other_last : (rows : List Row) (count : ℕ) (was : Row) (f : Formatting) → count ≡ length rows → was ≡ get_or rows (count - 1) was → (was.format ≡ f → ⊥) → (d : Row) → 0 < length rows → (get_or rows (length rows - 1) d).format ≡ f → ⊥
+other_last rows count was f counted reads other d some same =
+    let place : count - 1 ≡ length rows - 1 = ap (λ n. n - 1) counted in
+    other (ap (λ r. r.format) (reads ∙ ap (λ n. get_or rows n was) place ∙ get_or_default rows (length rows - 1) was d (omega arith)) ∙ same)
+
+-- a row is added
+pub draft_fresh : (shown : List Shown) (spans : List Span) (text text' : List ℕ) (rows : List Row) (now : Row) (s : Shown) → Cuts shown spans → IsLayout spans text rows → ((d : Row) → 0 < length rows → (get_or rows (length rows - 1) d).format ≡ s.format → ⊥) → text' ≡ text ++ encode_utf8 s.character → now.start ≡ length text → now.end ≡ length text' → now.format ≡ s.format → IsDraft (shown ++ s ∷ []) text' (rows ++ now ∷ [])
+draft_fresh shown spans text text' rows now s cut layout other grown start end format =
+    let bytes : List ℕ = encode_utf8 s.character in
+    let fresh : Span = record { text = bytes; format = s.format } in
+    let row : Row = row_at (length text) (length bytes) s.format in
+    let is_row : now ≡ row = same_rows now row start (end ∙ ap length grown ∙ length-append text bytes) format in
+    record {
+      spans = spans ++ fresh ∷ [];
+      cut =
+          cuts_fresh shown spans s fresh cut
+          (λ front last e same.
+          let layout' : IsLayout (front ++ last ∷ []) text rows = subst (λ z. IsLayout z text rows) e layout in
+          let row' : Row = row_at (length (joined front)) (length last.text) last.format in
+          other row' (omega (arith, ap length (last_row front last text rows layout'), length_push (rows_from 0 front) row'))
+          (ap (λ r. r.format) (read_row front last text rows (length rows) row' layout' refl) ∙ same))
+          refl refl;
+      layout = record {
+        whole = grown ∙ ap (λ t. t ++ bytes) layout.whole ∙ sym (joined-push spans fresh);
+        end_to_end =
+            ap (λ r. r ++ now ∷ []) layout.end_to_end ∙ ap (λ r. rows_from 0 spans ++ r ∷ []) is_row
+            ∙ sym (rows_from-push 0 spans fresh (length text) (let size : length text ≡ length (joined spans) = ap length layout.whole in omega arith));
+      };
+    }

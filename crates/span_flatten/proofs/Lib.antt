@@ -1,0 +1,6 @@
+pub mod Cutting
+pub mod Laying
+pub mod Showing
+pub mod Drafting
+pub mod Taking
+pub mod OneVersion

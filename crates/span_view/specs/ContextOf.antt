@@ -1,0 +1,34 @@
+-- What a program may learn of a span beside its text.
+use Rattle.std.specs.Prelude.{ℕ, ◌+◌, Bool, List, length, chars, is_some, unwrap_or, nat_lt, if◌then◌else◌}
+use Rattle.std.specs.Option.{option_map_or}
+use Rattle.bpf_words.specs.declared.context.Facts.{Facts}
+use Rattle.bpf_words.specs.Context.{context_bytes}
+use Rattle.mark_anchors.specs.Formatting.{Formatting}
+use Rattle.span_view.specs.Views.{LentSpan}
+
+-- a flag is its bit where the fact holds, else 0
+abbrev pub flag : Bool → ℕ → ℕ
+flag holds bit = if holds then bit else 0
+
+-- 1 strong, 2 em, 4 a link, 8 a color, 16 at least one comment
+abbrev pub flags_of : Formatting → ℕ
+flags_of format =
+    flag format.strong 1 + flag format.em 2 + flag (is_some format.link) 4 + flag (is_some format.color) 8
+    + flag (nat_lt 0 (length format.comments)) 16
+
+-- lengths are in bytes; a color or a link that is not there counts as 0
+abbrev pub facts_of : LentSpan → Facts
+facts_of span = record {
+  text_len = length span.text;
+  characters = length (chars span.text);
+  flags = flags_of span.format;
+  color = unwrap_or span.format.color 0;
+  link_len = option_map_or (λ target. length target) span.format.link 0;
+  comments = length span.format.comments;
+  index = span.index;
+  count = span.count;
+  version = span.version;
+}
+
+abbrev pub context_of : LentSpan → List ℕ
+context_of span = context_bytes (facts_of span)

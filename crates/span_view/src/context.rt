@@ -1,0 +1,101 @@
+ghost use Rattle.std.specs.Prelude.{◌≡◌, ◌≤◌, chars, length, unwrap_or};
+ghost use Rattle.std.specs.Option.{option_map_or};
+ghost use Rattle.bpf_words.specs.Context.{Fits};
+ghost use Rattle.span_view.specs.ContextOf.{flag, flags_of, facts_of, context_of};
+
+use crate::view::SpanView;
+use bpf_words::context::{Context, Facts};
+use mark_anchors::format::Format;
+
+/// The flags of a context.
+const STRONG: u32 = 1;
+
+const EM: u32 = 2;
+
+const LINK: u32 = 4;
+
+const COLOR: u32 = 8;
+
+const COMMENT: u32 = 16;
+
+fn flag(holds: bool, bit: u32) -> u32
+    ensures { result ≡ flag holds bit }
+{
+    if holds { bit } else { 0 }
+}
+
+fn flags(format: &Format) -> u32
+    ensures { result ≡ flags_of format.now }
+{
+    flag(format.strong(), STRONG)
+        + flag(format.em(), EM)
+        + flag(format.link().is_some(), LINK)
+        + flag(format.color().is_some(), COLOR)
+        + flag(!format.comments().is_empty(), COMMENT)
+}
+
+fn character_count(text: &str) -> u32
+    requires { length text.now ≤ 131072 }
+    ensures { result ≡ length (chars text.now) }
+{
+    text.chars().count() as u32
+}
+
+fn link_length(format: &Format) -> u32
+    ensures { result ≡ option_map_or (λ target. length target) format.now.link 0 }
+{
+    match format.link() {
+        Some(link) => link.target().len() as u32,
+        None => 0,
+    }
+}
+
+fn color_number(format: &Format) -> u32
+    ensures { result ≡ unwrap_or format.now.color 0 }
+{
+    match format.color() {
+        Some(color) => color.rgb(),
+        None => 0,
+    }
+}
+
+/// The numbers of comments rise, are not 0 and have 32 bits, so their count has no more.
+fn comment_count(format: &Format) -> u32
+    ensures { result ≡ length format.now.comments }
+{
+    let comments = format.comments();
+    let count = comments.len();
+    if count == 0 {
+        return 0;
+    }
+    let first = comments[0].number();
+    let last = comments[count - 1].number();
+    prove!(count - 1 <= (last - first) as usize);
+    count as u32
+}
+
+fn facts(span: &SpanView) -> Facts
+    ensures value { result ≡ facts_of span.now }
+    ensures short { result.text_len ≤ 131072 }
+{
+    let format = span.format;
+    Facts {
+        text_len: span.text.len() as u32,
+        characters: character_count(span.text),
+        flags: flags(format),
+        color: color_number(format),
+        link_len: link_length(format),
+        comments: comment_count(format),
+        index: span.index as u32,
+        count: span.count as u32,
+        version: span.version,
+    }
+}
+
+/// The context that a program reads of the span.
+pub fn context(span: &SpanView) -> Context
+    ensures value { result ≡ context_of span.now }
+    ensures fits { Fits result span.now.text }
+{
+    Context::new(&facts(span))
+}

@@ -1,0 +1,68 @@
+ghost use Rattle.std.specs.Prelude.{◌≡◌};
+ghost use Rattle.std.specs.Iterator.{YieldsFirst, YieldsLast, item_count};
+
+use crate::view::{SpanView, view};
+use span_flatten::version::Version;
+use std::iter::FusedIterator;
+use std::marker::Model;
+
+/// The spans of a version that are left, seen as their list.
+#[derive(Debug, Drop)]
+pub struct Spans<'a> {
+    pub(crate) version: &'a Version,
+    pub(crate) front: usize,
+    pub(crate) back: usize,
+}
+
+impl<'a> Model for Spans<'a> {
+    ghost use Rattle.std.specs.Prelude.{List, slice_range, length, ◌≤◌};
+    ghost use Rattle.span_view.specs.Views.{LentSpan, views};
+
+    ghost Value = { List LentSpan };
+
+    ghost view = { λ s. slice_range (views s.version.now) s.front s.back };
+
+    ghost invariant = { λ s. (s.front ≤ s.back) × (s.back ≤ length s.version.now.rows) };
+}
+
+impl<'a> Iterator for Spans<'a> {
+    type Item = SpanView<'a>;
+
+    ghost next_gives = { YieldsFirst (λ rest. rest) };
+
+    ghost remaining = { item_count (λ rest. rest) };
+
+    fn next(&mut self) -> Option<SpanView<'a>> {
+        if self.front == self.back {
+            return None;
+        }
+        let span = view(self.version, self.front);
+        self.front += 1;
+        span
+    }
+
+    fn size_hint(&self) -> (usize, Option<usize>) {
+        let count = self.len();
+        (count, Some(count))
+    }
+}
+
+impl<'a> DoubleEndedIterator for Spans<'a> {
+    ghost next_back_gives = { YieldsLast (λ rest. rest) };
+
+    fn next_back(&mut self) -> Option<SpanView<'a>> {
+        if self.front == self.back {
+            return None;
+        }
+        self.back -= 1;
+        view(self.version, self.back)
+    }
+}
+
+impl<'a> ExactSizeIterator for Spans<'a> {
+    fn len(&self) -> usize {
+        self.back - self.front
+    }
+}
+
+impl<'a> FusedIterator for Spans<'a> {}
