@@ -55,9 +55,13 @@ impl io::Write for FailingWriter {
 }
 
 /// The command lines and inputs that the devices are tried with.
-static LINES: [(&str, &str, u8); 2] = [
+static LINES: [(&str, &str, u8); 6] = [
     ("hub run b7000000010000009500000000000000", "text", 0),
     ("hub run 9500000000000000", "", 1),
+    ("hub asm", "mov r0, 1\nexit\n", 0),
+    ("hub dis", "b7000000010000009500000000000000\n", 0),
+    ("hub spans", "change 1 1\ni 1@1 - 61\n", 0),
+    ("hub spans", "change 1 1\ni 1@1 - d800\n", 1),
 ];
 
 /// The status where the reader fails after so many reads, and whether it came to that.

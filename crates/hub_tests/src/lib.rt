@@ -6,6 +6,8 @@ mod answers;
 #[cfg(test)]
 mod asm_rows;
 #[cfg(test)]
+mod compiled;
+#[cfg(test)]
 mod devices;
 #[cfg(test)]
 mod pictures;
