@@ -105,9 +105,9 @@ pub fits_more : (lines : List (List ℕ)) (i slot more : ℕ) (line : List ℕ) 
 fits_more lines i slot more line lt here fits le = omega (arith, ap length here, sum_by_more length lines i [] lt)
 
 pub labels_more_at : (lines : List (List ℕ)) (i slot : ℕ) (old new : Table) (word : List ℕ) → i < length lines → slot ≡ place lines i → label_of (get_or lines i []) ≡ Some word
-    → HoldsLabels lines i old → Defines old new word (record { line = i; slot = slot }) → HoldsLabels lines (i + 1) new
+    → HoldsLabels lines i old → Defines old new word (record { index = i; slot = slot }) → HoldsLabels lines (i + 1) new
 labels_more_at lines i slot old new word lt placed some h defines =
-    labels_more lines i old new word lt some h (subst (λ (s : ℕ). Defines old new word (record { line = i; slot = s })) placed defines)
+    labels_more lines i old new word lt some h (subst (λ (s : ℕ). Defines old new word (record { index = i; slot = s })) placed defines)
 
 pub labels_all : (lines : List (List ℕ)) (i : ℕ) (labels : Table) → length lines ≤ i → HoldsLabels lines i labels → HoldsAll lines labels
 labels_all lines i labels le h name = h name ∙ ap (λ (ls : List (List ℕ)). option_map (defined_at lines) (definition ls name)) (take_all i lines le)

@@ -4,8 +4,8 @@ use Rattle.std.proofs.lemmas.List.{length-take, take-append-drop}
 use Rattle.std.proofs.lemmas.Bool.Decides.{eqb_tells}
 use Rattle.assembler.specs.declared.token.Sign.{Sign}
 use Rattle.assembler.specs.declared.token.Sign.TheVariants.{Comma, Open, Close, Plus, Minus, Colon}
-use Rattle.assembler.specs.Tokens.{Lexeme, Mark, Word, is_word_byte, is_blank, sign_of, sign_or_stray, begins_word, before_rest, tokens_of}
-use Rattle.assembler.specs.Pieces.{AreWordBytes, Piece, Space, Sig, Text, byte_of, spell, lexemes, BeginsApart, WellLaid}
+use Rattle.assembler.specs.Tokens.{Lexeme, Mark, Word, is_word_byte, is_blank, byte_of, sign_of, sign_or_stray, begins_word, before_rest, tokens_of}
+use Rattle.assembler.specs.Pieces.{AreWordBytes, Piece, Space, Sig, Text, spell, lexemes, BeginsApart, WellLaid}
 
 no_comment : (b : ℕ) → is_word_byte b ≡ true → eqb b 59 ≡ false
 unfolding is_word_byte

@@ -3,6 +3,7 @@ pub mod Naming
 pub mod Digits
 pub mod Listing
 pub mod Lengths
+pub mod Writing
 pub mod Labelling
 pub mod Resolving
 pub mod Assembling

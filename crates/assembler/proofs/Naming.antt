@@ -1,5 +1,5 @@
 -- The table of mnemonics, read both ways.
-use Rattle.std.proofs.Common.{◌≡◌, Some, refl}
+use Rattle.std.proofs.Common.{◌≡◌, ℕ, List, Some, refl, ap, ◌∙◌}
 use Rattle.bpf_words.specs.declared.instruction.Width.TheVariants.{Narrow, Full}
 use Rattle.bpf_words.specs.declared.instruction.Arithmetic.TheVariants.{Add, Sub, Mul, Div, Or, And, Lsh, Rsh, Mod, Xor, Mov, Arsh, SignedDiv, SignedMod}
 use Rattle.bpf_words.specs.declared.instruction.Extension.TheVariants.{FromByte, FromHalf, FromWord, NarrowFromByte, NarrowFromHalf}
@@ -100,3 +100,6 @@ form_again (StoreRegister Word) = refl
 form_again (StoreRegister Double) = refl
 form_again LoadWide = refl
 form_again Exit = refl
+
+pub named_again : (form : Form) (name : List ℕ) → name ≡ name_of form → form_named name ≡ Some form
+named_again form name same = ap form_named same ∙ form_again form

@@ -21,7 +21,7 @@ abbrev pub held : Table → List ℕ → Option Definition
 held labels name = get_by (λ key. slice_cmp nat_cmp name key.now) labels
 
 abbrev pub defined_at : List (List ℕ) → ℕ → Definition
-defined_at lines k = record { line = k; slot = place lines k }
+defined_at lines k = record { index = k; slot = place lines k }
 
 -- a table of the labels of the first lines: at each name, the line that defines it and its place
 abbrev pub HoldsLabels : List (List ℕ) → ℕ → Table → Type 0
@@ -44,7 +44,7 @@ onto_held jump here (Some defined) = do
 
 abbrev pub label_held : ℕ → Option Definition → Judged (Option Insn)
 label_held k None = Ok None
-label_held k (Some defined) = if nat_lt defined.line k then Err LabelTwice else Ok None
+label_held k (Some defined) = if nat_lt defined.index k then Err LabelTwice else Ok None
 
 abbrev pub resolved_held : Table → ℕ → ℕ → Statement → Judged (Option Insn)
 resolved_held labels k here Blank = Ok None

@@ -3,6 +3,7 @@ pub mod Pieces
 pub mod Terms
 pub mod Mnemonics
 pub mod Shapes
+pub mod Grammar
 pub mod Statements
 pub mod Places
 pub mod Text

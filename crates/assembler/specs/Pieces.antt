@@ -1,8 +1,7 @@
 -- How a canonical line is laid out: words, signs, and single spaces.
 use Rattle.std.specs.Prelude.{◌≡◌, ℕ, true, List, [], ◌∷◌, ◌++◌}
 use Rattle.assembler.specs.declared.token.Sign.{Sign}
-use Rattle.assembler.specs.declared.token.Sign.TheVariants.{Comma, Open, Close, Plus, Minus, Colon}
-use Rattle.assembler.specs.Tokens.{Lexeme, Mark, Word, is_word_byte}
+use Rattle.assembler.specs.Tokens.{Lexeme, Mark, Word, byte_of, is_word_byte}
 
 -- a word of word bytes alone
 abbrev pub AreWordBytes : List ℕ → Type 0
@@ -13,14 +12,6 @@ pub data Piece : Type 0 where
   Space : Piece
   Sig : Sign → Piece
   Text : List ℕ → Piece
-
-abbrev pub byte_of : Sign → ℕ
-byte_of Comma = 44
-byte_of Open = 91
-byte_of Close = 93
-byte_of Plus = 43
-byte_of Minus = 45
-byte_of Colon = 58
 
 abbrev pub spell : List Piece → List ℕ
 spell [] = []

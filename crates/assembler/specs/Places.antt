@@ -1,11 +1,13 @@
 -- Where the lines and labels of a text stand, and what each line of it is.
-use Rattle.std.specs.Prelude.{ℕ, suc, ◌+◌, nat_lt, ◌==◌, if◌then◌else◌, Bool, true, false, List, [], ◌∷◌, take, slice_index_or, sum_by, Option, Some, None, Ok, Err, ℤ, pos, negsuc, ◌-ℤ◌, option_map, codes}
+use Rattle.std.specs.Prelude.{ℕ, suc, ◌+◌, nat_lt, ◌==◌, if◌then◌else◌, Bool, true, false, List, [], ◌∷◌, take, slice_index_or, sum_by, Option, Some, None, Ok, Err, ℤ, pos, negsuc, ◌-ℤ◌, option_map}
 use Rattle.std.specs.List.{slice_split, list_any}
 use Rattle.std.specs.Str.{bytes_eq}
 use Rattle.bpf_words.specs.declared.instruction.Insn.{Insn}
 use Rattle.assembler.specs.declared.token.Sign.TheVariants.{Colon}
 use Rattle.assembler.specs.declared.fault.LineFault.TheVariants.{UnknownLabel, LabelTwice, JumpRange}
 use Rattle.assembler.specs.declared.statement.Jump.{Jump}
+use Rattle.assembler.specs.declared.form.Form.TheVariants.{LoadWide}
+use Rattle.assembler.specs.Mnemonics.{name_of}
 use Rattle.assembler.specs.Tokens.{Lexeme, Mark, Word, Stray, tokens_of}
 use Rattle.assembler.specs.Statements.{Statement, Blank, Label, Plain, Onto, Judged, reach, jump_by, reading_of, ◌>>=◌}
 
@@ -18,10 +20,10 @@ begins_colon (Mark Colon ∷ tokens) = true
 begins_colon tokens = false
 
 -- the slots that a line takes, right or at fault: none where it is blank or `:` follows its first word, two where that
--- word is `lddw`, else one
+-- word is the mnemonic of a wide load, else one
 abbrev pub slots_of : List Lexeme → ℕ
 slots_of [] = 0
-slots_of (Word word ∷ tokens) = if begins_colon tokens then 0 else if bytes_eq word (codes "lddw") then 2 else 1
+slots_of (Word word ∷ tokens) = if begins_colon tokens then 0 else if bytes_eq word (name_of LoadWide) then 2 else 1
 slots_of (Mark sign ∷ tokens) = 1
 slots_of (Stray ∷ tokens) = 1
 

@@ -1,6 +1,7 @@
 -- Assembler text is a form of this project, for the instructions of RFC 9669, sections 3 to 5. Here: the tokens of a line,
 -- from its end backwards: a word byte joins the word behind it.
 use Rattle.std.specs.Prelude.{ℕ, nat_lt, ◌==◌, ◌&&◌, ◌||◌, not, if◌then◌else◌, Bool, false, List, [], ◌∷◌, Option, Some, None}
+use Rattle.std.specs.List.{find}
 use Rattle.assembler.specs.declared.token.Sign.{Sign}
 use Rattle.assembler.specs.declared.token.Sign.TheVariants.{Comma, Open, Close, Plus, Minus, Colon}
 
@@ -21,10 +22,21 @@ is_word_byte b = is_between 48 57 b || is_between 65 90 b || is_between 97 122 b
 unfoldable pub is_blank : ℕ → Bool
 is_blank b = b == 32 || b == 9 || b == 13
 
+-- the byte of each sign
+abbrev pub byte_of : Sign → ℕ
+byte_of Comma = 44
+byte_of Open = 91
+byte_of Close = 93
+byte_of Plus = 43
+byte_of Minus = 45
+byte_of Colon = 58
+
+abbrev pub signs : List Sign
+signs = Comma ∷ Open ∷ Close ∷ Plus ∷ Minus ∷ Colon ∷ []
+
+-- the sign that a byte is: the table, read the other way
 unfoldable pub sign_of : ℕ → Option Sign
-sign_of b =
-    if b == 44 then Some Comma else if b == 91 then Some Open else if b == 93 then Some Close else
-    if b == 43 then Some Plus else if b == 45 then Some Minus else if b == 58 then Some Colon else None
+sign_of b = find (λ sign. b == byte_of sign) signs
 
 -- a byte before a token that begins right behind it
 abbrev pub glued : ℕ → List Lexeme → List Lexeme

@@ -51,7 +51,7 @@ fn at_label<'a>(
     ensures { result ≡ label_held index (held labels.now name.now) }
 {
     match labels.get(&name) {
-        Some(definition) if definition.line < index => Err(LineFault::LabelTwice),
+        Some(definition) if definition.index < index => Err(LineFault::LabelTwice),
         _ => Ok(None),
     }
 }
@@ -115,16 +115,12 @@ fn assembled<'a>(
     let mut bytes = Vec::new(alloc);
     let mut slot = 0;
     for index in 0..lines.len() {
+        let line = index + 1;
         let insn = match instruction_at(lines, labels, index, slot) {
             Ok(insn) => insn,
-            Err(fault) => {
-                let line = index + 1;
-                return Err(AsmError::Line { line, fault });
-            }
+            Err(fault) => return Err(AsmError::Line { line, fault }),
         };
-        if append(&mut bytes, insn).is_err() {
-            return Err(AsmError::OutOfMemory);
-        }
+        append(&mut bytes, insn)?;
         slot += slots(lines[index]);
     }
     Ok(bytes)
@@ -136,11 +132,7 @@ pub fn assemble(alloc: Global, source: &str) -> Result<Vec<u8>, AsmError>
     ensures text { IfOk result (λ bytes. AsmText source.now bytes.items) }
     ensures fault { IfErr result (AsmFault source.now) }
 {
-    let Ok(lines) = lines(alloc, source) else {
-        return Err(AsmError::OutOfMemory);
-    };
-    let Ok(labels) = labels(alloc, &lines) else {
-        return Err(AsmError::OutOfMemory);
-    };
+    let lines = lines(alloc, source)?;
+    let labels = labels(alloc, &lines)?;
     assembled(alloc, &lines, &labels)
 }

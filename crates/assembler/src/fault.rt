@@ -1,18 +1,28 @@
+ghost use Rattle.std.specs.Prelude.{◌≡◌};
+ghost use Rattle.assembler.specs.declared.fault.AsmError.TheVariants.{OutOfMemory};
+
+use std::alloc::AllocError;
 use thiserror::Error;
 
 /// Why a line isn't assembler text.
 #[derive(Clone, Copy, Debug, PartialEq, Eq, Error)]
 pub enum LineFault {
+    /// A character or number that is no token, or tokens that have not the shape of a line.
     #[error("30 Syntax")]
     Syntax,
+    /// A first word that is no mnemonic, or a name that is no register's where a register is asked for.
     #[error("31 UnknownName")]
     UnknownName,
+    /// An immediate, an offset or a wide load's number out of its range.
     #[error("32 NumberRange")]
     NumberRange,
+    /// A jump to a label that no line defines.
     #[error("33 UnknownLabel")]
     UnknownLabel,
+    /// A label that an earlier line defines.
     #[error("34 LabelTwice")]
     LabelTwice,
+    /// A distance that is more than the jump reaches.
     #[error("35 JumpRange")]
     JumpRange,
 }
@@ -20,8 +30,18 @@ pub enum LineFault {
 /// Why a text isn't assembled: its first line at fault, counted from 1, or want of memory.
 #[derive(Clone, Copy, Debug, PartialEq, Eq, Error)]
 pub enum AsmError {
+    /// The first line at fault, counted from 1, and its first fault.
     #[error("{fault} line {line}")]
     Line { line: usize, fault: LineFault },
+    /// An allocation was refused.
     #[error("36 OutOfMemory")]
     OutOfMemory,
+}
+
+impl From<AllocError> for AsmError {
+    ghost from_gives = { λ _ e. e ≡ OutOfMemory };
+
+    fn from(_e: AllocError) -> AsmError {
+        AsmError::OutOfMemory
+    }
 }

@@ -3,6 +3,8 @@ ghost use Rattle.assembler.specs.Lending.{bytes_seen, lines_seen};
 ghost use Rattle.assembler.specs.Labels.{Defines, HoldsAll};
 ghost use Rattle.assembler.specs.Places.{slots, label_of};
 
+use crate::form::Form;
+use crate::mnemonics::mnemonic;
 use crate::reading::reading;
 use crate::scanner::next;
 use crate::statement::Statement;
@@ -10,19 +12,19 @@ use crate::token::{Next, Sign, Token};
 use std::alloc::{AllocError, Global};
 use std::collections::BTreeMap;
 
-/// The line that defines a label, and the slot that the label stands for.
+/// The line that defines a label, by its index, and the slot that the label stands for.
 #[derive(Clone, Copy, Debug, PartialEq, Eq)]
-pub struct Definition {
-    pub line: usize,
-    pub slot: usize,
+pub(crate) struct Definition {
+    pub(crate) index: usize,
+    pub(crate) slot: usize,
 }
 
 /// Labels by their names.
-pub type Labels<'a> = BTreeMap<&'a [u8], Definition>;
+pub(crate) type Labels<'a> = BTreeMap<&'a [u8], Definition>;
 
 /// The slots that a line takes, right or at fault.
-#[tactic(auto, unfolding(crate::specs::Places::slots))]
-pub fn slots(line: &[u8]) -> usize
+#[tactic(auto, unfolding(crate::specs::Places::slots, crate::specs::Mnemonics::name_of))]
+pub(crate) fn slots(line: &[u8]) -> usize
     ensures value { result ≡ slots line.now }
     ensures bound { result ≤ length line.now }
 {
@@ -35,7 +37,11 @@ pub fn slots(line: &[u8]) -> usize
     if let Next::Found(Token::Mark(Sign::Colon), _) = next(behind) {
         return 0;
     }
-    if word == "lddw".as_bytes() { 2 } else { 1 }
+    if word == mnemonic(Form::LoadWide).as_bytes() {
+        2
+    } else {
+        1
+    }
 }
 
 /// The name of a line that is a label.
@@ -64,7 +70,7 @@ fn define<'a>(
 }
 
 /// The labels of a text's lines, each by the first line that has it.
-pub fn labels<'a>(alloc: Global, lines: &[&'a [u8]]) -> Result<Labels<'a>, AllocError>
+pub(crate) fn labels<'a>(alloc: Global, lines: &[&'a [u8]]) -> Result<Labels<'a>, AllocError>
     requires { sum_by length (lines_seen lines.now) < 2 ^ 64 }
     ensures { IfOk result (HoldsAll (lines_seen lines.now)) }
 {
@@ -72,7 +78,7 @@ pub fn labels<'a>(alloc: Global, lines: &[&'a [u8]]) -> Result<Labels<'a>, Alloc
     let mut slot = 0;
     for (index, line) in lines.iter().enumerate() {
         if let Some(name) = label(line) {
-            define(&mut labels, name, Definition { line: index, slot })?;
+            define(&mut labels, name, Definition { index, slot })?;
         }
         slot += slots(line);
     }

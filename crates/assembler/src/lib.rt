@@ -5,12 +5,13 @@
 pub mod assembly;
 pub mod fault;
 pub mod form;
+pub mod grammar;
 mod labels;
 pub mod mnemonics;
 mod reading;
 mod scanner;
 mod shapes;
-pub mod statement;
+mod statement;
 #[cfg(test)]
 mod tests;
 pub mod token;

@@ -1,4 +1,4 @@
-ghost use Rattle.std.specs.Prelude.{◌≡◌};
+ghost use Rattle.std.specs.Prelude.{◌≡◌, Some};
 ghost use Rattle.assembler.specs.declared.form.Form.TheVariants as Form;
 ghost use Rattle.assembler.specs.Mnemonics.{name_of, form_named};
 
@@ -96,8 +96,8 @@ const FORMS: [Form; 85] = [
     Form::Exit,
 ];
 
-#[tactic(auto, unfolding(crate::specs::Mnemonics::name_of))]
 /// The mnemonic of an operation.
+#[tactic(auto, unfolding(crate::specs::Mnemonics::name_of))]
 fn arithmetic_name(width: Width, operation: Arithmetic) -> &'static str
     ensures { result.now ≡ name_of (Form.Compute width operation) }
 {
@@ -133,8 +133,8 @@ fn arithmetic_name(width: Width, operation: Arithmetic) -> &'static str
     }
 }
 
-#[tactic(auto, unfolding(crate::specs::Mnemonics::name_of))]
 /// The mnemonic of a jump on a comparison.
+#[tactic(auto, unfolding(crate::specs::Mnemonics::name_of))]
 fn branch_name(width: Width, comparison: Comparison) -> &'static str
     ensures { result.now ≡ name_of (Form.Branch width comparison) }
 {
@@ -164,8 +164,8 @@ fn branch_name(width: Width, comparison: Comparison) -> &'static str
     }
 }
 
-#[tactic(auto, unfolding(crate::specs::Mnemonics::name_of))]
 /// The mnemonic of a conversion of the order of bytes.
+#[tactic(auto, unfolding(crate::specs::Mnemonics::name_of))]
 fn conversion_name(conversion: Conversion, bits: ConvertedBits) -> &'static str
     ensures { result.now ≡ name_of (Form.Convert conversion bits) }
 {
@@ -182,8 +182,8 @@ fn conversion_name(conversion: Conversion, bits: ConvertedBits) -> &'static str
     }
 }
 
-#[tactic(auto, unfolding(crate::specs::Mnemonics::name_of))]
 /// The mnemonic of a sign-extending move.
+#[tactic(auto, unfolding(crate::specs::Mnemonics::name_of))]
 fn extension_name(extension: Extension) -> &'static str
     ensures { result.now ≡ name_of (Form.Extend extension) }
 {
@@ -196,8 +196,8 @@ fn extension_name(extension: Extension) -> &'static str
     }
 }
 
-#[tactic(auto, unfolding(crate::specs::Mnemonics::name_of))]
 /// The mnemonic of a load.
+#[tactic(auto, unfolding(crate::specs::Mnemonics::name_of))]
 fn load_name(size: Size) -> &'static str
     ensures { result.now ≡ name_of (Form.Load size) }
 {
@@ -209,8 +209,8 @@ fn load_name(size: Size) -> &'static str
     }
 }
 
-#[tactic(auto, unfolding(crate::specs::Mnemonics::name_of))]
 /// The mnemonic of a sign-extending load.
+#[tactic(auto, unfolding(crate::specs::Mnemonics::name_of))]
 fn signed_load_name(size: SignedSize) -> &'static str
     ensures { result.now ≡ name_of (Form.LoadSigned size) }
 {
@@ -221,8 +221,8 @@ fn signed_load_name(size: SignedSize) -> &'static str
     }
 }
 
-#[tactic(auto, unfolding(crate::specs::Mnemonics::name_of))]
 /// The mnemonic of a store of an immediate.
+#[tactic(auto, unfolding(crate::specs::Mnemonics::name_of))]
 fn immediate_store_name(size: Size) -> &'static str
     ensures { result.now ≡ name_of (Form.StoreImmediate size) }
 {
@@ -234,8 +234,8 @@ fn immediate_store_name(size: Size) -> &'static str
     }
 }
 
-#[tactic(auto, unfolding(crate::specs::Mnemonics::name_of))]
 /// The mnemonic of a store of a register.
+#[tactic(auto, unfolding(crate::specs::Mnemonics::name_of))]
 fn register_store_name(size: Size) -> &'static str
     ensures { result.now ≡ name_of (Form.StoreRegister size) }
 {
@@ -247,9 +247,9 @@ fn register_store_name(size: Size) -> &'static str
     }
 }
 
+/// The name of a form.
 #[tactic(auto, unfolding(crate::specs::Mnemonics::name_of))]
-/// The mnemonic of a form.
-pub fn mnemonic(form: Form) -> &'static str
+fn name(form: Form) -> &'static str
     ensures { result.now ≡ name_of form }
 {
     match form {
@@ -270,13 +270,21 @@ pub fn mnemonic(form: Form) -> &'static str
     }
 }
 
+/// The mnemonic of a form, which names that form and no other.
+pub fn mnemonic(form: Form) -> &'static str
+    ensures value { result.now ≡ name_of form }
+    ensures reads_back { form_named result.now ≡ Some form }
+{
+    name(form)
+}
+
 /// The form that a mnemonic names.
 #[tactic(auto, unfolding(crate::specs::Mnemonics::form_named, crate::specs::Mnemonics::all_forms))]
-pub fn form_of(word: &[u8]) -> Option<Form>
+pub(crate) fn form_of(word: &[u8]) -> Option<Form>
     ensures { result ≡ form_named word.now }
 {
     FORMS
         .iter()
         .copied()
-        .find(|form| mnemonic(*form).as_bytes() == word)
+        .find(|form| name(*form).as_bytes() == word)
 }

@@ -62,10 +62,8 @@ fn within(limit: u64, number: SignedNumeral) -> Option<i64>
 fn offset(number: SignedNumeral) -> Result<i16, LineFault>
     ensures { result ≡ offset number }
 {
-    match within(1 << 15, number) {
-        Some(value) => Ok(value as i16),
-        None => Err(LineFault::NumberRange),
-    }
+    let value = within(1 << 15, number).ok_or(LineFault::NumberRange)?;
+    Ok(value as i16)
 }
 
 /// 32 bits in hexadecimal, read as a signed number.
@@ -90,10 +88,8 @@ fn immediate(number: SignedNumeral) -> Result<i32, LineFault>
     if number.numeral.hexadecimal {
         return hexadecimal(number.numeral.value).ok_or(LineFault::NumberRange);
     }
-    match within(1 << 31, number) {
-        Some(value) => Ok(value as i32),
-        None => Err(LineFault::NumberRange),
-    }
+    let value = within(1 << 31, number).ok_or(LineFault::NumberRange)?;
+    Ok(value as i32)
 }
 
 #[tactic(auto, unfolding(crate::specs::Statements::operand))]
@@ -107,7 +103,7 @@ fn operand(value: Value<'_>) -> Result<Operand, LineFault>
 }
 
 /// How far a jump reaches: from minus this on, below this.
-pub fn reach(jump: &Jump) -> u64
+pub(crate) fn reach(jump: &Jump) -> u64
     ensures value { result ≡ reach jump.now }
     ensures small { result ≤ 2 ^ 31 }
 {
@@ -119,7 +115,7 @@ pub fn reach(jump: &Jump) -> u64
 
 /// The jump over a distance.
 #[tactic(auto, unfolding(crate::specs::Statements::jump_by))]
-pub fn jump_by(jump: Jump, distance: i64) -> Insn
+pub(crate) fn jump_by(jump: Jump, distance: i64) -> Insn
     requires { IsTrue (is_reached (reach jump) distance) }
     ensures { result ≡ jump_by jump distance }
 {
@@ -151,10 +147,8 @@ fn jump_over(jump: Jump, number: SignedNumeral) -> Result<Insn, LineFault>
     ensures { result ≡ jump_over jump number }
 {
     let limit = reach(&jump);
-    match within(limit, number) {
-        Some(distance) => Ok(jump_by(jump, distance)),
-        None => Err(LineFault::JumpRange),
-    }
+    let distance = within(limit, number).ok_or(LineFault::JumpRange)?;
+    Ok(jump_by(jump, distance))
 }
 
 #[tactic(auto, unfolding(crate::specs::Statements::jump_to))]
@@ -422,7 +416,7 @@ fn statement<'a>(terms: &[Term<'a>]) -> Result<Statement<'a>, LineFault>
 
 /// What a line says, or its own fault.
 #[tactic(auto, unfolding(crate::specs::Statements::reading_of), using(crate::proofs::Lengths::few))]
-pub fn reading(line: &[u8]) -> Result<Statement<'_>, LineFault>
+pub(crate) fn reading(line: &[u8]) -> Result<Statement<'_>, LineFault>
     ensures { judged_seen result ≡ reading_of line.now }
 {
     let found = terms(line).ok_or(LineFault::Syntax)?;

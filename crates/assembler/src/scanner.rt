@@ -90,7 +90,7 @@ fn token_at(line: &[u8]) -> Next<'_>
 }
 
 /// The token at the front of a line.
-pub fn next(line: &[u8]) -> Next<'_>
+pub(crate) fn next(line: &[u8]) -> Next<'_>
     ensures steps { Steps line.now result }
     ensures shorter { IsShorter line.now result }
 {

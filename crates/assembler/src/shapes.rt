@@ -146,7 +146,7 @@ fn address<'t, 'a>(terms: &'t [Term<'a>]) -> Option<(Address<'a>, &'t [Term<'a>]
 
 /// `rD`
 #[tactic(auto, unfolding(crate::specs::Shapes::lone_name))]
-pub fn only_name<'a>(terms: &[Term<'a>]) -> Option<&'a [u8]>
+pub(crate) fn only_name<'a>(terms: &[Term<'a>]) -> Option<&'a [u8]>
     ensures { option_map (bytes_seen) result ≡ lone_name (terms_seen terms.now) }
 {
     let (word, behind) = name(terms)?;
@@ -156,7 +156,7 @@ pub fn only_name<'a>(terms: &[Term<'a>]) -> Option<&'a [u8]>
 
 /// `rD, rS`
 #[tactic(auto, unfolding(crate::specs::Shapes::two_names))]
-pub fn names<'a>(terms: &[Term<'a>]) -> Option<(&'a [u8], &'a [u8])>
+pub(crate) fn names<'a>(terms: &[Term<'a>]) -> Option<(&'a [u8], &'a [u8])>
     ensures { option_map (λ x. (bytes_seen x.0, bytes_seen x.1)) result ≡ two_names (terms_seen terms.now) }
 {
     let (first, behind) = name(terms)?;
@@ -166,7 +166,7 @@ pub fn names<'a>(terms: &[Term<'a>]) -> Option<(&'a [u8], &'a [u8])>
 
 /// `rD, rS` and `rD, N`
 #[tactic(auto, unfolding(crate::specs::Shapes::name_and_value))]
-pub fn name_then_value<'a>(terms: &[Term<'a>]) -> Option<(&'a [u8], Value<'a>)>
+pub(crate) fn name_then_value<'a>(terms: &[Term<'a>]) -> Option<(&'a [u8], Value<'a>)>
     ensures { option_map (λ x. (bytes_seen x.0, value_seen x.1)) result ≡ name_and_value (terms_seen terms.now) }
 {
     let (word, behind) = name(terms)?;
@@ -177,7 +177,7 @@ pub fn name_then_value<'a>(terms: &[Term<'a>]) -> Option<(&'a [u8], Value<'a>)>
 
 /// `rD, N` of a wide load
 #[tactic(auto, unfolding(crate::specs::Shapes::name_and_wide))]
-pub fn name_then_wide<'a>(terms: &[Term<'a>]) -> Option<(&'a [u8], Option<u64>)>
+pub(crate) fn name_then_wide<'a>(terms: &[Term<'a>]) -> Option<(&'a [u8], Option<u64>)>
     ensures { option_map (λ x. (bytes_seen x.0, x.1)) result ≡ name_and_wide (terms_seen terms.now) }
 {
     let (word, behind) = name(terms)?;
@@ -188,7 +188,7 @@ pub fn name_then_wide<'a>(terms: &[Term<'a>]) -> Option<(&'a [u8], Option<u64>)>
 
 /// `rD, [rS+N]`
 #[tactic(auto, unfolding(crate::specs::Shapes::name_and_address))]
-pub fn name_then_address<'a>(terms: &[Term<'a>]) -> Option<(&'a [u8], Address<'a>)>
+pub(crate) fn name_then_address<'a>(terms: &[Term<'a>]) -> Option<(&'a [u8], Address<'a>)>
     ensures { option_map (λ x. (bytes_seen x.0, address_seen x.1)) result ≡ name_and_address (terms_seen terms.now) }
 {
     let (word, behind) = name(terms)?;
@@ -199,7 +199,7 @@ pub fn name_then_address<'a>(terms: &[Term<'a>]) -> Option<(&'a [u8], Address<'a
 
 /// `[rD+N], N`
 #[tactic(auto, unfolding(crate::specs::Shapes::address_and_constant))]
-pub fn address_then_constant<'a>(terms: &[Term<'a>]) -> Option<(Address<'a>, SignedNumeral)>
+pub(crate) fn address_then_constant<'a>(terms: &[Term<'a>]) -> Option<(Address<'a>, SignedNumeral)>
     ensures { option_map (λ x. (address_seen x.0, x.1)) result ≡ address_and_constant (terms_seen terms.now) }
 {
     let (address, behind) = address(terms)?;
@@ -210,7 +210,7 @@ pub fn address_then_constant<'a>(terms: &[Term<'a>]) -> Option<(Address<'a>, Sig
 
 /// `[rD+N], rS`
 #[tactic(auto, unfolding(crate::specs::Shapes::address_and_name))]
-pub fn address_then_name<'a>(terms: &[Term<'a>]) -> Option<(Address<'a>, &'a [u8])>
+pub(crate) fn address_then_name<'a>(terms: &[Term<'a>]) -> Option<(Address<'a>, &'a [u8])>
     ensures { option_map (λ x. (address_seen x.0, bytes_seen x.1)) result ≡ address_and_name (terms_seen terms.now) }
 {
     let (address, behind) = address(terms)?;
@@ -220,7 +220,7 @@ pub fn address_then_name<'a>(terms: &[Term<'a>]) -> Option<(Address<'a>, &'a [u8
 
 /// `T`
 #[tactic(auto, unfolding(crate::specs::Shapes::lone_target))]
-pub fn only_target<'a>(terms: &[Term<'a>]) -> Option<Target<'a>>
+pub(crate) fn only_target<'a>(terms: &[Term<'a>]) -> Option<Target<'a>>
     ensures { option_map (target_seen) result ≡ lone_target (terms_seen terms.now) }
 {
     let (target, behind) = target(terms)?;
@@ -230,7 +230,9 @@ pub fn only_target<'a>(terms: &[Term<'a>]) -> Option<Target<'a>>
 
 /// `rD, rS, T` and `rD, N, T`
 #[tactic(auto, unfolding(crate::specs::Shapes::name_value_and_target))]
-pub fn name_value_then_target<'a>(terms: &[Term<'a>]) -> Option<(&'a [u8], Value<'a>, Target<'a>)>
+pub(crate) fn name_value_then_target<'a>(
+    terms: &[Term<'a>],
+) -> Option<(&'a [u8], Value<'a>, Target<'a>)>
     ensures { option_map (λ x. (bytes_seen x.0, value_seen x.1, target_seen x.2)) result ≡ name_value_and_target (terms_seen terms.now) }
 {
     let (word, behind) = name(terms)?;

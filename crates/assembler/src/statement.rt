@@ -4,7 +4,7 @@ use bpf_words::register::Register;
 
 /// A jump whose distance is still open: by 16 bits, by 32 bits, or on a comparison.
 #[derive(Clone, Copy, Debug, PartialEq, Eq)]
-pub enum Jump {
+pub(crate) enum Jump {
     Short,
     Long,
     OnComparison {
@@ -17,7 +17,7 @@ pub enum Jump {
 
 /// What a line says: nothing, a label, an instruction, or a jump to a label.
 #[derive(Clone, Copy, Debug)]
-pub enum Statement<'a> {
+pub(crate) enum Statement<'a> {
     Blank,
     Label(&'a [u8]),
     Plain(Insn),
@@ -26,21 +26,21 @@ pub enum Statement<'a> {
 
 /// A second operand as it is written: a register by its name, or a number.
 #[derive(Clone, Copy, Debug)]
-pub enum Value<'a> {
+pub(crate) enum Value<'a> {
     Named(&'a [u8]),
     Constant(SignedNumeral),
 }
 
 /// Where a jump goes, as it is written: to a label, or by a number of slots.
 #[derive(Clone, Copy, Debug)]
-pub enum Target<'a> {
+pub(crate) enum Target<'a> {
     AtLabel(&'a [u8]),
     Distance(SignedNumeral),
 }
 
 /// An address as it is written: a base register by its name, and an offset.
 #[derive(Clone, Copy, Debug)]
-pub struct Address<'a> {
-    pub base: &'a [u8],
-    pub offset: SignedNumeral,
+pub(crate) struct Address<'a> {
+    pub(crate) base: &'a [u8],
+    pub(crate) offset: SignedNumeral,
 }

@@ -10,14 +10,19 @@ fn is_assembled(rt: &(impl Abort + AllocGlobal), source: &str, bytes: &[u8]) -> 
     Ok(())
 }
 
-fn is_refused(rt: &(impl Abort + AllocGlobal), source: &str, line: usize, fault: LineFault) {
-    let Err(refusal) = assemble(rt.alloc(), source) else {
-        panic!(rt; "{source}");
-    };
-    assert!(rt;
-        refusal == AsmError::OutOfMemory || refusal == AsmError::Line { line, fault },
-        "{source}"
-    );
+/// Assembles a source, and compares its refusal.
+fn is_refused(
+    rt: &(impl Abort + AllocGlobal),
+    source: &str,
+    line: usize,
+    fault: LineFault,
+) -> Result<(), Fail> {
+    match assemble(rt.alloc(), source) {
+        Ok(_) => panic!(rt; "{source}"),
+        Err(AsmError::OutOfMemory) => Err(AsmError::OutOfMemory)?,
+        Err(refusal) => assert!(rt; refusal == AsmError::Line { line, fault }, "{source}"),
+    }
+    Ok(())
 }
 
 #[test]
@@ -58,28 +63,28 @@ fn labels_count_slots(rt: HostRuntime) -> Result<(), Fail> {
 }
 
 #[test]
-fn refusals(rt: HostRuntime) {
-    is_refused(&rt, "mov r0", 1, LineFault::Syntax);
-    is_refused(&rt, "exit\nmov r11, 0", 2, LineFault::UnknownName);
-    is_refused(&rt, "mov r0, 2147483648", 1, LineFault::NumberRange);
-    is_refused(&rt, "exit\n\nja nowhere", 3, LineFault::UnknownLabel);
-    is_refused(&rt, "a:\na:\nexit", 2, LineFault::LabelTwice);
-    is_refused(&rt, "ja +32768", 1, LineFault::JumpRange);
+fn refusals(rt: HostRuntime) -> Result<(), Fail> {
+    is_refused(&rt, "mov r0", 1, LineFault::Syntax)?;
+    is_refused(&rt, "exit\nmov r11, 0", 2, LineFault::UnknownName)?;
+    is_refused(&rt, "mov r0, 2147483648", 1, LineFault::NumberRange)?;
+    is_refused(&rt, "exit\n\nja nowhere", 3, LineFault::UnknownLabel)?;
+    is_refused(&rt, "a:\na:\nexit", 2, LineFault::LabelTwice)?;
+    is_refused(&rt, "ja +32768", 1, LineFault::JumpRange)
 }
 
 #[test]
-fn two_faults(rt: HostRuntime) {
-    is_refused(&rt, "foo 1a", 1, LineFault::Syntax);
-    is_refused(&rt, "foo , , , , , , , , , , ,", 1, LineFault::UnknownName);
-    is_refused(&rt, "mov r11, +1", 1, LineFault::Syntax);
+fn two_faults(rt: HostRuntime) -> Result<(), Fail> {
+    is_refused(&rt, "foo 1a", 1, LineFault::Syntax)?;
+    is_refused(&rt, "foo , , , , , , , , , , ,", 1, LineFault::UnknownName)?;
+    is_refused(&rt, "mov r11, +1", 1, LineFault::Syntax)?;
     is_refused(
         &rt,
         "jeq r0, 4294967296, nowhere",
         1,
         LineFault::NumberRange,
-    );
-    is_refused(&rt, "ja a\na: exit", 1, LineFault::UnknownLabel);
-    is_refused(&rt, "ja nowhere\nfoo", 1, LineFault::UnknownLabel);
+    )?;
+    is_refused(&rt, "ja a\na: exit", 1, LineFault::UnknownLabel)?;
+    is_refused(&rt, "ja nowhere\nfoo", 1, LineFault::UnknownLabel)
 }
 
 #[test]

@@ -11,7 +11,7 @@ pub enum Sign {
 
 /// A token of a line: a sign, a word by its bytes, or a character that is of no token.
 #[derive(Clone, Copy, Debug)]
-pub enum Token<'a> {
+pub(crate) enum Token<'a> {
     Mark(Sign),
     Word(&'a [u8]),
     Stray,
@@ -19,7 +19,7 @@ pub enum Token<'a> {
 
 /// What stands at the front of a line: a token and what follows it, or nothing more.
 #[derive(Clone, Copy, Debug)]
-pub enum Next<'a> {
+pub(crate) enum Next<'a> {
     Found(Token<'a>, &'a [u8]),
     End,
 }
@@ -33,7 +33,7 @@ pub struct Numeral {
 
 /// A token of a line on which every token is right: a sign, a name, or a number.
 #[derive(Clone, Copy, Debug)]
-pub enum Term<'a> {
+pub(crate) enum Term<'a> {
     Symbol(Sign),
     Name(&'a [u8]),
     Number(Numeral),

@@ -9,7 +9,7 @@ use arrayvec::ArrayVec;
 
 /// As many terms as are kept of a line: one more than an instruction has, so that a line of more is
 /// refused as one of that many is.
-pub const MOST_TERMS: usize = 10;
+pub(crate) const MOST_TERMS: usize = 10;
 
 /// The number that one digit more makes, where it is below 2^64.
 fn extended(value: Option<u64>, base: u64, digit: u64) -> Option<u64>
@@ -68,7 +68,7 @@ fn term_of(token: Token<'_>) -> Option<Term<'_>>
 }
 
 /// The first terms of a line, or `None` where a token of it is not right.
-pub fn terms(line: &[u8]) -> Option<ArrayVec<Term<'_>, MOST_TERMS>>
+pub(crate) fn terms(line: &[u8]) -> Option<ArrayVec<Term<'_>, MOST_TERMS>>
     ensures { option_map (λ v. terms_seen v.items) result ≡ option_map (take 10) (terms_of (tokens_of line.now)) }
 {
     let mut found = ArrayVec::new();

@@ -1,5 +1,5 @@
 -- An instruction's fields read as it.
-use Rattle.std.proofs.Common.{◌≡◌, ℕ, ℤ, ◌+◌, ◌*◌, ◌/◌, ◌%◌, ◌^◌, ◌<◌, ◌≤◌, Option, Some, Ok, Bool, true, false, refl, ap, sym, ◌∙◌, Result, None, List, [], ◌++◌, length, slice_index, append_assoc, length-append, w16, w32, FitsSigned, arith}
+use Rattle.std.proofs.Common.{◌≡◌, ℕ, ℤ, ◌+◌, ◌*◌, ◌/◌, ◌%◌, ◌^◌, ◌<◌, ◌≤◌, Option, Some, Ok, Bool, true, false, refl, ap, sym, ◌∙◌, None, List, [], ◌++◌, length, slice_index, append_assoc, length-append, w16, w32, FitsSigned, arith}
 use Rattle.std.proofs.lemmas.List.{get_or-append-add}
 use Rattle.std.proofs.lemmas.Bool.{lt-ltb}
 use Rattle.byteorder.specs.Endian.{little_bytes}

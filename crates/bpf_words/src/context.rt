@@ -1,4 +1,5 @@
 ghost use Rattle.std.specs.Prelude.{◌≡◌, ℕ, ◌≤◌, List, length};
+ghost use Rattle.bpf_words.specs.Context.{context_base, frame_end, text_base, text_limit};
 
 use byteorder::{ByteOrder, LittleEndian};
 use std::marker::Model;
@@ -11,6 +12,17 @@ pub const FRAME: u64 = 0x2_0000_0000;
 
 /// The address at which the text begins.
 pub const TEXT: u64 = 0x4_0000_0000;
+
+/// How many bytes a text may have.
+pub const TEXT_LIMIT: usize = 131_072;
+
+/// The addresses and the limit are those that the meaning and `Fits` name.
+pub fn regions()
+    ensures context { CONTEXT ≡ context_base }
+    ensures frame { FRAME ≡ frame_end }
+    ensures text { TEXT ≡ text_base }
+    ensures limit { TEXT_LIMIT ≡ text_limit }
+{}
 
 /// What a program may learn of a span beside its text.
 #[derive(Clone, Copy, Debug, PartialEq, Eq)]

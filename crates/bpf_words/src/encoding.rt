@@ -190,7 +190,7 @@ fn source_number(operand: &Operand) -> u8
     }
 }
 
-fn immediate(operand: &Operand) -> u32
+fn immediate_number(operand: &Operand) -> u32
     ensures { result ≡ immediate_in operand.now }
 {
     match operand {
@@ -199,119 +199,110 @@ fn immediate(operand: &Operand) -> u32
     }
 }
 
-fn fields(insn: Insn) -> Fields
-    ensures value { result ≡ fields_for insn }
-    ensures small { (result.destination ≤ 10) × (result.source ≤ 10) }
+fn opcode(insn: Insn) -> u8
+    ensures value { result ≡ (fields_for insn).opcode }
     ensures valid { IsInsn insn }
 {
     match insn {
         Insn::Compute {
             width,
             operation,
-            destination,
             operand,
-        } => Fields {
-            opcode: arithmetic_opcode(width, is_register(&operand), code(operation)),
-            destination: destination.number(),
-            source: source_number(&operand),
-            offset: operation_offset(operation),
-            immediate: immediate(&operand),
-        },
-        Insn::Negate { width, destination } => Fields {
-            opcode: arithmetic_opcode(width, false, 0x8),
-            destination: destination.number(),
-            ..Fields::UNUSED
-        },
-        Insn::Extend {
-            extension,
-            destination,
-            source,
-        } => Fields {
-            opcode: arithmetic_opcode(extension_width(extension), true, code(Arithmetic::Mov)),
-            destination: destination.number(),
-            source: source.number(),
-            offset: extension_offset(extension),
-            ..Fields::UNUSED
-        },
-        Insn::Convert {
-            conversion,
-            bits,
-            destination,
-        } => Fields {
-            opcode: conversion_opcode(conversion),
-            destination: destination.number(),
-            immediate: converted_bits(bits),
-            ..Fields::UNUSED
-        },
-        Insn::Jump { distance } => Fields {
-            opcode: jump_opcode(Width::Full, false, 0x0),
-            offset: distance.cast_unsigned(),
-            ..Fields::UNUSED
-        },
-        Insn::JumpLong { distance } => Fields {
-            opcode: jump_opcode(Width::Narrow, false, 0x0),
-            immediate: distance.cast_unsigned(),
-            ..Fields::UNUSED
-        },
+            ..
+        } => arithmetic_opcode(width, is_register(&operand), code(operation)),
+        Insn::Negate { width, .. } => arithmetic_opcode(width, false, 0x8),
+        Insn::Extend { extension, .. } => {
+            arithmetic_opcode(extension_width(extension), true, code(Arithmetic::Mov))
+        }
+        Insn::Convert { conversion, .. } => conversion_opcode(conversion),
+        Insn::Jump { .. } => jump_opcode(Width::Full, false, 0x0),
+        Insn::JumpLong { .. } => jump_opcode(Width::Narrow, false, 0x0),
         Insn::Branch {
             width,
             comparison,
-            left,
             right,
-            distance,
-        } => Fields {
-            opcode: jump_opcode(width, is_register(&right), test_code(comparison)),
-            destination: left.number(),
-            source: source_number(&right),
-            offset: distance.cast_unsigned(),
-            immediate: immediate(&right),
-        },
-        Insn::Load {
-            size,
-            destination,
-            base,
-            offset,
-        } => Fields {
-            opcode: 0x61 + 8 * modifier(size),
-            destination: destination.number(),
-            source: base.number(),
-            offset: offset.cast_unsigned(),
-            ..Fields::UNUSED
-        },
-        Insn::LoadSigned {
-            size,
-            destination,
-            base,
-            offset,
-        } => Fields {
-            opcode: 0x81 + 8 * modifier_signed(size),
-            destination: destination.number(),
-            source: base.number(),
-            offset: offset.cast_unsigned(),
-            ..Fields::UNUSED
-        },
-        Insn::Store {
-            size,
-            base,
-            offset,
-            value,
-        } => Fields {
-            opcode: store_opcode(is_register(&value), modifier(size)),
-            destination: base.number(),
-            source: source_number(&value),
-            offset: offset.cast_unsigned(),
-            immediate: immediate(&value),
-        },
-        Insn::LoadWide { destination, value } => Fields {
-            opcode: 0x18,
-            destination: destination.number(),
-            immediate: (value % (1 << 32)) as u32,
-            ..Fields::UNUSED
-        },
-        Insn::Exit => Fields {
-            opcode: jump_opcode(Width::Full, false, 0x9),
-            ..Fields::UNUSED
-        },
+            ..
+        } => jump_opcode(width, is_register(&right), test_code(comparison)),
+        Insn::Load { size, .. } => 0x61 + 8 * modifier(size),
+        Insn::LoadSigned { size, .. } => 0x81 + 8 * modifier_signed(size),
+        Insn::Store { size, value, .. } => store_opcode(is_register(&value), modifier(size)),
+        Insn::LoadWide { .. } => 0x18,
+        Insn::Exit => jump_opcode(Width::Full, false, 0x9),
+    }
+}
+
+fn destination(insn: &Insn) -> u8
+    ensures value { result ≡ (fields_for insn.now).destination }
+    ensures small { result ≤ 10 }
+{
+    match *insn {
+        Insn::Compute { destination, .. }
+        | Insn::Negate { destination, .. }
+        | Insn::Extend { destination, .. }
+        | Insn::Convert { destination, .. }
+        | Insn::Load { destination, .. }
+        | Insn::LoadSigned { destination, .. }
+        | Insn::LoadWide { destination, .. } => destination.number(),
+        Insn::Branch { left, .. } => left.number(),
+        Insn::Store { base, .. } => base.number(),
+        Insn::Jump { .. } | Insn::JumpLong { .. } | Insn::Exit => 0,
+    }
+}
+
+fn source(insn: &Insn) -> u8
+    ensures value { result ≡ (fields_for insn.now).source }
+    ensures small { result ≤ 10 }
+{
+    match *insn {
+        Insn::Compute { operand, .. } => source_number(&operand),
+        Insn::Branch { right, .. } => source_number(&right),
+        Insn::Store { value, .. } => source_number(&value),
+        Insn::Extend { source, .. } => source.number(),
+        Insn::Load { base, .. } | Insn::LoadSigned { base, .. } => base.number(),
+        _ => 0,
+    }
+}
+
+fn offset(insn: &Insn) -> u16
+    ensures { result ≡ (fields_for insn.now).offset }
+{
+    match *insn {
+        Insn::Compute { operation, .. } => operation_offset(operation),
+        Insn::Extend { extension, .. } => extension_offset(extension),
+        Insn::Jump { distance } => distance.cast_unsigned(),
+        Insn::Branch { distance, .. } => distance.cast_unsigned(),
+        Insn::Load { offset, .. } => offset.cast_unsigned(),
+        Insn::LoadSigned { offset, .. } => offset.cast_unsigned(),
+        Insn::Store { offset, .. } => offset.cast_unsigned(),
+        _ => 0,
+    }
+}
+
+fn immediate(insn: &Insn) -> u32
+    ensures { result ≡ (fields_for insn.now).immediate }
+{
+    match *insn {
+        Insn::Compute { operand, .. } => immediate_number(&operand),
+        Insn::Branch { right, .. } => immediate_number(&right),
+        Insn::Store { value, .. } => immediate_number(&value),
+        Insn::Convert { bits, .. } => converted_bits(bits),
+        Insn::JumpLong { distance } => distance.cast_unsigned(),
+        Insn::LoadWide { value, .. } => (value % (1 << 32)) as u32,
+        _ => 0,
+    }
+}
+
+fn fields(insn: Insn) -> Fields
+    ensures value { result ≡ fields_for insn }
+    ensures small { (result.destination ≤ 10) × (result.source ≤ 10) }
+    ensures valid { IsInsn insn }
+{
+    Fields {
+        destination: destination(&insn),
+        source: source(&insn),
+        offset: offset(&insn),
+        immediate: immediate(&insn),
+        opcode: opcode(insn),
     }
 }
 
@@ -329,7 +320,7 @@ fn slot(fields: &Fields) -> u64
 }
 
 /// The second slot of a wide load.
-fn slot_after(insn: &Insn) -> Option<u64>
+fn second_slot_of(insn: &Insn) -> Option<u64>
     ensures { result ≡ second_slot insn.now }
 {
     match insn {
@@ -344,7 +335,7 @@ pub fn encode(insn: Insn) -> Encoded
     ensures value { bytes_of result ≡ encoded insn }
     ensures reads_back { ReadsBack insn (encoded insn) }
 {
-    let second = slot_after(&insn);
+    let second = second_slot_of(&insn);
     let first = slot(&fields(insn));
     match second {
         Some(second) => {

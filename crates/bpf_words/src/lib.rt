@@ -3,10 +3,10 @@
 
 pub mod context;
 pub mod encoding;
-pub mod fields;
+mod fields;
 pub mod instruction;
-pub mod opcode;
-pub mod reading;
+mod opcode;
+mod reading;
 pub mod refusal;
 pub mod register;
 pub mod words;

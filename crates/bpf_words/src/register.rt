@@ -20,7 +20,11 @@ impl Model for Register {
 
 impl Register {
     /// The register that holds a run's number at its end (RFC 9669, section 4.3, EXIT).
-    pub const R0: Register = Register { number: 0 };
+    pub fn r0() -> Self
+        ensures { result ≡ 0 }
+    {
+        Register { number: 0 }
+    }
 
     /// The register of a number, where there is one.
     pub fn new(number: u8) -> Option<Self>

@@ -1,4 +1,4 @@
-ghost use Rattle.std.specs.Prelude.{◌≡◌, ℕ, ◌<◌, ◌≤◌, ◌*◌, ◌/◌, ◌+◌, List, length, MatchResult, IfOk, IfSome, slice_get};
+ghost use Rattle.std.specs.Prelude.{◌≡◌, ℕ, ◌<◌, ◌≤◌, ◌*◌, ◌/◌, ◌+◌, List, length, MatchResult, IfOk, IfErr, IfSome, slice_get};
 ghost use Rattle.bpf_words.specs.Slots.{slot_at};
 ghost use Rattle.bpf_words.specs.Encoding.{encoded};
 ghost use Rattle.bpf_words.specs.RoundTrip.{StandsAt};
@@ -9,7 +9,11 @@ use crate::instruction::Insn;
 use crate::opcode::Opcode;
 use crate::reading::read;
 use crate::refusal::{SlotFault, WordError};
+use byteorder::{ByteOrder, LittleEndian};
 use std::marker::Model;
+
+/// How many bytes a program may have: 4,096 slots of 8.
+const BYTES_LIMIT: usize = 32768;
 
 /// The bytes of a program, each slot of which is an instruction or the second of a wide load.
 #[derive(Drop)]
@@ -30,7 +34,6 @@ fn number_at(bytes: &[u8], index: usize) -> u64
     requires { 8 * index + 8 ≤ length bytes.now }
     ensures { result ≡ slot_at bytes.now index }
 {
-    use byteorder::{ByteOrder, LittleEndian};
     LittleEndian::read_u64(&bytes[8 * index..8 * index + 8])
 }
 
@@ -56,34 +59,45 @@ fn read_slot(bytes: &[u8], index: usize) -> Result<Insn, SlotFault>
     read(Opcode::new(fields.opcode), &fields, next)
 }
 
+/// Looks at the length first, and then at one slot after the other.
+#[tactic(auto, using(crate::proofs::Sound::stepping))]
+fn check(bytes: &[u8]) -> Result<(), WordError>
+    ensures { MatchResult result (λ ok. IsProgram bytes.now) (IsRefused bytes.now) }
+{
+    if bytes.is_empty() {
+        return Err(WordError::Empty);
+    }
+    if bytes.len() > BYTES_LIMIT {
+        return Err(WordError::TooLong);
+    }
+    if bytes.len() % 8 != 0 {
+        return Err(WordError::LengthNotEight);
+    }
+    let mut second = false;
+    for slot in 0..bytes.len() / 8 {
+        if second {
+            second = false;
+        } else {
+            match read_slot(bytes, slot) {
+                Ok(Insn::LoadWide { .. }) => second = true,
+                Ok(_) => {}
+                Err(fault) => return Err(WordError::Slot { slot, fault }),
+            }
+        }
+    }
+    Ok(())
+}
+
 impl<'a> Words<'a> {
     /// Lends the bytes of a program: 1 to 4,096 slots, each an instruction or the second of a wide load. Else the first fault, with its
     /// slot where it is one slot's (RFC 9669, sections 3 to 5).
-    #[tactic(auto, using(crate::proofs::Sound::stepping))]
+    #[tactic(auto, using(crate::proofs::Refused::refusals))]
     pub fn new(bytes: &'a [u8]) -> Result<Words<'a>, WordError>
-        ensures { MatchResult result (λ words. (words ≡ bytes.now) × IsProgram bytes.now) (IsRefused bytes.now) }
+        ensures value { MatchResult result (λ words. (words ≡ bytes.now) × IsProgram bytes.now) (IsRefused bytes.now) }
+        ensures first { IfErr result (λ error. (other : WordError) → IsRefused bytes.now other → other ≡ error) }
+        ensures program { (error : WordError) → IsRefused bytes.now error → IsProgram bytes.now → ⊥ }
     {
-        if bytes.is_empty() {
-            return Err(WordError::Empty);
-        }
-        if bytes.len() > 32768 {
-            return Err(WordError::TooLong);
-        }
-        if bytes.len() % 8 != 0 {
-            return Err(WordError::LengthNotEight);
-        }
-        let mut second = false;
-        for slot in 0..bytes.len() / 8 {
-            if second {
-                second = false;
-            } else {
-                match read_slot(bytes, slot) {
-                    Ok(Insn::LoadWide { .. }) => second = true,
-                    Ok(_) => {}
-                    Err(fault) => return Err(WordError::Slot { slot, fault }),
-                }
-            }
-        }
+        check(bytes)?;
         Ok(Words { bytes })
     }
 

@@ -23,16 +23,16 @@ use Rattle.change_ops.proofs.Phrases.{lacks_joined, decimal_again, decimal_takes
 use Rattle.change_ops.proofs.Keys.{lacks_all}
 use Rattle.change_ops.proofs.LineLaws.{both, op_again, op_takes, op_lacks}
 
-abbrev Parts : Type 0
+abbrev pub Parts : Type 0
 Parts = List ℕ × List ℕ
 
-abbrev One : Type 0
+abbrev pub One : Type 0
 One = Op × List ℕ
 
 abbrev pub Ops : Type 0
 Ops = List Op × List ℕ
 
-bind_ok : {A B : Type 0} (r : Result A ChangeError) (f : A → Result B ChangeError) (y : B) → (r >>= f) ≡ Ok y → (x : A) × (r ≡ Ok x) × (f x ≡ Ok y)
+pub bind_ok : {A B : Type 0} (r : Result A ChangeError) (f : A → Result B ChangeError) (y : B) → (r >>= f) ≡ Ok y → (x : A) × (r ≡ Ok x) × (f x ≡ Ok y)
 bind_ok (Ok x) f y e = (x, refl, e)
 bind_ok (Err d) f y e = absurd cc
 
@@ -54,11 +54,11 @@ choose false character same op op' e = absurd cc
 abbrev Accepted : ℕ → Option Op → Op → Type 0
 Accepted peer read op = (read ≡ Some op) × Named op × Own peer op
 
-placed_takes : {A : Type 0} (n : ℕ) (r : Result A LineFault) (x : A) → placed n r ≡ Ok x → r ≡ Ok x
+pub placed_takes : {A : Type 0} (n : ℕ) (r : Result A LineFault) (x : A) → placed n r ≡ Ok x → r ≡ Ok x
 placed_takes n (Ok y) x e = cc
 placed_takes n (Err fault) x e = absurd cc
 
-verdict_takes : (peer : ℕ) (read : Option Op) (op : Op) → line_verdict peer read ≡ Ok op → Accepted peer read op
+pub verdict_takes : (peer : ℕ) (read : Option Op) (op : Op) → line_verdict peer read ≡ Ok op → Accepted peer read op
 verdict_takes peer None op e = absurd cc
 verdict_takes peer (Some x) op e =
     let c = choose (op_within x) (has_character x) (eqb (id_of x).node peer) x op e in
@@ -146,7 +146,7 @@ header_lacks node count n1 n2 c1 c2 =
     lacks_joined 10 (codes "change") (decimal node ␣ decimal count) 32 (lacks_all 10 (codes "change") refl) refl
     (lacks_joined 10 (decimal node) (decimal count) 32 (decimal_lacks 10 node (lit≤ tt) n1 (omega arith)) refl (decimal_lacks 10 count (lit≤ tt) c1 (omega arith)))
 
-abbrev Header : Type 0
+abbrev pub Header : Type 0
 Header = ℕ × ℕ
 
 header_within : (h : Header) → 1 ≤ h.0 → h.0 ≤ 65535 → 1 ≤ h.1 → h.1 ≤ 256 → limited_header h ≡ Some h

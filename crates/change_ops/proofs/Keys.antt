@@ -31,7 +31,7 @@ lacks_all mark [] h = lacks_nil mark
 lacks_all mark (b ∷ bs) h = let a = and_parts (not (eqb b mark)) (list_all (λ c. not (eqb c mark)) bs) h in lacks_cons mark b bs (differs b mark a.0) (lacks_all mark bs a.1)
 
 -- LF and the space stand below the bytes that a word may have
-above : (b mark : ℕ) → mark < 33 → 33 ≤ b → eqb b mark ≡ false
+pub above : (b mark : ℕ) → mark < 33 → 33 ≤ b → eqb b mark ≡ false
 above b mark h g = elim (eqb_tells b mark) [ inl same ↦ absurd (let e = same.1 in omega arith) | inr other ↦ other.0 ]
 
 pub lacks_printed : (mark : ℕ) (word : List ℕ) → mark < 33 → list_all (λ b. leb 33 b) word ≡ true → Lacks mark word

@@ -10,3 +10,6 @@ pub mod Keys
 pub mod LineLaws
 pub mod ChangeLaws
 pub mod Appending
+pub mod NumeralForms
+pub mod FormLaws
+pub mod RefusalLaws

@@ -68,7 +68,7 @@ unmark_again id key start end h k s e =
     rw (id_first id (key_text key ␣ anchors) h, id_again id h, two, key_again key k, anchors_again start end s e) refl
 
 -- the first word of a line
-kind : (b : ℕ) (fields : List ℕ) → eqb b 32 ≡ false → split 32 ((b ∷ []) ␣ fields) ≡ Some (b ∷ [], fields)
+pub kind : (b : ℕ) (fields : List ℕ) → eqb b 32 ≡ false → split 32 ((b ∷ []) ␣ fields) ≡ Some (b ∷ [], fields)
 kind b fields h = first (b ∷ []) fields (lacks_cons 32 b [] h (λ k lt. absurd (omega arith)))
 
 pub op_again : (op : Op) → op_within op ≡ true → has_character op ≡ true → op_at (op_text op) ≡ Some op

@@ -44,7 +44,7 @@ glyph_digit_of b h = elim (cases_lt b 48) [
 ]
 
 -- one digit is read
-one_more : (base n d : ℕ) (rest : List ℕ) → d < base → base ≤ 16 → digits_after base n (digit_glyph false d ∷ rest) ≡ digits_after base (n * base + d) rest
+pub one_more : (base n d : ℕ) (rest : List ℕ) → d < base → base ≤ 16 → digits_after base n (digit_glyph false d ∷ rest) ≡ digits_after base (n * base + d) rest
 unfolding digits_after
 one_more base n d rest small low = let e = digit_glyph_of d (omega arith) in rw (e, lt-ltb d base small) refl
 

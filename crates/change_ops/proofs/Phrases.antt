@@ -114,13 +114,13 @@ pub same_bytes : (xs ys : List ℕ) → bytes_eq xs ys ≡ true → xs ≡ ys
 same_bytes xs ys e = (bytes_eq-Decides xs ys).0 e
 
 -- an id is none of the words without a sign
-other_word : (word name : List ℕ) (id : Id) → id_at word ≡ Some id → id_at name ≡ None → bytes_eq word name ≡ false
+pub other_word : (word name : List ℕ) (id : Id) → id_at word ≡ Some id → id_at name ≡ None → bytes_eq word name ≡ false
 other_word word name id e f = go (bytes_eq word name) refl where
   go : (b : Bool) → bytes_eq word name ≡ b → b ≡ false
   go true h = let same : word ≡ name = same_bytes word name h in absurd (let g : id_at name ≡ Some id = rw same at e in cc)
   go false h = refl
 
-no_dash : id_at (codes "-") ≡ None
+pub no_dash : id_at (codes "-") ≡ None
 unfolding id_at split
 no_dash = refl
 
@@ -147,12 +147,12 @@ pub place_lacks : (mark : ℕ) (place : Option Id) → 10 ≤ digit_of mark → 
 place_lacks mark None h e f w = lacks_cons mark 45 [] f (lacks_nil mark)
 place_lacks mark (Some id) h e f w = id_lacks mark id h e w
 
-before_again : (word : List ℕ) (id : Id) → id_at word ≡ Some id → anchor_at (60 ∷ word) ≡ Some (BeforeCharacter id)
+pub before_again : (word : List ℕ) (id : Id) → id_at word ≡ Some id → anchor_at (60 ∷ word) ≡ Some (BeforeCharacter id)
 unfolding anchor_at
 before_again [] id e = absurd (let f = no_empty in cc)
 before_again (b ∷ word) id e = rw e refl
 
-after_again : (word : List ℕ) (id : Id) → id_at word ≡ Some id → anchor_at (62 ∷ word) ≡ Some (AfterCharacter id)
+pub after_again : (word : List ℕ) (id : Id) → id_at word ≡ Some id → anchor_at (62 ∷ word) ≡ Some (AfterCharacter id)
 unfolding anchor_at
 after_again [] id e = absurd (let f = no_empty in cc)
 after_again (b ∷ word) id e = rw e refl

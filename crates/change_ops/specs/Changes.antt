@@ -1,5 +1,5 @@
 -- Reading a change from left to right, with the first fault that is met.
-use Rattle.std.specs.Prelude.{◌≡◌, ℕ, zero, suc, ◌+◌, ◌≤◌, nat_le, ◌&&◌, if◌then◌else◌, List, [], ◌∷◌, length, Option, Some, None, Result, Ok, Err, IsTrue}
+use Rattle.std.specs.Prelude.{◌≡◌, ℕ, zero, suc, ◌+◌, ◌≤◌, nat_le, ◌&&◌, if◌then◌else◌, Bool, List, [], ◌∷◌, length, Option, Some, None, Result, Ok, Err, IsTrue}
 use Rattle.std.specs.List.{AllByRecursion}
 use Rattle.change_ops.specs.Ids.{is_node}
 use Rattle.change_ops.specs.Limits.{op_within, has_character}
@@ -66,9 +66,12 @@ ops_at peer n (suc count) bytes = do
   others ← ops_at peer (n + 1) count first.1
   Ok (first.0 ∷ others.0, others.1)
 
--- a header within the limits
+-- the limits of a header
+abbrev pub is_header : ℕ × ℕ → Bool
+is_header h = is_node h.0 && nat_le 1 h.1 && nat_le h.1 256
+
 abbrev pub limited_header : ℕ × ℕ → Option (ℕ × ℕ)
-limited_header h = if is_node h.0 && nat_le 1 h.1 && nat_le h.1 256 then Some h else None
+limited_header h = if is_header h then Some h else None
 
 abbrev pub within_header : Option (ℕ × ℕ) → Result (ℕ × ℕ) LineFault
 within_header None = Err line.Limit

@@ -6,3 +6,5 @@ pub mod Words
 pub mod Reading
 pub mod Changes
 pub mod Spelling
+pub mod Forms
+pub mod Refusals

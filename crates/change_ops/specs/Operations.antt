@@ -42,6 +42,20 @@ is_insert (Remove id target) = false
 is_insert (AddMark id attribute start end) = false
 is_insert (RemoveMark id key start end) = false
 
+-- the operation inserts or removes a character
+abbrev pub is_edit : Op → Bool
+is_edit (Insert id parent character) = true
+is_edit (Remove id target) = true
+is_edit (AddMark id attribute start end) = false
+is_edit (RemoveMark id key start end) = false
+
+-- the operation adds or removes a mark
+abbrev pub is_mark : Op → Bool
+is_mark (Insert id parent character) = false
+is_mark (Remove id target) = false
+is_mark (AddMark id attribute start end) = true
+is_mark (RemoveMark id key start end) = true
+
 -- an operation that stands for none
 abbrev pub blank : Op
 blank = let least : OpId = record { counter = 1; node = 1 } in Remove least least

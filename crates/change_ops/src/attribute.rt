@@ -36,7 +36,7 @@ fn is_target_byte(byte: u8) -> bool
 }
 
 /// Whether each byte may stand in a link.
-pub fn are_target_bytes(bytes: &[u8]) -> bool
+pub(crate) fn are_target_bytes(bytes: &[u8]) -> bool
     ensures { result ≡ list_all is_link_byte bytes.now }
 {
     bytes.iter().all(|byte| is_target_byte(*byte))
@@ -153,6 +153,8 @@ impl Model for CommentNumber {
 }
 
 impl Default for CommentNumber {
+    ghost is_default = { λ c. c ≡ 1 };
+
     /// The least number, which fills unused places of a short list.
     fn default() -> Self {
         CommentNumber { number: 1 }

@@ -1,12 +1,14 @@
 //! A change, and reading it from its text.
-ghost use Rattle.std.specs.Prelude.{◌≡◌, List, ℕ, ◌<◌, ◌≤◌, IfOk, Ok, length};
+ghost use Rattle.std.specs.Prelude.{◌≡◌, ◌⊎◌, List, ℕ, ◌<◌, ◌≤◌, IfOk, IfErr, Ok, Err, length};
 ghost use Rattle.std.specs.Str.{IsUtf8};
 ghost use Rattle.std.specs.Option.{option_map};
 ghost use Rattle.change_ops.specs.Reading.{header_at};
+ghost use Rattle.change_ops.specs.Forms.{LinesAreForms, HeadersAreForms};
+ghost use Rattle.change_ops.specs.Refusals.{IsRefused};
+ghost use Rattle.change_ops.specs.declared.refusal.ChangeError.TheVariants.{OutOfMemory};
 ghost use Rattle.change_ops.specs.Spelling.{Spells, Answers, NoneBeginsAnother};
 ghost use Rattle.change_ops.specs.Changes.{Edit, Gives, OwnOps, at_line as fault_at, limited_header, next_at, ops_at, change_at};
 
-use crate::fields::is_word;
 use crate::lines::op_of;
 use crate::numbers::{line_of, number, word_of};
 use crate::operation::Op;
@@ -94,13 +96,8 @@ fn ops_of(
     let mut operations: SmallVec<Op, 4> = SmallVec::new(alloc);
     let mut rest: &str = text;
     for index in 0..count {
-        let (op, after) = match next_op(alloc, peer, index + 2, rest) {
-            Ok(x) => x,
-            Err(e) => return Err(e),
-        };
-        if operations.push(op).is_err() {
-            return Err(ChangeError::OutOfMemory);
-        }
+        let (op, after) = next_op(alloc, peer, index + 2, rest)?;
+        operations.push(op)?;
         rest = after;
     }
     Ok((operations, rest))
@@ -112,7 +109,7 @@ fn header_of(line: &str) -> Option<Option<(u16, usize)>>
 {
     let (name, fields) = word_of(line)?;
     let (node, count) = word_of(fields)?;
-    if !is_word(name, "change") {
+    if name != "change" {
         return None;
     }
     let node = number(10, node.as_bytes())?;
@@ -149,6 +146,8 @@ pub fn read_change(alloc: Global, text: &str) -> Result<(Change, &str), ChangeEr
     ensures exact { Gives (λ x. (x.0, x.1.now)) result (change_at text.now) }
     ensures spelled { IfOk result (λ x. Spells text.now x.0 x.1.now) }
     ensures complete { (change : Edit) (rest : List ℕ) → Spells text.now change rest → Answers result (λ x. (x.0, x.1.now)) (change, rest) }
+    ensures refused { IfErr result (λ e. (e ≡ OutOfMemory) ⊎ IsRefused text.now e) }
+    ensures first { (e : ChangeError) → IsRefused text.now e → (result ≡ Err e) ⊎ (result ≡ Err OutOfMemory) }
     ensures text { IfOk result (λ x. IsUtf8 x.1.now) }
     ensures shorter { IfOk result (λ x. length x.1.now < length text.now) }
 {
@@ -158,4 +157,10 @@ pub fn read_change(alloc: Global, text: &str) -> Result<(Change, &str), ChangeEr
 /// No text of a change begins another one's.
 pub fn none_begins_another()
     ensures { NoneBeginsAnother }
+{}
+
+/// A line is read by its form alone, and no line has the forms of two operations.
+pub fn lines_have_one_form()
+    ensures lines { LinesAreForms }
+    ensures headers { HeadersAreForms }
 {}

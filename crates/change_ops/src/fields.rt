@@ -2,7 +2,6 @@
 //! for what is of the form and out of its limits, since a line's form is looked at before its limits.
 ghost use Rattle.std.specs.Prelude.{◌≡◌, ℕ, IfOk, IfSome, IsTrue, Some, None, length};
 ghost use Rattle.std.specs.Option.{option_map};
-ghost use Rattle.std.specs.Str.{bytes_eq};
 ghost use Rattle.change_ops.specs.Ids.{checked, within_limits};
 ghost use Rattle.change_ops.specs.Attributes.{is_color, is_comment_number, is_link};
 ghost use Rattle.change_ops.specs.Words.{saturated};
@@ -14,12 +13,6 @@ use crate::id::OpId;
 use crate::numbers::{digits, name_of, number, parts_of, word_of};
 use crate::operation::Anchor;
 use std::alloc::{AllocError, Global};
-
-pub fn is_word(word: &str, name: &str) -> bool
-    ensures { result ≡ bytes_eq word.now name.now }
-{
-    word == name
-}
 
 /// The id that a word spells, in it an id within the limits.
 #[tactic(auto, unfolding(crate::specs::Reading::id_at), using(crate::proofs::Limits::id_saturated))]
@@ -37,7 +30,7 @@ pub fn id_of(word: &[u8]) -> Option<Option<OpId>>
 pub fn place_of(word: &str) -> Option<Option<Option<OpId>>>
     ensures { result ≡ option_map limited_place (place_at word.now) }
 {
-    if is_word(word, "-") {
+    if word == "-" {
         return Some(Some(None));
     }
     let id = id_of(word.as_bytes())?;
@@ -98,7 +91,7 @@ fn comment_of(word: &str) -> Option<Option<CommentNumber>>
     ensures { result ≡ option_map (checked is_comment_number) (comment_at word.now) }
 {
     let (name, digits) = name_of(word)?;
-    if !is_word(name, "comment") {
+    if name != "comment" {
         return None;
     }
     let number = number(10, digits.as_bytes())?;
@@ -111,16 +104,16 @@ fn key_of(word: &str) -> Option<Option<Key>>
     ensures read { result ≡ option_map (checked key_within) (key_at word.now) }
     ensures within { IfSome result (λ key. IfSome key (λ key. IsTrue (key_within key))) }
 {
-    if is_word(word, "strong") {
+    if word == "strong" {
         return Some(Some(Key::Strong));
     }
-    if is_word(word, "em") {
+    if word == "em" {
         return Some(Some(Key::Em));
     }
-    if is_word(word, "link") {
+    if word == "link" {
         return Some(Some(Key::Link));
     }
-    if is_word(word, "color") {
+    if word == "color" {
         return Some(Some(Key::Color));
     }
     let number = comment_of(word)?;
@@ -155,11 +148,7 @@ fn link_of(alloc: Global, word: &str) -> Result<Option<Option<Link>>, AllocError
 fn bare_of(attribute: Attribute, word: &str) -> Option<Attribute>
     ensures { result ≡ bare attribute word.now }
 {
-    if is_word(word, "-") {
-        Some(attribute)
-    } else {
-        None
-    }
+    if word == "-" { Some(attribute) } else { None }
 }
 
 /// The attribute of a key with the value that a word spells, if it is within the limits; the error is
@@ -194,7 +183,7 @@ fn attribute_of(
     match key_of(name) {
         None => Ok(None),
         Some(Some(key)) => value_of(alloc, key, value),
-        Some(None) if is_word(value, "-") => Ok(Some(None)),
+        Some(None) if value == "-" => Ok(Some(None)),
         Some(None) => Ok(None),
     }
 }

@@ -25,7 +25,7 @@ impl Model for OpId {
 
 impl OpId {
     /// The least id.
-    pub fn least() -> Self
+    pub(crate) fn least() -> Self
         ensures { result ≡ record { counter = 1; node = 1 } }
     {
         OpId {

@@ -4,7 +4,7 @@ ghost use Rattle.std.specs.Option.{option_map};
 ghost use Rattle.change_ops.specs.Reading.{insert_at, remove_at, mark_at, unmark_at, op_at, judged, owned as owned_verdict, line_verdict, FormGives, LineGives};
 
 use crate::character::Character;
-use crate::fields::{hex_of, id_of, is_word, marked_of, place_of, unmarked_of};
+use crate::fields::{hex_of, id_of, marked_of, place_of, unmarked_of};
 use crate::numbers::word_of;
 use crate::operation::Op;
 use crate::refusal::LineFault;
@@ -111,13 +111,13 @@ fn spelled(alloc: Global, peer: u16, line: &str) -> Option<Result<Op, LineFault>
     ensures { FormGives result (option_map (judged peer) (op_at line.now)) }
 {
     let (kind, fields) = word_of(line)?;
-    if is_word(kind, "i") {
+    if kind == "i" {
         insert_of(peer, fields)
-    } else if is_word(kind, "d") {
+    } else if kind == "d" {
         remove_of(peer, fields)
-    } else if is_word(kind, "m") {
+    } else if kind == "m" {
         mark_of(alloc, peer, fields)
-    } else if is_word(kind, "u") {
+    } else if kind == "u" {
         unmark_of(peer, fields)
     } else {
         None

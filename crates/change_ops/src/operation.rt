@@ -83,7 +83,7 @@ impl MadeWith<Global> for Op {
 }
 
 impl Op {
-    ghost use Rattle.change_ops.specs.Operations.{id_of, is_insert, Names};
+    ghost use Rattle.change_ops.specs.Operations.{id_of, is_insert, is_mark, Names};
 
     /// The operation's own id.
     pub fn id(&self) -> OpId
@@ -102,6 +102,13 @@ impl Op {
         ensures { result ≡ is_insert self.now }
     {
         matches!(self, Op::Insert { .. })
+    }
+
+    /// Whether the operation adds or removes a mark.
+    pub fn is_mark(&self) -> bool
+        ensures { result ≡ is_mark self.now }
+    {
+        matches!(self, Op::AddMark { .. } | Op::RemoveMark { .. })
     }
 
     /// The characters that the operation names: a parent, a removed character, those beside its anchors.

@@ -6,7 +6,7 @@ use thiserror::Error;
 
 /// Why a line is refused.
 #[derive(Clone, Copy, Debug, PartialEq, Eq)]
-pub enum LineFault {
+pub(crate) enum LineFault {
     BadLine,
     Limit,
     CharRefused,

@@ -1,7 +1,6 @@
 //! Writing the text of a change.
-ghost use Rattle.std.specs.Prelude.{◌≡◌, ◌++◌, ◌∷◌, OnOk, OnErr};
+ghost use Rattle.std.specs.Prelude.{◌≡◌, ◌++◌, [], ◌∷◌, OnOk, OnErr};
 ghost use Rattle.std.specs.String.{string_bytes};
-ghost use Rattle.change_ops.specs.Changes.{IsChange};
 ghost use Rattle.change_ops.specs.Spelling.{◌␣◌, id_text, place_text, anchor_text, key_text, attribute_text, op_text, lines_text, header_text, change_text};
 
 use crate::attribute::{Attribute, Key};
@@ -76,6 +75,13 @@ fn write_anchors(start: Anchor, end: Anchor, out: &mut String) -> Result<(), All
     write_anchor(end, out)
 }
 
+/// The letter of an operation's kind and its id, each with a space behind it.
+fn write_front(kind: &str, id: OpId, out: &mut String) -> Result<(), AllocError>
+    ensures { OnOk result (string_bytes out.new ≡ string_bytes out.old ++ (kind.now ␣ id_text id ␣ [])) }
+{
+    write!(out, "{kind} {}@{} ", id.counter(), id.node())
+}
+
 fn write_op(op: &Op, out: &mut String) -> Result<(), AllocError>
     ensures { OnOk result (string_bytes out.new ≡ string_bytes out.old ++ op_text op.now) }
 {
@@ -85,16 +91,12 @@ fn write_op(op: &Op, out: &mut String) -> Result<(), AllocError>
             parent,
             character,
         } => {
-            out.push_str("i ")?;
-            write_id(*id, out)?;
-            out.push(' ')?;
+            write_front("i", *id, out)?;
             write_place(*parent, out)?;
             write!(out, " {:x}", character.value() as u32)
         }
         Op::Remove { id, target } => {
-            out.push_str("d ")?;
-            write_id(*id, out)?;
-            out.push(' ')?;
+            write_front("d", *id, out)?;
             write_id(*target, out)
         }
         Op::AddMark {
@@ -103,9 +105,7 @@ fn write_op(op: &Op, out: &mut String) -> Result<(), AllocError>
             start,
             end,
         } => {
-            out.push_str("m ")?;
-            write_id(*id, out)?;
-            out.push(' ')?;
+            write_front("m", *id, out)?;
             write_attribute(attribute, out)?;
             out.push(' ')?;
             write_anchors(*start, *end, out)
@@ -116,9 +116,7 @@ fn write_op(op: &Op, out: &mut String) -> Result<(), AllocError>
             start,
             end,
         } => {
-            out.push_str("u ")?;
-            write_id(*id, out)?;
-            out.push(' ')?;
+            write_front("u", *id, out)?;
             write_key(*key, out)?;
             out.push(' ')?;
             write_anchors(*start, *end, out)
@@ -139,8 +137,7 @@ fn write_lines(operations: &[Op], out: &mut String) -> Result<(), AllocError>
 
 #[tactic(auto, unfolding(crate::specs::Spelling::change_text))]
 fn write_text(change: &Change, out: &mut String) -> Result<(), AllocError>
-    ensures text { OnOk result (string_bytes out.new ≡ string_bytes out.old ++ change_text change.now) }
-    ensures limits { IsChange change.now }
+    ensures { OnOk result (string_bytes out.new ≡ string_bytes out.old ++ change_text change.now) }
 {
     write!(
         out,
@@ -156,7 +153,6 @@ fn write_text(change: &Change, out: &mut String) -> Result<(), AllocError>
 pub fn write_change(change: &Change, out: &mut String) -> Result<(), AllocError>
     ensures ok { OnOk result (string_bytes out.new ≡ string_bytes out.old ++ change_text change.now) }
     ensures err { OnErr result (string_bytes out.new ≡ string_bytes out.old) }
-    ensures limits { IsChange change.now }
 {
     let mut text = String::new(*out.allocator());
     write_text(change, &mut text)?;

@@ -32,8 +32,8 @@ pub enum SequenceError {
     DocumentFull,
 }
 
-/// The most characters that a text may have, removed ones too.
-const MOST_CHARACTERS: usize = 32768;
+/// The most characters that a text has, removed ones too.
+pub const CHARACTER_LIMIT: usize = 32768;
 
 /// The characters of a text in order, and the last counter of each peer, as a set of inserts and removals makes them.
 #[derive(Drop)]
@@ -43,16 +43,20 @@ pub struct Sequence {
 }
 
 impl Model for Sequence {
+    ghost use Rattle.std.specs.Prelude.{◌≤◌, length};
     ghost use Rattle.std.specs.Ordering.{nat_cmp};
     ghost use Rattle.std.specs.FinMap.{code};
     ghost use Rattle.std.specs.Coded.{codes, coded_ℕ};
     ghost use Rattle.char_sequence.specs.Held.{Contents};
+    ghost use Rattle.char_sequence.specs.declared.sequence.TheConstants.{CHARACTER_LIMIT};
 
     ghost Value = { Contents };
 
     ghost coded = { Prim.hlevel (codes, code {R = nat_cmp} coded_ℕ coded_ℕ) };
 
     ghost view = { λ s. record { elements = s.elements.items; newest = s.newest } };
+
+    ghost invariant = { λ s. length s.elements.items ≤ CHARACTER_LIMIT };
 }
 
 ghost use Rattle.change_ops.specs.Ids.{Less};
@@ -172,7 +176,7 @@ impl Sequence {
         if is_unknown(&self.elements, op) {
             return Err(SequenceError::UnknownRef);
         }
-        if op.is_insert() && self.elements.len() >= MOST_CHARACTERS {
+        if op.is_insert() && self.elements.len() >= CHARACTER_LIMIT {
             return Err(SequenceError::DocumentFull);
         }
         Ok(())
@@ -242,7 +246,8 @@ impl Sequence {
 
     /// All characters in order, removed ones too.
     pub fn elements(&self) -> &[Element]
-        ensures { result.now ≡ self.now.elements }
+        ensures value { result.now ≡ self.now.elements }
+        ensures limit { length self.now.elements ≤ CHARACTER_LIMIT }
     {
         self.elements.as_slice()
     }

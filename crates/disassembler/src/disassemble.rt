@@ -12,8 +12,7 @@ use std::alloc::AllocError;
 /// Appends the line of a slot, where an instruction begins there.
 #[tactic(auto, unfolding(crate::specs::Canonical::canonical_line))]
 fn push_line(lines: &mut String, insn: Option<Insn>) -> Result<(), AllocError>
-    ensures appended { OnOk result (string_bytes lines.new ≡ string_bytes lines.old ++ line_of insn) }
-    ensures fits { IfSome insn IsInsn }
+    ensures { OnOk result (string_bytes lines.new ≡ string_bytes lines.old ++ line_of insn) }
 {
     match insn {
         Some(insn) => writeln!(lines, "{}", Line(insn)),
@@ -21,14 +20,27 @@ fn push_line(lines: &mut String, insn: Option<Insn>) -> Result<(), AllocError>
     }
 }
 
+/// The canonical text of a program assembles to the program's bytes: each slot is read, and its bytes stand in the
+/// program.
+#[tactic(auto, using(crate::proofs::Joining::standing))]
+pub fn assembles_back(words: &Words<'_>)
+    ensures { AsmText (canonical (program_of words.now)) words.now }
+{
+    for slot in 0..words.len() {
+        let _insn = words.insn(slot);
+    }
+}
+
 /// Appends a program's canonical text, which assembles back to the program's bytes. After a refusal the text is as it
 /// was.
-#[tactic(auto, using(crate::proofs::Listing::listing, crate::proofs::Joining::standing))]
+#[tactic(auto, using(crate::proofs::Listing::listing))]
 pub fn disassemble(words: &Words<'_>, text: &mut String) -> Result<(), AllocError>
     ensures appended { OnOk result (string_bytes text.new ≡ string_bytes text.old ++ canonical (program_of words.now)) }
-    ensures assembles { OnOk result (AsmText (canonical (program_of words.now)) words.now) }
+    ensures assembles { AsmText (canonical (program_of words.now)) words.now }
     ensures unchanged { OnErr result (string_bytes text.new ≡ string_bytes text.old) }
 {
+    // A law of the words alone, so that it holds after a refusal too.
+    assembles_back(words);
     let mut lines = String::new(*text.allocator());
     for index in 0..words.len() {
         push_line(&mut lines, words.insn(index))?;

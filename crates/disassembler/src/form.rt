@@ -14,7 +14,7 @@ fn store_form(size: Size, value: Operand) -> Form
 }
 
 /// The form of an instruction, which its mnemonic names.
-pub fn form(insn: Insn) -> Form
+pub(crate) fn form(insn: Insn) -> Form
     ensures { result ≡ form_of insn }
 {
     match insn {

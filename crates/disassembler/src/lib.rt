@@ -2,6 +2,6 @@
 #![tactic(auto)]
 
 pub mod disassemble;
-pub mod form;
-pub mod line;
+mod form;
+mod line;
 mod parts;

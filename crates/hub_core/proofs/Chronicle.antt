@@ -93,3 +93,10 @@ accepted_change changes change added new e few h = (
   record { room = few; follow = subst (λ (ops : List Op). AllFollow (operations_of changes) ops (length ops)) e h.0 },
   subst (λ (ops : List Op). Keeps (operations_of changes ++ ops) new) e h.1,
 )
+
+-- a copy of the parts takes the change in
+pub history_after : (changes : List Edit) (change : Edit) (added : List Op) (old copy new : Parts) → IsHistory changes old → copy ≡ old → added ≡ change.operations → length changes < 4096 → ((ops : List Op) → Keeps ops copy → AllFollow ops added (length added) × Keeps (ops ++ added) new) → IsAccepted changes change × IsHistory (changes ++ change ∷ []) new
+history_after changes change added old copy new h same e few after =
+    let kept = subst (λ (parts : Parts). Keeps (operations_of changes) parts) (sym same) h.kept in
+    let a = accepted_change changes change added new e few (after (operations_of changes) kept) in
+    (a.0, history_more changes change old new h a.0 a.1)

@@ -7,18 +7,18 @@ use Rattle.std.proofs.lemmas.List.Elements.{filter-append}
 use Rattle.std.proofs.lemmas.List.Sums.{length-filter}
 use Rattle.change_ops.specs.declared.id.OpId.{OpId}
 use Rattle.change_ops.specs.declared.operation.Op.{Op}
-use Rattle.change_ops.specs.declared.operation.Op.TheVariants.{Insert, Remove, AddMark, RemoveMark}
-use Rattle.change_ops.specs.Operations.{id_of, is_insert}
-use Rattle.char_sequence.specs.Acceptance.{Used, Accepts, IsFull}
+use Rattle.change_ops.specs.declared.operation.Op.TheVariants.{Insert, Remove}
+use Rattle.change_ops.specs.Operations.{id_of, is_edit, is_mark}
+use Rattle.char_sequence.specs.Acceptance.{Used, Accepts}
 use Rattle.char_sequence.specs.Newest.{IsNewest}
 use Rattle.char_sequence.specs.Order.{Shows}
 use Rattle.char_sequence.specs.Held.{Holds}
-use Rattle.mark_anchors.specs.Marks.{IsMark, AreMarks}
+use Rattle.mark_anchors.specs.Marks.{AreMarks}
 use Rattle.span_flatten.specs.Version.{Snapshot, IsVersion}
 use Rattle.hub_core.specs.declared.parts.Parts.{Parts}
-use Rattle.hub_core.specs.Accepted.{is_mark, IsMarkTooMany, MayFollow}
-use Rattle.hub_core.specs.Kept.{Keeps, is_edit}
-use Rattle.char_sequence.proofs.Holding.{shows_other, count_push}
+use Rattle.hub_core.specs.Accepted.{IsMarkTooMany, MayFollow}
+use Rattle.hub_core.specs.Kept.{Keeps}
+use Rattle.char_sequence.proofs.Holding.{shows_other}
 use Rattle.hub_core.proofs.Edits.{kept_was, kept_passes, is_kept}
 
 -- one more operation, which passes or doesn't
@@ -47,23 +47,14 @@ not_too_many ops op marks e h t =
     grind (arith, nat_tests)
 
 -- ---- the parts after an operation
-pub few_after : (part : List Op) (op : Op) → (IsFull part op → ⊥) → count_by is_insert part ≤ 32768 → count_by is_insert (part ++ op ∷ []) ≤ 32768
-few_after part op room few =
-    rw (count_push is_insert part op)
-    (elim (is_insert op) as (λ b. is_insert op ≡ b → count_by is_insert part + cond b 1 0 ≤ 32768) [
-      | true ↦ λ inserts. let below : 32768 ≤ count_by is_insert part → ⊥ = λ many. room (inserts, many) in grind arith
-      | false ↦ λ other. omega arith
-    ] refl)
-
-pub keeps_edit : {A E : Type 0} (r : Result A E) (ops : List Op) (op : Op) (old new : Parts) → Accepts (filter is_edit ops) op → is_edit op ≡ true → is_mark op ≡ false → Keeps ops old → new.marks ≡ old.marks → IsNewest (ops ++ op ∷ []) new.newest → IfOk r (λ _. Shows new.sequence.elements (ops ++ op ∷ [])) → IfOk r (λ _. Holds new.sequence (filter is_edit ops ++ op ∷ [])) → IfOk r (λ _. Keeps (ops ++ op ∷ []) new)
-keeps_edit (Ok a) ops op old new may edit fails k marks newest shows held = record {
+pub keeps_edit : {A E : Type 0} (r : Result A E) (ops : List Op) (op : Op) (old new : Parts) → is_edit op ≡ true → is_mark op ≡ false → Keeps ops old → new.marks ≡ old.marks → IsNewest (ops ++ op ∷ []) new.newest → IfOk r (λ _. Shows new.sequence.elements (ops ++ op ∷ [])) → IfOk r (λ _. Holds new.sequence (filter is_edit ops ++ op ∷ [])) → IfOk r (λ _. Keeps (ops ++ op ∷ []) new)
+keeps_edit (Ok a) ops op old new edit fails k marks newest shows held = record {
   shows = shows;
   held = subst (λ (xs : List Op). Holds new.sequence xs) (sym (filter_push_yes is_edit ops op edit)) held;
-  few = rw held.size (few_after (filter is_edit ops) op may.room (rw (← k.held.size) k.few));
   marks = marks ∙ k.marks ∙ sym (filter_push_no is_mark ops op fails);
   newest = newest;
 }
-keeps_edit (Err e) ops op old new may edit fails k marks newest shows held = tt
+keeps_edit (Err e) ops op old new edit fails k marks newest shows held = tt
 
 pub keeps_mark : {A E : Type 0} (r : Result A E) (ops : List Op) (op : Op) (old new : Parts) → is_edit op ≡ false → is_mark op ≡ true → Keeps ops old → new.sequence ≡ old.sequence → IsNewest (ops ++ op ∷ []) new.newest → Shows old.sequence.elements (ops ++ op ∷ []) → IfOk r (λ _. new.marks ≡ old.marks ++ op ∷ []) → IfOk r (λ _. Keeps (ops ++ op ∷ []) new)
 keeps_mark (Ok a) ops op old new fails mark k same newest shows marks = record {
@@ -71,7 +62,6 @@ keeps_mark (Ok a) ops op old new fails mark k same newest shows marks = record {
   held =
       subst (λ (xs : List Op). Holds new.sequence xs) (sym (filter_push_no is_edit ops op fails))
       (subst (λ s. Holds s (filter is_edit ops)) (sym same) k.held);
-  few = subst (λ s. length s.elements ≤ 32768) (sym same) k.few;
   marks = marks ∙ ap (λ (xs : List Op). xs ++ op ∷ []) k.marks ∙ sym (filter_push_yes is_mark ops op mark);
   newest = newest;
 }
@@ -101,23 +91,11 @@ pub shows_mark : (ops : List Op) (op : Op) (old : Parts) → is_edit op ≡ fals
 shows_mark ops op old fails k a = shows_other ops old.sequence.elements op a (no_insert op fails) (no_remove op fails) k.shows
 
 -- the marks kept are the mark operations among all
-is_mark_test : (o : Op) → is_mark o ≡ true → IsMark o
-is_mark_test (Insert id p c) h = absurd (false≢true h)
-is_mark_test (Remove id t) h = absurd (false≢true h)
-is_mark_test (AddMark id a s e) h = tt
-is_mark_test (RemoveMark id k s e) h = tt
-
-is_mark_holds : (o : Op) → IsMark o → is_mark o ≡ true
-is_mark_holds (Insert id p c) h = absurd h
-is_mark_holds (Remove id t) h = absurd h
-is_mark_holds (AddMark id a s e) h = refl
-is_mark_holds (RemoveMark id k s e) h = refl
-
 pub are_marks : (ops marks : List Op) → marks ≡ filter is_mark ops → AreMarks ops marks
 are_marks ops marks e = subst (λ (xs : List Op). AreMarks ops xs) (sym e) (record {
   held = λ o h. kept_was is_mark ops o h;
-  marking = λ o h. is_mark_test o (kept_passes is_mark ops o h);
-  listed = λ o h m. is_kept is_mark ops o (is_mark_holds o m) h;
+  marking = λ o h. kept_passes is_mark ops o h;
+  listed = λ o h m. is_kept is_mark ops o m h;
 })
 
 pub version_kept : {E : Type 0} (r : Result Snapshot E) (parts : Parts) (number : ℕ) → IfOk r (λ v. (ops : List Op) → Shows parts.sequence.elements ops → AreMarks ops parts.marks → IsVersion ops number v) → IfOk r (λ v. (ops : List Op) → Keeps ops parts → IsVersion ops number v)

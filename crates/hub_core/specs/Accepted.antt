@@ -1,21 +1,14 @@
 -- Which operations and changes are accepted after others, and the first refusal (Peritext, CSCW 2022: an operation
 -- is applied once those that it depends on are there).
-use Rattle.std.specs.Prelude.{◌≡◌, ℕ, ◌≤◌, ◌<◌, Bool, true, false, List, [], ◌∷◌, ◌++◌, length, take, slice_get, count_by, Option, Some}
+use Rattle.std.specs.Prelude.{◌≡◌, ℕ, ◌≤◌, ◌<◌, true, List, [], ◌∷◌, ◌++◌, length, take, slice_get, count_by, Option, Some}
 use Rattle.change_ops.specs.declared.operation.Op.{Op}
-use Rattle.change_ops.specs.declared.operation.Op.TheVariants.{Insert, Remove, AddMark, RemoveMark}
+use Rattle.change_ops.specs.Operations.{is_mark}
 use Rattle.change_ops.specs.Changes.{Edit}
 use Rattle.char_sequence.specs.Acceptance.{Accepts, IsStale, IsUnknown, IsFull}
 use Rattle.hub_core.specs.declared.refusal.Refusal.{Refusal}
 use Rattle.hub_core.specs.declared.refusal.Refusal.TheVariants.{StaleCounter, UnknownRef, DocumentFull, MarksFull}
 use Rattle.hub_core.specs.declared.refusal.SubmitError.{SubmitError}
 use Rattle.hub_core.specs.declared.refusal.SubmitError.TheVariants.{HistoryFull, Refused, OutOfMemory}
-
--- the operation adds or removes a mark
-abbrev pub is_mark : Op → Bool
-is_mark (Insert id parent character) = false
-is_mark (Remove id target) = false
-is_mark (AddMark id attribute start end) = true
-is_mark (RemoveMark id key start end) = true
 
 -- a mark operation after 4,096 of them
 abbrev pub IsMarkTooMany : List Op → Op → Type 0

@@ -1,14 +1,14 @@
 -- What is kept of accepted operations, beside the operations themselves.
-use Rattle.std.specs.Prelude.{◌≡◌, ◌≤◌, ℕ, Bool, true, false, List, ◌++◌, ◌∷◌, [], length, Result, Ok, Err}
+use Rattle.std.specs.Prelude.{◌≡◌, ℕ, List, ◌++◌, ◌∷◌, [], length, Result, Ok, Err}
 use Rattle.std.specs.List.{filter}
 use Rattle.change_ops.specs.declared.operation.Op.{Op}
-use Rattle.change_ops.specs.declared.operation.Op.TheVariants.{Insert, Remove, AddMark, RemoveMark}
+use Rattle.change_ops.specs.Operations.{is_edit, is_mark}
 use Rattle.char_sequence.specs.Order.{Shows}
 use Rattle.char_sequence.specs.Held.{Holds}
 use Rattle.char_sequence.specs.Newest.{IsNewest}
 use Rattle.change_ops.specs.Changes.{Edit}
 use Rattle.hub_core.specs.declared.parts.Parts.{Parts}
-use Rattle.hub_core.specs.Accepted.{is_mark, MayFollow, MayNotFollow, AllFollow, FirstRefused, AreAccepted, operations_of}
+use Rattle.hub_core.specs.Accepted.{MayFollow, MayNotFollow, AllFollow, FirstRefused, AreAccepted, operations_of}
 use Rattle.char_sequence.specs.declared.sequence.SequenceError.{SequenceError}
 use Rattle.char_sequence.specs.declared.sequence.SequenceError.TheVariants as sequence
 use Rattle.hub_core.specs.declared.refusal.Refusal.{Refusal}
@@ -18,18 +18,10 @@ use Rattle.hub_core.specs.declared.refusal.ApplyError.TheVariants as apply
 use Rattle.hub_core.specs.declared.refusal.SubmitError.{SubmitError}
 use Rattle.hub_core.specs.declared.refusal.SubmitError.TheVariants.{HistoryFull, Refused, OutOfMemory}
 
--- the operation inserts or removes a character
-abbrev pub is_edit : Op → Bool
-is_edit (Insert id parent character) = true
-is_edit (Remove id target) = true
-is_edit (AddMark id attribute start end) = false
-is_edit (RemoveMark id key start end) = false
-
 -- the sequence is that of all operations, and holds those that are edits; the marks are the others, and the newest counters all peers'
 pub record Keeps (ops : List Op) (parts : Parts) : Type 0 where
   pub shows : Shows parts.sequence.elements ops
   pub held : Holds parts.sequence (filter is_edit ops)
-  pub few : length parts.sequence.elements ≤ 32768
   pub marks : parts.marks ≡ filter is_mark ops
   pub newest : IsNewest ops parts.newest
 

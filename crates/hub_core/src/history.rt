@@ -75,17 +75,20 @@ impl History {
         self.changes.len()
     }
 
-    /// Takes a change in after those before it, whole; where it is refused the history is given up with it.
-    pub fn accept(self, change: Change) -> Result<History, SubmitError>
-        ensures { MatchResult result (λ new. (new ≡ self ++ change ∷ []) × IsAccepted self change) (IsRefused self change) }
+    /// Takes a change in after those before it, whole; where it is refused the history stays as it was.
+    pub fn accept(&mut self, change: Change) -> Result<(), SubmitError>
+        ensures { MatchResult result (λ _. (self.new ≡ self.old ++ change ∷ []) × IsAccepted self.old change) (λ error. (self.new ≡ self.old) × IsRefused self.old change error) }
     {
-        let History { mut changes, parts } = self;
-        if changes.len() >= CHANGE_LIMIT {
+        if self.changes.len() >= CHANGE_LIMIT {
             return Err(SubmitError::HistoryFull);
         }
-        let parts = apply_all(parts, change.operations())?;
-        match changes.push(change) {
-            Ok(()) => Ok(History { changes, parts }),
+        // The operations are applied to copies, since one of them may be refused after others were applied.
+        let parts = apply_all(self.parts.clone()?, change.operations())?;
+        match self.changes.push(change) {
+            Ok(()) => {
+                self.parts = parts;
+                Ok(())
+            }
             Err(_) => Err(SubmitError::OutOfMemory),
         }
     }

@@ -1,9 +1,8 @@
-ghost use Rattle.std.specs.Prelude.{◌≡◌, ◌<◌, List, [], ◌++◌, ◌∷◌, length, Contains, MatchResult, IfOk, nat_le, ◌&&◌};
-ghost use Rattle.change_ops.specs.Operations.{id_of};
-ghost use Rattle.mark_anchors.specs.Marks.{IsMark};
+ghost use Rattle.std.specs.Prelude.{◌≡◌, ◌<◌, List, [], ◌++◌, ◌∷◌, true, length, Contains, MatchResult, IfOk, nat_le, ◌&&◌};
+ghost use Rattle.change_ops.specs.Operations.{id_of, is_mark};
 ghost use Rattle.change_ops.specs.declared.operation.Op.{Op};
 ghost use Rattle.span_flatten.specs.Version.{IsVersion};
-ghost use Rattle.hub_core.specs.Accepted.{is_mark, MayFollow, MayNotFollow};
+ghost use Rattle.hub_core.specs.Accepted.{MayFollow, MayNotFollow};
 ghost use Rattle.hub_core.specs.Kept.{Keeps, Applied, refusal_of};
 
 use crate::refusal::{ApplyError, Refusal};
@@ -16,23 +15,17 @@ use span_flatten::version::Version;
 use std::alloc::{AllocError, Global};
 
 /// What is kept of the operations that were applied.
-#[derive(Drop)]
+#[derive(Clone, Drop)]
 pub struct Parts {
     sequence: Sequence,
     marks: Marks,
     newest: Newest,
 }
 
-fn is_mark_operation(op: &Op) -> bool
-    ensures { result ≡ is_mark op.now }
-{
-    matches!(op, Op::AddMark { .. } | Op::RemoveMark { .. })
-}
-
 fn is_mark_too_many(marks: &Marks, op: &Op) -> bool
     ensures { result ≡ (is_mark op.now && nat_le 4096 (length marks.now)) }
 {
-    is_mark_operation(op) && marks.operations().len() >= MARK_LIMIT
+    op.is_mark() && marks.operations().len() >= MARK_LIMIT
 }
 
 fn refusal(error: SequenceError) -> Refusal
@@ -47,7 +40,7 @@ fn refusal(error: SequenceError) -> Refusal
 
 /// Adds a mark operation to marks that have room for it and not its id.
 fn add_mark(marks: &mut Marks, op: &Op) -> Result<(), AllocError>
-    requires mark { IsMark op.now }
+    requires mark { is_mark op.now ≡ true }
     requires fresh { (o : Op) → Contains marks.old o → id_of o ≡ id_of op.now → ⊥ }
     requires room { length marks.old < 4096 }
     ensures { IfOk result (λ _. marks.new ≡ marks.old ++ op.now ∷ []) }

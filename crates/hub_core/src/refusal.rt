@@ -1,3 +1,4 @@
+use std::alloc::AllocError;
 use thiserror::Error;
 
 /// Why an operation is not accepted after others: the first that applies.
@@ -36,4 +37,15 @@ pub enum SubmitError {
     /// No memory was found.
     #[error("45 OutOfMemory")]
     OutOfMemory,
+}
+
+impl From<AllocError> for SubmitError {
+    ghost use Rattle.std.specs.Prelude.{◌≡◌};
+    ghost use Rattle.hub_core.specs.declared.refusal.SubmitError.TheVariants.{OutOfMemory};
+
+    ghost from_gives = { λ _ e. e ≡ OutOfMemory };
+
+    fn from(_error: AllocError) -> SubmitError {
+        SubmitError::OutOfMemory
+    }
 }

@@ -1,17 +1,23 @@
 //! The commands of the program `hub`, over any reader and writer.
 #![tactic(auto)]
 
+mod answer;
 mod asm;
+mod dis;
 mod failure;
+mod hexadecimal;
 mod input;
 mod options;
-mod refusal;
+mod output;
+mod reason;
 mod run;
+mod span_lines;
 mod spans;
 
-use crate::asm::{asm, dis};
+use crate::asm::asm;
+use crate::dis::dis;
 use crate::failure::Failure;
-use crate::options::hub;
+use crate::options::{hub, span_options};
 use crate::run::run;
 use crate::spans::spans;
 use clap::error::ErrorKind;
@@ -60,7 +66,10 @@ fn dispatch<R: Read, W: Write>(
     match matches.subcommand() {
         Some(("asm", _)) => asm(alloc, reader, writer),
         Some(("dis", _)) => dis(alloc, reader, writer),
-        Some(("run", options)) => run(alloc, options, reader, writer),
+        Some(("run", options)) => {
+            let digits = options.get_str("HEX").unwrap_or("").as_bytes();
+            run(alloc, digits, &span_options(options), reader, writer)
+        }
         Some(("spans", _)) => spans(alloc, reader, writer),
         _ => Ok(2),
     }

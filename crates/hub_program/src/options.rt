@@ -1,4 +1,5 @@
-use clap::{Arg, ArgAction, Command, value_parser};
+use crate::run::SpanOptions;
+use clap::{Arg, ArgAction, ArgMatches, Command, value_parser};
 use std::alloc::{AllocError, Global};
 
 /// The options of `run` whose fields have 32 bits, with their defaults and what they say of the span.
@@ -61,4 +62,21 @@ pub fn hub<'a>(alloc: Global) -> Result<Command<'a>, AllocError> {
         .subcommand(dis(alloc))?
         .subcommand(run(alloc)?)?
         .subcommand(spans(alloc))
+}
+
+fn number(matches: &ArgMatches<'_>, name: &str) -> u32 {
+    matches.get_one::<u32>(name).unwrap_or(0)
+}
+
+/// What the options of `run` say of the span.
+pub fn span_options(matches: &ArgMatches<'_>) -> SpanOptions {
+    SpanOptions {
+        flags: number(matches, "flags"),
+        color: number(matches, "color"),
+        link_len: number(matches, "link"),
+        comments: number(matches, "comments"),
+        index: number(matches, "index"),
+        count: number(matches, "count"),
+        version: matches.get_one::<u64>("number").unwrap_or(0),
+    }
 }

@@ -1,20 +1,38 @@
-ghost use Rattle.std.specs.Prelude.{◌≤◌, ◌≡◌, length};
+ghost use Rattle.std.specs.Prelude.{◌≡◌, ◌≤◌, length, IfOk, IfSome};
+ghost use Rattle.hub_program.specs.Answers.{IsAnswered};
+ghost use Rattle.hub_program.specs.Programs.{fault_name, facts_of, outcome_reply, IsSpanReply, IsRunReply};
 
+use crate::answer::Answer;
 use crate::failure::Failure;
-use crate::input::{decode_hex, read_past};
-use crate::refusal::refuse;
+use crate::hexadecimal::decode_hex;
+use crate::input::read_past;
+use crate::output::write_answer;
+use crate::reason::Reason;
 use bpf_words::context::{Context, Facts};
 use bpf_words::words::Words;
-use clap::ArgMatches;
 use interpreter::run::run_checked;
 use meaning::{FaultKind, Outcome};
-use std::alloc::Global;
+use std::alloc::{AllocError, Global};
 use std::io::{Read, Write};
 
 /// The most bytes that a span's text has.
 const TEXT_LIMIT: usize = 131_072;
 
-fn name_of(kind: FaultKind) -> &'static str {
+/// What the options of `run` say of the span.
+#[derive(Clone, Copy, Debug, PartialEq, Eq)]
+pub struct SpanOptions {
+    pub flags: u32,
+    pub color: u32,
+    pub link_len: u32,
+    pub comments: u32,
+    pub index: u32,
+    pub count: u32,
+    pub version: u64,
+}
+
+fn fault_name(kind: FaultKind) -> &'static str
+    ensures { result.now ≡ fault_name kind }
+{
     match kind {
         FaultKind::UnsetRegister => "F1 UnsetRegister",
         FaultKind::BadAddress => "F2 BadAddress",
@@ -26,78 +44,95 @@ fn name_of(kind: FaultKind) -> &'static str {
     }
 }
 
-fn number(options: &ArgMatches<'_>, name: &str) -> u32 {
-    options.get_one::<u32>(name).unwrap_or(0)
-}
-
 /// What the options and the text say of the span.
-fn facts(options: &ArgMatches<'_>, text: &str) -> Facts
+fn facts(options: &SpanOptions, text: &str) -> Facts
     requires { length text.now ≤ 131072 }
-    ensures { result.text_len ≡ length text.now }
+    ensures { result ≡ facts_of options.now text.now }
 {
     Facts {
         text_len: text.len() as u32,
         characters: text.chars().count() as u32,
-        flags: number(options, "flags"),
-        color: number(options, "color"),
-        link_len: number(options, "link"),
-        comments: number(options, "comments"),
-        index: number(options, "index"),
-        count: number(options, "count"),
-        version: options.get_one::<u64>("number").unwrap_or(0),
+        flags: options.flags,
+        color: options.color,
+        link_len: options.link_len,
+        comments: options.comments,
+        index: options.index,
+        count: options.count,
+        version: options.version,
     }
 }
 
-fn print<W: Write>(writer: &mut W, outcome: Outcome) -> Result<u8, Failure> {
+/// What is answered to the outcome of a run.
+fn outcome_answer(alloc: Global, outcome: Outcome) -> Result<Answer, AllocError>
+    ensures { IfOk result (λ answer. answer ≡ outcome_reply outcome) }
+{
     match outcome {
         Outcome::Done(verdict) => {
-            writeln!(writer, "verdict {verdict}")?;
-            Ok(0)
+            let text = format!(in alloc; "verdict {verdict}\n")?;
+            Ok(Answer::done(text))
         }
         Outcome::Fault { slot, kind } => {
-            let name = name_of(kind);
-            writeln!(writer, "fault {slot} {name}")?;
-            Ok(1)
+            let name = fault_name(kind);
+            let reason = format!(in alloc; "fault {slot} {name}")?;
+            Answer::failed(alloc, &reason)
         }
-        Outcome::OutOfSteps => {
-            writeln!(writer, "out of steps")?;
-            Ok(1)
-        }
+        Outcome::OutOfSteps => Answer::failed(alloc, &"out of steps"),
     }
 }
 
-/// Runs a program on the span whose text is the input.
-fn run_on_span<R: Read, W: Write>(
+/// What is answered to a program on the span whose text is the input.
+pub fn span_answer(
     alloc: Global,
     words: &Words<'_>,
-    options: &ArgMatches<'_>,
-    reader: &mut R,
-    writer: &mut W,
-) -> Result<u8, Failure> {
-    let input = read_past(alloc, reader, TEXT_LIMIT as u64)?;
-    let Ok(text) = std::str::from_utf8(&input) else {
-        return refuse(writer, &"62 TextRefused");
+    options: &SpanOptions,
+    input: &[u8],
+) -> Result<Answer, AllocError>
+    ensures { IfOk result (λ answer. IsSpanReply options.now input.now words.now answer) }
+{
+    let Ok(text) = std::str::from_utf8(input) else {
+        return Answer::refused(alloc, &Reason::TextRefused);
     };
     if text.len() > TEXT_LIMIT {
-        return refuse(writer, &"62 TextRefused");
+        return Answer::refused(alloc, &Reason::TextRefused);
     }
     let context = Context::new(&facts(options, text));
-    print(writer, run_checked(words, &context, text.as_bytes()))
+    outcome_answer(alloc, run_checked(words, &context, text.as_bytes()))
+}
+
+/// What `run` answers to a program in hexadecimal, on the span whose text is the input. The text is read only where the
+/// bytes are a program.
+pub fn run_answer<R: Read>(
+    alloc: Global,
+    digits: &[u8],
+    options: &SpanOptions,
+    reader: &mut R,
+) -> Result<Answer, Failure>
+    ensures { IfOk result (λ answer. IfSome (R.remaining reader.old)
+        (λ text. IsRunReply digits.now options.now text answer)) }
+{
+    let Some(bytes) = decode_hex(alloc, digits)? else {
+        return Ok(Answer::refused(alloc, &Reason::BadHex)?);
+    };
+    match Words::new(&bytes) {
+        Ok(words) => {
+            let input = read_past(alloc, reader, TEXT_LIMIT as u64)?;
+            Ok(span_answer(alloc, &words, options, &input)?)
+        }
+        Err(error) => Ok(Answer::refused(alloc, &Reason::Words(error))?),
+    }
 }
 
 /// The command `run`: one program, in hexadecimal, on one span, whose text is the input.
 pub fn run<R: Read, W: Write>(
     alloc: Global,
-    options: &ArgMatches<'_>,
+    digits: &[u8],
+    options: &SpanOptions,
     reader: &mut R,
     writer: &mut W,
-) -> Result<u8, Failure> {
-    let hex = options.get_str("HEX").unwrap_or("");
-    let Some(bytes) = decode_hex(alloc, hex.as_bytes())? else {
-        return refuse(writer, &"63 BadHex");
-    };
-    match Words::new(&bytes) {
-        Ok(words) => run_on_span(alloc, &words, options, reader, writer),
-        Err(error) => refuse(writer, &error),
-    }
+) -> Result<u8, Failure>
+    ensures { IfOk result (λ status. IsAnswered (IsRunReply digits.now options.now) (R.remaining reader.old)
+        (W.contents writer.old) (W.contents writer.new) status) }
+{
+    let answer = run_answer(alloc, digits, options, reader)?;
+    write_answer(writer, &answer)
 }

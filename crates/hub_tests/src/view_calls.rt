@@ -20,7 +20,7 @@ fn version(alloc: Global) -> Result<Version, Fail> {
     for text in CHANGES {
         let text = lines(alloc, text)?;
         let (change, _) = read_change(alloc, &text)?;
-        history = history.accept(change)?;
+        history.accept(change)?;
     }
     Ok(history.version(alloc)?)
 }

@@ -83,7 +83,7 @@ fn value_narrow(operation: Arithmetic, x: u32, y: u32) -> u32
     }
 }
 
-fn low_half(n: u64) -> u32
+fn low_word(n: u64) -> u32
     ensures { result ≡ cut Narrow n }
 {
     (n % (1 << 32)) as u32
@@ -95,7 +95,7 @@ pub fn value(operation: Arithmetic, width: Width, a: u64, b: u64) -> u64
 {
     match width {
         Width::Full => value_full(operation, a, b),
-        Width::Narrow => u64::from(value_narrow(operation, low_half(a), low_half(b))),
+        Width::Narrow => u64::from(value_narrow(operation, low_word(a), low_word(b))),
     }
 }
 
@@ -105,7 +105,7 @@ pub fn negate(width: Width, a: u64) -> u64
 {
     match width {
         Width::Full => a.wrapping_neg(),
-        Width::Narrow => u64::from(low_half(a).wrapping_neg()),
+        Width::Narrow => u64::from(low_word(a).wrapping_neg()),
     }
 }
 
@@ -115,7 +115,7 @@ fn low_byte(n: u64) -> i8
     ((n % (1 << 8)) as u8).cast_signed()
 }
 
-fn low_quarter(n: u64) -> u16
+fn low_half(n: u64) -> u16
     ensures { result ≡ n % 2 ^ 16 }
 {
     (n % (1 << 16)) as u16
@@ -127,11 +127,11 @@ pub fn extend(extension: Extension, a: u64) -> u64
 {
     match extension {
         Extension::FromByte => i64::from(low_byte(a)).cast_unsigned(),
-        Extension::FromHalf => i64::from(low_quarter(a).cast_signed()).cast_unsigned(),
-        Extension::FromWord => i64::from(low_half(a).cast_signed()).cast_unsigned(),
+        Extension::FromHalf => i64::from(low_half(a).cast_signed()).cast_unsigned(),
+        Extension::FromWord => i64::from(low_word(a).cast_signed()).cast_unsigned(),
         Extension::NarrowFromByte => u64::from(i32::from(low_byte(a)).cast_unsigned()),
         Extension::NarrowFromHalf => {
-            u64::from(i32::from(low_quarter(a).cast_signed()).cast_unsigned())
+            u64::from(i32::from(low_half(a).cast_signed()).cast_unsigned())
         }
     }
 }
@@ -140,8 +140,8 @@ fn keep(bits: ConvertedBits, a: u64) -> u64
     ensures { result ≡ converted ToLittleEndian bits a }
 {
     match bits {
-        ConvertedBits::Bits16 => u64::from(low_quarter(a)),
-        ConvertedBits::Bits32 => u64::from(low_half(a)),
+        ConvertedBits::Bits16 => u64::from(low_half(a)),
+        ConvertedBits::Bits32 => u64::from(low_word(a)),
         ConvertedBits::Bits64 => a,
     }
 }
@@ -150,8 +150,8 @@ fn reverse(bits: ConvertedBits, a: u64) -> u64
     ensures { result ≡ converted Swap bits a }
 {
     match bits {
-        ConvertedBits::Bits16 => u64::from(low_quarter(a).swap_bytes()),
-        ConvertedBits::Bits32 => u64::from(low_half(a).swap_bytes()),
+        ConvertedBits::Bits16 => u64::from(low_half(a).swap_bytes()),
+        ConvertedBits::Bits32 => u64::from(low_word(a).swap_bytes()),
         ConvertedBits::Bits64 => a.swap_bytes(),
     }
 }
@@ -220,6 +220,6 @@ pub fn holds(comparison: Comparison, width: Width, a: u64, b: u64) -> bool
 {
     match width {
         Width::Full => holds_full(comparison, a, b),
-        Width::Narrow => holds_narrow(comparison, low_half(a), low_half(b)),
+        Width::Narrow => holds_narrow(comparison, low_word(a), low_word(b)),
     }
 }

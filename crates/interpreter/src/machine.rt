@@ -1,4 +1,4 @@
-ghost use Rattle.std.specs.Prelude.{◌≡◌, ℕ, ◌+◌, ◌<◌, ◌≤◌, ◌^◌, length, OnOk, OnErr, IfErr, Ok, Err};
+ghost use Rattle.std.specs.Prelude.{◌≡◌, ℕ, ◌+◌, ◌<◌, ◌≤◌, ◌^◌, List, length, OnOk, OnErr, IfErr, Ok, Err};
 ghost use Rattle.bpf_words.specs.Words.{program_of};
 ghost use Rattle.meaning.specs.State.{State, start, register_of, operand_in, written};
 ghost use Rattle.meaning.specs.Memory.{address_of};
@@ -6,9 +6,12 @@ ghost use Rattle.meaning.specs.Step.{Next, go_by, write_and_go, first_of, perfor
 ghost use Rattle.interpreter.specs.Progress.{move_of, result_of};
 
 use crate::arithmetic::{convert, extend, holds, negate, sign, value};
-use crate::memory::{load, store, unsigned};
+use crate::memory::{load, size_read, store};
 use bpf_words::context::{CONTEXT, FRAME};
-use bpf_words::instruction::{Arithmetic, Insn, Operand};
+use bpf_words::instruction::{
+    Arithmetic, Comparison, Conversion, ConvertedBits, Extension, Insn, Operand, SignedSize, Size,
+    Width,
+};
 use bpf_words::register::Register;
 use bpf_words::words::Words;
 use meaning::FaultKind;
@@ -99,6 +102,139 @@ impl Machine {
         }
     }
 
+    fn compute(
+        &mut self,
+        width: Width,
+        operation: Arithmetic,
+        destination: Register,
+        operand: Operand,
+    ) -> Result<Motion, FaultKind>
+        ensures value { (context text : List ℕ) → move_of result self.new ≡ perform context text self.old (Insn.Compute width operation destination operand) }
+        ensures slot { self.new.slot ≡ self.old.slot }
+    {
+        let a = self.first_operand(operation, destination)?;
+        let b = self.operand(operand)?;
+        self.write_and_go(destination, value(operation, width, a, b), 0)
+    }
+
+    fn negate(&mut self, width: Width, destination: Register) -> Result<Motion, FaultKind>
+        ensures value { (context text : List ℕ) → move_of result self.new ≡ perform context text self.old (Insn.Negate width destination) }
+        ensures slot { self.new.slot ≡ self.old.slot }
+    {
+        let a = self.register(destination)?;
+        self.write_and_go(destination, negate(width, a), 0)
+    }
+
+    fn extend(
+        &mut self,
+        extension: Extension,
+        destination: Register,
+        source: Register,
+    ) -> Result<Motion, FaultKind>
+        ensures value { (context text : List ℕ) → move_of result self.new ≡ perform context text self.old (Insn.Extend extension destination source) }
+        ensures slot { self.new.slot ≡ self.old.slot }
+    {
+        let a = self.register(source)?;
+        self.write_and_go(destination, extend(extension, a), 0)
+    }
+
+    fn convert(
+        &mut self,
+        conversion: Conversion,
+        bits: ConvertedBits,
+        destination: Register,
+    ) -> Result<Motion, FaultKind>
+        ensures value { (context text : List ℕ) → move_of result self.new ≡ perform context text self.old (Insn.Convert conversion bits destination) }
+        ensures slot { self.new.slot ≡ self.old.slot }
+    {
+        let a = self.register(destination)?;
+        self.write_and_go(destination, convert(conversion, bits, a), 0)
+    }
+
+    fn branch(
+        &self,
+        width: Width,
+        comparison: Comparison,
+        left: Register,
+        right: Operand,
+        distance: i16,
+    ) -> Result<Motion, FaultKind>
+        ensures { (context text : List ℕ) → move_of result self.now ≡ perform context text self.now (Insn.Branch width comparison left right distance) }
+    {
+        let a = self.register(left)?;
+        let b = self.operand(right)?;
+        if holds(comparison, width, a, b) {
+            Ok(Motion::By(i32::from(distance)))
+        } else {
+            Ok(Motion::By(0))
+        }
+    }
+
+    fn load(
+        &mut self,
+        context: &[u8],
+        text: &[u8],
+        size: Size,
+        destination: Register,
+        base: Register,
+        offset: i16,
+    ) -> Result<Motion, FaultKind>
+        requires context_short { length context.now < 2 ^ 32 }
+        requires text_short { length text.now < 2 ^ 32 }
+        ensures value { move_of result self.new ≡ perform context.now text.now self.old (Insn.Load size destination base offset) }
+        ensures slot { self.new.slot ≡ self.old.slot }
+    {
+        let address = address(self.register(base)?, offset);
+        let value = load(context, text, &self.stack, address, size)?;
+        self.write_and_go(destination, value, 0)
+    }
+
+    fn load_signed(
+        &mut self,
+        context: &[u8],
+        text: &[u8],
+        size: SignedSize,
+        destination: Register,
+        base: Register,
+        offset: i16,
+    ) -> Result<Motion, FaultKind>
+        requires context_short { length context.now < 2 ^ 32 }
+        requires text_short { length text.now < 2 ^ 32 }
+        ensures value { move_of result self.new ≡ perform context.now text.now self.old (Insn.LoadSigned size destination base offset) }
+        ensures slot { self.new.slot ≡ self.old.slot }
+    {
+        let address = address(self.register(base)?, offset);
+        let value = load(context, text, &self.stack, address, size_read(size))?;
+        self.write_and_go(destination, sign(size, value), 0)
+    }
+
+    fn store(
+        &mut self,
+        context: &[u8],
+        text: &[u8],
+        size: Size,
+        base: Register,
+        offset: i16,
+        value: Operand,
+    ) -> Result<Motion, FaultKind>
+        requires context_short { length context.now < 2 ^ 32 }
+        requires text_short { length text.now < 2 ^ 32 }
+        ensures value { move_of result self.new ≡ perform context.now text.now self.old (Insn.Store size base offset value) }
+        ensures slot { self.new.slot ≡ self.old.slot }
+    {
+        let address = address(self.register(base)?, offset);
+        let value = self.operand(value)?;
+        store(context, text, &mut self.stack, address, size, value)?;
+        Ok(Motion::By(0))
+    }
+
+    fn exit(&self) -> Result<Motion, FaultKind>
+        ensures { (context text : List ℕ) → move_of result self.now ≡ perform context text self.now Insn.Exit }
+    {
+        let value = self.register(Register::r0())?;
+        Ok(Motion::Stops(value))
+    }
+
     /// What an instruction does, whatever the program is.
     fn perform(&mut self, context: &[u8], text: &[u8], insn: Insn) -> Result<Motion, FaultKind>
         requires context_short { length context.now < 2 ^ 32 }
@@ -112,31 +248,18 @@ impl Machine {
                 operation,
                 destination,
                 operand,
-            } => {
-                let a = self.first_operand(operation, destination)?;
-                let b = self.operand(operand)?;
-                self.write_and_go(destination, value(operation, width, a, b), 0)
-            }
-            Insn::Negate { width, destination } => {
-                let a = self.register(destination)?;
-                self.write_and_go(destination, negate(width, a), 0)
-            }
+            } => self.compute(width, operation, destination, operand),
+            Insn::Negate { width, destination } => self.negate(width, destination),
             Insn::Extend {
                 extension,
                 destination,
                 source,
-            } => {
-                let a = self.register(source)?;
-                self.write_and_go(destination, extend(extension, a), 0)
-            }
+            } => self.extend(extension, destination, source),
             Insn::Convert {
                 conversion,
                 bits,
                 destination,
-            } => {
-                let a = self.register(destination)?;
-                self.write_and_go(destination, convert(conversion, bits, a), 0)
-            }
+            } => self.convert(conversion, bits, destination),
             Insn::Jump { distance } => Ok(Motion::By(i32::from(distance))),
             Insn::JumpLong { distance } => Ok(Motion::By(distance)),
             Insn::Branch {
@@ -145,51 +268,27 @@ impl Machine {
                 left,
                 right,
                 distance,
-            } => {
-                let a = self.register(left)?;
-                let b = self.operand(right)?;
-                if holds(comparison, width, a, b) {
-                    Ok(Motion::By(i32::from(distance)))
-                } else {
-                    Ok(Motion::By(0))
-                }
-            }
+            } => self.branch(width, comparison, left, right, distance),
             Insn::Load {
                 size,
                 destination,
                 base,
                 offset,
-            } => {
-                let address = address(self.register(base)?, offset);
-                let value = load(context, text, &self.stack, address, size)?;
-                self.write_and_go(destination, value, 0)
-            }
+            } => self.load(context, text, size, destination, base, offset),
             Insn::LoadSigned {
                 size,
                 destination,
                 base,
                 offset,
-            } => {
-                let address = address(self.register(base)?, offset);
-                let value = load(context, text, &self.stack, address, unsigned(size))?;
-                self.write_and_go(destination, sign(size, value), 0)
-            }
+            } => self.load_signed(context, text, size, destination, base, offset),
             Insn::Store {
                 size,
                 base,
                 offset,
                 value,
-            } => {
-                let address = address(self.register(base)?, offset);
-                let value = self.operand(value)?;
-                store(context, text, &mut self.stack, address, size, value)?;
-                Ok(Motion::By(0))
-            }
+            } => self.store(context, text, size, base, offset, value),
             Insn::LoadWide { destination, value } => self.write_and_go(destination, value, 1),
-            Insn::Exit => {
-                let value = self.register(Register::R0)?;
-                Ok(Motion::Stops(value))
-            }
+            Insn::Exit => self.exit(),
         }
     }
 

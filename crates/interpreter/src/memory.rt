@@ -22,7 +22,7 @@ fn count(size: Size) -> usize
 }
 
 /// How much a sign-extending load reads.
-pub fn unsigned(size: SignedSize) -> Size
+pub fn size_read(size: SignedSize) -> Size
     ensures { bytes_in result ≡ bytes_in_signed size }
 {
     match size {

@@ -1,10 +1,10 @@
 -- The mark that decides, and what it adds.
-use Rattle.std.proofs.Common.{◌≡◌, ℕ, ◌+◌, ◌<◌, ◌≤◌, List, Option, Some, None, inl, inr, ◌⊎◌, length, sym, ap, refl, ◌∙◌, subst, ⊎_elim}
+use Rattle.std.proofs.Common.{◌≡◌, ℕ, ◌+◌, ◌<◌, ◌≤◌, true, List, Option, Some, None, inl, inr, ◌⊎◌, length, sym, ap, refl, ◌∙◌, subst, ⊎_elim}
 use Rattle.std.specs.List.{slice_get, Contains}
 use Rattle.std.specs.Option.{MatchOption}
 use Rattle.std.proofs.lemmas.Option.{same_Some, none-some, slice_get_within}
 use Rattle.change_ops.specs.Ids.{Less}
-use Rattle.change_ops.specs.Operations.{id_of, key_of}
+use Rattle.change_ops.specs.Operations.{id_of, is_mark, key_of}
 use Rattle.change_ops.specs.declared.id.OpId.{OpId}
 use Rattle.change_ops.specs.declared.attribute.Key.{Key}
 use Rattle.change_ops.specs.declared.attribute.Attribute.{Attribute}
@@ -15,7 +15,7 @@ use Rattle.char_sequence.specs.declared.sequence.Element.{Element}
 use Rattle.char_sequence.specs.Order.{Shows, IsAt}
 use Rattle.char_sequence.proofs.Ids.{less_trans, less_irrefl, less_cases}
 use Rattle.mark_anchors.specs.Format.{Touches, Decides, added}
-use Rattle.mark_anchors.specs.Marks.{IsMark, AreMarks}
+use Rattle.mark_anchors.specs.Marks.{AreMarks}
 use Rattle.mark_anchors.specs.Places.{IsOfKey, Lies}
 use Rattle.mark_anchors.specs.Placed.{ArePlaced, CoversPlace, IsGreatest, IsBest, IsValue}
 use Rattle.mark_anchors.specs.declared.placed.PlacedMark.{PlacedMark}
@@ -96,11 +96,11 @@ of_key_from_touches ops key e (Remove id target) touches = absurd touches
 of_key_from_touches ops key e (AddMark id attribute start end) touches = touches.0
 of_key_from_touches ops key e (RemoveMark id other start end) touches = touches.0
 
-pub mark_from_key : (key : Key) (o : Op) → IsOfKey key o → IsMark o
+pub mark_from_key : (key : Key) (o : Op) → IsOfKey key o → is_mark o ≡ true
 mark_from_key key (Insert id parent character) of_key = absurd of_key
 mark_from_key key (Remove id target) of_key = absurd of_key
-mark_from_key key (AddMark id attribute start end) of_key = tt
-mark_from_key key (RemoveMark id other start end) of_key = tt
+mark_from_key key (AddMark id attribute start end) of_key = refl
+mark_from_key key (RemoveMark id other start end) of_key = refl
 
 -- two operations that decide are one
 pub one_decides : (ops : List Op) → ((o p : Op) → Contains ops o → Contains ops p → id_of o ≡ id_of p → o ≡ p) → (key : Key) (e : OpId) (o p : Op) → Decides ops key e o → Decides ops key e p → o ≡ p

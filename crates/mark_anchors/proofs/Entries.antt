@@ -1,6 +1,6 @@
 -- The operations that are held, each under its id.
 use Rattle.std.proofs.Common.{◌≡◌, ℕ, zero, suc, Bool, true, false, List, [], ◌∷◌, ◌++◌, Some, length, if◌then◌else◌, refl, sym, ap, subst, ◌∙◌, arith, ⊎_elim, Contains}
-use Rattle.std.specs.List.{slice_get}
+use Rattle.std.specs.List.{slice_get, AllZip}
 use Rattle.std.specs.Map.{values_of}
 use Rattle.std.specs.Prelude.{nat_eq}
 use Rattle.std.specs.Cmp.{unsigned_Decides}
@@ -58,3 +58,14 @@ filed_push es op filed room = record {
       (pushed_cases es (id_of op, op) i e g);
   limit = rw length_push (omega arith);
 }
+
+-- clones of the entries are the entries, where a clone equals its source
+pub same_entries : (C : OpId → OpId → Type 0) (D : Op → Op → Type 0) → ((a b : OpId) → C a b → b ≡ a) → ((a b : Op) → D a b → b ≡ a) → (es fs : List (OpId × Op)) → AllZip (λ e f. C e.0 f.0 × D e.1 f.1) es fs → fs ≡ es
+same_entries C D same_key same_value [] [] clones = refl
+same_entries C D same_key same_value [] (f ∷ fs) clones = absurd clones
+same_entries C D same_key same_value (e ∷ es) [] clones = absurd clones
+same_entries C D same_key same_value (e ∷ es) (f ∷ fs) clones =
+    let key : f.0 ≡ e.0 = same_key e.0 f.0 clones.0.0 in
+    let value : f.1 ≡ e.1 = same_value e.1 f.1 clones.0.1 in
+    let rest : fs ≡ es = same_entries C D same_key same_value es fs clones.1 in
+    λ i. (key i, value i) ∷ rest i

@@ -1,22 +1,14 @@
 -- The mark operations among a set of operations.
-use Rattle.std.specs.Prelude.{◌≡◌, ◌≤◌, ℕ, List, Some, Contains, length, slice_get}
-use Rattle.change_ops.specs.Operations.{id_of}
+use Rattle.std.specs.Prelude.{◌≡◌, ◌≤◌, ℕ, true, List, Some, Contains, length, slice_get}
+use Rattle.change_ops.specs.Operations.{id_of, is_mark}
 use Rattle.change_ops.specs.declared.id.OpId.{OpId}
 use Rattle.change_ops.specs.declared.operation.Op.{Op}
-use Rattle.change_ops.specs.declared.operation.Op.TheVariants.{Insert, Remove, AddMark, RemoveMark}
-
--- the operation adds or removes a mark
-abbrev pub IsMark : Op → Type 0
-IsMark (Insert id parent character) = ⊥
-IsMark (Remove id target) = ⊥
-IsMark (AddMark id attribute start end) = Unit {0}
-IsMark (RemoveMark id key start end) = Unit {0}
 
 -- the list has the mark operations among the operations, and no other
 pub record AreMarks (ops marks : List Op) : Type 0 where
   pub held : (o : Op) → Contains marks o → Contains ops o
-  pub marking : (o : Op) → Contains marks o → IsMark o
-  pub listed : (o : Op) → Contains ops o → IsMark o → Contains marks o
+  pub marking : (o : Op) → Contains marks o → is_mark o ≡ true
+  pub listed : (o : Op) → Contains ops o → is_mark o ≡ true → Contains marks o
 
 -- each operation stands under its own id, and there are at most 4,096
 pub record AreFiled (entries : List (OpId × Op)) : Type 0 where

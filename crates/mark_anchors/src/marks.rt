@@ -1,6 +1,6 @@
-ghost use Rattle.std.specs.Prelude.{◌≡◌, ◌≤◌, ◌+◌, ◌++◌, ◌∷◌, [], ◌↔◌, List, Contains, ℕ, Some, length, slice_get, OnOk, OnErr};
-ghost use Rattle.change_ops.specs.Operations.{id_of};
-ghost use Rattle.mark_anchors.specs.Marks.{IsMark, AreMarks};
+ghost use Rattle.std.specs.Prelude.{◌≡◌, ◌≤◌, ◌+◌, ◌++◌, ◌∷◌, [], ◌↔◌, List, Contains, ℕ, true, Some, length, slice_get, OnOk, OnErr};
+ghost use Rattle.change_ops.specs.Operations.{id_of, is_mark};
+ghost use Rattle.mark_anchors.specs.Marks.{AreMarks};
 
 use change_ops::id::OpId;
 use change_ops::operation::Op;
@@ -71,7 +71,7 @@ impl Marks {
 
     /// Adds a mark operation, or leaves the marks unchanged.
     pub fn add(&mut self, op: &Op) -> Result<(), MarksError>
-        requires mark { IsMark op.now }
+        requires mark { is_mark op.now ≡ true }
         requires fresh { (o : Op) → Contains self.old o → id_of o ≡ id_of op.now → ⊥ }
         ensures ok { OnOk result (self.new ≡ self.old ++ op.now ∷ []) }
         ensures marks { (ops : List Op) → AreMarks ops self.old → OnOk result (AreMarks (ops ++ op.now ∷ []) self.new) }
@@ -90,5 +90,14 @@ impl Marks {
         ensures { result.now ≡ self.now }
     {
         self.by_id.values().as_slice()
+    }
+}
+
+impl Clone for Marks {
+    ghost is_clone = { λ old new. new ≡ old };
+
+    fn clone(&self) -> Result<Marks, AllocError> {
+        let by_id = self.by_id.clone()?;
+        Ok(Marks { by_id })
     }
 }

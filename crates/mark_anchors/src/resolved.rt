@@ -1,4 +1,4 @@
-ghost use Rattle.std.specs.Prelude.{◌≡◌, List, Some, IfOk, slice_get};
+ghost use Rattle.std.specs.Prelude.{◌≡◌, ◌<◌, List, Some, IfOk, length, slice_get};
 ghost use Rattle.char_sequence.specs.declared.sequence.Element.{Element};
 ghost use Rattle.char_sequence.specs.Tree.{Present};
 ghost use Rattle.char_sequence.specs.Order.{Shows};
@@ -82,6 +82,7 @@ impl Marks {
 impl ResolvedMarks<'_> {
     /// The format of the character at the place, which counts removed characters too.
     pub fn format_at_place(&self, alloc: Global, place: usize) -> Result<Format, AllocError>
+        requires { place < length self.now.elements }
         ensures { (ops : List Op) (e : Element) → Shows self.now.elements ops → AreMarks ops self.now.marks → slice_get self.now.elements place ≡ Some e → IfOk result (λ format. IsFormat ops e.id format) }
     {
         let operations = self.operations;

@@ -4,3 +4,4 @@ pub mod Memory
 pub mod Step
 pub mod Outcomes
 pub mod Safe
+pub mod Samples

@@ -12,9 +12,6 @@ use mark_anchors::format::Format;
 use mark_anchors::marks::Marks;
 use std::alloc::{AllocError, Global};
 
-/// The most characters of a text, removed ones too.
-pub const CHARACTER_LIMIT: usize = 32768;
-
 /// Adds a character to the text, and to the last row if it has that row's format, else as a row of its own.
 fn take_in(
     text: &mut String,
@@ -47,8 +44,7 @@ pub fn flatten(
     marks: &Marks,
     number: u64,
 ) -> Result<Version, AllocError>
-    requires shown { (ops : List Op) × Shows sequence.now.elements ops × AreMarks ops marks.now }
-    requires limit { length sequence.now.elements ≤ CHARACTER_LIMIT }
+    requires { (ops : List Op) × Shows sequence.now.elements ops × AreMarks ops marks.now }
     ensures { IfOk result (λ version. (ops : List Op) → Shows sequence.now.elements ops → AreMarks ops marks.now → IsVersion ops number version) }
 {
     let resolved = marks.resolve(alloc, sequence)?;

@@ -11,5 +11,5 @@ returns-clause-kept c = ops_own _ _ _ _ _ (is_done _ _ _ _ _ _ c.loop-index-test
 
 pub loop-index-preserved : goal.loop-index-preserved
 loop-index-preserved c =
-    let pushed : c.push.new.self.items ≡ c.loop-index.operations.items ++ c.in-Ok.x.0 ∷ [] = search rules in
-    record { text = c.in-Ok.ensures.text; same = rw pushed (goes_on _ _ _ _ _ _ _ _ c.loop-index-test.true c.in-Ok.ensures.read c.loop-index.invariant.same) }
+    let pushed : c.push.new.self.items ≡ c.loop-index.operations.items ++ c.in_ok-op.op ∷ [] = search rules in
+    record { text = c.in_ok-op.ensures.text; same = rw pushed (goes_on _ _ _ _ _ _ _ _ c.loop-index-test.true c.in_ok-op.ensures.read c.loop-index.invariant.same) }

@@ -14,7 +14,7 @@ loop-place-preserved c =
     let marks : List Op = c.args.marks.now in
     let place : ℕ = c.loop-place.place in
     let e : Element = c.element-item.result in
-    let items : c.elements-element-items.result.now ≡ es = c.elements-element-items.ensures in
+    let items : c.elements-element-items.result.now ≡ es = c.elements-element-items.ensures.value in
     let within : place < length es = omega (arith, ap length items) in
     let read : e ≡ get_or es place e = c.element-item.is ∙ ap (λ l. get_or l place e) items in
     elim c.if-element.branch [
@@ -37,9 +37,9 @@ loop-place-preserved c =
 pub invariant_of-result : goal.invariant_of-result
 invariant_of-result c =
     taken_whole c.args.sequence.now.elements c.args.marks.now c.loop-place.place (string_bytes c.loop-place.text) c.loop-place.rows.items
-    (omega (arith, ap length c.elements-element-items.ensures, c.requires.limit)) c.loop-place.invariant
+    (omega (arith, ap length c.elements-element-items.ensures.value, c.elements-element-items.ensures.limit)) c.loop-place.invariant
 
 pub returns : goal.returns
 returns c =
     taken_version c.args.sequence.now.elements c.args.marks.now c.loop-place.place c.args.number (string_bytes c.loop-place.text) c.loop-place.rows.items
-    (omega (arith, ap length c.elements-element-items.ensures)) c.loop-place.invariant
+    (omega (arith, ap length c.elements-element-items.ensures.value)) c.loop-place.invariant

@@ -1,9 +1,7 @@
 use Rattle.std.proofs.Common.{refl, sym, ap}
 use Rattle.std.specs.List.{filter}
-use Rattle.change_ops.specs.Operations.{is_insert}
+use Rattle.change_ops.specs.Operations.{is_insert, is_edit, is_mark}
 use Rattle.hub_core.specs.declared.parts.Parts.{Parts}
-use Rattle.hub_core.specs.Accepted.{is_mark}
-use Rattle.hub_core.specs.Kept.{is_edit}
 use Rattle.hub_core.proofs.Edits.{accepts_part}
 use Rattle.hub_core.proofs.Keeping.{keeps_edit, keeps_mark, fresh_mark, mark_room, unused_of, shows_mark}
 use Rattle.hub_core.proofs.parts.Parts.add.Goals as goal
@@ -39,7 +37,7 @@ add_mark-requires-in-RemoveMark-clause-room c =
 pub returns-in-Insert : goal.returns-in-Insert
 returns-in-Insert c = λ ops k m.
     let new : Parts = record { sequence = c.insert.new.self; marks = c.args.self.now.marks; newest = c.note.new.self } in
-    keeps_edit c.insert.result ops c.args.op.now c.args.self.now new (accepts_part ops c.args.op.now m.accepted) (ap is_edit c.in-Insert.is) (ap is_mark c.in-Insert.is) k refl
+    keeps_edit c.insert.result ops c.args.op.now c.args.self.now new (ap is_edit c.in-Insert.is) (ap is_mark c.in-Insert.is) k refl
     (c.in_ok-note.ensures.noted ops c.args.op.now (sym c.id.ensures) (unused_of ops c.args.op.now c.id.result c.id.ensures m.accepted) k.newest)
     (c.insert.ensures.shows ops k.shows m.accepted)
     (c.insert.ensures.held (filter is_edit ops) k.held (accepts_part ops c.args.op.now m.accepted))
@@ -47,7 +45,7 @@ returns-in-Insert c = λ ops k m.
 pub returns-in-Remove : goal.returns-in-Remove
 returns-in-Remove c = λ ops k m.
     let new : Parts = record { sequence = c.remove.new.self; marks = c.args.self.now.marks; newest = c.note.new.self } in
-    keeps_edit c.remove.result ops c.args.op.now c.args.self.now new (accepts_part ops c.args.op.now m.accepted) (ap is_edit c.in-Remove.is) (ap is_mark c.in-Remove.is) k refl
+    keeps_edit c.remove.result ops c.args.op.now c.args.self.now new (ap is_edit c.in-Remove.is) (ap is_mark c.in-Remove.is) k refl
     (c.in_ok-note.ensures.noted ops c.args.op.now (sym c.id.ensures) (unused_of ops c.args.op.now c.id.result c.id.ensures m.accepted) k.newest)
     (c.remove.ensures.shows ops k.shows m.accepted)
     (c.remove.ensures.held (filter is_edit ops) k.held (accepts_part ops c.args.op.now m.accepted))

@@ -1,7 +1,7 @@
 use Rattle.std.proofs.Common.{sym, subst}
 use Rattle.std.specs.List.{filter}
+use Rattle.change_ops.specs.Operations.{is_edit}
 use Rattle.hub_core.specs.Accepted.{MayNotFollow}
-use Rattle.hub_core.specs.Kept.{is_edit}
 use Rattle.hub_core.proofs.Edits.{refused_whole, accepts_whole}
 use Rattle.hub_core.proofs.Keeping.{unused_by, too_many, not_too_many}
 use Rattle.hub_core.proofs.parts.Parts.check.Goals as goal

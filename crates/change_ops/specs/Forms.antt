@@ -1,0 +1,123 @@
+-- The grammar of a change's lines, of numbers of any size: which words and lines have a form, whatever reads them.
+use Rattle.std.specs.Prelude.{◌≡◌, ℕ, ◌+◌, ◌*◌, ◌^◌, ◌<◌, ◌≤◌, false, List, [], ◌∷◌, ◌++◌, map, length, Option, Some, None, codes, ⊤, ◌↔◌}
+use Rattle.std.specs.List.{AllByRecursion}
+use Rattle.std.specs.Fmt.{digit_glyph}
+use Rattle.change_ops.specs.Ids.{Id}
+use Rattle.change_ops.specs.Operations.{key_of}
+use Rattle.change_ops.specs.Reading.{op_at, header_at}
+use Rattle.change_ops.specs.declared.attribute.Key.{Key}
+use Rattle.change_ops.specs.declared.attribute.Key.TheVariants as key
+use Rattle.change_ops.specs.declared.attribute.Attribute.{Attribute}
+use Rattle.change_ops.specs.declared.attribute.Attribute.TheVariants as attribute
+use Rattle.change_ops.specs.declared.operation.Anchor.{Anchor}
+use Rattle.change_ops.specs.declared.operation.Anchor.TheVariants.{TextStart, BeforeCharacter, AfterCharacter, TextEnd}
+use Rattle.change_ops.specs.declared.operation.Op.{Op}
+use Rattle.change_ops.specs.declared.operation.Op.TheVariants.{Insert, Remove, AddMark, RemoveMark}
+
+-- the sum of the digits, each times the power of the base for its place
+unfoldable pub place_value : ℕ → List ℕ → ℕ
+place_value base [] = 0
+place_value base (d ∷ ds) = d * base ^ length ds + place_value base ds
+
+-- The word writes a number of this value: each digit is below the base, 0 to 9 and then a to f.
+pub record DigitsOf (base number : ℕ) (digits word : List ℕ) : Type 0 where
+  pub below : AllByRecursion (λ d. d < base) digits
+  pub written : word ≡ map (digit_glyph false) digits
+  pub sum : number ≡ place_value base digits
+
+-- at least one digit, and no zero before another
+abbrev pub LeadsWell : List ℕ → Type 0
+LeadsWell [] = ⊥
+LeadsWell (d ∷ []) = ⊤
+LeadsWell (d ∷ e ∷ ds) = 0 < d
+
+pub record Numeral (base number : ℕ) (word : List ℕ) : Type 0 where
+  pub digits : List ℕ
+  pub leads : LeadsWell digits
+  pub spells : DigitsOf base number digits word
+
+-- a word of one kind, a byte, and a word of another
+pub record Joined (mark : ℕ) (First Second : List ℕ → Type 0) (word : List ℕ) : Type 0 where
+  pub first : List ℕ
+  pub second : List ℕ
+  pub whole : word ≡ first ++ mark ∷ second
+  pub before : First first
+  pub after : Second second
+
+-- with a space between them
+infixr 5 ◌⎵◌
+abbrev pub ◌⎵◌ : (List ℕ → Type 0) → (List ℕ → Type 0) → List ℕ → Type 0
+First ⎵ Second = Joined 32 First Second
+
+abbrev pub Word : List ℕ → List ℕ → Type 0
+Word name word = word ≡ name
+
+-- counter@node
+abbrev pub IdForm : Id → List ℕ → Type 0
+IdForm id = Joined 64 (Numeral 10 id.counter) (Numeral 10 id.node)
+
+abbrev pub PlaceForm : Option Id → List ℕ → Type 0
+PlaceForm None = Word (codes "-")
+PlaceForm (Some id) = IdForm id
+
+-- at most six hexadecimal digits
+pub record CodeForm (code : ℕ) (word : List ℕ) : Type 0 where
+  pub numeral : Numeral 16 code word
+  pub short : length word ≤ 6
+
+-- a sign, and directly after it an id
+pub record SignedId (sign : ℕ) (id : Id) (word : List ℕ) : Type 0 where
+  pub name : List ℕ
+  pub whole : word ≡ sign ∷ name
+  pub named : IdForm id name
+
+-- <id, >id, ^ or $
+abbrev pub AnchorForm : Anchor → List ℕ → Type 0
+AnchorForm TextStart = Word (codes "^")
+AnchorForm (BeforeCharacter id) = SignedId 60 id
+AnchorForm (AfterCharacter id) = SignedId 62 id
+AnchorForm TextEnd = Word (codes "$")
+
+abbrev pub KeyForm : Key → List ℕ → Type 0
+KeyForm key.Strong = Word (codes "strong")
+KeyForm key.Em = Word (codes "em")
+KeyForm key.Link = Word (codes "link")
+KeyForm key.Color = Word (codes "color")
+KeyForm (key.Comment number) = Joined 58 (Word (codes "comment")) (Numeral 10 number)
+
+-- printable bytes of ASCII other than the space, at least one
+pub record LinkForm (target word : List ℕ) : Type 0 where
+  pub whole : word ≡ target
+  pub some : 1 ≤ length target
+  pub printable : AllByRecursion (λ b. (0x21 ≤ b) × (b ≤ 0x7e)) target
+
+-- six hexadecimal digits, zeros in front too
+pub record ColorForm (rgb : ℕ) (word : List ℕ) : Type 0 where
+  pub digits : List ℕ
+  pub six : length digits ≡ 6
+  pub spells : DigitsOf 16 rgb digits word
+
+abbrev pub ValueForm : Attribute → List ℕ → Type 0
+ValueForm attribute.Strong = Word (codes "-")
+ValueForm attribute.Em = Word (codes "-")
+ValueForm (attribute.Link target) = LinkForm target
+ValueForm (attribute.Color rgb) = ColorForm rgb
+ValueForm (attribute.Comment number) = Word (codes "-")
+
+-- an operation's line, without its LF
+abbrev pub LineForm : Op → List ℕ → Type 0
+LineForm (Insert id parent character) = Word (codes "i") ⎵ IdForm id ⎵ PlaceForm parent ⎵ CodeForm character
+LineForm (Remove id target) = Word (codes "d") ⎵ IdForm id ⎵ IdForm target
+LineForm (AddMark id attribute start end) = Word (codes "m") ⎵ IdForm id ⎵ KeyForm (key_of attribute) ⎵ ValueForm attribute ⎵ AnchorForm start ⎵ AnchorForm end
+LineForm (RemoveMark id key start end) = Word (codes "u") ⎵ IdForm id ⎵ KeyForm key ⎵ AnchorForm start ⎵ AnchorForm end
+
+-- a change's first line, without its LF
+abbrev pub HeaderForm : ℕ → ℕ → List ℕ → Type 0
+HeaderForm node count = Word (codes "change") ⎵ Numeral 10 node ⎵ Numeral 10 count
+
+-- A line is read as an operation just where it has the operation's form; so it has one operation's at most.
+abbrev pub LinesAreForms : Type 0
+LinesAreForms = (line : List ℕ) (op : Op) → (op_at line ≡ Some op) ↔ LineForm op line
+
+abbrev pub HeadersAreForms : Type 0
+HeadersAreForms = (line : List ℕ) (node count : ℕ) → (header_at line ≡ Some (node, count)) ↔ HeaderForm node count line

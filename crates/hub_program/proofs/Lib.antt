@@ -1,0 +1,5 @@
+pub mod SlotLines
+pub mod Replies
+pub mod Accepting
+pub mod Commas
+pub mod SpanPrinting

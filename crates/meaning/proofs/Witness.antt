@@ -1,0 +1,45 @@
+-- A safe program and one that isn't, by computation.
+use Rattle.std.proofs.Common.{◌≡◌, ℕ, zero, suc, ◌&&◌, Bool, true, false, nat_lt, List, [], ◌∷◌, ◌++◌, replicate, refl, sym, ◌∙◌, arith}
+use Rattle.std.specs.List.{list_all}
+use borrow.Author.Tests.{ltb-true}
+use Rattle.byteorder.specs.Endian.{little_bytes}
+use Rattle.bpf_words.specs.Context.{text_base}
+use Rattle.meaning.specs.declared.FaultKind.TheVariants.{UnsetRegister}
+use Rattle.meaning.specs.declared.Outcome.TheVariants.{Done, Fault}
+use Rattle.meaning.specs.Outcomes.{outcome, outcome_from}
+use Rattle.meaning.specs.Safe.{AreBytes, IsSpan, Safe}
+use Rattle.meaning.specs.Samples.{returns_one, exit_alone}
+
+both : (a b : Bool) → (a && b) ≡ true → (a ≡ true) × (b ≡ true)
+both true b h = (refl, h)
+both false b h = absurd (cc)
+
+bytes-tested : (numbers : List ℕ) → list_all (λ n. nat_lt n 256) numbers ≡ true → AreBytes numbers
+bytes-tested [] h place = omega arith
+bytes-tested (n ∷ rest) h zero = ltb-true n 256 (both (nat_lt n 256) (list_all (λ m. nat_lt m 256) rest) h).0
+bytes-tested (n ∷ rest) h (suc place) = bytes-tested rest (both (nat_lt n 256) (list_all (λ m. nat_lt m 256) rest) h).1 place
+
+-- a span of no text
+abbrev pub empty_context : List ℕ
+empty_context = little_bytes 8 text_base ++ little_bytes 8 text_base ++ replicate 40 0
+
+empty_span : IsSpan empty_context []
+empty_span = record {
+  fits = record { long = refl; short = omega arith; begins = refl; ends = refl; counts = refl };
+  context_bytes = bytes-tested empty_context refl;
+  text_bytes = bytes-tested [] refl;
+}
+
+pub one-safe : Safe returns_one
+unfolding outcome_from
+one-safe context text span = (1, refl)
+
+unset : (context text : List ℕ) → outcome exit_alone context text ≡ Fault 0 UnsetRegister
+unfolding outcome_from
+unset context text = refl
+
+pub alone-unsafe : Safe exit_alone → ⊥
+alone-unsafe safe =
+    let run = safe empty_context [] empty_span in
+    let clash : Fault 0 UnsetRegister ≡ Done run.0 = sym (unset empty_context []) ∙ run.1 in
+    absurd (cc)
