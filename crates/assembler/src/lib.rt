@@ -12,7 +12,5 @@ mod reading;
 mod scanner;
 mod shapes;
 mod statement;
-#[cfg(test)]
-mod tests;
 pub mod token;
 mod words;

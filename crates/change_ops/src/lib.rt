@@ -10,6 +10,4 @@ mod lines;
 mod numbers;
 pub mod operation;
 pub mod refusal;
-#[cfg(test)]
-mod tests;
 pub mod writing;

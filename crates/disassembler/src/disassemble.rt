@@ -47,26 +47,3 @@ pub fn disassemble(words: &Words<'_>, text: &mut String) -> Result<(), AllocErro
     }
     text.push_str(lines.as_str())
 }
-
-#[cfg(test)]
-mod tests {
-    use super::*;
-    use std::test::Fail;
-
-    #[test]
-    fn a_bounds_check(rt: HostRuntime) -> Result<(), Fail> {
-        let bytes = [
-            0x79, 0x12, 0, 0, 0, 0, 0, 0, 0x79, 0x13, 8, 0, 0, 0, 0, 0, 0xbf, 0x24, 0, 0, 0, 0, 0,
-            0, 0x07, 0x04, 0, 0, 1, 0, 0, 0, 0xb7, 0, 0, 0, 0, 0, 0, 0, 0x2d, 0x34, 1, 0, 0, 0, 0,
-            0, 0x71, 0x20, 0, 0, 0, 0, 0, 0, 0x95, 0, 0, 0, 0, 0, 0, 0,
-        ];
-        let words = Words::new(&bytes)?;
-        let mut text = String::from_str(rt.alloc(), "; in bounds\n")?;
-        disassemble(&words, &mut text)?;
-        assert_eq!(rt;
-            text.as_str(),
-            "; in bounds\nldxdw r2, [r1+0]\nldxdw r3, [r1+8]\nmov r4, r2\nadd r4, 1\nmov r0, 0\njgt r4, r3, +1\nldxb r0, [r2+0]\nexit\n"
-        );
-        Ok(())
-    }
-}

@@ -1,5 +1,5 @@
 -- How the parts go on from one accepted operation to the next.
-use Rattle.std.proofs.Common.{◌≡◌, ℕ, ◌+◌, ◌<◌, ◌≤◌, ◌&&◌, ◌↔◌, List, [], ◌∷◌, ◌++◌, Bool, true, false, Option, Result, Ok, Err, IfOk, IsTrue, refl, sym, ap, ◌∙◌, subst, inl, inr, arith, rules, length, nat_le, cond}
+use Rattle.std.proofs.Common.{◌≡◌, ℕ, ◌<◌, ◌≤◌, ◌&&◌, ◌↔◌, List, [], ◌∷◌, ◌++◌, Bool, true, false, Option, Some, MatchOption, Result, Ok, Err, IfOk, IsTrue, refl, sym, ap, ◌∙◌, subst, inl, arith, rules, length, nat_le, cond}
 use Rattle.std.proofs.lemmas.Bool.{false≢true}
 use Rattle.std.proofs.lemmas.Bool.Decides.{nat_tests}
 use Rattle.std.specs.List.{filter, count_by, Contains}
@@ -11,12 +11,14 @@ use Rattle.change_ops.specs.declared.operation.Op.TheVariants.{Insert, Remove}
 use Rattle.change_ops.specs.Operations.{id_of, is_edit, is_mark}
 use Rattle.char_sequence.specs.Acceptance.{Used, Accepts}
 use Rattle.char_sequence.specs.Newest.{IsNewest}
-use Rattle.char_sequence.specs.Order.{Shows}
+use Rattle.char_sequence.specs.declared.sequence.Element.{Element}
+use Rattle.char_sequence.specs.Tree.{Present}
+use Rattle.char_sequence.specs.Order.{Shows, IsAt}
 use Rattle.char_sequence.specs.Held.{Holds}
 use Rattle.mark_anchors.specs.Marks.{AreMarks}
 use Rattle.span_flatten.specs.Version.{Snapshot, IsVersion}
 use Rattle.hub_core.specs.declared.parts.Parts.{Parts}
-use Rattle.hub_core.specs.Accepted.{IsMarkTooMany, MayFollow}
+use Rattle.hub_core.specs.Accepted.{IsMarkTooMany}
 use Rattle.hub_core.specs.Kept.{Keeps}
 use Rattle.char_sequence.proofs.Holding.{shows_other}
 use Rattle.hub_core.proofs.Edits.{kept_was, kept_passes, is_kept}
@@ -97,6 +99,13 @@ are_marks ops marks e = subst (λ (xs : List Op). AreMarks ops xs) (sym e) (reco
   marking = λ o h. kept_passes is_mark ops o h;
   listed = λ o h m. is_kept is_mark ops o m h;
 })
+
+-- what has a place was inserted
+pub placed : (ops : List Op) (es : List Element) (id : OpId) (place : ℕ) (found : Option ℕ) → Shows es ops → found ≡ Some place → MatchOption found (Present ops id → ⊥) (λ k. IsAt es id k) → Present ops id
+placed ops es id place found shows here told =
+    let at : IsAt es id place = subst (λ (r : Option ℕ). MatchOption r (Present ops id → ⊥) (λ k. IsAt es id k)) here told in
+    let inserted = shows.text.inserted place at.0 at.1 in
+    (inserted.0, (at.0.character, subst (λ (x : OpId). Contains ops (Insert x inserted.0 at.0.character)) at.2 inserted.1))
 
 pub version_kept : {E : Type 0} (r : Result Snapshot E) (parts : Parts) (number : ℕ) → IfOk r (λ v. (ops : List Op) → Shows parts.sequence.elements ops → AreMarks ops parts.marks → IsVersion ops number v) → IfOk r (λ v. (ops : List Op) → Keeps ops parts → IsVersion ops number v)
 version_kept (Ok v) parts number h = λ ops k. h ops k.shows (are_marks ops parts.marks k.marks)

@@ -1,6 +1,6 @@
 -- Which operations and changes are accepted after others, and the first refusal (Peritext, CSCW 2022: an operation
 -- is applied once those that it depends on are there).
-use Rattle.std.specs.Prelude.{◌≡◌, ℕ, ◌≤◌, ◌<◌, true, List, [], ◌∷◌, ◌++◌, length, take, slice_get, count_by, Option, Some}
+use Rattle.std.specs.Prelude.{◌≡◌, ℕ, ◌≤◌, ◌<◌, true, List, [], ◌∷◌, ◌++◌, length, take, slice_get, count_by, Some}
 use Rattle.change_ops.specs.declared.operation.Op.{Op}
 use Rattle.change_ops.specs.Operations.{is_mark}
 use Rattle.change_ops.specs.Changes.{Edit}

@@ -1,5 +1,9 @@
-ghost use Rattle.std.specs.Prelude.{◌≡◌, ◌≤◌, ◌<◌, List, [], ◌++◌, ◌∷◌, length, MatchResult, IfOk};
+ghost use Rattle.std.specs.Prelude.{◌≡◌, ◌≤◌, ◌<◌, List, [], ◌++◌, ◌∷◌, length, MatchResult, MatchOption, IfOk};
 ghost use Rattle.change_ops.specs.declared.operation.Op.{Op};
+ghost use Rattle.char_sequence.specs.Order.{SameSet};
+ghost use Rattle.char_sequence.specs.Tree.{Present};
+ghost use Rattle.mark_anchors.specs.Format.{IsFormat};
+ghost use Rattle.span_flatten.specs.Spans.{Span, AreSpans};
 ghost use Rattle.span_flatten.specs.Version.{IsVersion};
 ghost use Rattle.hub_core.specs.Accepted.{IsAccepted, IsRefused, AreAccepted, operations_of};
 ghost use Rattle.hub_core.specs.Kept.{Keeps, AllApplied, error_at};
@@ -7,7 +11,9 @@ ghost use Rattle.hub_core.specs.Kept.{Keeps, AllApplied, error_at};
 use crate::parts::Parts;
 use crate::refusal::{ApplyError, SubmitError};
 use change_ops::change::Change;
+use change_ops::id::OpId;
 use change_ops::operation::Op;
+use mark_anchors::format::Format;
 use span_flatten::version::Version;
 use std::alloc::{AllocError, Global};
 use std::marker::Model;
@@ -98,5 +104,20 @@ impl History {
         ensures { IfOk result (IsVersion (operations_of self.now) (length self.now)) }
     {
         self.parts.version(alloc, self.len() as u64)
+    }
+
+    /// The format of a character, a removed one too; None where no accepted operation inserted it.
+    pub fn format_at(&self, alloc: Global, id: OpId) -> Result<Option<Format>, AllocError>
+        ensures { IfOk result (λ format. MatchOption format (Present (operations_of self.now) id → ⊥) (IsFormat (operations_of self.now) id)) }
+    {
+        self.parts.format_at(alloc, id)
+    }
+
+    /// The law that replicas converge: histories of one set of operations have equal spans, in whatever
+    /// order and in however many changes the operations were accepted.
+    pub fn same_set_same_spans(&self, other: &History)
+        ensures { (spans others : List Span) → SameSet (operations_of self.now) (operations_of other.now) → AreSpans (operations_of self.now) spans → AreSpans (operations_of other.now) others → spans ≡ others }
+    {
+        self.parts.same_set_same_spans();
     }
 }

@@ -1,16 +1,22 @@
-ghost use Rattle.std.specs.Prelude.{◌≡◌, ◌<◌, List, [], ◌++◌, ◌∷◌, true, length, Contains, MatchResult, IfOk, nat_le, ◌&&◌};
+ghost use Rattle.std.specs.Prelude.{◌≡◌, ◌<◌, List, [], ◌++◌, ◌∷◌, true, length, Contains, MatchResult, MatchOption, IfOk, nat_le, ◌&&◌};
 ghost use Rattle.change_ops.specs.Operations.{id_of, is_mark};
 ghost use Rattle.change_ops.specs.declared.operation.Op.{Op};
+ghost use Rattle.char_sequence.specs.Order.{SameSet};
+ghost use Rattle.char_sequence.specs.Tree.{Present};
+ghost use Rattle.mark_anchors.specs.Format.{IsFormat};
+ghost use Rattle.span_flatten.specs.Spans.{Span, AreSpans};
 ghost use Rattle.span_flatten.specs.Version.{IsVersion};
 ghost use Rattle.hub_core.specs.Accepted.{MayFollow, MayNotFollow};
 ghost use Rattle.hub_core.specs.Kept.{Keeps, Applied, refusal_of};
 
 use crate::refusal::{ApplyError, Refusal};
+use change_ops::id::OpId;
 use change_ops::operation::Op;
 use char_sequence::newest::Newest;
 use char_sequence::sequence::{Sequence, SequenceError};
+use mark_anchors::format::Format;
 use mark_anchors::marks::{MARK_LIMIT, Marks, MarksError};
-use span_flatten::flatten::flatten;
+use span_flatten::flatten::{flatten, same_set_same_spans};
 use span_flatten::version::Version;
 use std::alloc::{AllocError, Global};
 
@@ -114,5 +120,23 @@ impl Parts {
         ensures { IfOk result (λ version. (ops : List Op) → Keeps ops self.now → IsVersion ops number version) }
     {
         flatten(alloc, &self.sequence, &self.marks, number)
+    }
+
+    /// The format of a character, a removed one too, if it is there.
+    pub fn format_at(&self, alloc: Global, id: OpId) -> Result<Option<Format>, AllocError>
+        requires { (ops : List Op) × Keeps ops self.now }
+        ensures { IfOk result (λ format. (ops : List Op) → Keeps ops self.now → MatchOption format (Present ops id → ⊥) (IsFormat ops id)) }
+    {
+        match self.sequence.place_of(id) {
+            Some(_) => Ok(Some(self.marks.format_at(alloc, &self.sequence, id)?)),
+            None => Ok(None),
+        }
+    }
+
+    /// One set of operations has one list of spans.
+    pub fn same_set_same_spans(&self)
+        ensures { (ops others : List Op) (spans more : List Span) → Keeps ops self.now → SameSet ops others → AreSpans ops spans → AreSpans others more → spans ≡ more }
+    {
+        same_set_same_spans(&self.sequence);
     }
 }

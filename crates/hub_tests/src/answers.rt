@@ -11,6 +11,18 @@ pub fn answer(alloc: Global, line: &str, input: &[u8]) -> Result<(u8, Vec<u8>), 
     Ok((status, output))
 }
 
+/// Whether the program answers just so.
+pub fn is_answered(
+    alloc: Global,
+    line: &str,
+    input: &[u8],
+    status: u8,
+    output: &[u8],
+) -> Result<bool, Fail> {
+    let (got, printed) = answer(alloc, line, input)?;
+    Ok(got == status && printed.as_slice() == output)
+}
+
 /// Text from a table, whose lines are parted by ` / `: each line with its line feed, and no line where it is empty.
 pub fn lines(alloc: Global, text: &str) -> Result<String, AllocError> {
     let mut out = String::new(alloc);
@@ -22,4 +34,21 @@ pub fn lines(alloc: Global, text: &str) -> Result<String, AllocError> {
         out.push('\n')?;
     }
     Ok(out)
+}
+
+/// The input of the first row that the command doesn't answer with its status and lines, if there is one. A row's
+/// input and lines are parted as for `lines`.
+pub fn first_wrong<'a>(
+    alloc: Global,
+    line: &str,
+    rows: &[(&'a str, u8, &'a str)],
+) -> Result<Option<&'a str>, Fail> {
+    for &(input, status, want) in rows {
+        let text = lines(alloc, input)?;
+        let want = lines(alloc, want)?;
+        if !is_answered(alloc, line, text.as_bytes(), status, want.as_bytes())? {
+            return Ok(Some(input));
+        }
+    }
+    Ok(None)
 }

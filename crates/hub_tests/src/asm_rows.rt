@@ -1,4 +1,4 @@
-use crate::answers::{answer, lines};
+use crate::answers::{answer, first_wrong, is_answered};
 use std::alloc::{AllocError, Global};
 use std::test::Fail;
 
@@ -216,34 +216,22 @@ static PROGRAMS: [(&str, u8, &str); 8] = [
 #[test]
 fn sources_are_assembled(rt: HostRuntime) -> Result<(), Fail> {
     let alloc = rt.alloc();
-    for (source, status, want) in SOURCES {
-        let input = lines(alloc, source)?;
-        let (got, output) = answer(alloc, "hub asm", input.as_bytes())?;
-        assert_eq!(rt;
-            output.as_slice(),
-            lines(alloc, want)?.as_bytes(),
-            "at {source}"
-        );
-        assert_eq!(rt; got, status, "at {source}");
-    }
-    let (status, output) = answer(alloc, "hub asm", b"foo\n; \xff\n")?;
-    assert_eq!(rt; output.as_slice(), b"refused 62 TextRefused\n".as_slice());
-    assert_eq!(rt; status, 1);
+    assert_eq!(rt; first_wrong(alloc, "hub asm", &SOURCES)?, None);
+    assert!(rt;
+        is_answered(
+            alloc,
+            "hub asm",
+            b"foo\n; \xff\n",
+            1,
+            b"refused 62 TextRefused\n"
+        )?
+    );
     Ok(())
 }
 
 #[test]
 fn programs_are_disassembled(rt: HostRuntime) -> Result<(), Fail> {
-    let alloc = rt.alloc();
-    for (program, status, want) in PROGRAMS {
-        let (got, output) = answer(alloc, "hub dis", program.as_bytes())?;
-        assert_eq!(rt;
-            output.as_slice(),
-            lines(alloc, want)?.as_bytes(),
-            "at {program}"
-        );
-        assert_eq!(rt; got, status, "at {program}");
-    }
+    assert_eq!(rt; first_wrong(rt.alloc(), "hub dis", &PROGRAMS)?, None);
     Ok(())
 }
 
@@ -274,12 +262,8 @@ fn each_mnemonic_goes_both_ways(rt: HostRuntime) -> Result<(), Fail> {
     let alloc = rt.alloc();
     let source = listed_lines(alloc)?;
     let slots = listed_slots(alloc)?;
-    let (status, output) = answer(alloc, "hub asm", source.as_bytes())?;
-    assert_eq!(rt; output.as_slice(), slots.as_bytes());
-    assert_eq!(rt; status, 0);
-    let (status, output) = answer(alloc, "hub dis", slots.as_bytes())?;
-    assert_eq!(rt; output.as_slice(), source.as_bytes());
-    assert_eq!(rt; status, 0);
+    assert!(rt; is_answered(alloc, "hub asm", source.as_bytes(), 0, slots.as_bytes())?);
+    assert!(rt; is_answered(alloc, "hub dis", slots.as_bytes(), 0, source.as_bytes())?);
     Ok(())
 }
 

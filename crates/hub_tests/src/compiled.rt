@@ -1,4 +1,4 @@
-use crate::answers::answer;
+use crate::answers::is_answered;
 use std::alloc::Global;
 use std::test::Fail;
 
@@ -33,52 +33,60 @@ fn gives(
     verdict: &str,
 ) -> Result<bool, Fail> {
     let line = format!(in alloc; "hub run {program}{options}")?;
-    let (status, output) = answer(alloc, line.as_str(), text.as_bytes())?;
-    Ok(status == 0 && output.as_slice() == verdict.as_bytes())
+    is_answered(alloc, line.as_str(), text.as_bytes(), 0, verdict.as_bytes())
 }
+
+/// The options and the text of the first run whose verdict is another one, if there is one.
+fn first_wrong<'a>(
+    alloc: Global,
+    programs: &[&str],
+    runs: &[(&'a str, &'a str, &'a str)],
+) -> Result<Option<(&'a str, &'a str)>, Fail> {
+    for &program in programs {
+        for &(options, text, verdict) in runs {
+            if !gives(alloc, program, options, text, verdict)? {
+                return Ok(Some((options, text)));
+            }
+        }
+    }
+    Ok(None)
+}
+
+/// Options, text and verdict of runs of `SUM_OF_FOUR`.
+static SUMS: [(&str, &str, &str); 4] = [
+    ("", "abcdef", "verdict 394\n"),
+    ("", "abc", "verdict 294\n"),
+    ("", "a", "verdict 97\n"),
+    ("", "", "verdict 0\n"),
+];
+
+/// The same of `KIND`.
+static KINDS: [(&str, &str, &str); 4] = [
+    (" --flags 3", "", "verdict 3\n"),
+    (" --flags 1", "", "verdict 1\n"),
+    (" --color 8388609", "", "verdict 8\n"),
+    (" --count 7 --index 5", "", "verdict 705\n"),
+];
+
+/// The same of `MIXTURE`.
+static MIXED: [(&str, &str, &str); 2] = [
+    (
+        " --number 12345 --color 4294967280",
+        "",
+        "verdict 317694059890778\n",
+    ),
+    (
+        " --number 18446744073709551615 --color 77",
+        "",
+        "verdict 4149876904678567\n",
+    ),
+];
 
 #[test]
 fn compiled_programs_run(rt: HostRuntime) -> Result<(), Fail> {
     let alloc = rt.alloc();
-    for program in SUM_OF_FOUR {
-        for (text, verdict) in [
-            ("abcdef", "verdict 394\n"),
-            ("abc", "verdict 294\n"),
-            ("a", "verdict 97\n"),
-            ("", "verdict 0\n"),
-        ] {
-            assert!(rt; gives(alloc, program, "", text, verdict)?, "at {text}");
-        }
-    }
-    for program in KIND {
-        for (options, verdict) in [
-            (" --flags 3", "verdict 3\n"),
-            (" --flags 1", "verdict 1\n"),
-            (" --color 8388609", "verdict 8\n"),
-            (" --count 7 --index 5", "verdict 705\n"),
-        ] {
-            assert!(rt;
-                gives(alloc, program, options, "", verdict)?,
-                "at {options}"
-            );
-        }
-    }
-    for program in MIXTURE {
-        for (options, verdict) in [
-            (
-                " --number 12345 --color 4294967280",
-                "verdict 317694059890778\n",
-            ),
-            (
-                " --number 18446744073709551615 --color 77",
-                "verdict 4149876904678567\n",
-            ),
-        ] {
-            assert!(rt;
-                gives(alloc, program, options, "", verdict)?,
-                "at {options}"
-            );
-        }
-    }
+    assert_eq!(rt; first_wrong(alloc, &SUM_OF_FOUR, &SUMS)?, None);
+    assert_eq!(rt; first_wrong(alloc, &KIND, &KINDS)?, None);
+    assert_eq!(rt; first_wrong(alloc, &MIXTURE, &MIXED)?, None);
     Ok(())
 }

@@ -1,4 +1,4 @@
-use crate::answers::answer;
+use crate::answers::is_answered;
 use std::alloc::{AllocError, Global};
 use std::fmt::Write;
 use std::test::Fail;
@@ -91,6 +91,21 @@ fn any_place(random: &mut Random, known: &[Letter]) -> Place {
     }
 }
 
+/// Appends the line that adds the value of a key, or that takes the key away.
+fn push_mark_line(
+    text: &mut String,
+    id: Id,
+    name: &str,
+    added: Option<&str>,
+    places: &str,
+) -> Result<(), AllocError> {
+    let Id { counter, node } = id;
+    match added {
+        Some(value) => write!(text, "m {counter}@{node} {name} {value} {places}\n"),
+        None => write!(text, "u {counter}@{node} {name} {places}\n"),
+    }
+}
+
 impl History {
     fn insert(
         &mut self,
@@ -171,15 +186,8 @@ impl History {
         } else {
             (*second, *second_printed)
         };
-        if adds {
-            write!(
-                text,
-                "m {}@{} {name} {value} {places}\n",
-                id.counter, id.node
-            )?;
-        } else {
-            write!(text, "u {}@{} {name} {places}\n", id.counter, id.node)?;
-        }
+        let added = if adds { Some(value) } else { None };
+        push_mark_line(text, id, name, added, places.as_str())?;
         let value = if adds { Some(printed) } else { None };
         self.marks.push(Mark {
             id,
@@ -373,9 +381,8 @@ fn replicas_agree_with_a_plain_reference(rt: HostRuntime) -> Result<(), Fail> {
         let want = spans_of(alloc, &history)?;
         for order in [[0, 1, 2], [2, 1, 0], [1, 2, 0]] {
             let input = in_order(alloc, &history, order)?;
-            let (status, output) = answer(alloc, "hub spans", input.as_bytes())?;
-            assert_eq!(rt; output.as_slice(), want.as_bytes(), "seed {seed}, {input}");
-            assert_eq!(rt; status, 0);
+            let is_right = is_answered(alloc, "hub spans", input.as_bytes(), 0, want.as_bytes())?;
+            assert!(rt; is_right, "seed {seed}, {input}");
         }
     }
     Ok(())

@@ -1,4 +1,4 @@
-use crate::answers::{answer, lines};
+use crate::answers::{answer, first_wrong, is_answered};
 use std::alloc::{AllocError, Global};
 use std::fmt::Write;
 use std::test::Fail;
@@ -96,19 +96,16 @@ static CHANGES: [(&str, u8, &str); 22] = [
 #[test]
 fn changes_make_spans(rt: HostRuntime) -> Result<(), Fail> {
     let alloc = rt.alloc();
-    for (changes, status, want) in CHANGES {
-        let input = lines(alloc, changes)?;
-        let (got, output) = answer(alloc, "hub spans", input.as_bytes())?;
-        assert_eq!(rt;
-            output.as_slice(),
-            lines(alloc, want)?.as_bytes(),
-            "at {changes}"
-        );
-        assert_eq!(rt; got, status, "at {changes}");
-    }
-    let (status, output) = answer(alloc, "hub spans", b"change 0 1\n\xff")?;
-    assert_eq!(rt; output.as_slice(), b"refused 62 TextRefused\n".as_slice());
-    assert_eq!(rt; status, 1);
+    assert_eq!(rt; first_wrong(alloc, "hub spans", &CHANGES)?, None);
+    assert!(rt;
+        is_answered(
+            alloc,
+            "hub spans",
+            b"change 0 1\n\xff",
+            1,
+            b"refused 62 TextRefused\n"
+        )?
+    );
     Ok(())
 }
 
@@ -129,12 +126,8 @@ fn histories_have_limits(rt: HostRuntime) -> Result<(), Fail> {
     assert_eq!(rt; status, 0);
     assert_eq!(rt; output.len(), 4096 + 9);
     let input = single_changes(alloc, 4097)?;
-    let (status, output) = answer(alloc, "hub spans", input.as_bytes())?;
-    assert_eq!(rt;
-        output.as_slice(),
-        b"refused 50 HistoryFull change 4097\n".as_slice()
-    );
-    assert_eq!(rt; status, 1);
+    let full = b"refused 50 HistoryFull change 4097\n";
+    assert!(rt; is_answered(alloc, "hub spans", input.as_bytes(), 1, full)?);
     Ok(())
 }
 
@@ -161,16 +154,17 @@ fn marks(alloc: Global, count: u32) -> Result<String, AllocError> {
 fn marks_have_limits(rt: HostRuntime) -> Result<(), Fail> {
     let alloc = rt.alloc();
     let input = marks(alloc, 4096)?;
-    let (status, output) = answer(alloc, "hub spans", input.as_bytes())?;
-    assert_eq!(rt; output.as_slice(), b"0 strong a\n".as_slice());
-    assert_eq!(rt; status, 0);
+    assert!(rt; is_answered(alloc, "hub spans", input.as_bytes(), 0, b"0 strong a\n")?);
     let input = marks(alloc, 4097)?;
-    let (status, output) = answer(alloc, "hub spans", input.as_bytes())?;
-    assert_eq!(rt;
-        output.as_slice(),
-        b"refused 49 MarksFull change 18 line 2\n".as_slice()
+    assert!(rt;
+        is_answered(
+            alloc,
+            "hub spans",
+            input.as_bytes(),
+            1,
+            b"refused 49 MarksFull change 18 line 2\n"
+        )?
     );
-    assert_eq!(rt; status, 1);
     Ok(())
 }
 

@@ -88,7 +88,7 @@ fn one_operand(rt: HostRuntime) {
         ((1, 1), 63, (0x8000_0000_0000_0000, 0x8000_0000_0000_0000)),
         ((1, 2), 63, (0, LAST)),
     ];
-    for (ends, count, want) in left {
+    for &(ends, count, want) in &left {
         assert_eq!(rt;
             range(ends).map(|a| a.shl(count)),
             range(want),
@@ -101,7 +101,7 @@ fn one_operand(rt: HostRuntime) {
         ((0, LAST), 63, (0, 1)),
         ((12, 23), 128, (12, 23)),
     ];
-    for (ends, count, want) in right {
+    for &(ends, count, want) in &right {
         assert_eq!(rt;
             range(ends).map(|a| a.shr(count)),
             range(want),
@@ -113,7 +113,7 @@ fn one_operand(rt: HostRuntime) {
         ((7, 0x1_0000_0000), (0, 0xffff_ffff)),
         ((0x1_0000_0007, 0x1_0000_0008), (0, 0xffff_ffff)),
     ];
-    for (ends, want) in low {
+    for &(ends, want) in &low {
         assert_eq!(rt; range(ends).map(|a| a.low32()), range(want), "{ends:?}");
     }
 }
@@ -127,7 +127,7 @@ fn narrowing(rt: HostRuntime) {
         (0, None, None, Some((5, 9)), Some((5, 9))),
         (LAST, Some((5, 9)), Some((5, 9)), None, None),
     ];
-    for (bound, below, at_most, above, at_least) in rows {
+    for &(bound, below, at_most, above, at_least) in &rows {
         let Some(a) = range((5, 9)) else {
             panic!(&rt; "no interval");
         };
@@ -144,7 +144,7 @@ fn narrowing(rt: HostRuntime) {
             "at least {bound}"
         );
     }
-    for (left, right, want) in [
+    for &(left, right, want) in &[
         ((5, 12), (3, 7), Some((5, 7))),
         ((5, 12), (12, 20), Some((12, 12))),
         ((0, 4), (5, LAST), None),

@@ -2,6 +2,8 @@
 #![tactic(auto)]
 
 #[cfg(test)]
+mod assembler_text;
+#[cfg(test)]
 mod outcomes;
 #[cfg(test)]
 mod plain_assembler;

@@ -1,21 +1,13 @@
 -- A text with its rows while its characters are taken in.
-use Rattle.std.proofs.Common.{◌≡◌, ℕ, ◌+◌, ◌-◌, ◌*◌, ◌<◌, ◌≤◌, Bool, true, false, cond, List, [], ◌∷◌, ◌++◌, length, map, set, get_or, take, refl, sym, ap, subst, ◌∙◌, arith, append_assoc, length-append, All}
-use Rattle.std.specs.List.{filter}
-use Rattle.std.specs.Char.{encode_utf8, IsScalar}
-use Rattle.std.proofs.lemmas.List.{length_push, get_or_push, set_at, map_push, get_or_default}
-use Rattle.std.proofs.lemmas.List.Elements.{All-push, filter_more}
-use Rattle.change_ops.specs.declared.operation.Op.{Op}
-use Rattle.char_sequence.specs.declared.sequence.Element.{Element}
-use Rattle.char_sequence.specs.Order.{Shows}
-use Rattle.mark_anchors.specs.Format.{IsFormat}
+use Rattle.std.proofs.Common.{◌≡◌, ℕ, ◌+◌, ◌-◌, ◌<◌, List, [], ◌∷◌, ◌++◌, length, set, get_or, refl, sym, ap, subst, ◌∙◌, arith, append_assoc, length-append}
+use Rattle.std.specs.Char.{encode_utf8}
+use Rattle.std.proofs.lemmas.List.{length_push, get_or_push, set_at, get_or_default}
 use Rattle.mark_anchors.specs.Formatting.{Formatting}
-use Rattle.mark_anchors.specs.Marks.{AreMarks}
 use Rattle.span_flatten.specs.declared.version.Row.{Row}
 use Rattle.span_flatten.specs.Spans.{Shown, Span, Cuts}
 use Rattle.span_flatten.specs.Version.{joined, rows_from, IsLayout, IsDraft}
 use Rattle.span_flatten.proofs.Cutting.{cuts_fresh, cuts_longer}
 use Rattle.span_flatten.proofs.Laying.{joined-push, rows_from-push, length-rows_from}
-use Rattle.span_flatten.proofs.Showing.{element_of, is_visible}
 
 -- a list that is not empty has a last element
 last_of : {X : Type 0} (xs : List X) → 0 < length xs → (front : List X) × ((last : X) × (xs ≡ front ++ last ∷ []))

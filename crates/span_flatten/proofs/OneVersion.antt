@@ -1,6 +1,5 @@
 -- A version is a function of the set of operations and its number.
 use Rattle.std.proofs.Common.{◌≡◌, ℕ, List, Some, get_or, sym, ap, subst, ◌∙◌}
-use Rattle.std.specs.List.{slice_get}
 use Rattle.std.proofs.lemmas.Option.{slice_get_within, get_or_from_slice_get}
 use Rattle.change_ops.specs.declared.operation.Op.{Op}
 use Rattle.change_ops.specs.declared.operation.Op.TheVariants.{Insert, Remove}
@@ -48,7 +47,7 @@ one_visible ops es h shown others v w =
     same_in_order (λ a b. Before ops (Some a.id) b.id) (λ a b. before_asym ops h.tree a.id b.id) shown others (in_order ops shown v) (in_order ops others w)
     (members ops shown others v w) (members ops others shown w v)
 
-one_spans : (ops others : List Op) (es : List Element) → Shows es ops → SameSet ops others → (a b : List Span) → AreSpans ops a → AreSpans others b → a ≡ b
+pub one_spans : (ops others : List Op) (es : List Element) → Shows es ops → SameSet ops others → (a b : List Span) → AreSpans ops a → AreSpans others b → a ≡ b
 one_spans ops others es h s a b p q =
     let same : p.0 ≡ q.0 = one_visible ops es h p.0 q.0 p.1 (visible_of_set ops others s q.0 q.1) in
     one_cut p.0 a b p.2 (subst (λ l. Cuts l b) (sym same) q.2)

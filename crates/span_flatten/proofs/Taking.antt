@@ -1,5 +1,5 @@
 -- The characters are taken in one after another.
-use Rattle.std.proofs.Common.{◌≡◌, ℕ, ◌+◌, ◌*◌, ◌<◌, ◌≤◌, Bool, true, false, cond, ◌&&◌, List, [], ◌∷◌, ◌++◌, Some, length, map, get_or, take, refl, sym, ap, subst, ◌∙◌, arith, append-nil, All, IsUtf8, encode_utf8_all}
+use Rattle.std.proofs.Common.{◌≡◌, ℕ, ◌+◌, ◌*◌, ◌<◌, ◌≤◌, Bool, true, false, cond, ◌&&◌, List, [], ◌∷◌, ◌++◌, Some, length, map, get_or, take, refl, sym, ap, subst, ◌∙◌, arith, append-nil, All, IsUtf8}
 use Rattle.std.specs.List.{filter, slice_get}
 use Rattle.std.specs.Char.{IsScalar}
 use Rattle.std.specs.Str.{all_scalars, IsCharBoundary}
@@ -16,7 +16,7 @@ use Rattle.mark_anchors.specs.Formatting.{Formatting}
 use Rattle.mark_anchors.specs.Marks.{AreMarks}
 use Rattle.span_flatten.specs.declared.version.Row.{Row}
 use Rattle.span_flatten.specs.Spans.{Shown, Span, Cuts, IsRun}
-use Rattle.span_flatten.specs.Version.{joined, rows_from, IsLayout, IsDraft, IsWhole, IsVersion, spans_in}
+use Rattle.span_flatten.specs.Version.{rows_from, IsDraft, IsWhole, IsVersion}
 use Rattle.span_flatten.proofs.Laying.{spans_back, layout_back, rows_ordered, cut_starts, cut_ends}
 use Rattle.span_flatten.proofs.Showing.{element_of, is_visible, shown_visible}
 

@@ -3,7 +3,7 @@ ghost use Rattle.change_ops.specs.declared.operation.Op.{Op};
 ghost use Rattle.char_sequence.specs.declared.sequence.Element.{Element};
 ghost use Rattle.char_sequence.specs.Order.{Shows, SameSet};
 ghost use Rattle.mark_anchors.specs.Marks.{AreMarks};
-ghost use Rattle.span_flatten.specs.Spans.{Shown};
+ghost use Rattle.span_flatten.specs.Spans.{Shown, Span, AreSpans};
 ghost use Rattle.span_flatten.specs.Version.{IsDraft, IsVersion};
 
 use crate::version::{Row, Version};
@@ -63,4 +63,10 @@ pub fn flatten(
 /// in whatever order the operations were accepted.
 pub fn same_set_same_version(first: &Version, second: &Version)
     ensures { (ops others : List Op) (elements : List Element) (number : ℕ) → Shows elements ops → SameSet ops others → IsVersion ops number first.now → IsVersion others number second.now → first.now ≡ second.now }
+{}
+
+/// The law that replicas converge, of the spans alone: one set of operations has one list of spans,
+/// in whatever order and in however many changes the operations were accepted.
+pub fn same_set_same_spans(sequence: &Sequence)
+    ensures { (ops others : List Op) (spans more : List Span) → Shows sequence.now.elements ops → SameSet ops others → AreSpans ops spans → AreSpans others more → spans ≡ more }
 {}

@@ -1,4 +1,4 @@
-use Rattle.std.proofs.Common.{◌≡◌, List, Some, Err, ◌++◌, take, length, arith, refl, sym, subst}
+use Rattle.std.proofs.Common.{◌≡◌, Some, Err, ◌++◌, take, length, arith, refl, sym, subst}
 use Rattle.std.specs.List.{slice_get}
 use Rattle.std.proofs.lemmas.Option.{slice_get_read}
 use Rattle.hub_core.specs.Kept.{AllApplied}

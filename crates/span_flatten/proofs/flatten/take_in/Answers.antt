@@ -1,4 +1,4 @@
-use Rattle.std.proofs.Common.{rules, ◌≡◌, ◌≤◌, ◌<◌, ℕ, length, sym, ◌∙◌, ap, subst, arith, string_bytes, refl, get_or, ◌-◌, ◌++◌, ◌∷◌, [], true≢false}
+use Rattle.std.proofs.Common.{rules, ◌≡◌, ◌<◌, length, sym, ◌∙◌, ap, subst, arith, string_bytes, refl, get_or, ◌-◌, ◌++◌, ◌∷◌, [], true≢false}
 use Rattle.std.specs.Char.{encode_utf8}
 use Rattle.span_flatten.specs.declared.version.Row.{Row}
 use Rattle.span_flatten.specs.Version.{IsDraft}

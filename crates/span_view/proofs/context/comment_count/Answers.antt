@@ -1,4 +1,4 @@
-use Rattle.std.proofs.Common.{◌≡◌, ◌<◌, length, get_or, subst, ◌∙◌, ap, arith}
+use Rattle.std.proofs.Common.{arith}
 use Rattle.span_view.proofs.Rising.{spread}
 use Rattle.span_view.proofs.context.comment_count.Goals as goal
 

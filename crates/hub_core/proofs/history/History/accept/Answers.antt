@@ -1,6 +1,5 @@
 use Rattle.std.proofs.Common.{◌≡◌, ◌<◌, List, [], ◌∷◌, ◌++◌, length, arith, rules, sym, ap, subst, ◌∙◌}
 use Rattle.change_ops.specs.Changes.{Edit}
-use Rattle.hub_core.specs.declared.parts.Parts.{Parts}
 use Rattle.hub_core.specs.Accepted.{IsAccepted}
 use Rattle.hub_core.specs.Kept.{IsHistory}
 use Rattle.hub_core.proofs.Chronicle.{history_after}

@@ -1,4 +1,4 @@
-use Rattle.std.proofs.Common.{sym, subst}
+use Rattle.std.proofs.Common.{subst}
 use Rattle.hub_core.specs.Accepted.{AreAccepted}
 use Rattle.hub_core.proofs.history.History.len.Goals as goal
 

@@ -1,4 +1,4 @@
-use Rattle.std.proofs.Common.{◌≡◌, ◌<◌, ◌-◌, List, [], ◌∷◌, ◌++◌, length, MatchOption, sym, ap, subst, arith}
+use Rattle.std.proofs.Common.{◌-◌, List, length, ap, arith}
 use Rattle.std.specs.List.{slice_range}
 use Rattle.std.proofs.lemmas.List.{length_push}
 use Rattle.span_view.specs.Views.{LentSpan, views}

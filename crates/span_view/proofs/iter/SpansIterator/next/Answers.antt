@@ -1,6 +1,4 @@
-use Rattle.std.proofs.Common.{◌≡◌, ◌<◌, ◌+◌, List, [], ◌∷◌, length, MatchOption, sym, ap, subst, arith}
-use Rattle.std.specs.List.{slice_range}
-use Rattle.span_view.specs.Views.{LentSpan, views}
+use Rattle.std.proofs.Common.{length, ap, arith}
 use Rattle.span_view.proofs.Views.{front_step}
 use Rattle.span_view.proofs.iter.SpansIterator.next.Goals as goal
 

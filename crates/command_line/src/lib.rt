@@ -1,0 +1,6 @@
+//! What the words of a command line ask of the program.
+#![tactic(auto)]
+
+mod grammar;
+pub mod reading;
+pub mod request;

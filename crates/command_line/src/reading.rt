@@ -1,0 +1,74 @@
+use crate::grammar::hub;
+use crate::request::{Request, SpanOptions};
+use clap::error::ErrorKind;
+use clap::{ArgMatches, Error};
+use std::alloc::{AllocError, Global};
+use std::convert::AsStr;
+
+/// Why the words of a command line ask for none of the commands.
+#[derive(Debug, Drop)]
+pub enum Unread {
+    /// They ask for this help.
+    Help(String),
+    /// They are wrong, in the way that this text says.
+    Usage(String),
+    /// No memory was found.
+    Memory,
+}
+
+impl From<AllocError> for Unread {
+    fn from(_error: AllocError) -> Unread {
+        Unread::Memory
+    }
+}
+
+fn number(matches: &ArgMatches<'_>, name: &str) -> u32 {
+    matches.get_one::<u32>(name).unwrap_or(0)
+}
+
+fn span_options(matches: &ArgMatches<'_>) -> SpanOptions {
+    SpanOptions {
+        flags: number(matches, "flags"),
+        color: number(matches, "color"),
+        link_len: number(matches, "link"),
+        comments: number(matches, "comments"),
+        index: number(matches, "index"),
+        count: number(matches, "count"),
+        version: matches.get_one::<u64>("number").unwrap_or(0),
+    }
+}
+
+fn request_of(alloc: Global, matches: &ArgMatches<'_>) -> Result<Request, Unread> {
+    match matches.subcommand() {
+        Some(("asm", _)) => Ok(Request::Asm),
+        Some(("dis", _)) => Ok(Request::Dis),
+        Some(("run", run)) => Ok(Request::Run {
+            digits: String::from_str(alloc, run.get_str("HEX").unwrap_or(""))?,
+            options: span_options(run),
+        }),
+        Some(("spans", _)) => Ok(Request::Spans),
+        _ => Err(Unread::Usage(String::new(alloc))),
+    }
+}
+
+/// What the command line's parser says: a help that was asked for, or what is wrong.
+fn explained(alloc: Global, error: &Error) -> Result<Unread, AllocError> {
+    if error.kind() == ErrorKind::OutOfMemory {
+        return Ok(Unread::Memory);
+    }
+    let text = format!(in alloc; "{error}")?;
+    if error.use_stderr() {
+        Ok(Unread::Usage(text))
+    } else {
+        Ok(Unread::Help(text))
+    }
+}
+
+/// What the words ask for; the program's own name is the first.
+pub fn request<S: AsStr>(alloc: Global, words: &[S]) -> Result<Request, Unread> {
+    let hub = hub(alloc)?;
+    match hub.try_get_matches_from(words) {
+        Ok(matches) => request_of(alloc, &matches),
+        Err(error) => Err(explained(alloc, &error)?),
+    }
+}

@@ -1,0 +1,90 @@
+-- Steps from what the calls of a command give to what the command answers.
+use Rattle.std.proofs.Common.{◌≡◌, ℕ, ◌<◌, ◌≤◌, List, length, take, Option, Some, None, Result, Ok, Err, IfOk, inl, inr, refl, ap, subst, ◌∙◌, arith}
+use Rattle.std.specs.Prelude.{IfSome}
+use Rattle.std.specs.Str.{IsUtf8}
+use Rattle.std.proofs.lemmas.List.{take_all, length-take}
+use Rattle.std.proofs.lemmas.Bool.{cases_lt}
+use Rattle.hex.specs.Hex.{decode_of}
+use Rattle.hex.specs.declared.error.FromHexError.{FromHexError}
+use Rattle.bpf_words.specs.declared.context.Facts.{Facts}
+use Rattle.bpf_words.specs.declared.refusal.WordError.{WordError}
+use Rattle.bpf_words.specs.Words.{IsProgram, IsRefused, program_of}
+use Rattle.bpf_words.specs.Context.{context_bytes}
+use Rattle.meaning.specs.declared.Outcome.{Outcome}
+use Rattle.meaning.specs.Outcomes.{outcome}
+use Rattle.assembler.specs.declared.fault.AsmError.{AsmError}
+use Rattle.assembler.specs.Text.{AsmText, AsmFault}
+use Rattle.command_line.specs.declared.request.SpanOptions.{SpanOptions}
+use Rattle.hub_commands.specs.declared.reason.Reason.TheVariants.{BadHex, Words, Source}
+use Rattle.hub_commands.specs.Answers.{Reply, done}
+use Rattle.hub_commands.specs.Hexadecimal.{slot_lines}
+use Rattle.hub_commands.specs.Programs.{refusal, IsAsmReply, no_source, assembled, IsProgramReply, no_hex, no_program, program, facts_of, outcome_reply, IsSpanReply, no_text, ran}
+
+-- what holds of an answer, by what it was said to be
+pub mapped : {A E : Type 0} (P Q : A → Type 0) (result : Result A E) → IfOk result P → ((x : A) → P x → Q x) → IfOk result Q
+mapped P Q (Ok x) h f = f x h
+mapped P Q (Err e) h f = tt
+
+-- what holds of the bytes that a reader has left, where they are known
+pub where_known : (known : Option (List ℕ)) (P : List ℕ → Type 0) → ((bytes : List ℕ) → known ≡ Some bytes → P bytes) → IfSome known P
+where_known None P f = tt
+where_known (Some bytes) P f = f bytes refl
+
+pub asm_done : (input source bytes lent lines : List ℕ) (reply : Reply) → source ≡ input → IsUtf8 input → AsmText source bytes → lent ≡ bytes
+    → lines ≡ slot_lines lent → reply ≡ done lines → IsAsmReply input reply
+asm_done input source bytes lent lines reply same utf8 text is printed e =
+    let P : List ℕ → Type 0 = λ s. AsmText s bytes in
+    assembled bytes utf8 (subst P same text) (e ∙ ap done (printed ∙ ap slot_lines is))
+
+pub asm_refused : {E : Type 0} (input source : List ℕ) (error : AsmError) (result : Result Reply E) → source ≡ input → IsUtf8 input
+    → AsmFault source error → IfOk result (λ reply. reply ≡ refusal (Source error)) → IfOk result (IsAsmReply input)
+asm_refused input source error (Ok reply) same utf8 fault e =
+    let P : List ℕ → Type 0 = λ s. AsmFault s error in
+    no_source error utf8 (subst P same fault) e
+asm_refused input source error (Err e) same utf8 fault h = tt
+
+module _ (Replies : List ℕ → Reply → Type 0) (digits lent : List ℕ) (same : lent ≡ digits) where
+  pub hex_refused : (reply : Reply) → ((error : FromHexError) × (decode_of lent ≡ Err error)) → reply ≡ refusal BadHex → IsProgramReply Replies digits reply
+  hex_refused reply found e =
+      let P : List ℕ → Type 0 = λ d. decode_of d ≡ Err found.0 in
+      no_hex found.0 (subst P same found.1) e
+
+  pub words_refused : (bytes given : List ℕ) (error : WordError) (reply : Reply) → decode_of lent ≡ Ok bytes → given ≡ bytes → IsRefused given error
+      → reply ≡ refusal (Words error) → IsProgramReply Replies digits reply
+  words_refused bytes given error reply decoded is refused e =
+      let P : List ℕ → Type 0 = λ d. decode_of d ≡ Ok bytes in
+      let Q : List ℕ → Type 0 = λ b. IsRefused b error in
+      no_program bytes error (subst P same decoded) (subst Q is refused) e
+
+  pub program_answered : (bytes given : List ℕ) (reply : Reply) → decode_of lent ≡ Ok bytes → given ≡ bytes → IsProgram given → Replies given reply
+      → IsProgramReply Replies digits reply
+  program_answered bytes given reply decoded is right answered =
+      let P : List ℕ → Type 0 = λ d. decode_of d ≡ Ok bytes in
+      let Q : List ℕ → Type 0 = λ b. Replies b reply in
+      program bytes (subst P same decoded) (subst IsProgram is right) (subst Q is answered)
+
+pub span_ran : {E : Type 0} (options : SpanOptions) (bytes input text lent context : List ℕ) (facts : Facts) (given : Outcome) (result : Result Reply E)
+    → text ≡ input → IsUtf8 input → length text ≤ 131072 → facts ≡ facts_of options text → context ≡ context_bytes facts → lent ≡ text
+    → given ≡ outcome (program_of bytes) context lent → IfOk result (λ reply. reply ≡ outcome_reply given) → IfOk result (IsSpanReply options input bytes)
+span_ran options bytes input text lent context facts given (Ok reply) same utf8 short told made lends is e =
+    let few : length input ≤ 131072 = omega (arith, ap length same) in
+    let by_context = ap (λ (c : List ℕ). outcome (program_of bytes) c lent) (made ∙ ap context_bytes told) in
+    let by_text = ap (λ (t : List ℕ). outcome (program_of bytes) (context_bytes (facts_of options text)) t) lends in
+    let by_input = ap (λ (t : List ℕ). outcome (program_of bytes) (context_bytes (facts_of options t)) t) same in
+    ran (record { characters = utf8; short = few }) (e ∙ ap outcome_reply (is ∙ by_context ∙ by_text ∙ by_input))
+span_ran options bytes input text lent context facts given (Err e) same utf8 short told made lends is h = tt
+
+too_long : (options : SpanOptions) (text bytes : List ℕ) (reply : Reply) → 131072 < length text → IsSpanReply options (take 131073 text) bytes reply → IsSpanReply options text bytes reply
+too_long options text bytes reply long (no_text wrong e) = no_text (λ right. absurd (omega (arith, right.short))) e
+too_long options text bytes reply long (ran right e) = absurd (omega (arith, right.short, length-take 131073 text))
+
+-- a byte past the limit is enough to see that a text is too long
+pub past_limit : (options : SpanOptions) (text bytes : List ℕ) (reply : Reply) → IsSpanReply options (take 131073 text) bytes reply → IsSpanReply options text bytes reply
+past_limit options text bytes reply given =
+    elim (cases_lt 131072 (length text)) [
+      | inl long ↦ too_long options text bytes reply long given
+      | inr short ↦
+          let P : List ℕ → Type 0 = λ t. IsSpanReply options t bytes reply in
+          let whole : take 131073 text ≡ text = take_all 131073 text (omega arith) in
+          subst P whole given
+    ]

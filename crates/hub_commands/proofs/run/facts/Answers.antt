@@ -1,0 +1,9 @@
+use Rattle.std.proofs.Common.{◌≡◌, length, rules, refl}
+use Rattle.std.specs.Str.{chars}
+use Rattle.std.proofs.lemmas.Str.{chars_from_encodes}
+use Rattle.hub_commands.proofs.run.facts.Goals as goal
+
+pub returns : goal.returns
+returns c =
+    let counted : c.count.result ≡ length (chars c.args.text.now) = search (rules, chars_from_encodes) in
+    rw counted refl

@@ -1,0 +1,8 @@
+pub mod Answers
+pub mod Hexadecimal
+pub mod Reasons
+pub mod Programs
+pub mod SpanLines
+pub mod SpansReply
+pub mod Stopping
+pub mod Requests

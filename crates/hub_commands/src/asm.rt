@@ -1,0 +1,36 @@
+ghost use Rattle.std.specs.Prelude.{IfOk};
+ghost use Rattle.hub_commands.specs.Answers.{IsAnswered};
+ghost use Rattle.hub_commands.specs.Programs.{IsAsmReply};
+
+use crate::answer::Answer;
+use crate::failure::Failure;
+use crate::hexadecimal::slot_lines;
+use crate::input::read_input;
+use crate::output::write_answer;
+use crate::reason::Reason;
+use assembler::assembly::assemble;
+use std::alloc::{AllocError, Global};
+use std::io::{Read, Write};
+
+/// What `asm` answers to a source: its slots in hexadecimal.
+pub fn asm_answer(alloc: Global, input: &[u8]) -> Result<Answer, AllocError>
+    ensures { IfOk result (λ answer. IsAsmReply input.now answer) }
+{
+    let Ok(source) = std::str::from_utf8(input) else {
+        return Answer::refused(alloc, &Reason::TextRefused);
+    };
+    match assemble(alloc, source) {
+        Ok(bytes) => Ok(Answer::done(slot_lines(alloc, &bytes)?)),
+        Err(error) => Answer::refused(alloc, &Reason::Source(error)),
+    }
+}
+
+/// The command `asm`: the slots of assembler text, in hexadecimal.
+pub fn asm<R: Read, W: Write>(alloc: Global, reader: &mut R, writer: &mut W) -> Result<u8, Failure>
+    ensures { IfOk result (λ status. IsAnswered IsAsmReply (R.remaining reader.old)
+        (W.contents writer.old) (W.contents writer.new) status) }
+{
+    let input = read_input(alloc, reader)?;
+    let answer = asm_answer(alloc, &input)?;
+    write_answer(writer, &answer)
+}

@@ -1,0 +1,42 @@
+ghost use Rattle.std.specs.Prelude.{IfOk};
+ghost use Rattle.hub_commands.specs.Answers.{IsAnswered};
+ghost use Rattle.hub_commands.specs.Programs.{IsDisReply};
+
+use crate::answer::Answer;
+use crate::failure::Failure;
+use crate::hexadecimal::{decode_hex, without_blanks};
+use crate::input::read_input;
+use crate::output::write_answer;
+use crate::reason::Reason;
+use bpf_words::words::Words;
+use disassembler::disassemble::disassemble;
+use std::alloc::{AllocError, Global};
+use std::io::{Read, Write};
+
+/// What `dis` answers to a program in hexadecimal: its canonical text.
+pub fn dis_answer(alloc: Global, input: &[u8]) -> Result<Answer, AllocError>
+    ensures { IfOk result (λ answer. IsDisReply input.now answer) }
+{
+    let digits = without_blanks(alloc, input)?;
+    let Some(bytes) = decode_hex(alloc, &digits)? else {
+        return Answer::refused(alloc, &Reason::BadHex);
+    };
+    match Words::new(&bytes) {
+        Ok(words) => {
+            let mut text = String::new(alloc);
+            disassemble(&words, &mut text)?;
+            Ok(Answer::done(text))
+        }
+        Err(error) => Answer::refused(alloc, &Reason::Words(error)),
+    }
+}
+
+/// The command `dis`: the canonical text of a program in hexadecimal.
+pub fn dis<R: Read, W: Write>(alloc: Global, reader: &mut R, writer: &mut W) -> Result<u8, Failure>
+    ensures { IfOk result (λ status. IsAnswered IsDisReply (R.remaining reader.old)
+        (W.contents writer.old) (W.contents writer.new) status) }
+{
+    let input = read_input(alloc, reader)?;
+    let answer = dis_answer(alloc, &input)?;
+    write_answer(writer, &answer)
+}

@@ -1,0 +1,50 @@
+ghost use Rattle.std.specs.Prelude.{◌≡◌, IfOk, Ok, Err, Result, IfSome, IfNone, MatchOption};
+ghost use Rattle.std.specs.String.{string_bytes};
+ghost use Rattle.hex.specs.Hex.{decode_of};
+ghost use Rattle.hex.specs.declared.error.FromHexError.{FromHexError};
+ghost use Rattle.hub_commands.specs.Hexadecimal.{is_blank, without_blanks, slot_lines};
+
+use std::alloc::{AllocError, Global};
+
+/// The bytes that pairs of hexadecimal digits stand for, where they do.
+pub fn decode_hex(alloc: Global, digits: &[u8]) -> Result<Option<Vec<u8>>, AllocError>
+    ensures { IfOk result (λ answer. MatchOption answer
+        ((error : FromHexError) × (decode_of digits.now ≡ Err error))
+        (λ bytes. decode_of digits.now ≡ Ok bytes.items)) }
+{
+    match hex::decode(alloc, digits) {
+        Ok(bytes) => Ok(Some(bytes)),
+        Err(hex::FromHexError::OutOfMemory) => Err(AllocError),
+        Err(_) => Ok(None),
+    }
+}
+
+fn is_blank(byte: u8) -> bool
+    ensures { result ≡ is_blank byte }
+{
+    matches!(byte, b' ' | b'\t' | b'\r' | b'\n')
+}
+
+/// The text without spaces, tabs, carriage returns and line feeds.
+pub fn without_blanks(alloc: Global, text: &[u8]) -> Result<Vec<u8>, AllocError>
+    ensures { IfOk result (λ kept. kept.items ≡ without_blanks text.now) }
+{
+    text.iter()
+        .copied()
+        .filter(|byte| !is_blank(*byte))
+        .collect(alloc)
+}
+
+/// The bytes as a line of 16 lower-case digits a slot.
+#[tactic(auto, using(crate::proofs::SlotLines::no_line))]
+pub fn slot_lines(alloc: Global, bytes: &[u8]) -> Result<String, AllocError>
+    ensures { IfOk result (λ lines. string_bytes lines ≡ slot_lines bytes.now) }
+{
+    let mut lines = String::new(alloc);
+    for slot in 0..bytes.len() / 8 {
+        let digits = hex::encode(alloc, &bytes[8 * slot..8 * slot + 8])?;
+        lines.push_str(digits.as_str())?;
+        lines.push('\n')?;
+    }
+    Ok(lines)
+}

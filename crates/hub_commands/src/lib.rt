@@ -1,0 +1,15 @@
+//! The commands of the program, over any reader and writer.
+#![tactic(auto)]
+
+mod answer;
+mod asm;
+mod dis;
+pub mod failure;
+mod hexadecimal;
+mod input;
+mod output;
+pub mod perform;
+mod reason;
+mod run;
+mod span_lines;
+mod spans;

@@ -1,0 +1,124 @@
+ghost use Rattle.std.specs.Prelude.{◌≡◌, ◌≤◌, length, IfOk, IfSome};
+ghost use Rattle.hub_commands.specs.Answers.{IsAnswered};
+ghost use Rattle.hub_commands.specs.Programs.{fault_name, facts_of, outcome_reply, IsSpanReply, IsRunReply};
+
+use crate::answer::Answer;
+use crate::failure::Failure;
+use crate::hexadecimal::decode_hex;
+use crate::input::read_past;
+use crate::output::write_answer;
+use crate::reason::Reason;
+use bpf_words::context::{Context, Facts, TEXT_LIMIT};
+use bpf_words::words::Words;
+use command_line::request::SpanOptions;
+use interpreter::run::run_checked;
+use meaning::{FaultKind, Outcome};
+use std::alloc::{AllocError, Global};
+use std::io::{Read, Write};
+
+fn fault_name(kind: FaultKind) -> &'static str
+    ensures { result.now ≡ fault_name kind }
+{
+    match kind {
+        FaultKind::UnsetRegister => "F1 UnsetRegister",
+        FaultKind::BadAddress => "F2 BadAddress",
+        FaultKind::ReadOnly => "F3 ReadOnly",
+        FaultKind::UnsetStack => "F4 UnsetStack",
+        FaultKind::BadInstruction => "F5 BadInstruction",
+        FaultKind::OutOfCode => "F6 OutOfCode",
+        FaultKind::WriteR10 => "F7 WriteR10",
+    }
+}
+
+/// What the options and the text say of the span.
+fn facts(options: &SpanOptions, text: &str) -> Facts
+    requires { length text.now ≤ 131072 }
+    ensures { result ≡ facts_of options.now text.now }
+{
+    Facts {
+        text_len: text.len() as u32,
+        characters: text.chars().count() as u32,
+        flags: options.flags,
+        color: options.color,
+        link_len: options.link_len,
+        comments: options.comments,
+        index: options.index,
+        count: options.count,
+        version: options.version,
+    }
+}
+
+/// What is answered to the outcome of a run.
+fn outcome_answer(alloc: Global, outcome: Outcome) -> Result<Answer, AllocError>
+    ensures { IfOk result (λ answer. answer ≡ outcome_reply outcome) }
+{
+    match outcome {
+        Outcome::Done(verdict) => {
+            let text = format!(in alloc; "verdict {verdict}\n")?;
+            Ok(Answer::done(text))
+        }
+        Outcome::Fault { slot, kind } => {
+            let name = fault_name(kind);
+            let reason = format!(in alloc; "fault {slot} {name}")?;
+            Answer::failed(alloc, &reason)
+        }
+        Outcome::OutOfSteps => Answer::failed(alloc, &"out of steps"),
+    }
+}
+
+/// What is answered to a program on the span whose text is the input.
+pub fn span_answer(
+    alloc: Global,
+    words: &Words<'_>,
+    options: &SpanOptions,
+    input: &[u8],
+) -> Result<Answer, AllocError>
+    ensures { IfOk result (λ answer. IsSpanReply options.now input.now words.now answer) }
+{
+    let Ok(text) = std::str::from_utf8(input) else {
+        return Answer::refused(alloc, &Reason::TextRefused);
+    };
+    if text.len() > TEXT_LIMIT {
+        return Answer::refused(alloc, &Reason::TextRefused);
+    }
+    let context = Context::new(&facts(options, text));
+    outcome_answer(alloc, run_checked(words, &context, text.as_bytes()))
+}
+
+/// What `run` answers to a program in hexadecimal, on the span whose text is the input. The text is read only where the
+/// bytes are a program.
+pub fn run_answer<R: Read>(
+    alloc: Global,
+    digits: &[u8],
+    options: &SpanOptions,
+    reader: &mut R,
+) -> Result<Answer, Failure>
+    ensures { IfOk result (λ answer. IfSome (R.remaining reader.old)
+        (λ text. IsRunReply digits.now options.now text answer)) }
+{
+    let Some(bytes) = decode_hex(alloc, digits)? else {
+        return Ok(Answer::refused(alloc, &Reason::BadHex)?);
+    };
+    match Words::new(&bytes) {
+        Ok(words) => {
+            let input = read_past(alloc, reader, TEXT_LIMIT as u64)?;
+            Ok(span_answer(alloc, &words, options, &input)?)
+        }
+        Err(error) => Ok(Answer::refused(alloc, &Reason::Words(error))?),
+    }
+}
+
+/// The command `run`: one program, in hexadecimal, on one span, whose text is the input.
+pub fn run<R: Read, W: Write>(
+    alloc: Global,
+    digits: &[u8],
+    options: &SpanOptions,
+    reader: &mut R,
+    writer: &mut W,
+) -> Result<u8, Failure>
+    ensures { IfOk result (λ status. IsAnswered (IsRunReply digits.now options.now) (R.remaining reader.old)
+        (W.contents writer.old) (W.contents writer.new) status) }
+{
+    let answer = run_answer(alloc, digits, options, reader)?;
+    write_answer(writer, &answer)
+}

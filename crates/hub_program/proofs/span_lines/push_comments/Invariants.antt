@@ -1,6 +1,0 @@
-use Rattle.std.proofs.Common.{◌≡◌, ◌++◌, map, drop, string_bytes}
-use Rattle.hub_program.specs.SpanLines.{comment_key, behind_commas}
-use Rattle.hub_program.proofs.span_lines.push_comments.Given as goal
-
-abbrev pub invariant-loop-comment : goal.invariant-loop-comment
-invariant-loop-comment l = string_bytes l.keys ++ behind_commas (map comment_key (drop l.comment-index l.comments)) ≡ string_bytes l.fn.keys ++ behind_commas (map comment_key l.fn.comments)

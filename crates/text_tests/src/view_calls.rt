@@ -1,0 +1,119 @@
+use change_ops::change::read_change;
+use change_ops::id::OpId;
+use change_ops::writing::write_change;
+use hub_core::history::History;
+use span_flatten::version::Version;
+use span_view::context::context;
+use span_view::view::view;
+use std::alloc::{AllocError, Global};
+use std::test::Fail;
+
+/// `abc` with strong from before a to before c, and then strong taken off from before b on.
+static CHANGES: [&str; 2] = [
+    "change 1 4 / i 1@1 - 61 / i 2@1 1@1 62 / i 3@1 2@1 63 / m 4@1 strong - <1@1 <3@1",
+    "change 2 1 / u 4@2 strong <2@1 $",
+];
+
+/// Text whose lines are parted by ` / `.
+fn lines(alloc: Global, text: &str) -> Result<String, AllocError> {
+    let mut out = String::new(alloc);
+    for line in text.split(" / ") {
+        out.push_str(line)?;
+        out.push('\n')?;
+    }
+    Ok(out)
+}
+
+/// Takes the change of that text in.
+fn accept(alloc: Global, history: &mut History, text: &str) -> Result<(), Fail> {
+    let text = lines(alloc, text)?;
+    let (change, _) = read_change(alloc, text.as_str())?;
+    history.accept(change)?;
+    Ok(())
+}
+
+/// The history that `CHANGES` make.
+fn history(alloc: Global) -> Result<History, Fail> {
+    let mut history = History::new(alloc);
+    for text in &CHANGES {
+        accept(alloc, &mut history, text)?;
+    }
+    Ok(history)
+}
+
+/// The version that `CHANGES` make.
+fn version(alloc: Global) -> Result<Version, Fail> {
+    let history = history(alloc)?;
+    let version = history.version(alloc)?;
+    Ok(version)
+}
+
+#[test]
+fn a_context_has_its_bytes(rt: HostRuntime) -> Result<(), Fail> {
+    let alloc = rt.alloc();
+    let version = version(alloc)?;
+    let span = view(&version, 0).ok_or("there is no span")?;
+    // Text start, text end, length and characters, flags and color, link and comments, index and count, version.
+    let want =
+        "0000000004000000010000000400000001000000010000000100000000000000000000000000000000000000020000000200000000000000";
+    let got = hex::encode(alloc, context(&span).bytes())?;
+    assert_eq!(rt; got.as_str(), want);
+    Ok(())
+}
+
+/// Changes that are read and written again.
+static SPELLINGS: [&str; 10] = [
+    "change 1 4 / i 1@1 - 61 / i 2@1 1@1 62 / i 3@1 2@1 63 / m 4@1 strong - <1@1 <3@1",
+    "change 2 1 / u 4@2 strong <2@1 $",
+    "change 1 5 / i 1@1 - 61 / i 2@1 1@1 62 / i 3@1 2@1 63 / m 4@1 link https://a.b <1@1 >2@1 / i 5@1 2@1 78",
+    "change 1 1 / i 1@1 - 61",
+    "change 1 1 / i 2@1 1@1 78",
+    "change 2 1 / i 2@2 1@1 79",
+    "change 3 2 / d 3@3 2@2 / m 4@3 em - <2@2 >2@1",
+    "change 1 6 / i 1@1 - 61 / i 2@1 1@1 62 / m 3@1 color ff0080 ^ $ / m 4@1 comment:7 - >1@1 $ / m 5@1 comment:2 - ^ <2@1 / m 6@1 em - $ ^",
+    "change 1 3 / i 1@1 - 61 / m 3@1 color 0f0080 ^ $ / u 5@1 comment:2 ^ <1@1",
+    "change 65535 1 / i 281474976710655@65535 - 10ffff",
+];
+
+/// Whether a change is written as it was read, with nothing behind it.
+fn is_written_again(alloc: Global, text: &str) -> Result<bool, Fail> {
+    let text = lines(alloc, text)?;
+    let (change, rest) = read_change(alloc, text.as_str())?;
+    let mut out = String::from_str(alloc, "before ")?;
+    write_change(&change, &mut out)?;
+    let written = out.as_str().strip_prefix("before ");
+    Ok(rest.is_empty() && written == Some(text.as_str()))
+}
+
+#[test]
+fn changes_are_written_as_they_were_read(rt: HostRuntime) -> Result<(), Fail> {
+    for text in &SPELLINGS {
+        assert!(rt; is_written_again(rt.alloc(), text)?, "{text}");
+    }
+    Ok(())
+}
+
+/// Whether a character of the first peer is strong, if it is there.
+fn is_strong(alloc: Global, history: &History, counter: u64) -> Result<Option<bool>, Fail> {
+    let id = OpId::new(counter, 1).ok_or("an id is out of its limits")?;
+    let format = history.format_at(alloc, id)?;
+    Ok(format.map(|format| format.strong()))
+}
+
+/// Whether the first character alone is strong, and there is no fourth.
+fn is_first_strong(alloc: Global, history: &History) -> Result<bool, Fail> {
+    let first = is_strong(alloc, history, 1)?;
+    let second = is_strong(alloc, history, 2)?;
+    let third = is_strong(alloc, history, 3)?;
+    let fourth = is_strong(alloc, history, 4)?;
+    let plain = second == Some(false) && third == Some(false);
+    Ok(first == Some(true) && plain && fourth.is_none())
+}
+
+#[test]
+fn a_history_says_the_format_of_a_character(rt: HostRuntime) -> Result<(), Fail> {
+    let history = history(rt.alloc())?;
+    let is_right = is_first_strong(rt.alloc(), &history)?;
+    assert!(rt; is_right);
+    Ok(())
+}
