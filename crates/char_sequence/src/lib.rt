@@ -4,5 +4,3 @@
 mod element_list;
 pub mod newest;
 pub mod sequence;
-#[cfg(test)]
-mod tests;

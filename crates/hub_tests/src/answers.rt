@@ -1,6 +1,7 @@
 use hub_program::command;
-use std::alloc::{AllocError, Global};
+use std::alloc::Global;
 use std::test::Fail;
+use test_inputs::lines::lines;
 
 /// The exit status and the output of the program for these words, parted by single spaces, and this input.
 pub fn answer(alloc: Global, line: &str, input: &[u8]) -> Result<(u8, Vec<u8>), Fail> {
@@ -21,19 +22,6 @@ pub fn is_answered(
 ) -> Result<bool, Fail> {
     let (got, printed) = answer(alloc, line, input)?;
     Ok(got == status && printed.as_slice() == output)
-}
-
-/// Text from a table, whose lines are parted by ` / `: each line with its line feed, and no line where it is empty.
-pub fn lines(alloc: Global, text: &str) -> Result<String, AllocError> {
-    let mut out = String::new(alloc);
-    if text.is_empty() {
-        return Ok(out);
-    }
-    for line in text.split(" / ") {
-        out.push_str(line)?;
-        out.push('\n')?;
-    }
-    Ok(out)
 }
 
 /// The input of the first row that the command doesn't answer with its status and lines, if there is one. A row's

@@ -17,5 +17,3 @@ mod random_histories;
 mod run_rows;
 #[cfg(test)]
 mod spans_rows;
-#[cfg(test)]
-mod view_calls;

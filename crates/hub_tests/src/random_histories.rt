@@ -2,6 +2,7 @@ use crate::answers::is_answered;
 use std::alloc::{AllocError, Global};
 use std::fmt::Write;
 use std::test::Fail;
+use test_inputs::random::Random;
 
 /// An operation's id; ordered by counter, then by node.
 #[derive(Clone, Copy, Debug, PartialEq, Eq, PartialOrd, Ord)]
@@ -45,23 +46,6 @@ static KEYS: [(&str, &str, &str, &str, &str); 6] = [
     ("comment:2", "-", "comment:2", "-", "comment:2"),
     ("comment:10", "-", "comment:10", "-", "comment:10"),
 ];
-
-/// Numbers that only look random.
-#[derive(Drop)]
-struct Random {
-    state: u64,
-}
-
-impl Random {
-    fn below(&mut self, bound: usize) -> usize {
-        self.state = self
-            .state
-            .wrapping_mul(6_364_136_223_846_793_005)
-            .wrapping_add(1_442_695_040_888_963_407);
-        let number = (self.state >> 33) as usize;
-        number.checked_rem(bound).unwrap_or(0)
-    }
-}
 
 /// A history of three peers: its operations, and the text of each change by rounds. In a round the peers
 /// know what was there before it, so that its changes may be accepted in any order.
@@ -218,7 +202,7 @@ impl History {
 }
 
 fn made_history(alloc: Global, seed: u64) -> Result<History, AllocError> {
-    let mut random = Random { state: seed };
+    let mut random = Random::new(seed);
     let mut history = History {
         letters: Vec::new(alloc),
         marks: Vec::new(alloc),
@@ -360,10 +344,22 @@ fn spans_of(alloc: Global, history: &History) -> Result<String, AllocError> {
     Ok(out)
 }
 
-/// The changes, the peers of each round in this order.
-fn in_order(alloc: Global, history: &History, order: [usize; 3]) -> Result<String, AllocError> {
+/// The orders in which the three changes of a round may come.
+static ORDERS: [[usize; 3]; 6] = [
+    [0, 1, 2],
+    [2, 1, 0],
+    [1, 2, 0],
+    [0, 2, 1],
+    [1, 0, 2],
+    [2, 0, 1],
+];
+
+/// The changes, each round in the next of the orders, the first round in that of this index.
+fn in_orders(alloc: Global, history: &History, first: usize) -> Result<String, AllocError> {
     let mut out = String::new(alloc);
-    for round in &history.rounds {
+    for (number, round) in history.rounds.iter().enumerate() {
+        let index = number.wrapping_add(first) % ORDERS.len();
+        let order = ORDERS.get(index).copied().unwrap_or_default();
         for peer in order {
             if let Some(change) = round.get(peer) {
                 out.push_str(change.as_str())?;
@@ -379,8 +375,8 @@ fn replicas_agree_with_a_plain_reference(rt: HostRuntime) -> Result<(), Fail> {
     for seed in 1..=8u64 {
         let history = made_history(alloc, seed)?;
         let want = spans_of(alloc, &history)?;
-        for order in [[0, 1, 2], [2, 1, 0], [1, 2, 0]] {
-            let input = in_order(alloc, &history, order)?;
+        for first in 0..ORDERS.len() {
+            let input = in_orders(alloc, &history, first)?;
             let is_right = is_answered(alloc, "hub spans", input.as_bytes(), 0, want.as_bytes())?;
             assert!(rt; is_right, "seed {seed}, {input}");
         }

@@ -131,6 +131,33 @@ fn histories_have_limits(rt: HostRuntime) -> Result<(), Fail> {
     Ok(())
 }
 
+/// So many characters typed one behind the other, in changes of at most 256.
+fn typed(alloc: Global, count: u32) -> Result<String, AllocError> {
+    let mut input = String::new(alloc);
+    for parent in 0..count {
+        if parent % 256 == 0 {
+            let here = (count - parent).min(256);
+            write!(input, "change 1 {here}\n")?;
+        }
+        let number = parent + 1;
+        if parent == 0 {
+            write!(input, "i {number}@1 - 61\n")?;
+        } else {
+            write!(input, "i {number}@1 {parent}@1 62\n")?;
+        }
+    }
+    Ok(input)
+}
+
+#[test]
+fn texts_have_limits(rt: HostRuntime) -> Result<(), Fail> {
+    let alloc = rt.alloc();
+    let input = typed(alloc, 32_769)?;
+    let full = b"refused 48 DocumentFull change 129 line 2\n";
+    assert!(rt; is_answered(alloc, "hub spans", input.as_bytes(), 1, full)?);
+    Ok(())
+}
+
 /// A character, and then so many marks over it, in changes of at most 256 operations.
 fn marks(alloc: Global, count: u32) -> Result<String, AllocError> {
     let mut input = String::from_str(alloc, "change 1 1\ni 1@1 - 61\n")?;

@@ -16,8 +16,6 @@ mod plain_table;
 #[cfg(test)]
 mod plain_words;
 #[cfg(test)]
-mod random_numbers;
-#[cfg(test)]
 mod random_programs;
 #[cfg(test)]
 mod random_runs;

@@ -1,6 +1,6 @@
 use crate::plain_table::{Fields, Kind, kind_of, slot_bytes};
-use crate::random_numbers::Random;
 use std::alloc::{AllocError, Global};
+use test_inputs::random::Random;
 
 // Programs that only look random: their fields are those that the table names, their registers are few, and their
 // offsets stand about the ends of regions.

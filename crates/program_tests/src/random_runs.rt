@@ -1,12 +1,12 @@
 use crate::outcomes::outcomes;
 use crate::plain_words::words_agree;
-use crate::random_numbers::Random;
 use crate::random_programs::{random_program, spoil};
 use assembler::assembly::assemble;
 use bpf_words::words::Words;
 use disassembler::disassemble::disassemble;
 use meaning::{FaultKind, Outcome};
 use std::test::Fail;
+use test_inputs::random::Random;
 
 /// How a run ended, as a place in a list of counts.
 fn ending(outcome: Outcome) -> usize {

@@ -12,9 +12,9 @@ mod random_acceptance;
 #[cfg(test)]
 mod random_changes;
 #[cfg(test)]
-mod random_numbers;
-#[cfg(test)]
 mod reading;
+#[cfg(test)]
+mod sequence_calls;
 #[cfg(test)]
 mod short_lines;
 #[cfg(test)]

@@ -189,34 +189,58 @@ fn anchor(word: &str) -> Option<PlainAnchor> {
     }
 }
 
+fn insert<'a>(own: &str, parent: &str, character: &str) -> Option<PlainOperation<'a>> {
+    Some(PlainOperation::Insert {
+        id: id(own)?,
+        parent: place(parent)?,
+        code: code(character)?,
+    })
+}
+
+fn remove<'a>(own: &str, target: &str) -> Option<PlainOperation<'a>> {
+    Some(PlainOperation::Remove {
+        id: id(own)?,
+        target: id(target)?,
+    })
+}
+
+fn add_mark<'a>(
+    own: &str,
+    (name, word): (&str, &'a str),
+    (start, end): (&str, &str),
+) -> Option<PlainOperation<'a>> {
+    let key = key(name)?;
+    Some(PlainOperation::AddMark {
+        id: id(own)?,
+        key,
+        value: value(key, word)?,
+        start: anchor(start)?,
+        end: anchor(end)?,
+    })
+}
+
+fn remove_mark<'a>(
+    own: &str,
+    name: &str,
+    (start, end): (&str, &str),
+) -> Option<PlainOperation<'a>> {
+    Some(PlainOperation::RemoveMark {
+        id: id(own)?,
+        key: key(name)?,
+        start: anchor(start)?,
+        end: anchor(end)?,
+    })
+}
+
 /// The operation of a line of one of the forms, within its limits or not.
 fn operation<'a>(words: &[&'a str]) -> Option<PlainOperation<'a>> {
     match words {
-        [name, own, parent, character] if *name == "i" => Some(PlainOperation::Insert {
-            id: id(own)?,
-            parent: place(parent)?,
-            code: code(character)?,
-        }),
-        [name, own, target] if *name == "d" => Some(PlainOperation::Remove {
-            id: id(own)?,
-            target: id(target)?,
-        }),
-        [name, own, of, with, start, end] if *name == "m" => {
-            let key = key(of)?;
-            Some(PlainOperation::AddMark {
-                id: id(own)?,
-                key,
-                value: value(key, with)?,
-                start: anchor(start)?,
-                end: anchor(end)?,
-            })
+        [letter, own, parent, character] if *letter == "i" => insert(own, parent, character),
+        [letter, own, target] if *letter == "d" => remove(own, target),
+        [letter, own, name, word, start, end] if *letter == "m" => {
+            add_mark(own, (name, word), (start, end))
         }
-        [name, own, of, start, end] if *name == "u" => Some(PlainOperation::RemoveMark {
-            id: id(own)?,
-            key: key(of)?,
-            start: anchor(start)?,
-            end: anchor(end)?,
-        }),
+        [letter, own, name, start, end] if *letter == "u" => remove_mark(own, name, (start, end)),
         _ => None,
     }
 }

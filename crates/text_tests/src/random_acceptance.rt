@@ -1,14 +1,13 @@
 use crate::plain_acceptance::{PlainHistory, Refused};
 use crate::plain_reader::{PlainId, plain_change};
-use crate::random_numbers::Random;
+use crate::reading::Tally;
 use change_ops::change::read_change;
 use hub_core::history::History;
 use hub_core::refusal::{Refusal, SubmitError};
-use span_flatten::version::Version;
 use std::alloc::{AllocError, Global};
 use std::fmt::Write;
-use std::process::Abort;
 use std::test::Fail;
+use test_inputs::random::Random;
 
 /// The greatest counter that was used, of any peer.
 fn newest(history: &PlainHistory) -> u64 {
@@ -48,39 +47,46 @@ fn push_anchor(
     }
 }
 
-/// Appends an operation of that id.
+/// Appends what a mark says behind its id, with that value behind its key.
+fn push_mark(
+    random: &mut Random,
+    characters: &[PlainId],
+    newest: u64,
+    value: &str,
+    text: &mut String,
+) -> Result<(), AllocError> {
+    let keys = ["strong", "em", "comment:2"];
+    let key = keys.get(random.below(3)).copied().unwrap_or("em");
+    write!(text, " {key}{value}")?;
+    push_anchor(random, characters, newest, text)?;
+    push_anchor(random, characters, newest, text)
+}
+
+/// Appends an operation of that id; the answer is whether it inserts a character.
 fn push_operation(
     random: &mut Random,
     own: PlainId,
-    characters: &mut Vec<PlainId>,
+    characters: &[PlainId],
     text: &mut String,
-) -> Result<(), AllocError> {
-    let PlainId { counter, node } = own;
-    let at = reference(random, characters, counter);
-    let keys = ["strong", "em", "comment:2"];
-    let key = keys.get(random.below(3)).copied().unwrap_or("em");
-    match random.below(8) {
-        0 => write!(text, "d {counter}@{node} {}@{}", at.counter, at.node)?,
-        1 | 2 => {
-            write!(text, "m {counter}@{node} {key} -")?;
-            push_anchor(random, characters, counter, text)?;
-            push_anchor(random, characters, counter, text)?;
-        }
-        3 => {
-            write!(text, "u {counter}@{node} {key}")?;
-            push_anchor(random, characters, counter, text)?;
-            push_anchor(random, characters, counter, text)?;
-        }
-        4 => {
-            write!(text, "i {counter}@{node} - 62")?;
-            characters.push(own)?;
-        }
-        _ => {
-            write!(text, "i {counter}@{node} {}@{} 61", at.counter, at.node)?;
-            characters.push(own)?;
-        }
+) -> Result<bool, AllocError> {
+    let at = reference(random, characters, own.counter);
+    let kind = random.below(8);
+    let letter = match kind {
+        0 => 'd',
+        1 | 2 => 'm',
+        3 => 'u',
+        _ => 'i',
+    };
+    write!(text, "{letter} {}@{}", own.counter, own.node)?;
+    match kind {
+        0 => write!(text, " {}@{}", at.counter, at.node)?,
+        1 | 2 => push_mark(random, characters, own.counter, " -", text)?,
+        3 => push_mark(random, characters, own.counter, "", text)?,
+        4 => text.push_str(" - 62")?,
+        _ => write!(text, " {}@{} 61", at.counter, at.node)?,
     }
-    text.push('\n')
+    text.push('\n')?;
+    Ok(kind > 3)
 }
 
 /// A change of 1 to 4 operations after those of the history, most of them such that they are accepted.
@@ -101,12 +107,10 @@ fn random_change(
             last.saturating_add(1)
         };
         last = last.max(counter);
-        push_operation(
-            random,
-            PlainId { counter, node },
-            &mut characters,
-            &mut text,
-        )?;
+        let own = PlainId { counter, node };
+        if push_operation(random, own, &characters, &mut text)? {
+            characters.push(own)?;
+        }
     }
     Ok(text)
 }
@@ -127,67 +131,65 @@ fn refused(error: SubmitError) -> Option<Refused> {
     }
 }
 
-fn is_same_version(version: &Version, other: &Version) -> bool {
-    let rows = version.rows();
-    let same_rows = rows.len() == other.rows().len()
-        && rows.iter().zip(other.rows()).all(|(row, other)| {
-            row.start == other.start && row.end == other.end && row.format == other.format
-        });
-    same_rows && version.number() == other.number() && version.text() == other.text()
-}
-
-/// Hands the change to both; the answer is the number of the refusal, or 0 where it is accepted.
-fn is_accepted_alike(
-    history: &mut History,
-    plain: &mut PlainHistory,
-    text: &str,
-    rt: &(impl Abort + AllocGlobal),
-) -> Result<u32, Fail> {
-    let alloc = rt.alloc();
-    let before = history.version(alloc)?;
-    let plain_change = plain_change(alloc, text)?
-        .ok()
-        .ok_or("the plain reader refuses")?;
-    let want = plain.accept(&plain_change.operations)?;
+/// What the library says of a change: the first operation that is refused, or None where it is accepted.
+fn accept(alloc: Global, history: &mut History, text: &str) -> Result<Option<Refused>, Fail> {
     let (change, _) = read_change(alloc, text)?;
     match history.accept(change) {
-        Ok(()) => {
-            assert_eq!(rt; want, None, "{text}");
-            let number = history.version(alloc)?.number();
-            assert_eq!(rt; number, before.number().saturating_add(1));
-            Ok(0)
-        }
-        Err(error) => {
-            let refused = refused(error).ok_or("refused without an operation")?;
-            assert_eq!(rt; want, Some(refused), "{text}");
-            let after = history.version(alloc)?;
-            assert!(rt; is_same_version(&before, &after), "{text}");
-            Ok(refused.number)
+        Ok(()) => Ok(None),
+        Err(error) => Ok(Some(refused(error).ok_or("refused without an operation")?)),
+    }
+}
+
+/// The same by the plain acceptance.
+fn plain_accept(
+    alloc: Global,
+    plain: &mut PlainHistory,
+    text: &str,
+) -> Result<Option<Refused>, Fail> {
+    let change = plain_change(alloc, text)?
+        .ok()
+        .ok_or("the plain reader refuses")?;
+    Ok(plain.accept(&change.operations)?)
+}
+
+/// Hands a random change to both: the number of its refusal, or 0 of one that is accepted; None where they differ.
+fn agreed(
+    alloc: Global,
+    random: &mut Random,
+    history: &mut History,
+    plain: &mut PlainHistory,
+) -> Result<Option<u32>, Fail> {
+    let text = random_change(alloc, random, plain)?;
+    let refused = accept(alloc, history, &text)?;
+    let wanted = plain_accept(alloc, plain, &text)?;
+    let outcome = refused.map_or(0, |refused| refused.number);
+    Ok((refused == wanted).then_some(outcome))
+}
+
+/// Whether random changes of a history are accepted alike, one after the other.
+fn are_accepted_alike(alloc: Global, random: &mut Random, tally: &mut Tally) -> Result<bool, Fail> {
+    let mut history = History::new(alloc);
+    let mut plain = PlainHistory::new(alloc);
+    for _ in 0..100 {
+        match agreed(alloc, random, &mut history, &mut plain)? {
+            Some(outcome) => tally.note(outcome),
+            None => return Ok(false),
         }
     }
+    Ok(true)
 }
 
 #[test]
 fn acceptance_agrees_with_a_plain_one(rt: HostRuntime) -> Result<(), Fail> {
-    let alloc = rt.alloc();
-    let mut accepted: usize = 0;
-    let mut stale: usize = 0;
-    let mut unknown: usize = 0;
+    let mut tally = Tally::new();
     for seed in 1..=30u64 {
         let mut random = Random::new(seed);
-        let mut history = History::new(alloc);
-        let mut plain = PlainHistory::new(alloc);
-        for _ in 0..100 {
-            let text = random_change(alloc, &mut random, &plain)?;
-            match is_accepted_alike(&mut history, &mut plain, &text, &rt)? {
-                0 => accepted = accepted.saturating_add(1),
-                46 => stale = stale.saturating_add(1),
-                _ => unknown = unknown.saturating_add(1),
-            }
-        }
+        let are_alike = are_accepted_alike(rt.alloc(), &mut random, &mut tally)?;
+        assert!(rt; are_alike, "seed {seed}");
     }
-    assert!(rt; accepted > 1_000, "{accepted}");
-    assert!(rt; stale > 100, "{stale}");
-    assert!(rt; unknown > 100, "{unknown}");
+    assert!(rt; tally.count(0) > 1_000);
+    for number in [46, 47] {
+        assert!(rt; tally.count(number) > 100, "{number}");
+    }
     Ok(())
 }

@@ -1,5 +1,6 @@
 use crate::plain_reader::{
-    PlainAnchor, PlainId, PlainKey, PlainOperation, PlainRefusal, PlainValue, plain_change,
+    PlainAnchor, PlainChange, PlainId, PlainKey, PlainOperation, PlainRefusal, PlainValue,
+    plain_change,
 };
 use change_ops::attribute::{Attribute, Key};
 use change_ops::change::{Change, read_change};
@@ -7,6 +8,7 @@ use change_ops::id::OpId;
 use change_ops::operation::{Anchor, Op};
 use change_ops::refusal::ChangeError;
 use change_ops::writing::write_change;
+use std::alloc::Global;
 use std::process::Abort;
 use std::test::Fail;
 
@@ -109,34 +111,49 @@ pub fn plain_refusal(error: ChangeError) -> PlainRefusal {
     PlainRefusal { number, line }
 }
 
-/// Reads the text both ways; the answer is the number of the refusal, or 0 of a change that was read.
-pub fn is_read_alike(text: &str, rt: &(impl Abort + AllocGlobal)) -> Result<u32, Fail> {
-    let alloc = rt.alloc();
+/// Whether the change and what is behind it are those of the plain reader, and the change is written as it was read.
+fn is_same_change(
+    alloc: Global,
+    text: &str,
+    read: (&Change, &str),
+    plain: &PlainChange<'_>,
+) -> Result<bool, Fail> {
+    let (change, rest) = read;
+    let mut written = String::new(alloc);
+    write_change(change, &mut written)?;
+    let is_written_again = text.strip_prefix(written.as_str()) == Some(rest);
+    let is_of_node = u64::from(change.node()) == plain.node;
+    let is_rest = rest.len() == plain.rest.len();
+    Ok(is_written_again && is_of_node && is_rest && are_operations(change, &plain.operations))
+}
+
+/// What both readers say of the text: the number of its refusal, or 0 of a change that was read; None where they differ.
+pub fn agreed(alloc: Global, text: &str) -> Result<Option<u32>, Fail> {
     let plain = plain_change(alloc, text)?;
-    match read_change(alloc, text) {
-        Err(error) => {
+    match (read_change(alloc, text), &plain) {
+        (Ok((change, rest)), Ok(plain)) => {
+            let is_same = is_same_change(alloc, text, (&change, rest), plain)?;
+            Ok(is_same.then_some(0))
+        }
+        (Err(error), Err(wanted)) => {
             let refusal = plain_refusal(error);
-            assert_eq!(rt; plain.err(), Some(refusal), "{text:?}");
-            Ok(refusal.number)
+            Ok((refusal == *wanted).then_some(refusal.number))
         }
-        Ok((change, rest)) => {
-            let plain = plain.ok().ok_or("the plain reader refuses")?;
-            assert_eq!(rt; rest.len(), plain.rest.len(), "{text:?}");
-            assert_eq!(rt; u64::from(change.node()), plain.node, "{text:?}");
-            assert!(rt; are_operations(&change, &plain.operations), "{text:?}");
-            let mut written = String::new(alloc);
-            write_change(&change, &mut written)?;
-            let behind = text.strip_prefix(written.as_str());
-            assert!(rt; behind == Some(plain.rest), "{text:?}");
-            Ok(0)
-        }
+        _ => Ok(None),
     }
 }
 
-/// How many texts had each outcome: those that were read first, and then by the number of the refusal.
+/// Reads the text both ways; the answer is the number of the refusal, or 0 of a change that was read.
+pub fn is_read_alike(text: &str, rt: &(impl Abort + AllocGlobal)) -> Result<u32, Fail> {
+    let agreed = agreed(rt.alloc(), text)?;
+    assert!(rt; agreed.is_some(), "{text:?}");
+    Ok(agreed.unwrap_or(0))
+}
+
+/// How many texts or changes had each outcome: those that were taken first, and then by the number of the refusal.
 #[derive(Drop)]
 pub struct Tally {
-    counts: [usize; 7],
+    counts: [usize; 12],
 }
 
 fn tally_index(number: u32) -> usize {
@@ -145,7 +162,7 @@ fn tally_index(number: u32) -> usize {
 
 impl Tally {
     pub fn new() -> Self {
-        Tally { counts: [0; 7] }
+        Tally { counts: [0; 12] }
     }
 
     pub fn note(&mut self, number: u32) {

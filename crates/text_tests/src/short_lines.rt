@@ -136,7 +136,7 @@ fn short_lines_agree_with_a_plain_reader(rt: HostRuntime) -> Result<(), Fail> {
 #[test]
 fn long_lines_agree_with_a_plain_reader(rt: HostRuntime) -> Result<(), Fail> {
     let mut tally = Tally::new();
-    for front in FRONTS {
+    for front in &FRONTS {
         for count in 0..=3 {
             are_read_alike(front, count, &mut tally, &rt)?;
         }

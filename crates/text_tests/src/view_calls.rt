@@ -4,25 +4,16 @@ use change_ops::writing::write_change;
 use hub_core::history::History;
 use span_flatten::version::Version;
 use span_view::context::context;
-use span_view::view::view;
-use std::alloc::{AllocError, Global};
+use span_view::view::{SpanView, spans, view};
+use std::alloc::Global;
 use std::test::Fail;
+use test_inputs::lines::lines;
 
 /// `abc` with strong from before a to before c, and then strong taken off from before b on.
 static CHANGES: [&str; 2] = [
     "change 1 4 / i 1@1 - 61 / i 2@1 1@1 62 / i 3@1 2@1 63 / m 4@1 strong - <1@1 <3@1",
     "change 2 1 / u 4@2 strong <2@1 $",
 ];
-
-/// Text whose lines are parted by ` / `.
-fn lines(alloc: Global, text: &str) -> Result<String, AllocError> {
-    let mut out = String::new(alloc);
-    for line in text.split(" / ") {
-        out.push_str(line)?;
-        out.push('\n')?;
-    }
-    Ok(out)
-}
 
 /// Takes the change of that text in.
 fn accept(alloc: Global, history: &mut History, text: &str) -> Result<(), Fail> {
@@ -58,6 +49,35 @@ fn a_context_has_its_bytes(rt: HostRuntime) -> Result<(), Fail> {
         "0000000004000000010000000400000001000000010000000100000000000000000000000000000000000000020000000200000000000000";
     let got = hex::encode(alloc, context(&span).bytes())?;
     assert_eq!(rt; got.as_str(), want);
+    Ok(())
+}
+
+/// A span's text, whether it is strong, its index, how many there are, and the version's number.
+fn parts(span: SpanView<'_>) -> (&str, bool, usize, usize, u64) {
+    (
+        span.text,
+        span.format.strong(),
+        span.index,
+        span.count,
+        span.version,
+    )
+}
+
+/// Whether a walk of the version of `CHANGES` gives the first span from the front, the second from the back, and no
+/// more from either end.
+fn is_walked_from_both_ends(version: &Version) -> bool {
+    let mut walk = spans(version);
+    let first = walk.next().map(parts);
+    let last = walk.next_back().map(parts);
+    let is_done = walk.next().is_none() && walk.next_back().is_none();
+    is_done && first == Some(("a", true, 0, 2, 2)) && last == Some(("bc", false, 1, 2, 2))
+}
+
+#[test]
+fn a_version_is_walked_from_both_ends(rt: HostRuntime) -> Result<(), Fail> {
+    let version = version(rt.alloc())?;
+    assert!(rt; is_walked_from_both_ends(&version));
+    assert!(rt; view(&version, 2).is_none());
     Ok(())
 }
 
