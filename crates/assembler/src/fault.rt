@@ -4,7 +4,8 @@ ghost use Rattle.assembler.specs.declared.fault.AsmError.TheVariants.{OutOfMemor
 use std::alloc::AllocError;
 use thiserror::Error;
 
-/// Why a line isn't assembler text.
+/// Why a line isn't assembler text. No clause says which number and name `Display` shows: those of docs/REFUSALS.md, which a test of
+/// `program_tests` compares.
 #[derive(Clone, Copy, Debug, PartialEq, Eq, Error)]
 pub enum LineFault {
     /// A character or number that is no token, or tokens that have not the shape of a line.
@@ -27,7 +28,8 @@ pub enum LineFault {
     JumpRange,
 }
 
-/// Why a text isn't assembled: its first line at fault, counted from 1, or want of memory.
+/// Why a text isn't assembled: its first line at fault, counted from 1, or want of memory. What `Display` shows is compared as that of
+/// `LineFault` is.
 #[derive(Clone, Copy, Debug, PartialEq, Eq, Error)]
 pub enum AsmError {
     /// The first line at fault, counted from 1, and its first fault.

@@ -1,8 +1,11 @@
 pub mod Bytes
 pub mod ContextFits
 pub mod Numbers
+pub mod Paired
 pub mod ReadsBack
 pub mod Refused
 pub mod Second
 pub mod Sound
 pub mod Stands
+pub mod Faults
+pub mod Standing

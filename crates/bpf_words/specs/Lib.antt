@@ -6,3 +6,5 @@ pub mod Context
 pub mod Encoding
 pub mod RoundTrip
 pub mod Table
+pub mod Faults
+pub mod Flow

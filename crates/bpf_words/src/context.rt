@@ -1,4 +1,4 @@
-ghost use Rattle.std.specs.Prelude.{◌≡◌, ℕ, ◌≤◌, List, length};
+ghost use Rattle.std.specs.Prelude.{◌≡◌, ℕ, ◌≤◌, ◌+◌, List, length};
 ghost use Rattle.bpf_words.specs.Context.{context_base, frame_end, text_base, text_limit};
 
 use byteorder::{ByteOrder, LittleEndian};
@@ -56,6 +56,13 @@ impl Model for Context {
     ghost view = { λ c. c.bytes };
 }
 
+/// The address behind the last byte of the text.
+fn text_end(facts: &Facts) -> u64
+    ensures { result ≡ text_base + facts.now.text_len }
+{
+    TEXT + u64::from(facts.text_len)
+}
+
 impl Context {
     ghost use Rattle.bpf_words.specs.Context.{context_bytes, Fits};
 
@@ -68,7 +75,7 @@ impl Context {
     {
         let mut bytes = [0; 56];
         LittleEndian::write_u64(&mut bytes[0..8], TEXT);
-        LittleEndian::write_u64(&mut bytes[8..16], TEXT + u64::from(facts.text_len));
+        LittleEndian::write_u64(&mut bytes[8..16], text_end(facts));
         LittleEndian::write_u32(&mut bytes[16..20], facts.text_len);
         LittleEndian::write_u32(&mut bytes[20..24], facts.characters);
         LittleEndian::write_u32(&mut bytes[24..28], facts.flags);

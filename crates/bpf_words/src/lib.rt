@@ -4,6 +4,7 @@
 pub mod context;
 pub mod encoding;
 mod fields;
+pub mod flow;
 pub mod instruction;
 mod opcode;
 mod reading;

@@ -1,8 +1,9 @@
-ghost use Rattle.std.specs.Prelude.{◌≡◌, ℕ, ◌<◌, ◌≤◌, ◌*◌, ◌/◌, ◌+◌, List, length, MatchResult, IfOk, IfErr, IfSome, slice_get};
+ghost use Rattle.std.specs.Prelude.{◌≡◌, ℕ, ◌<◌, ◌≤◌, ◌*◌, ◌/◌, ◌+◌, List, false, length, MatchResult, IfOk, OnOk, IfErr, IfSome, slice_get};
 ghost use Rattle.bpf_words.specs.Slots.{slot_at};
-ghost use Rattle.bpf_words.specs.Encoding.{encoded};
-ghost use Rattle.bpf_words.specs.RoundTrip.{StandsAt};
-ghost use Rattle.bpf_words.specs.Words.{IsProgram, IsRefused, next_slot, read_at, program_of};
+ghost use Rattle.bpf_words.specs.Encoding.{encoded, IsInsn};
+ghost use Rattle.bpf_words.specs.RoundTrip.{StandsAt, AllStand};
+ghost use Rattle.bpf_words.specs.Words.{IsProgram, IsRefused, next_slot, fault_at, is_second, read_at, program_of};
+ghost use Rattle.bpf_words.specs.Faults.{first_fault_at};
 
 use crate::fields::{Fields, fields_at};
 use crate::instruction::Insn;
@@ -10,6 +11,7 @@ use crate::opcode::Opcode;
 use crate::reading::read;
 use crate::refusal::{SlotFault, WordError};
 use byteorder::{ByteOrder, LittleEndian};
+use std::alloc::{AllocError, Global};
 use std::marker::Model;
 
 /// How many bytes a program may have: 4,096 slots of 8.
@@ -26,7 +28,7 @@ impl<'a> Model for Words<'a> {
 
     ghost view = { λ w. w.bytes.now };
 
-    ghost invariant = { λ w. IsProgram w.bytes.now };
+    ghost invariant = { λ w. IsProgram w.bytes.now × AllStand w.bytes.now (length w.bytes.now / 8) };
 }
 
 /// A slot as one number.
@@ -53,6 +55,7 @@ fn read_slot(bytes: &[u8], index: usize) -> Result<Insn, SlotFault>
     requires { index < length bytes.now / 8 }
     ensures value { result ≡ read_at bytes.now index }
     ensures bytes { IfOk result (λ insn. StandsAt bytes.now (8 * index) (encoded insn)) }
+    ensures valid { IfOk result IsInsn }
 {
     let next = slot_after(bytes, index);
     let fields = fields_at(bytes, index);
@@ -60,9 +63,10 @@ fn read_slot(bytes: &[u8], index: usize) -> Result<Insn, SlotFault>
 }
 
 /// Looks at the length first, and then at one slot after the other.
-#[tactic(auto, using(crate::proofs::Sound::stepping))]
+#[tactic(auto, using(crate::proofs::Sound::stepping, crate::proofs::Standing::standing))]
 fn check(bytes: &[u8]) -> Result<(), WordError>
-    ensures { MatchResult result (λ ok. IsProgram bytes.now) (IsRefused bytes.now) }
+    ensures answer { MatchResult result (λ ok. IsProgram bytes.now) (IsRefused bytes.now) }
+    ensures stand { OnOk result (AllStand bytes.now (length bytes.now / 8)) }
 {
     if bytes.is_empty() {
         return Err(WordError::Empty);
@@ -91,11 +95,12 @@ fn check(bytes: &[u8]) -> Result<(), WordError>
 impl<'a> Words<'a> {
     /// Lends the bytes of a program: 1 to 4,096 slots, each an instruction or the second of a wide load. Else the first fault, with its
     /// slot where it is one slot's (RFC 9669, sections 3 to 5).
-    #[tactic(auto, using(crate::proofs::Refused::refusals))]
+    #[tactic(auto, using(crate::proofs::Refused::refusals, crate::proofs::Faults::orders))]
     pub fn new(bytes: &'a [u8]) -> Result<Words<'a>, WordError>
         ensures value { MatchResult result (λ words. (words ≡ bytes.now) × IsProgram bytes.now) (IsRefused bytes.now) }
         ensures first { IfErr result (λ error. (other : WordError) → IsRefused bytes.now other → other ≡ error) }
         ensures program { (error : WordError) → IsRefused bytes.now error → IsProgram bytes.now → ⊥ }
+        ensures order { (slot : ℕ) → is_second bytes.now slot ≡ false → fault_at bytes.now slot ≡ first_fault_at bytes.now slot }
     {
         check(bytes)?;
         Ok(Words { bytes })
@@ -108,6 +113,7 @@ impl<'a> Words<'a> {
         ensures some { 0 < result }
         ensures few { result ≤ 4096 }
         ensures sound { IsProgram self.now }
+        ensures stand { AllStand self.now (length self.now / 8) }
     {
         self.bytes.len() / 8
     }
@@ -124,5 +130,23 @@ impl<'a> Words<'a> {
             // The opcode byte of a second slot is 0, which names no instruction.
             Err(_) => None,
         }
+    }
+
+    /// Lends the bytes of what is known to be a program, and looks at none of them.
+    pub fn of_program(bytes: &'a [u8]) -> Words<'a>
+        requires program { IsProgram bytes.now }
+        requires stand { AllStand bytes.now (length bytes.now / 8) }
+        ensures { result ≡ bytes.now }
+    {
+        Words { bytes }
+    }
+
+    /// A copy of the bytes.
+    pub fn copy(&self, alloc: Global) -> Result<Vec<u8>, AllocError>
+        ensures value { IfOk result (λ bytes. bytes.items ≡ self.now) }
+        ensures sound { IsProgram self.now }
+        ensures stand { AllStand self.now (length self.now / 8) }
+    {
+        self.bytes.to_vec(alloc)
     }
 }

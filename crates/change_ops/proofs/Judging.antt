@@ -1,48 +1,205 @@
--- The verdict on a line whose parts are within the limits.
-use Rattle.std.proofs.Common.{◌≡◌, ℕ, Bool, true, false, cond, List, Option, Some, None, Result, Ok, Err, refl, ap}
-use Rattle.std.specs.Option.{option_map}
-use Rattle.std.specs.Prelude.{◌==◌}
-use Rattle.change_ops.specs.Ids.{Id, checked, within_limits}
+-- The verdict on a line by its parts.
+use Rattle.std.proofs.Common.{◌≡◌, ℕ, Bool, true, false, cond, List, Option, Some, None, Result, Ok, Err, refl, ap, sym, inl, inr, ◌∙◌}
+use Rattle.std.specs.Prelude.{◌&&◌, not, codes}
+use Rattle.std.specs.Str.{bytes_eq}
+use Rattle.change_ops.specs.Ids.{Id, within_limits, is_character}
+use Rattle.change_ops.specs.Limits.{place_within, anchors_within, key_within, attribute_within, op_within, has_character}
+use Rattle.change_ops.specs.Attributes.{is_comment_number}
 use Rattle.change_ops.specs.Words.{split}
-use Rattle.change_ops.specs.Limits.{marked_within, unmarked_within}
-use Rattle.change_ops.specs.Reading.{id_at, marked_at, mark_at, unmarked_at, unmark_at, judged, owned, FormGives}
-use Rattle.change_ops.specs.Operations.{id_of}
+use Rattle.change_ops.specs.Reading.{◌>>=◌, id_at, place_at, hex_at, key_at, comment_at, value_at, attribute_at, bare, anchors_at, insert_at, remove_at, marked_at, mark_at, unmarked_at, unmark_at, line_verdict, owned, within, encoded, unvalued, both, Reads}
 use Rattle.change_ops.specs.declared.refusal.LineFault.{LineFault}
-use Rattle.change_ops.specs.declared.refusal.LineFault.TheVariants.{WrongPeer}
+use Rattle.change_ops.specs.declared.refusal.LineFault.TheVariants.{BadLine, Limit, CharRefused, OutOfMemory}
 use Rattle.change_ops.specs.declared.attribute.Attribute.{Attribute}
+use Rattle.change_ops.specs.declared.attribute.Attribute.TheVariants as attribute
 use Rattle.change_ops.specs.declared.attribute.Key.{Key}
+use Rattle.change_ops.specs.declared.attribute.Key.TheVariants as key
 use Rattle.change_ops.specs.declared.operation.Anchor.{Anchor}
 use Rattle.change_ops.specs.declared.operation.Op.{Op}
-use Rattle.change_ops.specs.declared.operation.Op.TheVariants.{AddMark, RemoveMark}
+use Rattle.change_ops.specs.declared.operation.Op.TheVariants.{Insert, Remove, AddMark, RemoveMark}
 
--- a value that was read and is within its limits
-pub limited : {A : Type 0} (test : A → Bool) (read : Option A) (x : A) → option_map (checked test) read ≡ Some (Some x) → (read ≡ Some x) × (test x ≡ true)
-limited test None x e = absurd cc
-limited test (Some y) x e = go (test y) refl e where
-  go : (b : Bool) → test y ≡ b → Some (cond b (Some y) None) ≡ Some (Some x) → (Some y ≡ Some x) × (test x ≡ true)
-  go true t e = let same : y ≡ x = cc in (ap Some same, rw same at t)
-  go false t e = absurd cc
+-- what is made of two parts that were read
+abbrev pub made : {A B : Type 0} → Result A LineFault → (A → Result B LineFault) → Result B LineFault
+made (Ok x) f = f x
+made (Err fault) f = Err fault
 
-pub mark_judged : (peer : ℕ) (fields own rest : List ℕ) (id : Id) (attribute : Attribute) (start end : Anchor) → split 32 fields ≡ Some (own, rest)
-    → option_map (checked within_limits) (id_at own) ≡ Some (Some id) → option_map (checked marked_within) (marked_at rest) ≡ Some (Some (attribute, (start, end)))
-    → option_map (judged peer) (mark_at fields) ≡ Some (owned peer (AddMark id attribute start end))
-unfolding mark_at
-mark_judged peer fields own rest id attribute start end parts one two =
-    let a = limited within_limits (id_at own) id one in
-    let b = limited marked_within (marked_at rest) (attribute, (start, end)) two in
-    rw (parts, a.0, b.0, a.1, b.1) refl
+abbrev paired : {A B : Type 0} → A → B → A × B
+paired a b = (a, b)
 
-pub unmark_judged : (peer : ℕ) (fields own rest : List ℕ) (id : Id) (key : Key) (start end : Anchor) → split 32 fields ≡ Some (own, rest)
-    → option_map (checked within_limits) (id_at own) ≡ Some (Some id) → option_map (checked unmarked_within) (unmarked_at rest) ≡ Some (Some (key, (start, end)))
-    → option_map (judged peer) (unmark_at fields) ≡ Some (owned peer (RemoveMark id key start end))
-unfolding unmark_at
-unmark_judged peer fields own rest id key start end parts one two =
-    let a = limited within_limits (id_at own) id one in
-    let b = limited unmarked_within (unmarked_at rest) (key, (start, end)) two in
-    rw (parts, a.0, b.0, a.1, b.1) refl
+-- two parts within their limits are one within both
+pub within_both : {A B : Type 0} (t : A → Bool) (u : B → Bool) (a : Option A) (b : Option B) → both (within t a) (within u b) ≡ within (λ (x : A × B). t x.0 && u x.1) (a >>= λ x. b >>= λ y. Some (x, y))
+within_both t u None None = refl
+within_both {A} {B} t u None (Some y) = go (u y) where
+  go : (d : Bool) → both {A = A} {B = B} (Err BadLine) (cond d (Ok y) (Err Limit)) ≡ Err BadLine
+  go true = refl
+  go false = refl
+within_both {A} {B} t u (Some x) None = go (t x) where
+  go : (c : Bool) → both {A = A} {B = B} (cond c (Ok x) (Err Limit)) (Err BadLine) ≡ Err BadLine
+  go true = refl
+  go false = refl
+within_both {A} {B} t u (Some x) (Some y) = go (t x) (u y) where
+  go : (c d : Bool) → both {A = A} {B = B} (cond c (Ok x) (Err Limit)) (cond d (Ok y) (Err Limit)) ≡ cond (c && d) (Ok (x, y)) (Err Limit)
+  go true true = refl
+  go true false = refl
+  go false true = refl
+  go false false = refl
 
-pub owned_gives : (peer : ℕ) (op : Op) (r : Result Op LineFault) (verdict : Option (Result Op LineFault)) → r ≡ owned peer op → verdict ≡ Some (owned peer op) → FormGives (Some r) verdict
-owned_gives peer op r verdict e f = rw e (go ((id_of op).node == peer) (f)) where
-  go : (b : Bool) → verdict ≡ Some (cond b (Ok op) (Err WrongPeer)) → FormGives (Some (cond b (Ok op) (Err WrongPeer))) verdict
-  go true h = h
-  go false h = h
+-- what is made of a part that is within its limits
+pub within_made : {A : Type 0} (peer : ℕ) (t : A → Bool) (op : A → Op) (read : Option A) → ((x : A) → op_within (op x) ≡ t x) → ((x : A) → has_character (op x) ≡ true)
+    → line_verdict peer (read >>= λ x. Some (op x)) ≡ made (within t read) (λ x. owned peer (op x))
+within_made peer t op None limits code = refl
+within_made peer t op (Some x) limits code = rw (limits x, code x) (go (t x)) where
+  go : (b : Bool) → cond (not b) (Err Limit) (owned peer (op x)) ≡ made (cond b (Ok x) (Err Limit)) (λ y. owned peer (op y))
+  go true = refl
+  go false = refl
+
+pub insert_judged : (peer : ℕ) (id : Option Id) (place : Option (Option Id)) (code : Option ℕ)
+    → line_verdict peer (id >>= λ i. place >>= λ p. code >>= λ c. Some (Insert i p c)) ≡ made (both (both (within within_limits id) (within place_within place)) (encoded code)) (λ x. owned peer (Insert x.0.0 x.0.1 x.1))
+insert_judged peer id place code = rw (within_both within_limits place_within id place) (go id place code) where
+  one : (i : Id) (p : Option Id) (c : ℕ) (a b d : Bool) → cond (not (a && b)) (Err Limit) (cond (not d) (Err CharRefused) (owned peer (Insert i p c))) ≡ made (both (cond (a && b) (Ok (i, p)) (Err Limit)) (cond d (Ok c) (Err CharRefused))) (λ (x : (Id × Option Id) × ℕ). owned peer (Insert x.0.0 x.0.1 x.1))
+  one i p c true true true = refl
+  one i p c true true false = refl
+  one i p c true false true = refl
+  one i p c true false false = refl
+  one i p c false b true = refl
+  one i p c false b false = refl
+
+  none : (i : Id) (p : Option Id) (a : Bool) → Err BadLine ≡ made (both (cond a (Ok (i, p)) (Err Limit)) (Err BadLine)) (λ (x : (Id × Option Id) × ℕ). owned peer (Insert x.0.0 x.0.1 x.1))
+  none i p true = refl
+  none i p false = refl
+
+  coded : (c : ℕ) (d : Bool) → Err BadLine ≡ made (both (Err BadLine) (cond d (Ok c) (Err CharRefused))) (λ (x : (Id × Option Id) × ℕ). owned peer (Insert x.0.0 x.0.1 x.1))
+  coded c true = refl
+  coded c false = refl
+
+  go : (id : Option Id) (place : Option (Option Id)) (code : Option ℕ)
+      → line_verdict peer (id >>= λ i. place >>= λ p. code >>= λ c. Some (Insert i p c)) ≡ made (both (within (λ (x : Id × Option Id). within_limits x.0 && place_within x.1) (id >>= λ i. place >>= λ p. Some (i, p))) (encoded code)) (λ x. owned peer (Insert x.0.0 x.0.1 x.1))
+  go (Some i) (Some p) (Some c) = one i p c (within_limits i) (place_within p) (is_character c)
+  go (Some i) (Some p) None = none i p (within_limits i && place_within p)
+  go (Some i) None (Some c) = coded c (is_character c)
+  go (Some i) None None = refl
+  go None place (Some c) = coded c (is_character c)
+  go None place None = refl
+
+and_comm : (a b : Bool) → (a && b) ≡ (b && a)
+and_comm true true = refl
+and_comm true false = refl
+and_comm false true = refl
+and_comm false false = refl
+
+pub remove_judged : (peer : ℕ) (id target : Option Id)
+    → line_verdict peer (id >>= λ i. target >>= λ t. Some (Remove i t)) ≡ made (both (within within_limits id) (within within_limits target)) (λ x. owned peer (Remove x.0 x.1))
+remove_judged peer id target =
+    rw within_both (go id target) where
+      go : (id target : Option Id) → line_verdict peer (id >>= λ i. target >>= λ t. Some (Remove i t)) ≡ made (within (λ (x : Id × Id). within_limits x.0 && within_limits x.1) (id >>= λ x. target >>= λ y. Some (x, y))) (λ x. owned peer (Remove x.0 x.1))
+      go None target = refl
+      go (Some i) None = refl
+      go (Some i) (Some t) = within_made peer (λ (x : Id × Id). within_limits x.0 && within_limits x.1) (λ x. Remove x.0 x.1) (Some (i, t)) (λ x. refl) (λ x. refl)
+
+-- a value and its two anchors, and then the id: of what a mark and the removal of one are made
+pub marks_judged : {A : Type 0} (peer : ℕ) (t : A → Bool) (op : Id → A → Anchor × Anchor → Op) (id : Option Id) (value : Option A) (anchors : Option (Anchor × Anchor))
+    → ((i : Id) (a : A) (n : Anchor × Anchor) → op_within (op i a n) ≡ (within_limits i && (t a && anchors_within n))) → ((i : Id) (a : A) (n : Anchor × Anchor) → has_character (op i a n) ≡ true)
+    → line_verdict peer (id >>= λ i. value >>= λ a. anchors >>= λ n. Some (op i a n)) ≡ made (both (both (within t value) (within anchors_within anchors)) (within within_limits id)) (λ x. owned peer (op x.1 x.0.0 x.0.1))
+marks_judged {A} peer t op id value anchors limits code = rw (within_both t anchors_within value anchors, within_both (λ (x : A × (Anchor × Anchor)). t x.0 && anchors_within x.1) within_limits (value >>= λ a. anchors >>= λ n. Some (a, n)) id) (go id value anchors) where
+  go : (id : Option Id) (value : Option A) (anchors : Option (Anchor × Anchor))
+      → line_verdict peer (id >>= λ i. value >>= λ a. anchors >>= λ n. Some (op i a n)) ≡ made (within (λ (x : (A × (Anchor × Anchor)) × Id). (t x.0.0 && anchors_within x.0.1) && within_limits x.1) ((value >>= λ a. anchors >>= λ n. Some (a, n)) >>= λ p. id >>= λ i. Some (p, i))) (λ x. owned peer (op x.1 x.0.0 x.0.1))
+  go None None anchors = refl
+  go None (Some a) None = refl
+  go None (Some a) (Some n) = refl
+  go (Some i) None anchors = refl
+  go (Some i) (Some a) None = refl
+  go (Some i) (Some a) (Some n) = within_made peer (λ (x : (A × (Anchor × Anchor)) × Id). (t x.0.0 && anchors_within x.0.1) && within_limits x.1) (λ x. op x.1 x.0.0 x.0.1) (Some ((a, n), i)) (λ x. limits x.1 x.0.0 x.0.1 ∙ and_comm (within_limits x.1) (t x.0.0 && anchors_within x.0.1)) (λ x. code x.1 x.0.0 x.0.1)
+
+-- the lines
+
+pub insert_line : (peer : ℕ) (fields own rest place code : List ℕ) (read : Result ((Id × Option Id) × ℕ) LineFault) → split 32 fields ≡ Some (own, rest) → split 32 rest ≡ Some (place, code)
+    → read ≡ both (both (within within_limits (id_at own)) (within place_within (place_at place))) (encoded (hex_at code)) → line_verdict peer (insert_at fields) ≡ made read (λ x. owned peer (Insert x.0.0 x.0.1 x.1))
+unfolding insert_at
+insert_line peer fields own rest place code read e f same = rw (e, f, same) (insert_judged peer (id_at own) (place_at place) (hex_at code))
+
+pub remove_line : (peer : ℕ) (fields own target : List ℕ) (read : Result (Id × Id) LineFault) → split 32 fields ≡ Some (own, target)
+    → read ≡ both (within within_limits (id_at own)) (within within_limits (id_at target)) → line_verdict peer (remove_at fields) ≡ made read (λ x. owned peer (Remove x.0 x.1))
+unfolding remove_at
+remove_line peer fields own target read e same = rw (e, same) (remove_judged peer (id_at own) (id_at target))
+
+pub unmark_line : (peer : ℕ) (fields own rest name anchors : List ℕ) (read : Result ((Key × (Anchor × Anchor)) × Id) LineFault) → split 32 fields ≡ Some (own, rest) → split 32 rest ≡ Some (name, anchors)
+    → read ≡ both (both (within key_within (key_at name)) (within anchors_within (anchors_at anchors))) (within within_limits (id_at own))
+    → line_verdict peer (unmark_at fields) ≡ made read (λ x. owned peer (RemoveMark x.1 x.0.0 x.0.1.0 x.0.1.1))
+unfolding unmark_at unmarked_at
+unmark_line peer fields own rest name anchors read e f same =
+    rw (e, f, same) (go (id_at own) (key_at name) (anchors_at anchors)) where
+      go : (id : Option Id) (key : Option Key) (anchors : Option (Anchor × Anchor))
+          → line_verdict peer (id >>= λ i. (key >>= λ k. anchors >>= λ n. Some (paired k n)) >>= λ u. Some (RemoveMark i u.0 u.1.0 u.1.1))
+          ≡ made (both (both (within key_within key) (within anchors_within anchors)) (within within_limits id)) (λ x. owned peer (RemoveMark x.1 x.0.0 x.0.1.0 x.0.1.1))
+      go id key anchors = regroup id key anchors ∙ marks_judged peer key_within (λ i k n. RemoveMark i k n.0 n.1) id key anchors (λ i k n. refl) (λ i k n. refl) where
+        regroup : (id : Option Id) (key : Option Key) (anchors : Option (Anchor × Anchor))
+            → line_verdict peer (id >>= λ i. (key >>= λ k. anchors >>= λ n. Some (paired k n)) >>= λ u. Some (RemoveMark i u.0 u.1.0 u.1.1)) ≡ line_verdict peer (id >>= λ i. key >>= λ k. anchors >>= λ n. Some (RemoveMark i k n.0 n.1))
+        regroup None key anchors = refl
+        regroup (Some i) None anchors = refl
+        regroup (Some i) (Some k) None = refl
+        regroup (Some i) (Some k) (Some n) = refl
+
+mark_read : (peer : ℕ) (fields own rest name more value anchors : List ℕ) → split 32 fields ≡ Some (own, rest) → split 32 rest ≡ Some (name, more) → split 32 more ≡ Some (value, anchors)
+    → line_verdict peer (mark_at fields) ≡ made (both (both (within attribute_within (attribute_at name value)) (within anchors_within (anchors_at anchors))) (within within_limits (id_at own))) (λ x. owned peer (AddMark x.1 x.0.0 x.0.1.0 x.0.1.1))
+unfolding mark_at marked_at
+mark_read peer fields own rest name more value anchors e f g =
+    rw (e, f, g) (regroup (id_at own) (attribute_at name value) (anchors_at anchors) ∙ marks_judged peer attribute_within (λ i a n. AddMark i a n.0 n.1) (id_at own) (attribute_at name value) (anchors_at anchors) (λ i a n. refl) (λ i a n. refl)) where
+      regroup : (id : Option Id) (attribute : Option Attribute) (anchors : Option (Anchor × Anchor))
+          → line_verdict peer (id >>= λ i. (anchors >>= λ n. attribute >>= λ a. Some (paired a n)) >>= λ m. Some (AddMark i m.0 m.1.0 m.1.1)) ≡ line_verdict peer (id >>= λ i. attribute >>= λ a. anchors >>= λ n. Some (AddMark i a n.0 n.1))
+      regroup None attribute anchors = refl
+      regroup (Some i) None None = refl
+      regroup (Some i) None (Some n) = refl
+      regroup (Some i) (Some a) None = refl
+      regroup (Some i) (Some a) (Some n) = refl
+
+-- where memory ran out, a part of no form is told all the same
+memory_told : (peer : ℕ) (id : Option Id) (anchors : Option (Anchor × Anchor)) (attribute : Option Attribute)
+    → Reads (made (both (both (Err OutOfMemory) (within anchors_within anchors)) (within within_limits id)) (λ x. owned peer (AddMark x.1 x.0.0 x.0.1.0 x.0.1.1)))
+    (made (both (both (within attribute_within attribute) (within anchors_within anchors)) (within within_limits id)) (λ x. owned peer (AddMark x.1 x.0.0 x.0.1.0 x.0.1.1)))
+memory_told peer id None attribute = inr (ap (λ (r : Result ((Attribute × (Anchor × Anchor)) × Id) LineFault). made r (λ x. owned peer (AddMark x.1 x.0.0 x.0.1.0 x.0.1.1))) (ap (λ (r : Result (Attribute × (Anchor × Anchor)) LineFault). both r (within within_limits id)) (sym (formless (within attribute_within attribute))))) where
+  formless : (r : Result Attribute LineFault) → both {B = Anchor × Anchor} r (Err BadLine) ≡ Err BadLine
+  formless (Ok a) = refl
+  formless (Err fault) = refl
+memory_told peer None (Some n) attribute = inr (go (anchors_within n) (both (within attribute_within attribute) (within anchors_within (Some n)))) where
+  go : (b : Bool) (r : Result (Attribute × (Anchor × Anchor)) LineFault)
+      → made (both (both (Err OutOfMemory) (cond b (Ok n) (Err Limit))) (Err BadLine)) (λ (x : (Attribute × (Anchor × Anchor)) × Id). owned peer (AddMark x.1 x.0.0 x.0.1.0 x.0.1.1))
+      ≡ made (both r (Err BadLine)) (λ (x : (Attribute × (Anchor × Anchor)) × Id). owned peer (AddMark x.1 x.0.0 x.0.1.0 x.0.1.1))
+  go true (Ok x) = refl
+  go true (Err fault) = refl
+  go false (Ok x) = refl
+  go false (Err fault) = refl
+memory_told peer (Some i) (Some n) attribute = inl (go (anchors_within n) (within_limits i)) where
+  go : (b c : Bool) → made (both (both (Err OutOfMemory) (cond b (Ok n) (Err Limit))) (cond c (Ok i) (Err Limit))) (λ (x : (Attribute × (Anchor × Anchor)) × Id). owned peer (AddMark x.1 x.0.0 x.0.1.0 x.0.1.1)) ≡ Err OutOfMemory
+  go true true = refl
+  go true false = refl
+  go false true = refl
+  go false false = refl
+
+pub mark_line : (peer : ℕ) (fields own rest name more value anchors : List ℕ) (attribute : Result Attribute LineFault) (read : Result ((Attribute × (Anchor × Anchor)) × Id) LineFault)
+    → split 32 fields ≡ Some (own, rest) → split 32 rest ≡ Some (name, more) → split 32 more ≡ Some (value, anchors) → Reads attribute (within attribute_within (attribute_at name value))
+    → read ≡ both (both attribute (within anchors_within (anchors_at anchors))) (within within_limits (id_at own))
+    → Reads (made read (λ x. owned peer (AddMark x.1 x.0.0 x.0.1.0 x.0.1.1))) (line_verdict peer (mark_at fields))
+mark_line peer fields own rest name more value anchors attribute read e f g (inr same) is = inr (rw (is, same) (sym (mark_read peer fields own rest name more value anchors e f g)))
+mark_line peer fields own rest name more value anchors attribute read e f g (inl memory) is =
+    rw (is, memory, mark_read peer fields own rest name more value anchors e f g) (memory_told peer (id_at own) (anchors_at anchors) (attribute_at name value))
+
+-- the attribute of a comment
+
+bare_judged : (read : Option ℕ) (value : List ℕ) → within attribute_within (read >>= λ n. bare (attribute.Comment n) value) ≡ made (both (within is_comment_number read) (unvalued value)) (λ x. Ok (attribute.Comment x.0))
+bare_judged None value = go (bytes_eq value (codes "-")) where
+  go : (b : Bool) → Err BadLine ≡ made {A = ℕ × Unit {0}} {B = Attribute} (both (Err BadLine) (cond b (Ok tt) (Err BadLine))) (λ x. Ok (attribute.Comment x.0))
+  go true = refl
+  go false = refl
+bare_judged (Some n) value = go (bytes_eq value (codes "-")) (is_comment_number n) refl where
+  go : (b c : Bool) → is_comment_number n ≡ c → within attribute_within (cond b (Some (attribute.Comment n)) None) ≡ made (both (within is_comment_number (Some n)) (cond b (Ok tt) (Err BadLine))) (λ (x : ℕ × Unit {0}). Ok (attribute.Comment x.0))
+  go true true e = rw e refl
+  go true false e = rw e refl
+  go false true e = rw e refl
+  go false false e = rw e refl
+
+pub comment_attribute : (name value : List ℕ) → bytes_eq name (codes "strong") ≡ false → bytes_eq name (codes "em") ≡ false → bytes_eq name (codes "link") ≡ false → bytes_eq name (codes "color") ≡ false
+    → within attribute_within (attribute_at name value) ≡ made (both (within is_comment_number (comment_at name)) (unvalued value)) (λ x. Ok (attribute.Comment x.0))
+unfolding attribute_at key_at value_at
+comment_attribute name value e f g h = rw (e, f, g, h) (go (comment_at name)) where
+  go : (o : Option ℕ) → within attribute_within ((o >>= λ n. Some (key.Comment n)) >>= λ k. value_at k value) ≡ made (both (within is_comment_number o) (unvalued value)) (λ x. Ok (attribute.Comment x.0))
+  go None = bare_judged None value
+  go (Some n) = bare_judged (Some n) value

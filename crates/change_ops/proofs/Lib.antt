@@ -1,5 +1,7 @@
+pub mod IdLaws
 pub mod Digits
 pub mod Limits
+pub mod Signs
 pub mod Judging
 pub mod Splitting
 pub mod Loop

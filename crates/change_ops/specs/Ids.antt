@@ -1,5 +1,8 @@
 -- Ids and characters, their limits, and the order of ids.
-use Rattle.std.specs.Prelude.{ℕ, ◌≡◌, ◌<◌, ◌≤◌, ◌⊎◌, ◌^◌, nat_lt, nat_le, ◌&&◌, ◌||◌, Bool, Option, Some, None, if◌then◌else◌}
+use Rattle.std.specs.Prelude.{ℕ, ◌≡◌, ◌<◌, ◌≤◌, ◌⊎◌, ◌^◌, ◌↔◌, nat_lt, nat_le, ◌&&◌, ◌||◌, Bool, Option, Some, None, if◌then◌else◌}
+use Rattle.std.specs.Ordering.{nat_cmp, on, then_cmp}
+use Rattle.std.specs.declared.cmp.Ordering.{Ordering}
+use Rattle.std.specs.declared.cmp.Ordering.TheVariants as ordering
 
 -- an id as a line may name it: two numbers
 pub record Id : Type 0 where
@@ -9,6 +12,16 @@ pub record Id : Type 0 where
 -- by counter, then by node (Peritext, CSCW 2022)
 unfoldable pub Less : Id → Id → Type 0
 Less a b = (a.counter < b.counter) ⊎ ((a.counter ≡ b.counter) × (a.node < b.node))
+
+-- the same order, as a comparison
+abbrev pub id_cmp : Id → Id → Ordering
+id_cmp = then_cmp (on (λ (i : Id). i.counter) nat_cmp) (on (λ (i : Id). i.node) nat_cmp)
+
+-- The comparison answers just what the order says.
+pub record ComparesIds (a b : Id) : Type 0 where
+  pub less : (id_cmp a b ≡ ordering.Less) ↔ Less a b
+  pub equal : (id_cmp a b ≡ ordering.Equal) ↔ (a ≡ b)
+  pub greater : (id_cmp a b ≡ ordering.Greater) ↔ Less b a
 
 abbrev pub is_node : ℕ → Bool
 is_node n = nat_le 1 n && nat_le n 65535

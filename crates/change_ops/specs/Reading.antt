@@ -1,10 +1,11 @@
 -- The operation that a line spells, and the first fault of a line.
-use Rattle.std.specs.Prelude.{◌≡◌, ℕ, nat_lt, ◌==◌, ◌&&◌, not, if◌then◌else◌, List, [], ◌∷◌, length, Option, Some, None, Result, Ok, Err, option_and_then, codes}
+use Rattle.std.specs.Prelude.{◌≡◌, ◌⊎◌, ℕ, nat_lt, ◌==◌, ◌&&◌, not, Bool, if◌then◌else◌, List, [], ◌∷◌, length, Option, Some, None, Result, Ok, Err, option_and_then, codes}
 use Rattle.std.specs.List.{list_all}
 use Rattle.std.specs.Str.{bytes_eq}
-use Rattle.change_ops.specs.Ids.{Id, checked}
+use Rattle.std.specs.Borrow.{Bor}
+use Rattle.change_ops.specs.Ids.{Id, is_character}
 use Rattle.change_ops.specs.Attributes.{is_link_byte}
-use Rattle.change_ops.specs.Limits.{place_within, anchor_within, anchors_within, op_within, has_character}
+use Rattle.change_ops.specs.Limits.{op_within, has_character}
 use Rattle.change_ops.specs.Operations.{id_of}
 use Rattle.change_ops.specs.Words.{split, number_in, digits_after}
 use Rattle.change_ops.specs.declared.attribute.Key.{Key}
@@ -172,6 +173,41 @@ header_at line = do
     count ← number_in 10 second.1
     Some (node, count))
 
+-- what has a form, or the fault of what has none
+abbrev pub formed : {A : Type 0} → Option A → Result A LineFault
+formed None = Err BadLine
+formed (Some x) = Ok x
+
+-- What was found are these two parts, or there are none.
+abbrev pub Found : Result (Bor (List ℕ) × Bor (List ℕ)) LineFault → Option (List ℕ × List ℕ) → Type 0
+Found (Ok x) parts = parts ≡ Some (x.0.now, x.1.now)
+Found (Err fault) parts = (fault ≡ BadLine) × (parts ≡ None)
+
+-- a part of a line that is within its limits, or the part's fault
+abbrev pub within : {A : Type 0} → (A → Bool) → Option A → Result A LineFault
+within test None = Err BadLine
+within test (Some x) = if test x then Ok x else Err Limit
+
+-- the character of a code, or the code's fault
+abbrev pub encoded : Option ℕ → Result ℕ LineFault
+encoded None = Err BadLine
+encoded (Some code) = if is_character code then Ok code else Err CharRefused
+
+-- the word of an attribute that has no value
+abbrev pub unvalued : List ℕ → Result (Unit {0}) LineFault
+unvalued word = if bytes_eq word (codes "-") then Ok tt else Err BadLine
+
+-- two parts of a line, or the fault that is told: that of a part of no form, and otherwise the first part's
+abbrev pub both : {A B : Type 0} → Result A LineFault → Result B LineFault → Result (A × B) LineFault
+both (Ok a) (Ok b) = Ok (a, b)
+both (Ok a) (Err fault) = Err fault
+both (Err fault) (Ok b) = Err fault
+both (Err fault) (Err BadLine) = Err BadLine
+both (Err fault) (Err Limit) = Err fault
+both (Err fault) (Err CharRefused) = Err fault
+both (Err fault) (Err WrongPeer) = Err fault
+both (Err fault) (Err OutOfMemory) = Err fault
+
 -- an operation that is the peer's own
 abbrev pub owned : ℕ → Op → Result Op LineFault
 owned peer op = if (id_of op).node == peer then Ok op else Err WrongPeer
@@ -187,30 +223,6 @@ abbrev pub line_verdict : ℕ → Option Op → Result Op LineFault
 line_verdict peer None = Err BadLine
 line_verdict peer (Some op) = judged peer op
 
-abbrev pub limited_place : Option Id → Option (Option Id)
-limited_place = checked place_within
-
-abbrev pub limited_anchor : Anchor → Option Anchor
-limited_anchor = checked anchor_within
-
-abbrev pub limited_anchors : Anchor × Anchor → Option (Anchor × Anchor)
-limited_anchors = checked anchors_within
-
--- What reading a line answered is the verdict, unless memory ran out.
-abbrev pub LineGives : Result Op LineFault → Result Op LineFault → Type 0
-LineGives (Ok op) verdict = verdict ≡ Ok op
-LineGives (Err BadLine) verdict = verdict ≡ Err BadLine
-LineGives (Err Limit) verdict = verdict ≡ Err Limit
-LineGives (Err CharRefused) verdict = verdict ≡ Err CharRefused
-LineGives (Err WrongPeer) verdict = verdict ≡ Err WrongPeer
-LineGives (Err OutOfMemory) verdict = Unit {0}
-
--- the same of a line that may be of no form
-abbrev pub FormGives : Option (Result Op LineFault) → Option (Result Op LineFault) → Type 0
-FormGives None verdict = verdict ≡ None
-FormGives (Some (Ok op)) verdict = verdict ≡ Some (Ok op)
-FormGives (Some (Err BadLine)) verdict = verdict ≡ Some (Err BadLine)
-FormGives (Some (Err Limit)) verdict = verdict ≡ Some (Err Limit)
-FormGives (Some (Err CharRefused)) verdict = verdict ≡ Some (Err CharRefused)
-FormGives (Some (Err WrongPeer)) verdict = verdict ≡ Some (Err WrongPeer)
-FormGives (Some (Err OutOfMemory)) verdict = Unit {0}
+-- What a reader answered is what it should be, unless memory ran out.
+abbrev pub Reads : {A : Type 0} → Result A LineFault → Result A LineFault → Type 0
+Reads answer wanted = (answer ≡ Err OutOfMemory) ⊎ (answer ≡ wanted)

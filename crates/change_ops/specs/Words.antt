@@ -9,12 +9,17 @@ split mark bytes =
     if nat_lt (position_or_len (λ b. b == mark) bytes) (length bytes)
     then Some (before_first (λ b. b == mark) bytes, after_first (λ b. b == mark) bytes) else None
 
+-- what stands behind a byte at the front of a word
+abbrev pub behind : ℕ → List ℕ → Option (List ℕ)
+behind mark [] = None
+behind mark (b ∷ word) = if b == mark then Some word else None
+
 -- two texts that a call lends, as bytes
 abbrev pub seen : Option (Bor (List ℕ) × Bor (List ℕ)) → Option (List ℕ × List ℕ)
 seen None = None
 seen (Some x) = Some (x.0.now, x.1.now)
 
--- the value of a digit, 0 to 9 and a to f; 255 for what is none
+-- the value of a digit, 0 to 9 and a to f; that of another byte is past every base
 abbrev pub digit_of : ℕ → ℕ
 digit_of b = if nat_lt b 48 then 255 else if nat_lt b 58 then b - 48 else if nat_lt b 97 then 255 else if nat_lt b 103 then b - 87 else 255
 

@@ -185,7 +185,7 @@ impl CommentNumber {
 }
 
 /// What a mark says something about: marks of different keys stand together.
-#[derive(Clone, Copy, Debug, PartialEq, Eq)]
+#[derive(Clone, Copy, PartialEq, Eq)]
 pub enum Key {
     Strong,
     Em,
@@ -195,7 +195,7 @@ pub enum Key {
 }
 
 /// A key with its value, as a mark adds it.
-#[derive(Clone, Debug, Drop, PartialEq, Eq)]
+#[derive(Clone, Drop)]
 pub enum Attribute {
     Strong,
     Em,

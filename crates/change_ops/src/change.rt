@@ -1,13 +1,12 @@
 //! A change, and reading it from its text.
 ghost use Rattle.std.specs.Prelude.{◌≡◌, ◌⊎◌, List, ℕ, ◌<◌, ◌≤◌, IfOk, IfErr, Ok, Err, length};
 ghost use Rattle.std.specs.Str.{IsUtf8};
-ghost use Rattle.std.specs.Option.{option_map};
 ghost use Rattle.change_ops.specs.Reading.{header_at};
 ghost use Rattle.change_ops.specs.Forms.{LinesAreForms, HeadersAreForms};
 ghost use Rattle.change_ops.specs.Refusals.{IsRefused};
 ghost use Rattle.change_ops.specs.declared.refusal.ChangeError.TheVariants.{OutOfMemory};
 ghost use Rattle.change_ops.specs.Spelling.{Spells, Answers, NoneBeginsAnother};
-ghost use Rattle.change_ops.specs.Changes.{Edit, Gives, OwnOps, at_line as fault_at, limited_header, next_at, ops_at, change_at};
+ghost use Rattle.change_ops.specs.Changes.{Edit, Gives, OwnOps, at_line as fault_at, header_verdict, next_at, ops_at, change_at};
 
 use crate::lines::op_of;
 use crate::numbers::{line_of, number, word_of};
@@ -19,7 +18,7 @@ use std::marker::Model;
 
 /// The operations of one peer, which are accepted together: 1 to 256, the id of each with the peer's
 /// node.
-#[derive(Debug, Drop)]
+#[derive(Drop)]
 pub struct Change {
     node: u16,
     operations: SmallVec<Op, 4>,
@@ -103,21 +102,22 @@ fn ops_of(
     Ok((operations, rest))
 }
 
+/// The node and the count of a change's first line.
 #[tactic(auto, unfolding(crate::specs::Reading::header_at))]
-fn header_of(line: &str) -> Option<Option<(u16, usize)>>
-    ensures { result ≡ option_map limited_header (header_at line.now) }
+fn header_of(line: &str) -> Result<(u16, usize), LineFault>
+    ensures { result ≡ header_verdict (header_at line.now) }
 {
     let (name, fields) = word_of(line)?;
     let (node, count) = word_of(fields)?;
     if name != "change" {
-        return None;
+        return Err(LineFault::BadLine);
     }
-    let node = number(10, node.as_bytes())?;
-    let count = number(10, count.as_bytes())?;
+    let node = number(10, node)?;
+    let count = number(10, count)?;
     if node < 1 || node > 65535 || count < 1 || count > 256 {
-        return Some(None);
+        return Err(LineFault::Limit);
     }
-    Some(Some((node as u16, count as usize)))
+    Ok((node as u16, count as usize))
 }
 
 /// The change at the front of a text, and what follows it.
@@ -129,11 +129,9 @@ fn change_of(alloc: Global, text: &str) -> Result<(Change, &str), ChangeError>
     let Some((line, rest)) = line_of(text) else {
         return Err(ChangeError::Truncated);
     };
-    let Some(header) = header_of(line) else {
-        return Err(ChangeError::BadLine(1));
-    };
-    let Some((node, count)) = header else {
-        return Err(ChangeError::Limit(1));
+    let (node, count) = match header_of(line) {
+        Ok(header) => header,
+        Err(fault) => return Err(at_line(1, fault)),
     };
     let (operations, rest) = ops_of(alloc, node, count, rest)?;
     Ok((Change { node, operations }, rest))
@@ -143,7 +141,6 @@ fn change_of(alloc: Global, text: &str) -> Result<(Change, &str), ChangeError>
 /// change's has the first refusal, with its line in the change from 1: the lines are read in their
 /// order, and in a line a missing LF comes before the form, the limits, the character and the peer.
 pub fn read_change(alloc: Global, text: &str) -> Result<(Change, &str), ChangeError>
-    ensures exact { Gives (λ x. (x.0, x.1.now)) result (change_at text.now) }
     ensures spelled { IfOk result (λ x. Spells text.now x.0 x.1.now) }
     ensures complete { (change : Edit) (rest : List ℕ) → Spells text.now change rest → Answers result (λ x. (x.0, x.1.now)) (change, rest) }
     ensures refused { IfErr result (λ e. (e ≡ OutOfMemory) ⊎ IsRefused text.now e) }

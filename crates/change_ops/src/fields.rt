@@ -1,229 +1,186 @@
-//! The words of an operation's line. A reader answers `None` for what is of no form, and `Some(None)`
-//! for what is of the form and out of its limits, since a line's form is looked at before its limits.
-ghost use Rattle.std.specs.Prelude.{◌≡◌, ℕ, IfOk, IfSome, IsTrue, Some, None, length};
-ghost use Rattle.std.specs.Option.{option_map};
-ghost use Rattle.change_ops.specs.Ids.{checked, within_limits};
+//! The words of an operation's line: each reader answers what a word or several spell, if they have the
+//! form and are within the limits.
+ghost use Rattle.std.specs.Prelude.{◌≡◌};
+ghost use Rattle.change_ops.specs.Ids.{within_limits};
 ghost use Rattle.change_ops.specs.Attributes.{is_color, is_comment_number, is_link};
-ghost use Rattle.change_ops.specs.Words.{saturated};
-ghost use Rattle.change_ops.specs.Limits.{key_within, attribute_within, marked_within, unmarked_within};
-ghost use Rattle.change_ops.specs.Reading.{id_at, hex_at, place_at, anchor_at, comment_at, key_at, color_at, link_at, value_at, attribute_at, bare, marked_at, unmarked_at, limited_place, limited_anchor, limited_anchors, anchors_at};
+ghost use Rattle.change_ops.specs.Limits.{place_within, anchor_within, anchors_within, key_within, attribute_within};
+ghost use Rattle.change_ops.specs.Reading.{id_at, hex_at, place_at, anchor_at, comment_at, key_at, color_at, link_at, attribute_at, anchors_at, within, unvalued, encoded, both as both_parts, Reads};
 
 use crate::attribute::{Attribute, Color, CommentNumber, Key, Link, are_target_bytes};
+use crate::character::Character;
 use crate::id::OpId;
-use crate::numbers::{digits, name_of, number, parts_of, word_of};
+use crate::numbers::{after_sign, digits, name_of, number, parts_of, word_of};
 use crate::operation::Anchor;
-use std::alloc::{AllocError, Global};
+use crate::refusal::LineFault;
+use std::alloc::Global;
 
-/// The id that a word spells, in it an id within the limits.
+/// Two parts of a line, or the fault that is told: a part's that is of no form before any other, and
+/// otherwise the first part's. So the part that may want memory is the first.
+pub fn both<A: Drop, B: Drop>(
+    first: Result<A, LineFault>,
+    second: Result<B, LineFault>,
+) -> Result<(A, B), LineFault>
+    ensures { result ≡ both_parts first second }
+{
+    match (first, second) {
+        (Ok(first), Ok(second)) => Ok((first, second)),
+        (_, Err(LineFault::BadLine)) => Err(LineFault::BadLine),
+        (Err(fault), _) => Err(fault),
+        (Ok(_), Err(fault)) => Err(fault),
+    }
+}
+
+/// An id.
 #[tactic(auto, unfolding(crate::specs::Reading::id_at), using(crate::proofs::Limits::id_saturated))]
-pub fn id_of(word: &[u8]) -> Option<Option<OpId>>
-    ensures { result ≡ option_map (checked within_limits) (id_at word.now) }
+pub fn id_of(word: &str) -> Result<OpId, LineFault>
+    ensures { result ≡ within within_limits (id_at word.now) }
 {
     let (counter, node) = parts_of(word)?;
     let counter = number(10, counter)?;
     let node = number(10, node)?;
-    Some(OpId::new(counter, node))
+    OpId::new(counter, node).ok_or(LineFault::Limit)
 }
 
 /// What an insertion stands after: an id, or nothing for the text's start.
 #[tactic(auto, unfolding(crate::specs::Reading::place_at))]
-pub fn place_of(word: &str) -> Option<Option<Option<OpId>>>
-    ensures { result ≡ option_map limited_place (place_at word.now) }
+pub fn place_of(word: &str) -> Result<Option<OpId>, LineFault>
+    ensures { result ≡ within place_within (place_at word.now) }
 {
     if word == "-" {
-        return Some(Some(None));
+        return Ok(None);
     }
-    let id = id_of(word.as_bytes())?;
-    match id {
-        Some(id) => Some(Some(Some(id))),
-        None => Some(None),
-    }
+    let id = id_of(word)?;
+    Ok(Some(id))
 }
 
-/// The code of a character, in lower-case hexadecimal digits.
-#[tactic(auto, unfolding(crate::specs::Reading::hex_at))]
-pub fn hex_of(word: &str) -> Option<u64>
-    ensures { result ≡ option_map saturated (hex_at word.now) }
+/// A character by its code, in lower-case hexadecimal digits.
+#[tactic(auto, unfolding(crate::specs::Reading::hex_at), using(crate::proofs::Limits::character_saturated))]
+pub fn character_of(word: &str) -> Result<Character, LineFault>
+    ensures { result ≡ encoded (hex_at word.now) }
 {
     if word.len() > 6 {
-        return None;
+        return Err(LineFault::BadLine);
     }
-    number(16, word.as_bytes())
+    let code = number(16, word)?;
+    Character::new(code).ok_or(LineFault::CharRefused)
 }
 
-/// The anchor that a word spells, in it an id within the limits.
-#[tactic(auto, unfolding(crate::specs::Reading::anchor_at))]
-fn anchor_of(word: &[u8]) -> Option<Option<Anchor>>
-    ensures { result ≡ option_map limited_anchor (anchor_at word.now) }
+/// An anchor.
+#[tactic(auto, using(crate::proofs::Signs::anchor_signed))]
+fn anchor_of(word: &str) -> Result<Anchor, LineFault>
+    ensures { result ≡ within anchor_within (anchor_at word.now) }
 {
-    match word {
-        [b'^'] => Some(Some(Anchor::TextStart)),
-        [b'$'] => Some(Some(Anchor::TextEnd)),
-        [b'<', name @ ..] => {
-            let id = id_of(name)?;
-            Some(id.map(Anchor::BeforeCharacter))
-        }
-        [b'>', name @ ..] => {
-            let id = id_of(name)?;
-            Some(id.map(Anchor::AfterCharacter))
-        }
-        _ => None,
+    if let Some(name) = after_sign('<', word) {
+        let id = id_of(name)?;
+        return Ok(Anchor::BeforeCharacter(id));
+    }
+    if let Some(name) = after_sign('>', word) {
+        let id = id_of(name)?;
+        return Ok(Anchor::AfterCharacter(id));
+    }
+    if word == "^" {
+        Ok(Anchor::TextStart)
+    } else if word == "$" {
+        Ok(Anchor::TextEnd)
+    } else {
+        Err(LineFault::BadLine)
     }
 }
 
-/// Two anchors, in them ids within the limits.
+/// The anchors of a mark's start and end.
 #[tactic(auto, unfolding(crate::specs::Reading::anchors_at))]
-fn anchors_of(fields: &str) -> Option<Option<(Anchor, Anchor)>>
-    ensures { result ≡ option_map limited_anchors (anchors_at fields.now) }
+pub fn anchors_of(fields: &str) -> Result<(Anchor, Anchor), LineFault>
+    ensures { result ≡ within anchors_within (anchors_at fields.now) }
 {
     let (start, end) = word_of(fields)?;
-    let start = anchor_of(start.as_bytes())?;
-    let end = anchor_of(end.as_bytes())?;
-    let (Some(start), Some(end)) = (start, end) else {
-        return Some(None);
-    };
-    Some(Some((start, end)))
+    both(anchor_of(start), anchor_of(end))
 }
 
-/// The comment that a key names, if its number is within the limits.
+/// The comment that a key names.
 #[tactic(auto, unfolding(crate::specs::Reading::comment_at), using(crate::proofs::Limits::comment_saturated))]
-fn comment_of(word: &str) -> Option<Option<CommentNumber>>
-    ensures { result ≡ option_map (checked is_comment_number) (comment_at word.now) }
+fn comment_of(word: &str) -> Result<CommentNumber, LineFault>
+    ensures { result ≡ within is_comment_number (comment_at word.now) }
 {
     let (name, digits) = name_of(word)?;
     if name != "comment" {
-        return None;
+        return Err(LineFault::BadLine);
     }
-    let number = number(10, digits.as_bytes())?;
-    Some(CommentNumber::new(number))
+    let number = number(10, digits)?;
+    CommentNumber::new(number).ok_or(LineFault::Limit)
 }
 
-/// The key that a word spells, if its number is within the limits.
+/// A key.
 #[tactic(auto, unfolding(crate::specs::Reading::key_at))]
-fn key_of(word: &str) -> Option<Option<Key>>
-    ensures read { result ≡ option_map (checked key_within) (key_at word.now) }
-    ensures within { IfSome result (λ key. IfSome key (λ key. IsTrue (key_within key))) }
+pub fn key_of(word: &str) -> Result<Key, LineFault>
+    ensures { result ≡ within key_within (key_at word.now) }
 {
     if word == "strong" {
-        return Some(Some(Key::Strong));
+        Ok(Key::Strong)
+    } else if word == "em" {
+        Ok(Key::Em)
+    } else if word == "link" {
+        Ok(Key::Link)
+    } else if word == "color" {
+        Ok(Key::Color)
+    } else {
+        let number = comment_of(word)?;
+        Ok(Key::Comment(number))
     }
-    if word == "em" {
-        return Some(Some(Key::Em));
-    }
-    if word == "link" {
-        return Some(Some(Key::Link));
-    }
-    if word == "color" {
-        return Some(Some(Key::Color));
-    }
-    let number = comment_of(word)?;
-    Some(number.map(Key::Comment))
 }
 
-/// The color that six digits spell.
+/// A color, in six digits.
 #[tactic(auto, unfolding(crate::specs::Reading::color_at), using(crate::proofs::Limits::color_saturated))]
-fn color_of(word: &str) -> Option<Option<Color>>
-    ensures { result ≡ option_map (checked is_color) (color_at word.now) }
+fn color_of(word: &str) -> Result<Color, LineFault>
+    ensures { result ≡ within is_color (color_at word.now) }
 {
     if word.len() != 6 {
-        return None;
+        return Err(LineFault::BadLine);
     }
     let rgb = digits(16, word.as_bytes())?;
-    Some(Color::new(rgb))
+    Color::new(rgb).ok_or(LineFault::Limit)
 }
 
-/// The link that a word spells, if it isn't too long; the error is want of memory.
+/// A link.
 #[tactic(auto, unfolding(crate::specs::Reading::link_at))]
-fn link_of(alloc: Global, word: &str) -> Result<Option<Option<Link>>, AllocError>
-    ensures { IfOk result (λ link. link ≡ option_map (checked is_link) (link_at word.now)) }
+fn link_of(alloc: Global, word: &str) -> Result<Link, LineFault>
+    ensures { Reads result (within is_link (link_at word.now)) }
 {
     if word.is_empty() || !are_target_bytes(word.as_bytes()) {
-        return Ok(None);
+        return Err(LineFault::BadLine);
     }
-    let link = Link::new(alloc, word)?;
-    Ok(Some(link))
+    Link::new(alloc, word)?.ok_or(LineFault::Limit)
 }
 
-/// An attribute whose value is the word for none.
-fn bare_of(attribute: Attribute, word: &str) -> Option<Attribute>
-    ensures { result ≡ bare attribute word.now }
+/// The word that stands for no value.
+fn no_value(word: &str) -> Result<(), LineFault>
+    ensures { result ≡ unvalued word.now }
 {
-    if word == "-" { Some(attribute) } else { None }
-}
-
-/// The attribute of a key with the value that a word spells, if it is within the limits; the error is
-/// want of memory.
-#[tactic(auto, unfolding(crate::specs::Reading::value_at))]
-fn value_of(alloc: Global, key: Key, word: &str) -> Result<Option<Option<Attribute>>, AllocError>
-    requires { IsTrue (key_within key) }
-    ensures { IfOk result (λ attribute. attribute ≡ option_map (checked attribute_within) (value_at key word.now)) }
-{
-    match key {
-        Key::Strong => Ok(bare_of(Attribute::Strong, word).map(Some)),
-        Key::Em => Ok(bare_of(Attribute::Em, word).map(Some)),
-        Key::Link => {
-            let link = link_of(alloc, word)?;
-            Ok(link.map(|link| link.map(Attribute::Link)))
-        }
-        Key::Color => Ok(color_of(word).map(|color| color.map(Attribute::Color))),
-        Key::Comment(number) => Ok(bare_of(Attribute::Comment(number), word).map(Some)),
+    if word == "-" {
+        Ok(())
+    } else {
+        Err(LineFault::BadLine)
     }
 }
 
-/// The attribute that a key's and a value's words spell, if it is within the limits; the error is want
-/// of memory.
-#[tactic(auto, unfolding(crate::specs::Reading::attribute_at), using(crate::proofs::Limits::attribute_over))]
-fn attribute_of(
-    alloc: Global,
-    name: &str,
-    value: &str,
-) -> Result<Option<Option<Attribute>>, AllocError>
-    ensures { IfOk result (λ attribute. attribute ≡ option_map (checked attribute_within) (attribute_at name.now value.now)) }
+/// An attribute, by its key and its value.
+#[tactic(auto, unfolding(crate::specs::Reading::attribute_at, crate::specs::Reading::key_at, crate::specs::Reading::value_at))]
+pub fn attribute_of(alloc: Global, name: &str, value: &str) -> Result<Attribute, LineFault>
+    ensures { Reads result (within attribute_within (attribute_at name.now value.now)) }
 {
-    match key_of(name) {
-        None => Ok(None),
-        Some(Some(key)) => value_of(alloc, key, value),
-        Some(None) if value == "-" => Ok(Some(None)),
-        Some(None) => Ok(None),
+    if name == "strong" {
+        no_value(value)?;
+        Ok(Attribute::Strong)
+    } else if name == "em" {
+        no_value(value)?;
+        Ok(Attribute::Em)
+    } else if name == "link" {
+        let link = link_of(alloc, value)?;
+        Ok(Attribute::Link(link))
+    } else if name == "color" {
+        let color = color_of(value)?;
+        Ok(Attribute::Color(color))
+    } else {
+        let (number, ()) = both(comment_of(name), no_value(value))?;
+        Ok(Attribute::Comment(number))
     }
-}
-
-/// What a mark says behind its id, if it is within the limits; the error is want of memory.
-#[tactic(auto, unfolding(crate::specs::Reading::marked_at))]
-pub fn marked_of(
-    alloc: Global,
-    fields: &str,
-) -> Result<Option<Option<(Attribute, (Anchor, Anchor))>>, AllocError>
-    ensures { IfOk result (λ marked. marked ≡ option_map (checked marked_within) (marked_at fields.now)) }
-{
-    let Some((name, fields)) = word_of(fields) else {
-        return Ok(None);
-    };
-    let Some((value, fields)) = word_of(fields) else {
-        return Ok(None);
-    };
-    let Some(anchors) = anchors_of(fields) else {
-        return Ok(None);
-    };
-    let Some(attribute) = attribute_of(alloc, name, value)? else {
-        return Ok(None);
-    };
-    let (Some(attribute), Some(anchors)) = (attribute, anchors) else {
-        return Ok(Some(None));
-    };
-    Ok(Some(Some((attribute, anchors))))
-}
-
-/// What the removal of a mark says behind its id, if it is within the limits.
-#[tactic(auto, unfolding(crate::specs::Reading::unmarked_at))]
-pub fn unmarked_of(fields: &str) -> Option<Option<(Key, (Anchor, Anchor))>>
-    ensures { result ≡ option_map (checked unmarked_within) (unmarked_at fields.now) }
-{
-    let (name, fields) = word_of(fields)?;
-    let key = key_of(name)?;
-    let anchors = anchors_of(fields)?;
-    let (Some(key), Some(anchors)) = (key, anchors) else {
-        return Some(None);
-    };
-    Some(Some((key, anchors)))
 }

@@ -1,11 +1,16 @@
 ghost use Rattle.std.specs.Prelude.{◌≡◌, ◌↔◌, IsTrue};
-ghost use Rattle.change_ops.specs.Ids.{Id, IsId, Less, within_limits, checked};
+ghost use Rattle.std.proofs.Common.{rules};
+ghost use Rattle.std.specs.Cmp.{partial_order_from_own_ties};
+ghost use Rattle.std.specs.Cmp.Rules.{comparing};
+ghost use Rattle.std.specs.Ordering.{as_partial_cmp};
+ghost use Rattle.change_ops.specs.Ids.{Id, IsId, Less, id_cmp, ComparesIds, within_limits, checked};
 
+use std::cmp::Ordering;
 use std::marker::Model;
 
 /// The name of an operation: a counter, 1 to 2^48 - 1, and the node of its peer, 1 to 65,535.
 /// Ids are ordered by counter, then by node (Peritext, CSCW 2022: operation ids as Lamport timestamps).
-#[derive(Clone, Copy, Debug, PartialEq, Eq, PartialOrd, Ord, Hash)]
+#[derive(Clone, Copy, Debug, PartialEq, Eq, Hash)]
 pub struct OpId {
     counter: u64,
     node: u16,
@@ -22,6 +27,38 @@ impl Model for OpId {
 
     ghost inverse = { λ i. record { counter = i.counter; node = i.node } };
 }
+
+impl Ord for OpId {
+    ghost cmp = { id_cmp };
+
+    ghost total = { Prim.search (comparing, rules) };
+
+    ghost matches_partial_cmp = { Prim.search (comparing, rules) };
+
+    ghost matches_eq = { Prim.search (comparing, rules) };
+
+    fn cmp(&self, other: &OpId) -> Ordering {
+        self.counter
+            .cmp(&other.counter)
+            .then(self.node.cmp(&other.node))
+    }
+}
+
+impl PartialOrd for OpId {
+    ghost partial_cmp = { as_partial_cmp id_cmp };
+
+    ghost laws = { partial_order_from_own_ties (Prim.search (comparing, rules)) (Prim.search (comparing, rules)) };
+
+    fn partial_cmp(&self, other: &OpId) -> Option<Ordering> {
+        Some(self.cmp(other))
+    }
+}
+
+/// Ids are compared by the order of ids.
+#[tactic(auto, using(crate::proofs::IdLaws::compares_ids))]
+pub fn ids_are_ordered()
+    ensures { (a b : OpId) → ComparesIds a b }
+{}
 
 impl OpId {
     /// The least id.

@@ -1,49 +1,54 @@
 //! Numbers, and where a text is split into lines and words.
-ghost use Rattle.std.specs.Prelude.{IfSome, ◌≡◌, ℕ, ◌+◌, ◌<◌, ◌≤◌, length, min, ◌^◌};
+ghost use Rattle.std.specs.Prelude.{IfSome, MatchOption, Some, None, ◌≡◌, ◌<◌, ◌≤◌};
 ghost use Rattle.std.specs.Str.{IsUtf8};
 ghost use Rattle.std.specs.Option.{option_map};
-ghost use Rattle.change_ops.specs.Words.{digit_of, digits_after, number_in, saturated, split, seen};
+ghost use Rattle.change_ops.specs.Words.{digit_of as digit_value, digits_after, number_in, saturated, split, behind, seen};
+ghost use Rattle.change_ops.specs.Reading.{formed, Found};
 
-/// The value of a digit of either base, lower case; 255 for another byte.
-fn digit(byte: u8) -> u8
-    ensures { result ≡ digit_of byte }
+use crate::refusal::LineFault;
+
+/// The value of a digit of a base, in lower case.
+fn digit_of(base: u64, byte: u8) -> Option<u64>
+    requires { base ≤ 16 }
+    ensures { MatchOption result (base ≤ digit_value byte) (λ digit. (digit ≡ digit_value byte) × (digit < base)) }
 {
-    match byte {
+    let digit = match byte {
         b'0'..=b'9' => byte - b'0',
         b'a'..=b'f' => byte - b'a' + 10,
-        _ => 255,
-    }
+        _ => return None,
+    };
+    let digit = u64::from(digit);
+    if digit < base { Some(digit) } else { None }
 }
 
-/// The number that the digits of a word spell in a base, leading zeros or not; the greatest `u64`
-/// for one that is greater still.
-pub fn digits(base: u64, word: &[u8]) -> Option<u64>
+/// The number that digits spell in a base, leading zeros or not; the greatest `u64` for one that is
+/// greater still.
+pub fn digits(base: u64, word: &[u8]) -> Result<u64, LineFault>
     requires low { 2 ≤ base }
     requires high { base ≤ 16 }
-    ensures { result ≡ option_map saturated (digits_after base 0 word.now) }
+    ensures { result ≡ formed (option_map saturated (digits_after base 0 word.now)) }
 {
     let mut value: u64 = 0;
     for &byte in word {
-        let digit = u64::from(digit(byte));
-        if digit >= base {
-            return None;
-        }
+        let Some(digit) = digit_of(base, byte) else {
+            return Err(LineFault::BadLine);
+        };
         value = value.saturating_mul(base).saturating_add(digit);
     }
-    Some(value)
+    Ok(value)
 }
 
 /// The number that a whole word spells in a base, without leading zeros; the greatest `u64` for one
 /// that is greater still.
 #[tactic(auto, unfolding(crate::specs::Words::number_in))]
-pub fn number(base: u64, word: &[u8]) -> Option<u64>
+pub fn number(base: u64, word: &str) -> Result<u64, LineFault>
     requires low { 2 ≤ base }
     requires high { base ≤ 16 }
-    ensures { result ≡ option_map saturated (number_in base word.now) }
+    ensures { result ≡ formed (option_map saturated (number_in base word.now)) }
 {
-    match word {
-        [] | [b'0', _, ..] => None,
-        _ => digits(base, word),
+    match word.as_bytes() {
+        [] | [b'0', _, ..] => Err(LineFault::BadLine),
+        word => digits(base, word),
     }
 }
 
@@ -58,31 +63,32 @@ pub fn line_of(text: &str) -> Option<(&str, &str)>
 
 /// The word at the front of a line, and what follows the space after it.
 #[tactic(auto, unfolding(crate::specs::Words::split))]
-pub fn word_of(line: &str) -> Option<(&str, &str)>
-    ensures { seen result ≡ split 32 line.now }
+pub fn word_of(line: &str) -> Result<(&str, &str), LineFault>
+    ensures { Found result (split 32 line.now) }
 {
-    line.split_once(' ')
+    line.split_once(' ').ok_or(LineFault::BadLine)
 }
 
 /// What stands before and after the sign in an id.
-#[tactic(auto, using(crate::proofs::Splitting::split_here, crate::proofs::Splitting::split_none))]
-pub fn parts_of(word: &[u8]) -> Option<(&[u8], &[u8])>
-    ensures { seen result ≡ split 64 word.now }
+#[tactic(auto, unfolding(crate::specs::Words::split))]
+pub fn parts_of(word: &str) -> Result<(&str, &str), LineFault>
+    ensures { Found result (split 64 word.now) }
 {
-    for place in 0..word.len() {
-        if word[place] == b'@' {
-            let (front, _) = word.split_at(place);
-            let (_, back) = word.split_at(place + 1);
-            return Some((front, back));
-        }
-    }
-    None
+    word.split_once('@').ok_or(LineFault::BadLine)
 }
 
 /// The name before the colon in a key, and what follows it.
 #[tactic(auto, unfolding(crate::specs::Words::split))]
-pub fn name_of(word: &str) -> Option<(&str, &str)>
-    ensures { seen result ≡ split 58 word.now }
+pub fn name_of(word: &str) -> Result<(&str, &str), LineFault>
+    ensures { Found result (split 58 word.now) }
 {
-    word.split_once(':')
+    word.split_once(':').ok_or(LineFault::BadLine)
+}
+
+/// What follows a sign at the front of a word.
+pub fn after_sign(sign: char, word: &str) -> Option<&str>
+    requires { sign < 128 }
+    ensures { MatchOption result (behind sign word.now ≡ None) (λ rest. behind sign word.now ≡ Some rest.now) }
+{
+    word.strip_prefix(sign)
 }

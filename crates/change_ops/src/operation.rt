@@ -3,11 +3,11 @@ ghost use Rattle.std.specs.Prelude.{◌≡◌, ◌⊎◌, ◌↔◌, Some};
 use crate::attribute::{Attribute, Key};
 use crate::character::Character;
 use crate::id::OpId;
-use std::alloc::Global;
+use std::alloc::{AllocError, Global};
 use std::default::MadeWith;
 
 /// A place beside a character, or an end of the text (Peritext, CSCW 2022).
-#[derive(Clone, Copy, Debug, PartialEq, Eq)]
+#[derive(Clone, Copy, PartialEq, Eq, Hash)]
 pub enum Anchor {
     TextStart,
     BeforeCharacter(OpId),
@@ -16,7 +16,7 @@ pub enum Anchor {
 }
 
 /// One operation (Peritext, CSCW 2022).
-#[derive(Clone, Debug, Drop, PartialEq, Eq)]
+#[derive(Drop)]
 pub enum Op {
     /// A character after its parent, or at the start.
     Insert {
@@ -46,7 +46,7 @@ pub enum Op {
 }
 
 /// The at most two characters that an operation names.
-#[derive(Clone, Copy, Debug, PartialEq, Eq)]
+#[derive(Clone, Copy)]
 pub struct Named {
     pub first: Option<OpId>,
     pub second: Option<OpId>,
@@ -64,6 +64,50 @@ impl Anchor {
             Anchor::BeforeCharacter(id) => Some(id),
             Anchor::AfterCharacter(id) => Some(id),
             Anchor::TextEnd => None,
+        }
+    }
+}
+
+impl Clone for Op {
+    ghost is_clone = { λ old new. new ≡ old };
+
+    fn clone(&self) -> Result<Op, AllocError> {
+        match self {
+            Op::Insert {
+                id,
+                parent,
+                character,
+            } => Ok(Op::Insert {
+                id: *id,
+                parent: *parent,
+                character: *character,
+            }),
+            Op::Remove { id, target } => Ok(Op::Remove {
+                id: *id,
+                target: *target,
+            }),
+            Op::AddMark {
+                id,
+                attribute,
+                start,
+                end,
+            } => Ok(Op::AddMark {
+                id: *id,
+                attribute: attribute.clone()?,
+                start: *start,
+                end: *end,
+            }),
+            Op::RemoveMark {
+                id,
+                key,
+                start,
+                end,
+            } => Ok(Op::RemoveMark {
+                id: *id,
+                key: *key,
+                start: *start,
+                end: *end,
+            }),
         }
     }
 }

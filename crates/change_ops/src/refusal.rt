@@ -1,17 +1,26 @@
 ghost use Rattle.std.specs.Prelude.{◌≡◌};
 ghost use Rattle.change_ops.specs.declared.refusal.ChangeError.TheVariants.{OutOfMemory};
+ghost use Rattle.change_ops.specs.declared.refusal.LineFault.TheVariants as fault;
 
 use std::alloc::{AllocError, AllocFailed};
 use thiserror::Error;
 
 /// Why a line is refused.
-#[derive(Clone, Copy, Debug, PartialEq, Eq)]
+#[derive(Clone, Copy)]
 pub(crate) enum LineFault {
     BadLine,
     Limit,
     CharRefused,
     WrongPeer,
     OutOfMemory,
+}
+
+impl From<AllocError> for LineFault {
+    ghost from_gives = { λ _ e. e ≡ fault.OutOfMemory };
+
+    fn from(_e: AllocError) -> LineFault {
+        LineFault::OutOfMemory
+    }
 }
 
 /// Why a text isn't a change's.

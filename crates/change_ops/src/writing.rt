@@ -5,6 +5,7 @@ ghost use Rattle.change_ops.specs.Spelling.{◌␣◌, id_text, place_text, anch
 
 use crate::attribute::{Attribute, Key};
 use crate::change::Change;
+use crate::character::Character;
 use crate::id::OpId;
 use crate::operation::{Anchor, Op};
 use std::alloc::AllocError;
@@ -82,6 +83,56 @@ fn write_front(kind: &str, id: OpId, out: &mut String) -> Result<(), AllocError>
     write!(out, "{kind} {}@{} ", id.counter(), id.node())
 }
 
+fn write_insert(
+    id: OpId,
+    parent: Option<OpId>,
+    character: Character,
+    out: &mut String,
+) -> Result<(), AllocError>
+    ensures { OnOk result (string_bytes out.new ≡ string_bytes out.old ++ op_text (Op.Insert id parent character)) }
+{
+    write_front("i", id, out)?;
+    write_place(parent, out)?;
+    write!(out, " {:x}", character.value() as u32)
+}
+
+fn write_remove(id: OpId, target: OpId, out: &mut String) -> Result<(), AllocError>
+    ensures { OnOk result (string_bytes out.new ≡ string_bytes out.old ++ op_text (Op.Remove id target)) }
+{
+    write_front("d", id, out)?;
+    write_id(target, out)
+}
+
+fn write_mark(
+    id: OpId,
+    attribute: &Attribute,
+    start: Anchor,
+    end: Anchor,
+    out: &mut String,
+) -> Result<(), AllocError>
+    ensures { OnOk result (string_bytes out.new ≡ string_bytes out.old ++ op_text (Op.AddMark id attribute.now start end)) }
+{
+    write_front("m", id, out)?;
+    write_attribute(attribute, out)?;
+    out.push(' ')?;
+    write_anchors(start, end, out)
+}
+
+fn write_unmark(
+    id: OpId,
+    key: Key,
+    start: Anchor,
+    end: Anchor,
+    out: &mut String,
+) -> Result<(), AllocError>
+    ensures { OnOk result (string_bytes out.new ≡ string_bytes out.old ++ op_text (Op.RemoveMark id key start end)) }
+{
+    write_front("u", id, out)?;
+    write_key(key, out)?;
+    out.push(' ')?;
+    write_anchors(start, end, out)
+}
+
 fn write_op(op: &Op, out: &mut String) -> Result<(), AllocError>
     ensures { OnOk result (string_bytes out.new ≡ string_bytes out.old ++ op_text op.now) }
 {
@@ -90,37 +141,20 @@ fn write_op(op: &Op, out: &mut String) -> Result<(), AllocError>
             id,
             parent,
             character,
-        } => {
-            write_front("i", *id, out)?;
-            write_place(*parent, out)?;
-            write!(out, " {:x}", character.value() as u32)
-        }
-        Op::Remove { id, target } => {
-            write_front("d", *id, out)?;
-            write_id(*target, out)
-        }
+        } => write_insert(*id, *parent, *character, out),
+        Op::Remove { id, target } => write_remove(*id, *target, out),
         Op::AddMark {
             id,
             attribute,
             start,
             end,
-        } => {
-            write_front("m", *id, out)?;
-            write_attribute(attribute, out)?;
-            out.push(' ')?;
-            write_anchors(*start, *end, out)
-        }
+        } => write_mark(*id, attribute, *start, *end, out),
         Op::RemoveMark {
             id,
             key,
             start,
             end,
-        } => {
-            write_front("u", *id, out)?;
-            write_key(*key, out)?;
-            out.push(' ')?;
-            write_anchors(*start, *end, out)
-        }
+        } => write_unmark(*id, *key, *start, *end, out),
     }
 }
 

@@ -49,6 +49,14 @@ used_none ops m n id e u =
     let r = n.covered u.0 u.1 in
     none-some r.0 (sym e ∙ ap (get m) (sym u.2) ∙ r.1)
 
+-- an id that is used in none of the operations of these counters is used in no other operations of theirs
+pub used_other : (ops others : List Op) (m : FinMap nat_cmp ℕ) (id : OpId) → IsNewest ops m → IsNewest others m → (Used ops id → ⊥) → Used others id → ⊥
+used_other ops others m id n o fresh u =
+    let r = o.covered u.0 u.1 in
+    let upper : (id_of u.0).counter ≤ r.0 = r.2 in
+    let lower : id.counter ≤ (id_of u.0).counter = u.3 in
+    fresh (used_from ops m n id r.0 (ap (get m) (sym u.2) ∙ r.1) (omega arith))
+
 -- one more operation, whose id takes the place of its peer's last one
 pub newest_noted : (ops : List Op) (op : Op) (id : OpId) (m n : FinMap nat_cmp ℕ) → id_of op ≡ id → (Used ops id → ⊥) → IsNewest ops m → get n id.node ≡ Some id.counter → ((q : ℕ) → (q ≡ id.node → ⊥) → get n q ≡ get m q) → IsNewest (ops ++ op ∷ []) n
 newest_noted ops op id m n is fresh ok here other = record {

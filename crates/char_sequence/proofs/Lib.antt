@@ -2,9 +2,14 @@ pub mod Ids
 pub mod TreeLaws
 pub mod Lists
 pub mod Counters
-pub mod Indexing
 pub mod Inserting
 pub mod Holding
 pub mod Steps
 pub mod OneOrder
 pub mod Parts
+pub mod VisibleText
+pub mod Joined
+pub mod Chunking
+pub mod Walking
+pub mod Renaming
+pub mod Ranges

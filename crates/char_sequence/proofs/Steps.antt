@@ -3,6 +3,8 @@ use Rattle.std.proofs.Common.{◌≡◌, ℕ, ◌+◌, ◌<◌, ◌≤◌, Bool,
 use Rattle.std.proofs.Math.ListN.{length-set}
 use Rattle.std.proofs.lemmas.List.Edits.{length-insert}
 use Rattle.std.specs.List.{slice_get, insert, Contains, count_by}
+use Rattle.std.proofs.lemmas.Bool.{cases_lt}
+use Rattle.std.specs.Prelude.{◌↔◌, IsTrue}
 use Rattle.std.specs.Option.{MatchOption}
 use Rattle.std.specs.Ordering.{nat_cmp}
 use Rattle.std.specs.FinMap.{FinMap}
@@ -11,13 +13,14 @@ use Rattle.change_ops.specs.declared.id.OpId.{OpId}
 use Rattle.change_ops.specs.declared.operation.Op.{Op}
 use Rattle.change_ops.specs.declared.operation.Op.TheVariants.{Insert, Remove}
 use Rattle.char_sequence.specs.declared.sequence.Element.{Element}
-use Rattle.char_sequence.specs.Tree.{Present, IsTree}
+use Rattle.char_sequence.specs.Tree.{Present, Removed, IsTree}
 use Rattle.char_sequence.specs.Order.{IsAt, IsText, Shows}
 use Rattle.char_sequence.specs.Acceptance.{Used, IsStale, IsUnknown, Accepts}
 use Rattle.char_sequence.specs.Newest.{IsNewest}
-use Rattle.char_sequence.specs.Held.{Holds}
-use Rattle.char_sequence.specs.Places.{IsStart, IsPast}
+use Rattle.char_sequence.specs.Held.{Contents, Holds}
+use Rattle.char_sequence.specs.Places.{IsStart, IsPast, IsAfter}
 use Rattle.char_sequence.specs.Index.{HasId}
+use Rattle.char_sequence.proofs.Counters.{used_other}
 use Rattle.char_sequence.proofs.Inserting.{start_root, start_after}
 use Rattle.char_sequence.proofs.Holding.{present_at, listed_ids, text_insert, text_remove, tree_push, distinct_push, named_push, count_push}
 
@@ -29,26 +32,27 @@ pub placed : (ops : List Op) (es : List Element) (id : OpId) (r : Option ℕ) �
 placed ops es id None text none = λ h. none (stands ops es text id h)
 placed ops es id (Some k) text found = found
 
-pub start_none : (ops : List Op) (es : List Element) (p : Option OpId) → IsTree ops → IsText ops es → p ≡ None → IsStart ops es p 0
-start_none ops es p t text e = subst (λ q. IsStart ops es q 0) (sym e) (start_root ops t es (present_at ops es text))
+pub visible_of : (ops : List Op) (es : List Element) (id : OpId) (e : Element) → IsText ops es → (k : ℕ) × (slice_get es k ≡ Some e) × (e.id ≡ id) → IsTrue e.visible ↔ Present ops id × (Removed ops id → ⊥)
+visible_of ops es id e text (k, here, is) = (
+  λ t. (subst (λ z. Present ops z) is (present_at ops es text k e here), λ r. text.shown k e here t (subst (λ z. Removed ops z) (sym is) r)),
+  λ p.
+      elim e.visible as (λ b. e.visible ≡ b → b ≡ true) [
+        | true ↦ λ t. refl
+        | false ↦ λ f. absurd (p.1 (subst (λ z. Removed ops z) is (text.hidden k e here f)))
+      ] refl,
+)
 
-pub start_lost : (ops : List Op) (es : List Element) (p : Option OpId) (id : OpId) → IsText ops es → ((m : OpId) → p ≡ Some m → Present ops m) → p ≡ Some id → (HasId es id → ⊥) → IsStart ops es p 0
-start_lost ops es p id text known e none = absurd (none (stands ops es text id (known id e)))
-
-pub start_found : (ops : List Op) (es : List Element) (p : Option OpId) (id : OpId) (k : ℕ) → IsText ops es → p ≡ Some id → IsAt es id k → IsStart ops es p (k + 1)
-start_found ops es p id k text e (x, g, is) = subst (λ q. IsStart ops es q (k + 1)) (sym e) (start_after ops es text.ordered k x id g is)
-
-pub inserted_text : (es ds : List Element) → ds ≡ es → (id : OpId) (p : Option OpId) (start k : ℕ) → ((ops : List Op) → IsTree ops → IsText ops es → ((m : OpId) → p ≡ Some m → Present ops m) → IsStart ops es p start) → IsPast ds id start k → k ≤ length ds → (ops : List Op) (c : ℕ) → IsTree ops → ((o : Op) (x : OpId) → Contains ops o → Names o x → Present ops x) → IsText ops es → Accepts ops (Insert id p c) → IsText (ops ++ Insert id p c ∷ []) (insert es k (record { id = id; character = c; visible = true }))
-inserted_text es ds e id p start k begins past within ops c t named text a =
-    let st : IsStart ops es p start = begins ops t text (λ m q. a.known m q) in
-    let pa : IsPast es id start k = subst (λ z. IsPast z id start k) e past in
-    let le : k ≤ length es = subst (λ z. k ≤ length z) e within in
-    text_insert ops es id p c t named text a start k st pa le (record { id = id; character = c; visible = true }) refl refl refl
+-- the places after the parent
+begins : (ops : List Op) (es : List Element) (p : Option OpId) (start : ℕ) → IsTree ops → IsText ops es → IsAfter es p start → IsStart ops es p start
+begins ops es None start t text e = subst (λ n. IsStart ops es None n) (sym e) (start_root ops t es (present_at ops es text))
+begins ops es (Some m) start t text (k, (x, g, is), e) = subst (λ n. IsStart ops es (Some m) n) (sym e) (start_after ops es text.ordered k x m g is)
 
 -- the elements with the new one put in
-pub put_text : (es fs es' : List Element) (id : OpId) (p : Option OpId) (c k : ℕ) → fs ≡ es → es' ≡ insert fs k (record { id = id; character = c; visible = true }) → ((ops : List Op) (d : ℕ) → IsTree ops → ((o : Op) (x : OpId) → Contains ops o → Names o x → Present ops x) → IsText ops es → Accepts ops (Insert id p d) → IsText (ops ++ Insert id p d ∷ []) (insert es k (record { id = id; character = d; visible = true }))) → (ops : List Op) → IsTree ops → ((o : Op) (x : OpId) → Contains ops o → Names o x → Present ops x) → IsText ops es → Accepts ops (Insert id p c) → IsText (ops ++ Insert id p c ∷ []) es'
-put_text es fs es' id p c k same new text ops t named old a =
-    subst (λ z. IsText (ops ++ Insert id p c ∷ []) z) (sym (new ∙ ap (λ z. insert z k (record { id = id; character = c; visible = true })) same)) (text ops c t named old a)
+pub placed_text : (es ds es' : List Element) (id : OpId) (p : Option OpId) (c start k : ℕ) → IsAfter es p start → IsPast es id start k → k ≤ length es → ds ≡ es → es' ≡ insert ds k (record { id = id; character = c; visible = true }) → (ops : List Op) → IsTree ops → ((o : Op) (x : OpId) → Contains ops o → Names o x → Present ops x) → IsText ops es → Accepts ops (Insert id p c) → IsText (ops ++ Insert id p c ∷ []) es'
+placed_text es ds es' id p c start k after past within same new ops t named text a =
+    let e : Element = record { id = id; character = c; visible = true } in
+    subst (λ z. IsText (ops ++ Insert id p c ∷ []) z) (sym (new ∙ ap (λ z. insert z k e) same))
+    (text_insert ops es id p c t named text a start k (begins ops es p start t text after) past within e refl refl refl)
 
 pub put_size : (es fs es' : List Element) (k : ℕ) (e : Element) → fs ≡ es → es' ≡ insert fs k e → k ≤ length es → length es' ≡ length es + 1
 put_size es fs es' k e same new within = ap length (new ∙ ap (λ z. insert z k e) same) ∙ length-insert es k e within
@@ -56,6 +60,9 @@ put_size es fs es' k e same new within = ap length (new ∙ ap (λ z. insert z k
 pub hidden_text : (es fs : List Element) (target : OpId) (k : ℕ) → IsAt es target k → ((x : Element) → slice_get es k ≡ Some x → fs ≡ set es k (record { id = x.id; character = x.character; visible = false })) → (ops : List Op) (id : OpId) → IsTree ops → IsText ops es → IsText (ops ++ Remove id target ∷ []) fs
 hidden_text es fs target k (x, g, is) new ops id t text =
     subst (λ z. IsText (ops ++ Remove id target ∷ []) z) (sym (new x g)) (text_remove ops es id target t text k x (record { id = x.id; character = x.character; visible = false }) g is refl refl refl)
+
+pub text_hidden : (es fs : List Element) (target : OpId) → (k : ℕ) × IsAt es target k × ((x : Element) → slice_get es k ≡ Some x → fs ≡ set es k (record { id = x.id; character = x.character; visible = false })) → (ops : List Op) (id : OpId) → IsTree ops → IsText ops es → Present ops target → IsText (ops ++ Remove id target ∷ []) fs
+text_hidden es fs target (k, at, new) ops id t text present = hidden_text es fs target k at new ops id t text
 
 pub hidden_size : (es fs : List Element) (target : OpId) (k : ℕ) → IsAt es target k → ((x : Element) → slice_get es k ≡ Some x → fs ≡ set es k (record { id = x.id; character = x.character; visible = false })) → length fs ≡ length es
 hidden_size es fs target k (x, g, is) new = ap length (new x g) ∙ length-set es k (record { id = x.id; character = x.character; visible = false })
@@ -78,28 +85,57 @@ pub removed_shows : (es es' : List Element) (op : Op) (id target : OpId) → op 
 removed_shows es es' op id target is text ops h a =
     pushed_shows ops es es' op h a (subst (λ o. IsText (ops ++ o ∷ []) es') (sym is) (text ops id h.tree h.text (a.known target (subst (λ o. Names o target) (sym is) refl))))
 
-not_used : (ops : List Op) (op : Op) (id : OpId) → id_of op ≡ id → Accepts ops op → Used ops id → ⊥
+pub not_used : (ops : List Op) (op : Op) (id : OpId) → id_of op ≡ id → Accepts ops op → Used ops id → ⊥
 not_used ops op id is a u = a.fresh (inl (subst (λ z. Used ops z) (sym is) u))
 
-pub inserted_held : (es es' : List Element) (last last' : FinMap nat_cmp ℕ) (op : Op) (id : OpId) (p : Option OpId) (c : ℕ) → op ≡ Insert id p c → ((ops : List Op) → IsTree ops → ((o : Op) (x : OpId) → Contains ops o → Names o x → Present ops x) → IsText ops es → Accepts ops (Insert id p c) → IsText (ops ++ Insert id p c ∷ []) es') → length es' ≡ length es + 1 → ((ops : List Op) (o : Op) → id_of o ≡ id → (Used ops id → ⊥) → IsNewest ops last → IsNewest (ops ++ o ∷ []) last') → (ops : List Op) → Holds (record { elements = es; newest = last }) ops → Accepts ops op → Holds (record { elements = es'; newest = last' }) (ops ++ op ∷ [])
+pub inserted_held : (es es' : List Element) (last last' : FinMap nat_cmp ℕ) (op : Op) (id : OpId) (p : Option OpId) (c : ℕ) → op ≡ Insert id p c → ((ops : List Op) → IsTree ops → ((o : Op) (x : OpId) → Contains ops o → Names o x → Present ops x) → IsText ops es → Accepts ops (Insert id p c) → IsText (ops ++ Insert id p c ∷ []) es') → length es' ≡ length es + 1 → ((ops : List Op) (o : Op) → id_of o ≡ id → IsNewest ops last → IsNewest (ops ++ o ∷ []) last') → (ops : List Op) → Holds (record { elements = es; newest = last }) ops → Accepts ops op → Holds (record { elements = es'; newest = last' }) (ops ++ op ∷ [])
 inserted_held es es' last last' op id p c is text size note ops h a =
     let counted = count_push is_insert ops op in
     let one : is_insert op ≡ true = ap is_insert is in
     record {
       shows = inserted_shows es es' op id p c is text ops h.shows a;
-      newest = note ops op (ap id_of is) (not_used ops op id (ap id_of is) a) h.newest;
+      newest = note ops op (ap id_of is) h.newest;
       size = size ∙ ap (λ n. n + 1) h.size ∙ sym (counted ∙ ap (λ b. count_by is_insert ops + cond b 1 0) one);
     }
 
-pub removed_held : (es es' : List Element) (last last' : FinMap nat_cmp ℕ) (op : Op) (id target : OpId) → op ≡ Remove id target → ((ops : List Op) (id : OpId) → IsTree ops → IsText ops es → Present ops target → IsText (ops ++ Remove id target ∷ []) es') → length es' ≡ length es → ((ops : List Op) (o : Op) → id_of o ≡ id → (Used ops id → ⊥) → IsNewest ops last → IsNewest (ops ++ o ∷ []) last') → (ops : List Op) → Holds (record { elements = es; newest = last }) ops → Accepts ops op → Holds (record { elements = es'; newest = last' }) (ops ++ op ∷ [])
+pub removed_held : (es es' : List Element) (last last' : FinMap nat_cmp ℕ) (op : Op) (id target : OpId) → op ≡ Remove id target → ((ops : List Op) (id : OpId) → IsTree ops → IsText ops es → Present ops target → IsText (ops ++ Remove id target ∷ []) es') → length es' ≡ length es → ((ops : List Op) (o : Op) → id_of o ≡ id → IsNewest ops last → IsNewest (ops ++ o ∷ []) last') → (ops : List Op) → Holds (record { elements = es; newest = last }) ops → Accepts ops op → Holds (record { elements = es'; newest = last' }) (ops ++ op ∷ [])
 removed_held es es' last last' op id target is text size note ops h a =
     let counted = count_push is_insert ops op in
     let none : is_insert op ≡ false = ap is_insert is in
     record {
       shows = removed_shows es es' op id target is text ops h.shows a;
-      newest = note ops op (ap id_of is) (not_used ops op id (ap id_of is) a) h.newest;
+      newest = note ops op (ap id_of is) h.newest;
       size = size ∙ h.size ∙ sym (counted ∙ ap (λ b. count_by is_insert ops + cond b 1 0) none ∙ add-zero (count_by is_insert ops));
     }
+
+-- an accepted insert has room
+pub has_room : (ops : List Op) (op : Op) (n m : ℕ) → m ≡ n + 1 → n ≡ count_by is_insert ops → is_insert op ≡ true → Accepts ops op → m ≤ 32768
+has_room ops op n m one size i a =
+    ⊎_elim
+    (λ (less : n < 32768). omega arith)
+    (λ (full : 32768 ≤ n). absurd (a.room (i, omega arith)))
+    (cases_lt n 32768)
+
+-- what is held decides which operations are accepted, whatever the operations are
+pub accepts_other : (c : Contents) (ops others : List Op) (op : Op) → Holds c ops → Holds c others → Accepts ops op → Accepts others op
+accepts_other c ops others op h k a = record {
+  fresh =
+      λ s.
+      ⊎_elim
+      (λ (u : Used others (id_of op)). used_other ops others c.newest (id_of op) h.newest k.newest (λ v. a.fresh (inl v)) u)
+      (λ (n : (x : OpId) × Names op x × ((id_of op).counter ≤ x.counter)). a.fresh (inr n))
+      s;
+  known =
+      λ x n.
+      let at = stands ops c.elements h.shows.text x (a.known x n) in
+      subst (λ z. Present others z) at.1.2 (present_at others c.elements k.shows.text at.0 at.1.0 at.1.1);
+  room =
+      λ full.
+      let here = h.size in
+      let there = k.size in
+      let many : 32768 ≤ count_by is_insert others = full.1 in
+      a.room (full.0, omega arith);
+}
 
 -- ---- checks
 pub stale_by_use : (ops : List Op) (op : Op) (id : OpId) → id ≡ id_of op → Used ops id → IsStale ops op

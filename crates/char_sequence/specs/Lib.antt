@@ -5,3 +5,6 @@ pub mod Newest
 pub mod Held
 pub mod Places
 pub mod Index
+pub mod Visible
+pub mod Chunks
+pub mod Rooms

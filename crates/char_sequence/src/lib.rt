@@ -1,6 +1,9 @@
-//! A text as one list of elements, kept in the order of the tree of its inserts.
+//! A text as a list of elements, kept in the order of the tree of its inserts, in chunks.
 #![tactic(auto)]
 
-mod element_list;
+mod chunk;
+mod chunk_list;
+pub mod elements;
 pub mod newest;
 pub mod sequence;
+mod visible;

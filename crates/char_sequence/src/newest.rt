@@ -50,7 +50,8 @@ impl Newest {
 
     /// Notes an operation whose id is not used; the error is want of memory, and changes nothing.
     pub fn note(&mut self, id: OpId) -> Result<(), AllocError>
-        ensures noted { (ops : List Op) (op : Op) → id_of op ≡ id → (Used ops id → ⊥) → IsNewest ops self.old → IfOk result (λ _. IsNewest (ops ++ op ∷ []) self.new) }
+        requires { (ops : List Op) × IsNewest ops self.old × (Used ops id → ⊥) }
+        ensures noted { (ops : List Op) (op : Op) → id_of op ≡ id → IsNewest ops self.old → IfOk result (λ _. IsNewest (ops ++ op ∷ []) self.new) }
         ensures err { IfErr result (λ _. self.new ≡ self.old) }
     {
         self.counters.insert(id.node(), id.counter())?;

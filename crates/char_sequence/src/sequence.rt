@@ -1,7 +1,9 @@
-ghost use Rattle.std.specs.Prelude.{◌≡◌, ℕ, ◌<◌, ◌≤◌, ◌+◌, ◌++◌, ◌∷◌, [], List, true, false, IsTrue, ◌↔◌, length, slice_get, MatchOption, IfOk, IfErr, Some, Contains, insert};
+ghost use Rattle.std.specs.Prelude.{◌≡◌, ℕ, ◌<◌, ◌≤◌, ◌*◌, ◌==◌, ◌++◌, ◌∷◌, [], List, true, false, IsTrue, ◌↔◌, length, slice_get, slice_range, string_bytes, MatchOption, IfOk, IfErr, OnOk, OnErr, Some, Contains, insert};
 
-use crate::element_list::ElementList;
+use crate::chunk_list::ChunkList;
+use crate::elements::Elements;
 use crate::newest::Newest;
+use crate::visible::push_visible;
 use change_ops::character::Character;
 use change_ops::id::OpId;
 use change_ops::operation::{Named, Op};
@@ -38,25 +40,27 @@ pub const CHARACTER_LIMIT: usize = 32768;
 /// The characters of a text in order, and the last counter of each peer, as a set of inserts and removals makes them.
 #[derive(Drop)]
 pub struct Sequence {
-    elements: ElementList,
+    elements: ChunkList,
     newest: Newest,
 }
 
 impl Model for Sequence {
-    ghost use Rattle.std.specs.Prelude.{◌≤◌, length};
+    ghost use Rattle.std.specs.Prelude.{◌≤◌, List, length};
     ghost use Rattle.std.specs.Ordering.{nat_cmp};
     ghost use Rattle.std.specs.FinMap.{code};
     ghost use Rattle.std.specs.Coded.{codes, coded_ℕ};
-    ghost use Rattle.char_sequence.specs.Held.{Contents};
+    ghost use Rattle.change_ops.specs.declared.operation.Op.{Op};
+    ghost use Rattle.char_sequence.specs.Held.{Contents, Holds};
+    ghost use Rattle.char_sequence.specs.Chunks.{joined};
     ghost use Rattle.char_sequence.specs.declared.sequence.TheConstants.{CHARACTER_LIMIT};
 
     ghost Value = { Contents };
 
     ghost coded = { Prim.hlevel (codes, code {R = nat_cmp} coded_ℕ coded_ℕ) };
 
-    ghost view = { λ s. record { elements = s.elements.items; newest = s.newest } };
+    ghost view = { λ s. record { elements = joined s.elements.chunks; newest = s.newest } };
 
-    ghost invariant = { λ s. length s.elements.items ≤ CHARACTER_LIMIT };
+    ghost invariant = { λ s. (length (joined s.elements.chunks) ≤ CHARACTER_LIMIT) × ((ops : List Op) × Holds (record { elements = joined s.elements.chunks; newest = s.newest }) ops) };
 }
 
 ghost use Rattle.change_ops.specs.Ids.{Less};
@@ -66,54 +70,9 @@ ghost use Rattle.char_sequence.specs.Order.{IsAt, IsText, Shows, SameSet};
 ghost use Rattle.char_sequence.specs.Acceptance.{IsStale, IsUnknown, Accepts, Checked};
 ghost use Rattle.char_sequence.specs.Newest.{IsNewest};
 ghost use Rattle.char_sequence.specs.Held.{Holds};
-ghost use Rattle.char_sequence.specs.Places.{IsStart, IsPast};
 ghost use Rattle.char_sequence.specs.Index.{HasId};
-
-/// The first place from `start` on whose id is not greater.
-fn past_greater(elements: &[Element], start: usize, id: OpId) -> usize
-    requires { start ≤ length elements.now }
-    ensures within { result ≤ length elements.now }
-    ensures past { IsPast elements.now id start result }
-{
-    for place in start..elements.len() {
-        if !id.is_below(elements[place].id) {
-            return place;
-        }
-    }
-    elements.len()
-}
-
-/// The place after the parent, or the start.
-fn after_parent(elements: &ElementList, parent: Option<OpId>) -> usize
-    ensures within { result ≤ length elements.now.items }
-    ensures start { (ops : List Op) → IsTree ops → IsText ops elements.now.items → ((m : OpId) → parent ≡ Some m → Present ops m) → IsStart ops elements.now.items parent result }
-{
-    let Some(id) = parent else {
-        return 0;
-    };
-    let Some(place) = elements.place_of(id) else {
-        return 0;
-    };
-    place + 1
-}
-
-/// The place of a new character: after its parent, past the greater ids, since what descends from a greater id is greater still.
-fn insert_place(elements: &ElementList, id: OpId, parent: Option<OpId>) -> usize
-    ensures within { result ≤ length elements.now.items }
-    ensures text { (ops : List Op) (c : ℕ) → IsTree ops → ((o : Op) (x : OpId) → Contains ops o → Names o x → Present ops x) → IsText ops elements.now.items → Accepts ops (Op.Insert id parent c) → IsText (ops ++ Op.Insert id parent c ∷ []) (insert elements.now.items result (record { id = id; character = c; visible = true })) }
-{
-    past_greater(elements.as_slice(), after_parent(elements, parent), id)
-}
-
-/// Makes the character a tombstone, which keeps its place.
-fn hide(elements: &mut ElementList, target: OpId)
-    ensures text { (ops : List Op) (id : OpId) → IsTree ops → IsText ops elements.old.items → Present ops target → IsText (ops ++ Op.Remove id target ∷ []) elements.new.items }
-    ensures size { length elements.new.items ≡ length elements.old.items }
-{
-    if let Some(place) = elements.place_of(target) {
-        elements.hide(place);
-    }
-}
+ghost use Rattle.char_sequence.specs.Chunks.{joined};
+ghost use Rattle.char_sequence.specs.Visible.{visible_text};
 
 /// Whether the counter of a named character, if there is one, is below this one's.
 fn is_above(id: OpId, named: Option<OpId>) -> bool
@@ -126,9 +85,9 @@ fn is_above(id: OpId, named: Option<OpId>) -> bool
     }
 }
 
-fn is_there(elements: &ElementList, named: Option<OpId>) -> bool
-    ensures yes { result ≡ true → (x : OpId) → named ≡ Some x → HasId elements.now.items x }
-    ensures no { result ≡ false → (x : OpId) × (named ≡ Some x) × (HasId elements.now.items x → ⊥) }
+fn is_there(elements: &ChunkList, named: Option<OpId>) -> bool
+    ensures yes { result ≡ true → (x : OpId) → named ≡ Some x → HasId (joined elements.now.chunks) x }
+    ensures no { result ≡ false → (x : OpId) × (named ≡ Some x) × (HasId (joined elements.now.chunks) x → ⊥) }
 {
     match named {
         Some(id) => elements.has(id),
@@ -147,9 +106,9 @@ fn is_stale(newest: &Newest, op: &Op) -> bool
 }
 
 /// Whether a character that the operation names is not there.
-fn is_unknown(elements: &ElementList, op: &Op) -> bool
-    ensures yes { (ops : List Op) → IsText ops elements.now.items → result ≡ true → IsUnknown ops op.now }
-    ensures no { (ops : List Op) → IsText ops elements.now.items → result ≡ false → (x : OpId) → Names op.now x → Present ops x }
+fn is_unknown(elements: &ChunkList, op: &Op) -> bool
+    ensures yes { (ops : List Op) → IsText ops (joined elements.now.chunks) → result ≡ true → IsUnknown ops op.now }
+    ensures no { (ops : List Op) → IsText ops (joined elements.now.chunks) → result ≡ false → (x : OpId) → Names op.now x → Present ops x }
 {
     let Named { first, second } = op.named();
     !is_there(elements, first) || !is_there(elements, second)
@@ -161,7 +120,7 @@ impl Sequence {
         ensures { Holds result [] }
     {
         Sequence {
-            elements: ElementList::new(alloc),
+            elements: ChunkList::new(alloc),
             newest: Newest::new(alloc),
         }
     }
@@ -184,8 +143,9 @@ impl Sequence {
 
     /// Adds an insert that passed `check`; the error is want of memory, and changes nothing.
     pub fn insert(&mut self, op: &Op) -> Result<(), AllocError>
-        requires { (ops : List Op) × Holds self.old ops × Accepts ops op.now × (is_insert op.now ≡ true) }
-        ensures held { (ops : List Op) → Holds self.old ops → Accepts ops op.now → IfOk result (λ _. Holds self.new (ops ++ op.now ∷ [])) }
+        requires insert { is_insert op.now ≡ true }
+        requires accepted { (ops : List Op) → Holds self.old ops → Accepts ops op.now }
+        ensures held { (ops : List Op) → Holds self.old ops → IfOk result (λ _. Holds self.new (ops ++ op.now ∷ [])) }
         ensures shows { (ops : List Op) → Shows self.old.elements ops → Accepts ops op.now → IfOk result (λ _. Shows self.new.elements (ops ++ op.now ∷ [])) }
         ensures err { IfErr result (λ _. self.new ≡ self.old) }
     {
@@ -198,11 +158,10 @@ impl Sequence {
             unreachable!();
         };
         let id = *id;
-        let place = insert_place(&self.elements, id, *parent);
-        self.elements.reserve()?;
+        let room = self.elements.reserve(*parent, id)?;
         self.newest.note(id)?;
-        self.elements.insert(
-            place,
+        self.elements.put(
+            room,
             Element {
                 id,
                 character: *character,
@@ -214,8 +173,9 @@ impl Sequence {
 
     /// Adds a removal that passed `check`; the error is want of memory, and changes nothing.
     pub fn remove(&mut self, op: &Op) -> Result<(), AllocError>
-        requires { (ops : List Op) × Holds self.old ops × Accepts ops op.now × ((r : OpId) × ((x : OpId) × (op.now ≡ Op.Remove r x))) }
-        ensures held { (ops : List Op) → Holds self.old ops → Accepts ops op.now → IfOk result (λ _. Holds self.new (ops ++ op.now ∷ [])) }
+        requires removal { (r : OpId) × ((x : OpId) × (op.now ≡ Op.Remove r x)) }
+        requires accepted { (ops : List Op) → Holds self.old ops → Accepts ops op.now }
+        ensures held { (ops : List Op) → Holds self.old ops → IfOk result (λ _. Holds self.new (ops ++ op.now ∷ [])) }
         ensures shows { (ops : List Op) → Shows self.old.elements ops → Accepts ops op.now → IfOk result (λ _. Shows self.new.elements (ops ++ op.now ∷ [])) }
         ensures err { IfErr result (λ _. self.new ≡ self.old) }
     {
@@ -223,13 +183,14 @@ impl Sequence {
             unreachable!();
         };
         self.newest.note(*id)?;
-        hide(&mut self.elements, *target);
+        self.elements.hide(*target);
         Ok(())
     }
 
     /// The number of characters, removed ones too, before this one.
     pub fn place_of(&self, id: OpId) -> Option<usize>
-        ensures { (ops : List Op) → Shows self.now.elements ops → MatchOption result (Present ops id → ⊥) (λ k. IsAt self.now.elements id k) }
+        ensures found { MatchOption result (HasId self.now.elements id → ⊥) (λ k. IsAt self.now.elements id k) }
+        ensures present { (ops : List Op) → Shows self.now.elements ops → MatchOption result (Present ops id → ⊥) (λ k. IsAt self.now.elements id k) }
     {
         self.elements.place_of(id)
     }
@@ -238,18 +199,60 @@ impl Sequence {
     pub fn visible(&self, id: OpId) -> bool
         ensures { (ops : List Op) → Shows self.now.elements ops → IsTrue result ↔ Present ops id × (Removed ops id → ⊥) }
     {
-        match self.elements.place_of(id) {
-            Some(place) => self.elements.as_slice()[place].visible,
+        match self.elements.element_of(id) {
+            Some(element) => element.visible,
             None => false,
         }
     }
 
-    /// All characters in order, removed ones too.
-    pub fn elements(&self) -> &[Element]
-        ensures value { result.now ≡ self.now.elements }
+    /// The number of characters, removed ones too.
+    pub fn len(&self) -> usize
+        ensures value { result ≡ length self.now.elements }
         ensures limit { length self.now.elements ≤ CHARACTER_LIMIT }
+        ensures held { (ops : List Op) × Holds self.now ops }
     {
-        self.elements.as_slice()
+        self.elements.len()
+    }
+
+    /// Whether there is no character, not even a removed one.
+    pub fn is_empty(&self) -> bool
+        ensures { result ≡ (length self.now.elements == 0) }
+    {
+        self.elements.len() == 0
+    }
+
+    /// All characters in order, removed ones too.
+    pub fn elements(&self) -> Elements<'_>
+        ensures value { result ≡ self.now.elements }
+        ensures limit { length self.now.elements ≤ CHARACTER_LIMIT }
+        ensures held { (ops : List Op) × Holds self.now ops }
+    {
+        Elements {
+            items: &[],
+            chunks: self.elements.as_slice(),
+            count: self.elements.len(),
+        }
+    }
+
+    /// Appends the visible text of the characters at the places from `from` up to `to`, removed ones counted as places;
+    /// the error is want of memory, and changes nothing.
+    pub fn push_visible(&self, from: usize, to: usize, text: &mut String) -> Result<(), AllocError>
+        requires order { from ≤ to }
+        requires within { to ≤ length self.now.elements }
+        ensures ok { OnOk result (string_bytes text.new ≡ string_bytes text.old ++ visible_text (slice_range self.now.elements from to)) }
+        ensures err { OnErr result (string_bytes text.new ≡ string_bytes text.old) }
+    {
+        push_visible(self.elements.as_slice(), from, to, text)
+    }
+
+    /// The number of chunks that the characters are kept in, and the length of the longest.
+    pub fn shape(&self) -> (usize, usize)
+        ensures limit { result.1 ≤ 64 }
+        ensures enough { length self.now.elements ≤ result.0 * result.1 }
+        ensures few { result.0 ≤ length self.now.elements }
+        ensures none { length self.now.elements ≡ 0 → result ≡ (0, 0) }
+    {
+        self.elements.shape()
     }
 }
 

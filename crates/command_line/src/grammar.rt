@@ -1,6 +1,13 @@
 use clap::{Arg, ArgAction, Command, value_parser};
 use std::alloc::{AllocError, Global};
 
+/// What the exit status of each command says.
+const STATUSES: &str =
+    "The exit status is 0 where it is done; 1 where the input is refused, or the program
+that is run meets a fault or no end; 2 where the command line is wrong; 3 where
+a read or a write fails. A refusal is printed as `refused <number> <Name>` and
+where it is (docs/REFUSALS.md).";
+
 /// The options of `run` whose fields have 32 bits, with their defaults and what they say of the span.
 static FIELDS: [(&str, &str, &str); 6] = [
     (
@@ -8,23 +15,34 @@ static FIELDS: [(&str, &str, &str); 6] = [
         "0",
         "1 strong, 2 em, 4 link, 8 color, 16 comments, added up",
     ),
-    ("color", "0", "the color, 0 where there is none"),
-    ("link", "0", "the link's length in bytes"),
-    ("comments", "0", "the number of comments"),
-    ("index", "0", "the span's index"),
-    ("count", "1", "the number of spans of the version"),
+    (
+        "color",
+        "0",
+        "The color in decimal, 65536 * red + 256 * green + blue; 0 where there is none",
+    ),
+    ("link", "0", "The link's length in bytes"),
+    ("comments", "0", "The number of comments"),
+    ("index", "0", "The span's index, from 0"),
+    ("count", "1", "The number of spans of the version"),
 ];
 
 fn run<'a>(alloc: Global) -> Result<Command<'a>, AllocError> {
-    let program = Arg::new(alloc, "HEX")
-        .required(true)
-        .help("the program's bytes, as pairs of hexadecimal digits");
+    let program = Arg::new(alloc, "HEX").required(true).help(
+        "The program's bytes, as pairs of hexadecimal digits of either case",
+    );
     let mut run = Command::new(alloc, "run")
-        .about("Runs a program on one span, whose text is the input, and prints its verdict")
+        .about("Runs a program on one span")
+        .long_about(
+            "Runs a program on one span. Standard input is the span's text as it is, a last
+line feed too: UTF-8, at most 131,072 bytes. Printed is `verdict <number>`,
+`fault <slot> F<k> <Name>` or `out of steps`. All numbers are decimal.",
+        )
+        .after_help(STATUSES)
         .arg(program)?;
     for (name, fallback, help) in FIELDS {
         let field = Arg::new(alloc, name)
             .long(name)
+            .value_name("NUMBER")
             .action(ArgAction::Set)
             .value_parser(value_parser!(u32).range(0..))
             .default_value(fallback)
@@ -33,29 +51,60 @@ fn run<'a>(alloc: Global) -> Result<Command<'a>, AllocError> {
     }
     let version = Arg::new(alloc, "number")
         .long("number")
+        .value_name("NUMBER")
         .action(ArgAction::Set)
         .value_parser(value_parser!(u64).range(0..))
         .default_value("0")
-        .help("the version's number");
+        .help("The version's number, of 64 bits; the numbers above have 32");
     run.arg(version)
 }
 
 fn asm<'a>(alloc: Global) -> Command<'a> {
-    Command::new(alloc, "asm").about("Assembles a program, and prints its slots in hexadecimal")
+    Command::new(alloc, "asm")
+        .about("Assembles a program")
+        .long_about(
+            "Assembles a program. Standard input is assembler text, UTF-8, with an
+instruction, a label or nothing on each line (docs/INSTRUCTIONS.md). Printed is
+the program, a line of 16 hexadecimal digits for each slot.",
+        )
+        .after_help(STATUSES)
 }
 
 fn dis<'a>(alloc: Global) -> Command<'a> {
-    Command::new(alloc, "dis").about("Prints the text of a program in hexadecimal")
+    Command::new(alloc, "dis")
+        .about("Prints the text of a program")
+        .long_about(
+            "Prints the text of a program. Standard input is the program's bytes, as pairs of
+hexadecimal digits of either case; spaces, tabs and ends of lines are skipped.
+Printed is its canonical text (docs/INSTRUCTIONS.md), which `hub asm` turns back
+into the same bytes.",
+        )
+        .after_help(STATUSES)
 }
 
 fn spans<'a>(alloc: Global) -> Command<'a> {
-    Command::new(alloc, "spans").about("Accepts changes, and prints the spans of the last version")
+    Command::new(alloc, "spans")
+        .about("Prints the spans that changes make")
+        .long_about(
+            "Prints the spans that changes make. Standard input is the texts of changes back
+to back, in the order in which they are to be accepted (docs/CHANGES.md); the
+empty input is no change. Printed are the spans of the last version, a line
+`<index> <format> <text>` each.",
+        )
+        .after_help(STATUSES)
 }
 
 /// The command line of the program.
 pub fn hub<'a>(alloc: Global) -> Result<Command<'a>, AllocError> {
     Command::new(alloc, "hub")
+        .version("0.1.0")
         .about("A hub for one shared rich text, with verdicts of BPF programs on its spans")
+        .long_about(
+            "A hub for one shared rich text, with verdicts of BPF programs on its spans. Each
+command reads standard input, in the form that its own help says (as in
+`hub spans --help`), and prints on standard output.",
+        )
+        .after_help(STATUSES)
         .subcommand_required(true)
         .subcommand(asm(alloc))?
         .subcommand(dis(alloc))?

@@ -3,4 +3,3 @@
 
 mod grammar;
 pub mod reading;
-pub mod request;

@@ -1,15 +1,15 @@
 use crate::grammar::hub;
-use crate::request::{Request, SpanOptions};
 use clap::error::ErrorKind;
 use clap::{ArgMatches, Error};
+use hub_requests::{Request, SpanOptions};
 use std::alloc::{AllocError, Global};
 use std::convert::AsStr;
 
 /// Why the words of a command line ask for none of the commands.
-#[derive(Debug, Drop)]
+#[derive(Drop)]
 pub enum Unread {
-    /// They ask for this help.
-    Help(String),
+    /// They ask for this text: a help, or the version.
+    Shown(String),
     /// They are wrong, in the way that this text says.
     Usage(String),
     /// No memory was found.
@@ -17,11 +17,17 @@ pub enum Unread {
 }
 
 impl From<AllocError> for Unread {
+    ghost use Rattle.command_line.specs.declared.reading.Unread.TheVariants.{Memory};
+    ghost use Rattle.std.specs.Prelude.{◌≡◌};
+
+    ghost from_gives = { λ _ unread. unread ≡ Memory };
+
     fn from(_error: AllocError) -> Unread {
         Unread::Memory
     }
 }
 
+/// The value of an option, which has a default.
 fn number(matches: &ArgMatches<'_>, name: &str) -> u32 {
     matches.get_one::<u32>(name).unwrap_or(0)
 }
@@ -47,11 +53,12 @@ fn request_of(alloc: Global, matches: &ArgMatches<'_>) -> Result<Request, Unread
             options: span_options(run),
         }),
         Some(("spans", _)) => Ok(Request::Spans),
+        // The parser asks for a subcommand, and knows no other.
         _ => Err(Unread::Usage(String::new(alloc))),
     }
 }
 
-/// What the command line's parser says: a help that was asked for, or what is wrong.
+/// What the command line's parser says: a help or the version, where it was asked for, or what is wrong.
 fn explained(alloc: Global, error: &Error) -> Result<Unread, AllocError> {
     if error.kind() == ErrorKind::OutOfMemory {
         return Ok(Unread::Memory);
@@ -60,7 +67,7 @@ fn explained(alloc: Global, error: &Error) -> Result<Unread, AllocError> {
     if error.use_stderr() {
         Ok(Unread::Usage(text))
     } else {
-        Ok(Unread::Help(text))
+        Ok(Unread::Shown(text))
     }
 }
 

@@ -1,29 +1,19 @@
 -- The bytes of a program are those of its instructions, one after the other.
 use Rattle.std.proofs.Common.{◌≡◌, ℕ, zero, suc, ◌+◌, ◌*◌, ◌/◌, ◌<◌, Bool, true, false, List, ◌∷◌, ◌++◌, length, map, drop, Option, Some, None, Ok, Err, refl, sym, ap, subst, ◌∙◌, add-one, arith}
-use Rattle.std.specs.Prelude.{if◌then◌else◌, flat_map, slice_get, IfSome}
+use Rattle.std.specs.Prelude.{if◌then◌else◌, flat_map}
 use Rattle.std.specs.List.{range_with_len}
-use borrow.Author.Count.{below_more}
 use Rattle.std.proofs.lemmas.List.{drop_all}
 use Rattle.std.proofs.lemmas.List.Folds.{drop_split}
 use Rattle.bpf_words.specs.declared.instruction.Insn.{Insn}
 use Rattle.bpf_words.specs.declared.instruction.Insn.TheVariants.{Compute, Negate, Extend, Convert, Jump, JumpLong, Branch, Load, LoadSigned, Store, LoadWide, Exit}
-use Rattle.bpf_words.specs.Encoding.{encoded, IsInsn}
+use Rattle.bpf_words.specs.Encoding.{encoded}
 use Rattle.bpf_words.specs.Reading.{Read}
-use Rattle.bpf_words.specs.RoundTrip.{StandsAt}
+use Rattle.bpf_words.specs.RoundTrip.{StandsAt, Stands, AllStand}
 use Rattle.bpf_words.specs.Words.{IsProgram, read_at, is_wide, is_second, fault_in, fault_at, insn_at, program_of}
-use Rattle.bpf_words.proofs.Second.{program-entry, length-program_of}
 use Rattle.assembler.specs.Text.{AsmText}
 use Rattle.disassembler.specs.Canonical.{canonical}
 use Rattle.disassembler.proofs.Fitting.{EachFits}
 use Rattle.disassembler.proofs.Whole.{entry_bytes, text_again}
-
--- the instruction of a slot is in its ranges, and its bytes stand there
-abbrev pub Stands : List ℕ → ℕ → Option Insn → Type 0
-Stands bytes index None = Unit {0}
-Stands bytes index (Some insn) = IsInsn insn × StandsAt bytes (8 * index) (encoded insn)
-
-abbrev pub AllStand : List ℕ → ℕ → Type 0
-AllStand bytes count = (index : ℕ) → index < count → Stands bytes index (insn_at bytes index)
 
 -- how many bytes of a wide load are left at its second slot
 abbrev left : Bool → ℕ
@@ -79,7 +69,7 @@ from_slot bytes program all (suc n) index false e s =
     let within : index < length bytes / 8 = omega arith in
     let read = right_slot bytes index s (program.sound index within) in
     let same : insn_at bytes index ≡ Some read.0 = rw (s, read.1) refl in
-    let stands : Stands bytes index (Some read.0) = subst (Stands bytes index) same (all index within) in
+    let stands : Stands bytes index (Some read.0) = subst (Stands bytes index) same (all.each index within) in
     let long = encoded_length read.0 in
     let place : 8 * index + 0 ≡ 8 * index = omega arith in
     let rest = from_slot bytes program all n (index + 1) (is_wide (Ok read.0)) (omega arith) (second_begins bytes index read.0 s read.1) in
@@ -93,7 +83,7 @@ fits_more bytes index (Some insn) program stands h = (stands.0, h)
 fits_from : (bytes : List ℕ) (n index count : ℕ) → AllStand bytes count → index + n ≡ count → EachFits (map (insn_at bytes) (range_with_len index n))
 fits_from bytes zero index count all e = tt
 fits_from bytes (suc n) index count all e =
-    fits_more bytes index (insn_at bytes index) (map (insn_at bytes) (range_with_len (index + 1) n)) (all index (omega arith)) (fits_from bytes n (index + 1) count all (omega arith))
+    fits_more bytes index (insn_at bytes index) (map (insn_at bytes) (range_with_len (index + 1) n)) (all.each index (omega arith)) (fits_from bytes n (index + 1) count all (omega arith))
 
 each_fits : (bytes : List ℕ) → AllStand bytes (length bytes / 8) → EachFits (program_of bytes)
 unfolding program_of
@@ -103,25 +93,6 @@ whole_again : (bytes : List ℕ) → IsProgram bytes → AllStand bytes (length 
 unfolding program_of
 whole_again bytes program all = from_slot bytes program all (length bytes / 8) 0 false (omega arith) (none_second bytes)
 
-pub program_again : (bytes : List ℕ) → IsProgram bytes → AllStand bytes (length (program_of bytes)) → AsmText (canonical (program_of bytes)) bytes
-program_again bytes program each =
-    let all : AllStand bytes (length bytes / 8) = subst (AllStand bytes) (length-program_of bytes) each in
+pub program_again : (bytes : List ℕ) → IsProgram bytes → AllStand bytes (length bytes / 8) → AsmText (canonical (program_of bytes)) bytes
+program_again bytes program all =
     subst (AsmText (canonical (program_of bytes))) (whole_again bytes program all) (text_again (program_of bytes) (each_fits bytes all))
-
--- one slot more
-stands_here : (bytes : List ℕ) (index : ℕ) (entry : Option Insn) → IfSome entry IsInsn → IfSome entry (λ insn. StandsAt bytes (8 * index) (encoded insn)) → Stands bytes index entry
-stands_here bytes index None fits stands = tt
-stands_here bytes index (Some insn) fits stands = (fits, stands)
-
-pub stand_more : (bytes : List ℕ) (count : ℕ) (entry : Option Insn) → count < length (program_of bytes) → slice_get (program_of bytes) count ≡ Some entry
-    → IfSome entry IsInsn → IfSome entry (λ insn. StandsAt bytes (8 * count) (encoded insn)) → AllStand bytes count → AllStand bytes (count + 1)
-stand_more bytes count entry within got fits stands all = below_more (λ index. Stands bytes index (insn_at bytes index)) count all here where
-  here : Stands bytes count (insn_at bytes count)
-  here = let long = length-program_of bytes in
-      let same : entry ≡ insn_at bytes count = let there = program-entry bytes count (omega arith) in cc in
-      subst (Stands bytes count) same (stands_here bytes count entry fits stands)
-
-pub none_stand : (bytes : List ℕ) → AllStand bytes 0
-none_stand bytes index h = absurd (omega arith)
-
-pub ruleset standing = (stand_more, none_stand, program_again)

@@ -20,17 +20,6 @@ fn push_line(lines: &mut String, insn: Option<Insn>) -> Result<(), AllocError>
     }
 }
 
-/// The canonical text of a program assembles to the program's bytes: each slot is read, and its bytes stand in the
-/// program.
-#[tactic(auto, using(crate::proofs::Joining::standing))]
-pub fn assembles_back(words: &Words<'_>)
-    ensures { AsmText (canonical (program_of words.now)) words.now }
-{
-    for slot in 0..words.len() {
-        let _insn = words.insn(slot);
-    }
-}
-
 /// Appends a program's canonical text, which assembles back to the program's bytes. After a refusal the text is as it
 /// was.
 #[tactic(auto, using(crate::proofs::Listing::listing))]
@@ -39,8 +28,6 @@ pub fn disassemble(words: &Words<'_>, text: &mut String) -> Result<(), AllocErro
     ensures assembles { AsmText (canonical (program_of words.now)) words.now }
     ensures unchanged { OnErr result (string_bytes text.new ≡ string_bytes text.old) }
 {
-    // A law of the words alone, so that it holds after a refusal too.
-    assembles_back(words);
     let mut lines = String::new(*text.allocator());
     for index in 0..words.len() {
         push_line(&mut lines, words.insn(index))?;

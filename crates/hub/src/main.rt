@@ -12,17 +12,32 @@ fn words(rt: &HostRuntime) -> io::Result<Vec<String>> {
     Ok(words?)
 }
 
+/// Says on standard error what went wrong; where that fails too, the exit status still tells it.
+fn complain(rt: &HostRuntime, fault: &str) {
+    let _ = eprintln!(rt; "hub: {fault}");
+}
+
 fn main(rt: HostRuntime) -> ExitCode {
     let mut reader = rt.reader();
     let mut writer = io::writer(&rt);
-    match words(&rt) {
-        Ok(words) => ExitCode::from(command(rt.alloc(), &words, &mut reader, &mut writer)),
+    let status = match words(&rt) {
+        Ok(words) => command(rt.alloc(), &words, &mut reader, &mut writer),
         Err(error) if error.kind() == io::ErrorKind::OutOfMemory => {
             match rt.println("refused 45 OutOfMemory") {
-                Ok(()) => ExitCode::from(1),
-                Err(_) => ExitCode::from(3),
+                Ok(()) => 1,
+                Err(_) => 3,
             }
         }
-        Err(_) => ExitCode::from(2),
+        Err(_) => {
+            complain(&rt, "an argument isn't UTF-8");
+            2
+        }
+    };
+    if status == 3 {
+        complain(
+            &rt,
+            "standard input can't be read, or standard output can't be written",
+        );
     }
+    ExitCode::from(status)
 }

@@ -1,4 +1,3 @@
-pub mod SlotLines
 pub mod Replies
 pub mod Accepting
 pub mod Commas

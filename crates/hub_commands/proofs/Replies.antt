@@ -14,11 +14,12 @@ use Rattle.meaning.specs.declared.Outcome.{Outcome}
 use Rattle.meaning.specs.Outcomes.{outcome}
 use Rattle.assembler.specs.declared.fault.AsmError.{AsmError}
 use Rattle.assembler.specs.Text.{AsmText, AsmFault}
-use Rattle.command_line.specs.declared.request.SpanOptions.{SpanOptions}
+use Rattle.hub_requests.specs.declared.SpanOptions.{SpanOptions}
 use Rattle.hub_commands.specs.declared.reason.Reason.TheVariants.{BadHex, Words, Source}
 use Rattle.hub_commands.specs.Answers.{Reply, done}
 use Rattle.hub_commands.specs.Hexadecimal.{slot_lines}
-use Rattle.hub_commands.specs.Programs.{refusal, IsAsmReply, no_source, assembled, IsProgramReply, no_hex, no_program, program, facts_of, outcome_reply, IsSpanReply, no_text, ran}
+use Rattle.hub_commands.specs.Reasons.{refusal}
+use Rattle.hub_commands.specs.Programs.{IsAsmReply, no_source, assembled, IsProgramReply, no_hex, no_program, program, facts_of, outcome_reply, IsSpanReply, no_text, ran}
 
 -- what holds of an answer, by what it was said to be
 pub mapped : {A E : Type 0} (P Q : A → Type 0) (result : Result A E) → IfOk result P → ((x : A) → P x → Q x) → IfOk result Q

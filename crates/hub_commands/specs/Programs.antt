@@ -16,15 +16,11 @@ use Rattle.meaning.specs.Outcomes.{outcome}
 use Rattle.assembler.specs.declared.fault.AsmError.{AsmError}
 use Rattle.assembler.specs.Text.{AsmText, AsmFault}
 use Rattle.disassembler.specs.Canonical.{canonical}
-use Rattle.command_line.specs.declared.request.SpanOptions.{SpanOptions}
-use Rattle.hub_commands.specs.declared.reason.Reason.{Reason}
+use Rattle.hub_requests.specs.declared.SpanOptions.{SpanOptions}
 use Rattle.hub_commands.specs.declared.reason.Reason.TheVariants.{TextRefused, BadHex, Words, Source}
-use Rattle.hub_commands.specs.Answers.{Reply, line, done, failed, refused}
+use Rattle.hub_commands.specs.Answers.{Reply, line, done, failed}
 use Rattle.hub_commands.specs.Hexadecimal.{without_blanks, slot_lines}
-use Rattle.hub_commands.specs.Reasons.{reason_text}
-
-abbrev pub refusal : Reason → Reply
-refusal reason = refused (reason_text reason)
+use Rattle.hub_commands.specs.Reasons.{refusal}
 
 -- `asm`: of a source that is UTF-8, the slots that it is text of, or the first line at fault
 pub data IsAsmReply (source : List ℕ) (reply : Reply) : Type 0 where

@@ -1,5 +1,5 @@
 -- What is printed of each reason to refuse an input: its number and name, and where it stands.
-use Rattle.std.specs.Prelude.{ℕ, List, ◌++◌, codes}
+use Rattle.std.specs.Prelude.{ℕ, ◌+◌, List, ◌++◌, codes}
 use Rattle.std.specs.Fmt.{decimal}
 use Rattle.bpf_words.specs.declared.refusal.SlotFault.{SlotFault}
 use Rattle.bpf_words.specs.declared.refusal.SlotFault.TheVariants.{UnknownOpcode, OutOfProfile, UnusedField, BadRegister, BadWidth, TruncatedWide}
@@ -7,8 +7,15 @@ use Rattle.bpf_words.specs.declared.refusal.WordError.TheVariants.{Empty, TooLon
 use Rattle.assembler.specs.declared.fault.LineFault.{LineFault}
 use Rattle.assembler.specs.declared.fault.LineFault.TheVariants.{Syntax, UnknownName, NumberRange, UnknownLabel, LabelTwice, JumpRange}
 use Rattle.assembler.specs.declared.fault.AsmError.TheVariants.{Line, OutOfMemory}
+use Rattle.change_ops.specs.declared.refusal.ChangeError.{ChangeError}
+use Rattle.change_ops.specs.declared.refusal.ChangeError.TheVariants as reading
+use Rattle.hub_core.specs.declared.refusal.Refusal.{Refusal}
+use Rattle.hub_core.specs.declared.refusal.Refusal.TheVariants.{StaleCounter, UnknownRef, DocumentFull, MarksFull}
+use Rattle.hub_core.specs.declared.refusal.SubmitError.{SubmitError}
+use Rattle.hub_core.specs.declared.refusal.SubmitError.TheVariants as submit
 use Rattle.hub_commands.specs.declared.reason.Reason.{Reason}
-use Rattle.hub_commands.specs.declared.reason.Reason.TheVariants.{TextRefused, BadHex, Words, Source}
+use Rattle.hub_commands.specs.declared.reason.Reason.TheVariants.{TextRefused, BadHex, Words, Source, Unread, Unaccepted}
+use Rattle.hub_commands.specs.Answers.{Reply, refused}
 
 abbrev pub slot_fault : SlotFault → List ℕ
 slot_fault UnknownOpcode = codes "4 UnknownOpcode"
@@ -26,7 +33,36 @@ line_fault UnknownLabel = codes "33 UnknownLabel"
 line_fault LabelTwice = codes "34 LabelTwice"
 line_fault JumpRange = codes "35 JumpRange"
 
--- slots are counted from 0, lines from 1
+-- a fault, and the change's number
+abbrev pub at_change : ℕ → List ℕ → List ℕ
+at_change number fault = fault ++ codes " change " ++ decimal number
+
+-- the same, and the line in the change, from 1
+abbrev pub at_line : ℕ → ℕ → List ℕ → List ℕ
+at_line number line fault = at_change number fault ++ codes " line " ++ decimal line
+
+-- why a change can't be read
+abbrev pub unread_text : ℕ → ChangeError → List ℕ
+unread_text number (reading.BadLine line) = at_line number line (codes "40 BadLine")
+unread_text number reading.Truncated = at_change number (codes "41 Truncated")
+unread_text number (reading.Limit line) = at_line number line (codes "42 Limit")
+unread_text number (reading.CharRefused line) = at_line number line (codes "43 CharRefused")
+unread_text number (reading.WrongPeer line) = at_line number line (codes "44 WrongPeer")
+unread_text number reading.OutOfMemory = codes "45 OutOfMemory"
+
+abbrev pub refusal_name : Refusal → List ℕ
+refusal_name StaleCounter = codes "46 StaleCounter"
+refusal_name UnknownRef = codes "47 UnknownRef"
+refusal_name DocumentFull = codes "48 DocumentFull"
+refusal_name MarksFull = codes "49 MarksFull"
+
+-- why a change isn't accepted; its operations stand behind the header, from line 2 on
+abbrev pub unaccepted_text : ℕ → SubmitError → List ℕ
+unaccepted_text number submit.HistoryFull = at_change number (codes "50 HistoryFull")
+unaccepted_text number (submit.Refused index refusal) = at_line number (index + 2) (refusal_name refusal)
+unaccepted_text number submit.OutOfMemory = codes "45 OutOfMemory"
+
+-- slots are counted from 0, lines and changes from 1
 abbrev pub reason_text : Reason → List ℕ
 reason_text (Words Empty) = codes "1 Empty"
 reason_text (Words TooLong) = codes "2 TooLong"
@@ -36,3 +72,8 @@ reason_text (Source (Line number fault)) = line_fault fault ++ codes " line " ++
 reason_text (Source OutOfMemory) = codes "36 OutOfMemory"
 reason_text TextRefused = codes "62 TextRefused"
 reason_text BadHex = codes "63 BadHex"
+reason_text (Unread number error) = unread_text number error
+reason_text (Unaccepted number error) = unaccepted_text number error
+
+abbrev pub refusal : Reason → Reply
+refusal reason = refused (reason_text reason)

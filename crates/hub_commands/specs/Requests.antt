@@ -1,7 +1,7 @@
 -- What is answered to each request.
 use Rattle.std.specs.Prelude.{ℕ, List, string_bytes}
-use Rattle.command_line.specs.declared.request.Request.{Request}
-use Rattle.command_line.specs.declared.request.Request.TheVariants.{Asm, Dis, Run, Spans}
+use Rattle.hub_requests.specs.declared.Request.{Request}
+use Rattle.hub_requests.specs.declared.Request.TheVariants.{Asm, Dis, Run, Spans}
 use Rattle.hub_commands.specs.Answers.{Reply}
 use Rattle.hub_commands.specs.Programs.{IsAsmReply, IsDisReply, IsRunReply}
 use Rattle.hub_commands.specs.SpansReply.{IsSpansReply}

@@ -1,19 +1,19 @@
 -- What the command `spans` answers to its input: the texts of changes, one behind the other.
-use Rattle.std.specs.Prelude.{◌≡◌, ◌≢◌, ℕ, ◌+◌, List, [], ◌++◌, length, All, Err, codes}
+use Rattle.std.specs.Prelude.{◌≡◌, ◌≢◌, ℕ, ◌+◌, List, [], ◌++◌, length, All}
 use Rattle.std.specs.List.{flat_map}
 use Rattle.std.specs.Str.{IsUtf8}
-use Rattle.std.specs.Fmt.{decimal}
-use Rattle.change_ops.specs.Changes.{Edit, IsChange, change_at}
-use Rattle.change_ops.specs.Spelling.{change_text}
+use Rattle.change_ops.specs.Changes.{Edit, IsChange}
+use Rattle.change_ops.specs.Spelling.{change_text, Spells}
+use Rattle.change_ops.specs.Refusals.{IsRefused as BeginsWithNoChange}
 use Rattle.change_ops.specs.declared.refusal.ChangeError.{ChangeError}
-use Rattle.change_ops.specs.declared.refusal.ChangeError.TheVariants as reading
 use Rattle.span_flatten.specs.Spans.{Span, AreSpans}
 use Rattle.hub_core.specs.Accepted.{operations_of, AreAccepted, IsRefused}
-use Rattle.hub_core.specs.declared.refusal.Refusal.{Refusal}
-use Rattle.hub_core.specs.declared.refusal.Refusal.TheVariants.{StaleCounter, UnknownRef, DocumentFull, MarksFull}
 use Rattle.hub_core.specs.declared.refusal.SubmitError.{SubmitError}
-use Rattle.hub_core.specs.declared.refusal.SubmitError.TheVariants.{HistoryFull, Refused, OutOfMemory}
-use Rattle.hub_commands.specs.Answers.{Reply, done, refused}
+use Rattle.hub_core.specs.declared.refusal.SubmitError.TheVariants.{OutOfMemory}
+use Rattle.hub_commands.specs.declared.reason.Reason.{Reason}
+use Rattle.hub_commands.specs.declared.reason.Reason.TheVariants.{TextRefused, Unread, Unaccepted}
+use Rattle.hub_commands.specs.Answers.{Reply, done}
+use Rattle.hub_commands.specs.Reasons.{refusal}
 use Rattle.hub_commands.specs.SpanLines.{span_lines}
 
 -- The input begins with the texts of these changes, each accepted after those before it; the rest follows.
@@ -26,42 +26,24 @@ pub record Begins (input : List ℕ) (changes : List Edit) (rest : List ℕ) : T
 abbrev pub next_number : List Edit → ℕ
 next_number changes = length changes + 1
 
--- a fault, and the change's number
-abbrev pub at_change : ℕ → List ℕ → List ℕ
-at_change number fault = fault ++ codes " change " ++ decimal number
+-- Why no change at the front of a text follows these: none can be read, by the grammar of changes, or the one that stands
+-- there isn't accepted. Want of memory is no fault of the input.
+pub data IsStopped (changes : List Edit) (text : List ℕ) (reason : Reason) : Type 0 where
+  unread : (error : ChangeError) → BeginsWithNoChange text error → reason ≡ Unread (next_number changes) error → IsStopped changes text reason
+  unaccepted : (change : Edit) (rest : List ℕ) (error : SubmitError) → Spells text change rest → IsRefused changes change error → error ≢ OutOfMemory
+      → reason ≡ Unaccepted (next_number changes) error → IsStopped changes text reason
 
--- the same, and the line in the change, from 1
-abbrev pub at_line : ℕ → ℕ → List ℕ → List ℕ
-at_line number line fault = at_change number fault ++ codes " line " ++ decimal line
+-- why the changes of an input end before it does
+pub record Stops (input : List ℕ) (reason : Reason) : Type 0 where
+  pub changes : List Edit
+  pub rest : List ℕ
+  pub before : Begins input changes rest
+  pub left : rest ≢ []
+  pub here : IsStopped changes rest reason
 
--- why a change can't be read
-abbrev pub unread_reason : ℕ → ChangeError → List ℕ
-unread_reason number (reading.BadLine line) = at_line number line (codes "40 BadLine")
-unread_reason number reading.Truncated = at_change number (codes "41 Truncated")
-unread_reason number (reading.Limit line) = at_line number line (codes "42 Limit")
-unread_reason number (reading.CharRefused line) = at_line number line (codes "43 CharRefused")
-unread_reason number (reading.WrongPeer line) = at_line number line (codes "44 WrongPeer")
-unread_reason number reading.OutOfMemory = codes "45 OutOfMemory"
-
-abbrev pub refusal_name : Refusal → List ℕ
-refusal_name StaleCounter = codes "46 StaleCounter"
-refusal_name UnknownRef = codes "47 UnknownRef"
-refusal_name DocumentFull = codes "48 DocumentFull"
-refusal_name MarksFull = codes "49 MarksFull"
-
--- why a change isn't accepted; its operations stand behind the header, from line 2 on
-abbrev pub unaccepted_reason : ℕ → SubmitError → List ℕ
-unaccepted_reason number HistoryFull = at_change number (codes "50 HistoryFull")
-unaccepted_reason number (Refused index refusal) = at_line number (index + 2) (refusal_name refusal)
-unaccepted_reason number OutOfMemory = codes "45 OutOfMemory"
-
--- The spans of the changes' operations, or the first change that can't be read or isn't accepted. Want of memory is
--- no fault of the input.
+-- The spans of the changes' operations, or why the first change that isn't one of them is refused.
 pub data IsSpansReply (input : List ℕ) (reply : Reply) : Type 0 where
-  no_text : ¬ (IsUtf8 input) → reply ≡ refused (codes "62 TextRefused") → IsSpansReply input reply
+  no_text : ¬ (IsUtf8 input) → reply ≡ refusal TextRefused → IsSpansReply input reply
   shown : (changes : List Edit) (spans : List Span) → Begins input changes [] → AreSpans (operations_of changes) spans → reply ≡ done (span_lines spans)
       → IsSpansReply input reply
-  unread : (changes : List Edit) (rest : List ℕ) (error : ChangeError) → Begins input changes rest → rest ≢ [] → change_at rest ≡ Err error
-      → reply ≡ refused (unread_reason (next_number changes) error) → IsSpansReply input reply
-  unaccepted : (changes : List Edit) (change : Edit) (rest : List ℕ) (error : SubmitError) → Begins input changes (change_text change ++ rest) → IsChange change
-      → IsRefused changes change error → error ≢ OutOfMemory → reply ≡ refused (unaccepted_reason (next_number changes) error) → IsSpansReply input reply
+  stopped : (reason : Reason) → Stops input reason → reply ≡ refusal reason → IsSpansReply input reply

@@ -1,18 +1,29 @@
--- What the reading of an input's changes says where it stops.
-use Rattle.std.specs.Prelude.{◌≤◌, ℕ, List}
-use Rattle.hub_core.specs.declared.refusal.SubmitError.{SubmitError}
-use Rattle.hub_core.specs.declared.refusal.SubmitError.TheVariants.{HistoryFull, Refused, OutOfMemory}
-use Rattle.hub_commands.specs.SpansReply.{IsSpansReply}
+-- Where the reading of an input's changes stops, with want of memory.
+use Rattle.std.specs.Prelude.{◌≡◌, ℕ, List, [], ◌∷◌, ◌++◌}
+use Rattle.change_ops.specs.Changes.{Edit}
+use Rattle.change_ops.specs.Spelling.{Spells}
+use Rattle.hub_core.specs.Accepted.{IsAccepted}
+use Rattle.hub_commands.specs.SpansReply.{IsStopped, Stops}
+use Rattle.hub_commands.specs.declared.reason.Reason.{Reason}
 use Rattle.hub_commands.specs.declared.spans.Stop.{Stop}
 use Rattle.hub_commands.specs.declared.spans.Stop.TheVariants as stop
 
--- the index is one of the operations of a change, of which there are at most 256
-abbrev pub IsIndexed : SubmitError → Type 0
-IsIndexed HistoryFull = Unit {0}
-IsIndexed (Refused index refusal) = index ≤ 256
-IsIndexed OutOfMemory = Unit {0}
+-- what holds where memory was wanting, or of the reason
+abbrev pub MatchStop : Stop → Type 0 → (Reason → Type 0) → Type 0
+MatchStop stop.Memory Wanting Because = Wanting
+MatchStop (stop.Refused reason) Wanting Because = Because reason
 
--- the reply of the command, unless no memory was found
-abbrev pub StopsWith : List ℕ → Stop → Type 0
-StopsWith input (stop.Refused reply) = IsSpansReply input reply
-StopsWith input stop.Memory = Unit {0}
+-- a stop at the front of a text, after these changes
+abbrev pub StopsAt : List Edit → List ℕ → Stop → Type 0
+StopsAt changes text why = MatchStop why (Unit {0}) (IsStopped changes text)
+
+-- a stop somewhere in an input
+abbrev pub StopsWithin : List ℕ → Stop → Type 0
+StopsWithin input why = MatchStop why (Unit {0}) (Stops input)
+
+-- the change at the front of a text is taken in; this follows it
+pub record Takes (old : List Edit) (text : List ℕ) (new : List Edit) (rest : List ℕ) : Type 0 where
+  pub change : Edit
+  pub spells : Spells text change rest
+  pub accepted : IsAccepted old change
+  pub more : new ≡ old ++ change ∷ []

@@ -6,7 +6,7 @@ use std::fmt::Display;
 use std::marker::Model;
 
 /// How a command ends.
-#[derive(Clone, Copy, Debug, PartialEq, Eq)]
+#[derive(Clone, Copy)]
 pub enum Ending {
     Done,
     /// Refused, or the program that was run met a fault or no end.

@@ -2,7 +2,7 @@ use std::alloc::{AllocError, AllocFailed};
 use std::io;
 
 /// Why a command ends without an answer of its own.
-#[derive(Debug, Drop)]
+#[derive(Drop)]
 pub enum Failure {
     /// A read or a write failed.
     Device,

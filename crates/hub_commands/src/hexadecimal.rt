@@ -36,13 +36,13 @@ pub fn without_blanks(alloc: Global, text: &[u8]) -> Result<Vec<u8>, AllocError>
 }
 
 /// The bytes as a line of 16 lower-case digits a slot.
-#[tactic(auto, using(crate::proofs::SlotLines::no_line))]
 pub fn slot_lines(alloc: Global, bytes: &[u8]) -> Result<String, AllocError>
     ensures { IfOk result (λ lines. string_bytes lines ≡ slot_lines bytes.now) }
 {
     let mut lines = String::new(alloc);
-    for slot in 0..bytes.len() / 8 {
-        let digits = hex::encode(alloc, &bytes[8 * slot..8 * slot + 8])?;
+    let (slots, _) = bytes.as_chunks::<8>();
+    for slot in slots {
+        let digits = hex::encode(alloc, slot)?;
         lines.push_str(digits.as_str())?;
         lines.push('\n')?;
     }

@@ -7,7 +7,7 @@ use crate::dis::dis;
 use crate::failure::Failure;
 use crate::run::run;
 use crate::spans::spans;
-use command_line::request::Request;
+use hub_requests::Request;
 use std::alloc::Global;
 use std::io::{Read, Write};
 

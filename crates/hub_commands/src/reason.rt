@@ -1,13 +1,15 @@
 ghost use Rattle.std.specs.Prelude.{◌≡◌};
 ghost use Rattle.std.specs.declared.option.Option.TheVariants.{Some};
-ghost use Rattle.hub_commands.specs.Reasons.{slot_fault, line_fault, reason_text};
+ghost use Rattle.hub_commands.specs.Reasons.{slot_fault, line_fault, refusal_name, reason_text};
 
 use assembler::fault::{AsmError, LineFault};
 use bpf_words::refusal::{SlotFault, WordError};
+use change_ops::refusal::ChangeError;
+use hub_core::refusal::{Refusal, SubmitError};
 use std::fmt;
 
 /// Why an input is refused.
-#[derive(Clone, Copy, Debug, PartialEq, Eq)]
+#[derive(Clone, Copy)]
 pub enum Reason {
     /// Its bytes aren't a program.
     Words(WordError),
@@ -17,6 +19,10 @@ pub enum Reason {
     TextRefused,
     /// It isn't pairs of hexadecimal digits.
     BadHex,
+    /// Its change of this number, from 1, can't be read.
+    Unread(usize, ChangeError),
+    /// Its change of this number, from 1, isn't accepted after those before it.
+    Unaccepted(usize, SubmitError),
 }
 
 fn slot_fault(fault: SlotFault) -> &'static str
@@ -45,7 +51,19 @@ fn line_fault(fault: LineFault) -> &'static str
     }
 }
 
-/// The number and name, and the slot or the line where there is one.
+fn refusal_name(refusal: Refusal) -> &'static str
+    ensures { result.now ≡ refusal_name refusal }
+{
+    match refusal {
+        Refusal::StaleCounter => "46 StaleCounter",
+        Refusal::UnknownRef => "47 UnknownRef",
+        Refusal::DocumentFull => "48 DocumentFull",
+        Refusal::MarksFull => "49 MarksFull",
+    }
+}
+
+/// The number and name, and the slot, the line or the change with its line, where there is one. A change's operations
+/// stand behind its header, from line 2 on.
 impl fmt::Display for Reason {
     ghost output = { λ reason. Some (reason_text reason) };
 
@@ -63,6 +81,30 @@ impl fmt::Display for Reason {
             Reason::Source(AsmError::OutOfMemory) => write!(f, "36 OutOfMemory"),
             Reason::TextRefused => write!(f, "62 TextRefused"),
             Reason::BadHex => write!(f, "63 BadHex"),
+            Reason::Unread(number, error) => match error {
+                ChangeError::BadLine(line) => {
+                    write!(f, "40 BadLine change {number} line {line}")
+                }
+                ChangeError::Truncated => write!(f, "41 Truncated change {number}"),
+                ChangeError::Limit(line) => write!(f, "42 Limit change {number} line {line}"),
+                ChangeError::CharRefused(line) => {
+                    write!(f, "43 CharRefused change {number} line {line}")
+                }
+                ChangeError::WrongPeer(line) => {
+                    write!(f, "44 WrongPeer change {number} line {line}")
+                }
+                ChangeError::OutOfMemory => write!(f, "45 OutOfMemory"),
+            },
+            Reason::Unaccepted(number, error) => match error {
+                SubmitError::HistoryFull => write!(f, "50 HistoryFull change {number}"),
+                SubmitError::Refused { index, refusal } => {
+                    // No index is so great that the sum of 128 bits wraps.
+                    let line = index as u128 + 2;
+                    let name = refusal_name(refusal);
+                    write!(f, "{name} change {number} line {line}")
+                }
+                SubmitError::OutOfMemory => write!(f, "45 OutOfMemory"),
+            },
         }
     }
 }

@@ -10,7 +10,7 @@ use crate::output::write_answer;
 use crate::reason::Reason;
 use bpf_words::context::{Context, Facts, TEXT_LIMIT};
 use bpf_words::words::Words;
-use command_line::request::SpanOptions;
+use hub_requests::SpanOptions;
 use interpreter::run::run_checked;
 use meaning::{FaultKind, Outcome};
 use std::alloc::{AllocError, Global};

@@ -1,20 +1,26 @@
 //! The command `spans`: the spans of the version that the changes of its input make.
-ghost use Rattle.std.specs.Prelude.{◌≡◌, ◌≢◌, [], IfOk, MatchResult};
+ghost use Rattle.std.specs.Prelude.{◌≡◌, ◌≢◌, ◌<◌, List, [], length, IfOk, MatchResult};
+ghost use Rattle.std.specs.Str.{IsUtf8};
 ghost use Rattle.change_ops.specs.declared.refusal.ChangeError.TheVariants.{OutOfMemory as NoMemory};
+ghost use Rattle.span_flatten.specs.Spans.{Span, AreSpans};
+ghost use Rattle.hub_core.specs.Accepted.{operations_of};
 ghost use Rattle.hub_core.specs.declared.refusal.SubmitError.TheVariants.{OutOfMemory};
-ghost use Rattle.hub_commands.specs.Answers.{refused, IsAnswered};
-ghost use Rattle.hub_commands.specs.SpansReply.{Begins, at_change as change_place, at_line as line_place, unread_reason, refusal_name, unaccepted_reason, IsSpansReply};
-ghost use Rattle.hub_commands.specs.Stopping.{IsIndexed, StopsWith};
+ghost use Rattle.hub_commands.specs.declared.reason.Reason.TheVariants.{Unread, Unaccepted};
+ghost use Rattle.hub_commands.specs.Answers.{done, IsAnswered};
+ghost use Rattle.hub_commands.specs.SpanLines.{span_lines};
+ghost use Rattle.hub_commands.specs.SpansReply.{Begins, IsSpansReply};
+ghost use Rattle.hub_commands.specs.Stopping.{MatchStop, StopsAt, StopsWithin, Takes};
 
-use crate::answer::{Answer, Ending};
+use crate::answer::Answer;
 use crate::failure::Failure;
 use crate::input::read_input;
 use crate::output::write_answer;
+use crate::reason::Reason;
 use crate::span_lines::lines_of;
 use change_ops::change::read_change;
 use change_ops::refusal::ChangeError;
 use hub_core::history::History;
-use hub_core::refusal::{Refusal, SubmitError};
+use hub_core::refusal::SubmitError;
 use std::alloc::{AllocError, Global};
 use std::io::{Read, Write};
 
@@ -22,100 +28,67 @@ use std::io::{Read, Write};
 #[derive(Drop)]
 enum Stop {
     /// A change can't be read, or isn't accepted after those before it.
-    Refused(Answer),
+    Refused(Reason),
     /// No memory was found.
     Memory,
 }
 
-impl From<AllocError> for Stop {
-    ghost use Rattle.hub_commands.specs.declared.spans.Stop.TheVariants.{Memory};
-
-    ghost from_gives = { λ _ stop. stop ≡ Memory };
-
-    fn from(_error: AllocError) -> Stop {
-        Stop::Memory
-    }
-}
-
-/// The refusal of a change, by its number from 1.
-fn at_change(alloc: Global, number: usize, fault: &str) -> Result<Answer, AllocError>
-    ensures { IfOk result (λ answer. answer ≡ refused (change_place number fault.now)) }
-{
-    let text = format!(in alloc; "refused {fault} change {number}\n")?;
-    Ok(Answer {
-        ending: Ending::Failed,
-        text,
-    })
-}
-
-/// The refusal of a change, by its number and its line, both from 1.
-fn at_line(alloc: Global, number: usize, line: usize, fault: &str) -> Result<Answer, AllocError>
-    ensures { IfOk result (λ answer. answer ≡ refused (line_place number line fault.now)) }
-{
-    let text = format!(in alloc; "refused {fault} change {number} line {line}\n")?;
-    Ok(Answer {
-        ending: Ending::Failed,
-        text,
-    })
-}
-
-/// The refusal of a change that can't be read.
-fn unread(alloc: Global, number: usize, error: ChangeError) -> Result<Answer, AllocError>
-    ensures { IfOk result (λ answer. (error ≢ NoMemory) × (answer ≡ refused (unread_reason number error))) }
+/// Where the change of this number can't be read.
+fn unread(number: usize, error: ChangeError) -> Stop
+    ensures { MatchStop result (error ≡ NoMemory) (λ reason. (error ≢ NoMemory) × (reason ≡ Unread number error)) }
 {
     match error {
-        ChangeError::BadLine(line) => at_line(alloc, number, line, "40 BadLine"),
-        ChangeError::Truncated => at_change(alloc, number, "41 Truncated"),
-        ChangeError::Limit(line) => at_line(alloc, number, line, "42 Limit"),
-        ChangeError::CharRefused(line) => at_line(alloc, number, line, "43 CharRefused"),
-        ChangeError::WrongPeer(line) => at_line(alloc, number, line, "44 WrongPeer"),
-        ChangeError::OutOfMemory => Err(AllocError),
+        ChangeError::OutOfMemory => Stop::Memory,
+        _ => Stop::Refused(Reason::Unread(number, error)),
     }
 }
 
-fn name_of(refusal: Refusal) -> &'static str
-    ensures { result.now ≡ refusal_name refusal }
-{
-    match refusal {
-        Refusal::StaleCounter => "46 StaleCounter",
-        Refusal::UnknownRef => "47 UnknownRef",
-        Refusal::DocumentFull => "48 DocumentFull",
-        Refusal::MarksFull => "49 MarksFull",
-    }
-}
-
-/// The refusal of a change that isn't accepted; its operations stand behind its header.
-fn unaccepted(alloc: Global, number: usize, error: SubmitError) -> Result<Answer, AllocError>
-    requires { IsIndexed error }
-    ensures { IfOk result (λ answer. (error ≢ OutOfMemory) × (answer ≡ refused (unaccepted_reason number error))) }
+/// Where the change of this number isn't accepted.
+fn unaccepted(number: usize, error: SubmitError) -> Stop
+    ensures { MatchStop result (error ≡ OutOfMemory) (λ reason. (error ≢ OutOfMemory) × (reason ≡ Unaccepted number error)) }
 {
     match error {
-        SubmitError::HistoryFull => at_change(alloc, number, "50 HistoryFull"),
-        SubmitError::Refused { index, refusal } => {
-            at_line(alloc, number, index + 2, name_of(refusal))
-        }
-        SubmitError::OutOfMemory => Err(AllocError),
+        SubmitError::OutOfMemory => Stop::Memory,
+        _ => Stop::Refused(Reason::Unaccepted(number, error)),
+    }
+}
+
+/// Takes the change at the front of the text in, and lends what follows it.
+fn take_change<'a>(alloc: Global, history: &mut History, text: &'a str) -> Result<&'a str, Stop>
+    ensures taken { MatchResult result (λ rest. Takes history.old text.now history.new rest.now) (StopsAt history.old text.now) }
+    ensures text { IfOk result (λ rest. IsUtf8 rest.now) }
+    ensures shorter { IfOk result (λ rest. length rest.now < length text.now) }
+{
+    let number = history.len() + 1;
+    let (change, rest) = match read_change(alloc, text) {
+        Ok(read) => read,
+        Err(error) => return Err(unread(number, error)),
+    };
+    match history.accept(change) {
+        Ok(()) => Ok(rest),
+        Err(error) => Err(unaccepted(number, error)),
     }
 }
 
 /// Reads and accepts changes one behind the other, to the end of the text.
 fn history_of(alloc: Global, text: &str) -> Result<History, Stop>
-    ensures { MatchResult result (λ changes. Begins text.now changes []) (StopsWith text.now) }
+    ensures { MatchResult result (λ changes. Begins text.now changes []) (StopsWithin text.now) }
 {
     let mut history = History::new(alloc);
     let mut rest: &str = text;
     while !rest.is_empty() {
-        let number = history.len() + 1;
-        let (change, after) = match read_change(alloc, rest) {
-            Ok(read) => read,
-            Err(error) => return Err(Stop::Refused(unread(alloc, number, error)?)),
-        };
-        if let Err(error) = history.accept(change) {
-            return Err(Stop::Refused(unaccepted(alloc, number, error)?));
-        }
-        rest = after;
+        rest = take_change(alloc, &mut history, rest)?;
     }
     Ok(history)
+}
+
+/// The spans that the changes of a history make.
+fn shown(alloc: Global, history: &History) -> Result<Answer, AllocError>
+    ensures { IfOk result (λ answer. (spans : List Span) × AreSpans (operations_of history.now) spans × (answer ≡ done (span_lines spans))) }
+{
+    let version = history.version(alloc)?;
+    let lines = lines_of(alloc, &version)?;
+    Ok(Answer::done(lines))
 }
 
 /// What `spans` answers to its input.
@@ -123,15 +96,11 @@ fn spans_answer(alloc: Global, input: &[u8]) -> Result<Answer, AllocError>
     ensures { IfOk result (λ answer. IsSpansReply input.now answer) }
 {
     let Ok(text) = std::str::from_utf8(input) else {
-        return Answer::refused(alloc, &"62 TextRefused");
+        return Answer::refused(alloc, &Reason::TextRefused);
     };
     match history_of(alloc, text) {
-        Ok(history) => {
-            let version = history.version(alloc)?;
-            let lines = lines_of(alloc, &version)?;
-            Ok(Answer::done(lines))
-        }
-        Err(Stop::Refused(answer)) => Ok(answer),
+        Ok(history) => shown(alloc, &history),
+        Err(Stop::Refused(reason)) => Answer::refused(alloc, &reason),
         Err(Stop::Memory) => Err(AllocError),
     }
 }

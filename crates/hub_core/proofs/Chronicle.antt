@@ -1,15 +1,17 @@
 -- How a history goes on from one accepted change to the next.
-use Rattle.std.proofs.Common.{◌≡◌, ℕ, zero, suc, ◌+◌, ◌<◌, List, [], ◌∷◌, ◌++◌, Some, Err, refl, sym, ap, ◌∙◌, subst, ◌⊎◌, inl, inr, ⊎_elim, arith, rules, length, take, append_assoc, add-one}
+use Rattle.std.proofs.Common.{◌≡◌, ℕ, zero, suc, ◌+◌, ◌-◌, ◌<◌, List, [], ◌∷◌, ◌++◌, Option, Some, None, Result, Ok, Err, IfOk, refl, sym, ap, ◌∙◌, subst, ◌⊎◌, inl, inr, ⊎_elim, arith, rules, length, get_or, take, append_assoc, add-one}
 use Rattle.std.specs.List.{slice_get}
-use Rattle.std.proofs.lemmas.Option.{none-some, same_Some}
+use Rattle.std.proofs.lemmas.List.{length_push, take_at}
+use Rattle.std.proofs.lemmas.Option.{none-some, same_Some, slice_get_within, slice_get-get_or}
 use Rattle.std.proofs.Math.Seq.{take-length}
 use Rattle.change_ops.specs.declared.operation.Op.{Op}
 use Rattle.change_ops.specs.Changes.{Edit}
 use Rattle.hub_core.specs.declared.parts.Parts.{Parts}
 use Rattle.hub_core.specs.Accepted.{operations_of, MayFollow, AllFollow, IsAccepted, AreAccepted}
 use Rattle.hub_core.specs.declared.refusal.ApplyError.{ApplyError}
+use Rattle.hub_core.specs.declared.refusal.SubmitError.{SubmitError}
 use Rattle.hub_core.specs.declared.refusal.ApplyError.TheVariants as apply
-use Rattle.hub_core.specs.Kept.{Keeps, IsHistory, Applied, AllApplied, error_at}
+use Rattle.hub_core.specs.Kept.{Keeps, IsHistory, IsSpare, Applied, AllApplied, error_at}
 
 pub operations_of-push : (changes : List Edit) (change : Edit) → operations_of (changes ++ change ∷ []) ≡ operations_of changes ++ change.operations
 unfolding operations_of
@@ -94,9 +96,44 @@ accepted_change changes change added new e few h = (
   subst (λ (ops : List Op). Keeps (operations_of changes ++ ops) new) e h.1,
 )
 
--- a copy of the parts takes the change in
-pub history_after : (changes : List Edit) (change : Edit) (added : List Op) (old copy new : Parts) → IsHistory changes old → copy ≡ old → added ≡ change.operations → length changes < 4096 → ((ops : List Op) → Keeps ops copy → AllFollow ops added (length added) × Keeps (ops ++ added) new) → IsAccepted changes change × IsHistory (changes ++ change ∷ []) new
-history_after changes change added old copy new h same e few after =
-    let kept = subst (λ (parts : Parts). Keeps (operations_of changes) parts) (sym same) h.kept in
+-- parts of the changes take one more in
+pub history_after : (changes : List Edit) (change : Edit) (added : List Op) (old working new : Parts) → IsHistory changes old → Keeps (operations_of changes) working → added ≡ change.operations → length changes < 4096 → ((ops : List Op) → Keeps ops working → AllFollow ops added (length added) × Keeps (ops ++ added) new) → IsAccepted changes change × IsHistory (changes ++ change ∷ []) new
+history_after changes change added old working new h kept e few after =
     let a = accepted_change changes change added new e few (after (operations_of changes) kept) in
     (a.0, history_more changes change old new h a.0 a.1)
+
+-- ---- parts without the last change
+last_change : (changes : List Edit) (change : Edit) → slice_get changes (length changes - 1) ≡ Some change → changes ≡ take (length changes - 1) changes ++ change ∷ []
+last_change changes change g =
+    let within : length changes - 1 < length changes = slice_get_within changes (length changes - 1) change g in
+    let all : (length changes - 1) + 1 ≡ length changes = omega arith in
+    sym (take-length changes) ∙ ap (λ n. take n changes) (sym all) ∙ take_push changes (length changes - 1) change g
+
+pub operations_of-last : (changes : List Edit) (change : Edit) → slice_get changes (length changes - 1) ≡ Some change → operations_of (take (length changes - 1) changes) ++ change.operations ≡ operations_of changes
+operations_of-last changes change g = sym (operations_of-push (take (length changes - 1) changes) change) ∙ ap operations_of (sym (last_change changes change g))
+
+pub caught_up_last : (changes : List Edit) (change : Edit) (added : List Op) (new : Parts) → slice_get changes (length changes - 1) ≡ Some change → added ≡ change.operations → Keeps (operations_of (take (length changes - 1) changes) ++ added) new → Keeps (operations_of changes) new
+caught_up_last changes change added new g e k =
+    subst (λ (ops : List Op). Keeps ops new) (ap (λ (xs : List Op). operations_of (take (length changes - 1) changes) ++ xs) e ∙ operations_of-last changes change g) k
+
+pub caught_up_none : (changes : List Edit) (parts : Parts) → slice_get changes (length changes - 1) ≡ None → Keeps (operations_of (take (length changes - 1) changes)) parts → Keeps (operations_of changes) parts
+caught_up_none [] parts g k = k
+caught_up_none (c ∷ cs) parts g k = absurd (none_here (length (c ∷ cs) - 1) (slice_get-get_or (c ∷ cs) (length (c ∷ cs) - 1) c (omega arith)))
+  where
+    none_here : (n : ℕ) → slice_get (c ∷ cs) (length (c ∷ cs) - 1) ≡ Some (get_or (c ∷ cs) (length (c ∷ cs) - 1) c) → ⊥
+    none_here n h = none-some _ (sym g ∙ h)
+
+-- one change more: the parts so far are spare now
+pub spare_after : (changes : List Edit) (change : Edit) (parts : Parts) (spare : Option Parts) → IsHistory changes parts → spare ≡ Some parts → IsSpare (changes ++ change ∷ []) spare
+spare_after changes change parts spare h is = λ p same.
+    let one : parts ≡ p = same_Some parts p (sym is ∙ same) in
+    let size : length (changes ++ change ∷ []) - 1 ≡ length changes = omega (arith, length_push changes change) in
+    let front : take (length (changes ++ change ∷ []) - 1) (changes ++ change ∷ []) ≡ changes = ap (λ n. take n (changes ++ change ∷ [])) size ∙ take_at changes (change ∷ []) (length changes) refl in
+    subst (λ (cs : List Edit). Keeps (operations_of cs) p) (sym front) (subst (λ (q : Parts). Keeps (operations_of changes) q) one h.kept)
+
+pub no_spare : (changes : List Edit) (spare : Option Parts) → spare ≡ None → IsSpare changes spare
+no_spare changes spare is = λ p same. absurd (none-some p (sym is ∙ same))
+
+pub caught_up_result : (changes : List Edit) (change : Edit) (added : List Op) (r : Result Parts SubmitError) → slice_get changes (length changes - 1) ≡ Some change → added ≡ change.operations → AllApplied (operations_of (take (length changes - 1) changes)) added r → IfOk r (Keeps (operations_of changes))
+caught_up_result changes change added (Ok new) g e applied = caught_up_last changes change added new g e applied.1
+caught_up_result changes change added (Err error) g e applied = tt

@@ -1,5 +1,5 @@
 -- What is kept of accepted operations, beside the operations themselves.
-use Rattle.std.specs.Prelude.{◌≡◌, ℕ, List, ◌++◌, ◌∷◌, [], length, Result, Ok, Err}
+use Rattle.std.specs.Prelude.{◌≡◌, ℕ, ◌-◌, List, ◌++◌, ◌∷◌, [], length, take, Option, Some, Result, Ok, Err}
 use Rattle.std.specs.List.{filter}
 use Rattle.change_ops.specs.declared.operation.Op.{Op}
 use Rattle.change_ops.specs.Operations.{is_edit, is_mark}
@@ -53,3 +53,7 @@ AllApplied ops added (Err OutOfMemory) = Unit {0}
 pub record IsHistory (changes : List Edit) (parts : Parts) : Type 0 where
   pub accepted : AreAccepted changes
   pub kept : Keeps (operations_of changes) parts
+
+-- spare parts are those of all changes but the last
+abbrev pub IsSpare : List Edit → Option Parts → Type 0
+IsSpare changes spare = (parts : Parts) → spare ≡ Some parts → Keeps (operations_of (take (length changes - 1) changes)) parts

@@ -1,4 +1,4 @@
-ghost use Rattle.std.specs.Prelude.{◌≡◌, ◌≤◌, ◌<◌, List, [], ◌++◌, ◌∷◌, length, MatchResult, MatchOption, IfOk};
+ghost use Rattle.std.specs.Prelude.{◌≡◌, ◌+◌, ◌-◌, List, [], ◌++◌, ◌∷◌, length, take, MatchResult, MatchOption, IfOk, OnOk, OnErr};
 ghost use Rattle.change_ops.specs.declared.operation.Op.{Op};
 ghost use Rattle.char_sequence.specs.Order.{SameSet};
 ghost use Rattle.char_sequence.specs.Tree.{Present};
@@ -6,7 +6,7 @@ ghost use Rattle.mark_anchors.specs.Format.{IsFormat};
 ghost use Rattle.span_flatten.specs.Spans.{Span, AreSpans};
 ghost use Rattle.span_flatten.specs.Version.{IsVersion};
 ghost use Rattle.hub_core.specs.Accepted.{IsAccepted, IsRefused, AreAccepted, operations_of};
-ghost use Rattle.hub_core.specs.Kept.{Keeps, AllApplied, error_at};
+ghost use Rattle.hub_core.specs.Kept.{Keeps, AllApplied, IsHistory, error_at};
 
 use crate::parts::Parts;
 use crate::refusal::{ApplyError, SubmitError};
@@ -17,6 +17,7 @@ use mark_anchors::format::Format;
 use span_flatten::version::Version;
 use std::alloc::{AllocError, Global};
 use std::marker::Model;
+use std::mem::replace;
 
 /// The most changes that are accepted.
 pub const CHANGE_LIMIT: usize = 4096;
@@ -26,18 +27,21 @@ pub const CHANGE_LIMIT: usize = 4096;
 pub struct History {
     changes: Vec<Change>,
     parts: Parts,
+    // The parts without the last change: the next one is applied to these, since one of its operations may be refused
+    // after others were applied. None where they were used up; a copy then takes their place.
+    spare: Option<Parts>,
 }
 
 impl Model for History {
     ghost use Rattle.std.specs.Prelude.{List};
     ghost use Rattle.change_ops.specs.Changes.{Edit};
-    ghost use Rattle.hub_core.specs.Kept.{IsHistory};
+    ghost use Rattle.hub_core.specs.Kept.{IsHistory, IsSpare};
 
     ghost Value = { List Edit };
 
     ghost view = { λ h. h.changes.items };
 
-    ghost invariant = { λ h. IsHistory h.changes.items h.parts };
+    ghost invariant = { λ h. IsHistory h.changes.items h.parts × IsSpare h.changes.items h.spare };
 }
 
 fn at_index(index: usize, error: ApplyError) -> SubmitError
@@ -62,6 +66,24 @@ fn apply_all(mut parts: Parts, operations: &[Op]) -> Result<Parts, SubmitError>
     Ok(parts)
 }
 
+/// Applies the last of the changes to the parts of those before it.
+fn caught_up(parts: Parts, changes: &[Change]) -> Result<Parts, SubmitError>
+    requires { Keeps (operations_of (take (length changes.now - 1) changes.now)) parts }
+    ensures { IfOk result (Keeps (operations_of changes.now)) }
+{
+    match changes.last() {
+        Some(change) => apply_all(parts, change.operations()),
+        None => Ok(parts),
+    }
+}
+
+/// A change that is accepted next, with the parts that follow it.
+#[derive(Drop)]
+pub(crate) struct Draft {
+    change: Change,
+    parts: Parts,
+}
+
 impl History {
     /// No change.
     pub fn new(alloc: Global) -> History
@@ -70,6 +92,7 @@ impl History {
         History {
             changes: Vec::new(alloc),
             parts: Parts::new(alloc),
+            spare: None,
         }
     }
 
@@ -81,22 +104,71 @@ impl History {
         self.changes.len()
     }
 
-    /// Takes a change in after those before it, whole; where it is refused the history stays as it was.
-    pub fn accept(&mut self, change: Change) -> Result<(), SubmitError>
-        ensures { MatchResult result (λ _. (self.new ≡ self.old ++ change ∷ []) × IsAccepted self.old change) (λ error. (self.new ≡ self.old) × IsRefused self.old change error) }
+    /// Parts of all operations that may be changed: the spare ones, brought up to date, or else a copy.
+    fn working_parts(&mut self) -> Result<Parts, AllocError>
+        ensures kept { IfOk result (Keeps (operations_of self.old)) }
+        ensures same { self.new ≡ self.old }
+    {
+        if let Some(spare) = self.spare.take() {
+            if let Ok(parts) = caught_up(spare, &self.changes) {
+                return Ok(parts);
+            }
+        }
+        self.parts.clone()
+    }
+
+    /// The change with the parts that follow it, if it is accepted next; nothing is put in place yet.
+    pub(crate) fn draft(&mut self, change: Change) -> Result<Draft, SubmitError>
+        ensures drafted { MatchResult result (λ draft. (draft.change ≡ change) × IsAccepted self.old change × IsHistory (self.old ++ change ∷ []) draft.parts) (IsRefused self.old change) }
+        ensures same { self.new ≡ self.old }
     {
         if self.changes.len() >= CHANGE_LIMIT {
             return Err(SubmitError::HistoryFull);
         }
-        // The operations are applied to copies, since one of them may be refused after others were applied.
-        let parts = apply_all(self.parts.clone()?, change.operations())?;
-        match self.changes.push(change) {
-            Ok(()) => {
-                self.parts = parts;
-                Ok(())
-            }
-            Err(_) => Err(SubmitError::OutOfMemory),
-        }
+        let parts = apply_all(self.working_parts()?, change.operations())?;
+        Ok(Draft { change, parts })
+    }
+
+    /// Puts a draft in place; the error is want of memory, and changes nothing.
+    pub(crate) fn put(&mut self, draft: Draft) -> Result<(), AllocError>
+        requires { IsHistory (self.old ++ draft.change ∷ []) draft.parts }
+        ensures ok { OnOk result (self.new ≡ self.old ++ draft.change ∷ []) }
+        ensures err { OnErr result (self.new ≡ self.old) }
+    {
+        self.changes.reserve(1)?;
+        self.changes.push(draft.change).unwrap();
+        self.spare = Some(replace(&mut self.parts, draft.parts));
+        Ok(())
+    }
+
+    /// Takes a change in after those before it, whole; where it is refused the history stays as it was.
+    pub fn accept(&mut self, change: Change) -> Result<(), SubmitError>
+        ensures { MatchResult result (λ _. (self.new ≡ self.old ++ change ∷ []) × IsAccepted self.old change) (λ error. (self.new ≡ self.old) × IsRefused self.old change error) }
+    {
+        let accepted = self.draft(change)?;
+        self.put(accepted)?;
+        Ok(())
+    }
+
+    /// The same, with the version that it makes, which `alloc` is for; the history stays as it was where there is no memory for that.
+    pub fn submit(&mut self, alloc: Global, change: Change) -> Result<Version, SubmitError>
+        ensures { MatchResult result (λ version. (self.new ≡ self.old ++ change ∷ []) × IsAccepted self.old change × IsVersion (operations_of self.new) (length self.new) version) (λ error. (self.new ≡ self.old) × IsRefused self.old change error) }
+    {
+        let draft = self.draft(change)?;
+        let number = self.len() as u64 + 1;
+        let Ok(version) = draft.parts.version(alloc, number) else {
+            return Err(SubmitError::OutOfMemory);
+        };
+        self.put(draft)?;
+        Ok(version)
+    }
+
+    /// The version that the changes make with the one of a draft.
+    pub(crate) fn draft_version(&self, alloc: Global, draft: &Draft) -> Result<Version, AllocError>
+        requires { IsHistory (self.now ++ draft.now.change ∷ []) draft.now.parts }
+        ensures { IfOk result (IsVersion (operations_of (self.now ++ draft.now.change ∷ [])) (length self.now + 1)) }
+    {
+        draft.parts.version(alloc, self.len() as u64 + 1)
     }
 
     /// The version that the changes make: its number is how many they are.

@@ -15,7 +15,7 @@ use change_ops::operation::Op;
 use char_sequence::newest::Newest;
 use char_sequence::sequence::{Sequence, SequenceError};
 use mark_anchors::format::Format;
-use mark_anchors::marks::{MARK_LIMIT, Marks, MarksError};
+use mark_anchors::marks::{Marks, MarksError};
 use span_flatten::flatten::{flatten, same_set_same_spans};
 use span_flatten::version::Version;
 use std::alloc::{AllocError, Global};
@@ -31,7 +31,7 @@ pub struct Parts {
 fn is_mark_too_many(marks: &Marks, op: &Op) -> bool
     ensures { result ≡ (is_mark op.now && nat_le 4096 (length marks.now)) }
 {
-    op.is_mark() && marks.operations().len() >= MARK_LIMIT
+    op.is_mark() && marks.is_full()
 }
 
 fn refusal(error: SequenceError) -> Refusal

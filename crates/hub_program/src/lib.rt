@@ -34,7 +34,7 @@ fn answered<S: AsStr, R: Read, W: Write>(
 ) -> Result<u8, Failure> {
     match request(alloc, words) {
         Ok(request) => perform(alloc, &request, reader, writer),
-        Err(Unread::Help(text)) => {
+        Err(Unread::Shown(text)) => {
             writer.write_all(text.as_bytes())?;
             Ok(0)
         }

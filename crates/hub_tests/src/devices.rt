@@ -127,24 +127,20 @@ fn tells_failed_writes(alloc: Global, line: &str, input: &str, ample: u8) -> Res
     Ok(false)
 }
 
-#[test]
-fn a_failed_read_is_told_at_each_read(rt: HostRuntime) -> Result<(), Fail> {
-    for &(line, input, ample) in &LINES {
-        assert!(rt;
-            tells_failed_reads(rt.alloc(), line, input, ample)?,
-            "{line}"
-        );
+/// The first of these command lines that doesn't tell each read and each write that fails, if there is one.
+fn first_untold<'a>(alloc: Global, lines: &[(&'a str, &str, u8)]) -> Result<Option<&'a str>, Fail> {
+    for &(line, input, ample) in lines {
+        let tells = tells_failed_reads(alloc, line, input, ample)?
+            && tells_failed_writes(alloc, line, input, ample)?;
+        if !tells {
+            return Ok(Some(line));
+        }
     }
-    Ok(())
+    Ok(None)
 }
 
 #[test]
-fn a_failed_write_is_told_at_each_write(rt: HostRuntime) -> Result<(), Fail> {
-    for &(line, input, ample) in &LINES {
-        assert!(rt;
-            tells_failed_writes(rt.alloc(), line, input, ample)?,
-            "{line}"
-        );
-    }
+fn a_failed_read_or_write_is_told(rt: HostRuntime) -> Result<(), Fail> {
+    assert_eq!(rt; first_untold(rt.alloc(), &LINES)?, None);
     Ok(())
 }

@@ -1,19 +1,12 @@
-//! Tests of the program's commands as a whole: worked examples, and devices that fail.
+//! Tests of the program's commands of what no clause says and no case of `hub_cases` shows: devices that fail, random
+//! histories, and that there is help.
 #![tactic(auto)]
 
 #[cfg(test)]
 mod answers;
 #[cfg(test)]
-mod asm_rows;
-#[cfg(test)]
-mod compiled;
-#[cfg(test)]
 mod devices;
 #[cfg(test)]
-mod pictures;
+mod help;
 #[cfg(test)]
 mod random_histories;
-#[cfg(test)]
-mod run_rows;
-#[cfg(test)]
-mod spans_rows;

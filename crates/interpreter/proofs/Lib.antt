@@ -1,3 +1,4 @@
 pub mod Joined
 pub mod Running
 pub mod Stores
+pub mod Registers

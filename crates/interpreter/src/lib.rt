@@ -1,4 +1,4 @@
-//! Runs a program that no verifier has seen.
+//! Runs programs: one that no verifier has seen, with its faults as answers, and an accepted one, which has none.
 #![tactic(auto)]
 
 mod arithmetic;

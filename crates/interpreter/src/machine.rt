@@ -1,12 +1,13 @@
 ghost use Rattle.std.specs.Prelude.{◌≡◌, ℕ, ◌+◌, ◌<◌, ◌≤◌, ◌^◌, List, length, OnOk, OnErr, IfErr, Ok, Err};
 ghost use Rattle.bpf_words.specs.Words.{program_of};
-ghost use Rattle.meaning.specs.State.{State, start, register_of, operand_in, written};
+ghost use Rattle.meaning.specs.State.{start, register_of, operand_in, written};
 ghost use Rattle.meaning.specs.Memory.{address_of};
 ghost use Rattle.meaning.specs.Step.{Next, go_by, write_and_go, first_of, perform, step};
 ghost use Rattle.interpreter.specs.Progress.{move_of, result_of};
+ghost use Rattle.interpreter.specs.Running.{Run, Reads, Stays, state_of};
 
 use crate::arithmetic::{convert, extend, holds, negate, sign, value};
-use crate::memory::{load, size_read, store};
+use crate::memory::{Memory, size_read};
 use bpf_words::context::{CONTEXT, FRAME};
 use bpf_words::instruction::{
     Arithmetic, Comparison, Conversion, ConvertedBits, Extension, Insn, Operand, SignedSize, Size,
@@ -19,21 +20,24 @@ use std::marker::Model;
 
 /// The machine between two steps.
 #[derive(Drop)]
-pub struct Machine {
+pub struct Machine<'a> {
     slot: usize,
     registers: [Option<u64>; 11],
-    stack: [Option<u8>; 512],
+    memory: Memory<'a>,
 }
 
-impl Model for Machine {
-    ghost Value = { State };
+impl<'a> Model for Machine<'a> {
+    ghost Value = { Run };
 
-    ghost view = { λ m. record { slot = m.slot; registers = m.registers; stack = m.stack } };
+    ghost view = { λ m. record { context = m.memory.context; text = m.memory.text; slot = m.slot; registers = m.registers; stack = m.memory.stack } };
 }
 
-impl Machine {
-    pub fn new() -> Self
-        ensures { result ≡ start }
+impl<'a> Machine<'a> {
+    pub fn new(context: &'a [u8], text: &'a [u8]) -> Self
+        requires context_short { length context.now < 2 ^ 32 }
+        requires text_short { length text.now < 2 ^ 32 }
+        ensures state { state_of result ≡ start }
+        ensures span { (result.context ≡ context.now) × (result.text ≡ text.now) }
     {
         let mut registers = [None; 11];
         registers[1] = Some(CONTEXT);
@@ -41,7 +45,7 @@ impl Machine {
         Machine {
             slot: 0,
             registers,
-            stack: [None; 512],
+            memory: Memory::new(context, text),
         }
     }
 
@@ -51,14 +55,15 @@ impl Machine {
         self.slot
     }
 
+    #[tactic(auto, using(crate::proofs::Registers::reads))]
     fn register(&self, register: Register) -> Result<u64, FaultKind>
-        ensures { result ≡ register_of self.now register }
+        ensures { result ≡ register_of (state_of self.now) register }
     {
         self.registers[register.index()].ok_or(FaultKind::UnsetRegister)
     }
 
     fn operand(&self, operand: Operand) -> Result<u64, FaultKind>
-        ensures { result ≡ operand_in self.now operand }
+        ensures { result ≡ operand_in (state_of self.now) operand }
     {
         match operand {
             Operand::Immediate(value) => Ok(i64::from(value).cast_unsigned()),
@@ -67,9 +72,9 @@ impl Machine {
     }
 
     fn write(&mut self, register: Register, value: u64) -> Result<(), FaultKind>
-        ensures ok { OnOk result (written self.old register value ≡ Ok self.new) }
-        ensures err { IfErr result (λ kind. written self.old register value ≡ Err kind) }
-        ensures slot { self.new.slot ≡ self.old.slot }
+        ensures ok { OnOk result (written (state_of self.old) register value ≡ Ok (state_of self.new)) }
+        ensures err { IfErr result (λ kind. written (state_of self.old) register value ≡ Err kind) }
+        ensures stays { Stays self.old self.new }
     {
         if register.index() == 10 {
             return Err(FaultKind::WriteR10);
@@ -85,15 +90,15 @@ impl Machine {
         value: u64,
         distance: i32,
     ) -> Result<Motion, FaultKind>
-        ensures value { move_of result self.new ≡ write_and_go self.old register value distance }
-        ensures slot { self.new.slot ≡ self.old.slot }
+        ensures value { move_of result (state_of self.new) ≡ write_and_go (state_of self.old) register value distance }
+        ensures stays { Stays self.old self.new }
     {
         self.write(register, value)?;
         Ok(Motion::By(distance))
     }
 
     fn first_operand(&self, operation: Arithmetic, register: Register) -> Result<u64, FaultKind>
-        ensures { result ≡ first_of self.now operation register }
+        ensures { result ≡ first_of (state_of self.now) operation register }
     {
         if operation == Arithmetic::Mov {
             Ok(0)
@@ -109,8 +114,8 @@ impl Machine {
         destination: Register,
         operand: Operand,
     ) -> Result<Motion, FaultKind>
-        ensures value { (context text : List ℕ) → move_of result self.new ≡ perform context text self.old (Insn.Compute width operation destination operand) }
-        ensures slot { self.new.slot ≡ self.old.slot }
+        ensures value { move_of result (state_of self.new) ≡ perform self.old.context self.old.text (state_of self.old) (Insn.Compute width operation destination operand) }
+        ensures stays { Stays self.old self.new }
     {
         let a = self.first_operand(operation, destination)?;
         let b = self.operand(operand)?;
@@ -118,8 +123,8 @@ impl Machine {
     }
 
     fn negate(&mut self, width: Width, destination: Register) -> Result<Motion, FaultKind>
-        ensures value { (context text : List ℕ) → move_of result self.new ≡ perform context text self.old (Insn.Negate width destination) }
-        ensures slot { self.new.slot ≡ self.old.slot }
+        ensures value { move_of result (state_of self.new) ≡ perform self.old.context self.old.text (state_of self.old) (Insn.Negate width destination) }
+        ensures stays { Stays self.old self.new }
     {
         let a = self.register(destination)?;
         self.write_and_go(destination, negate(width, a), 0)
@@ -131,8 +136,8 @@ impl Machine {
         destination: Register,
         source: Register,
     ) -> Result<Motion, FaultKind>
-        ensures value { (context text : List ℕ) → move_of result self.new ≡ perform context text self.old (Insn.Extend extension destination source) }
-        ensures slot { self.new.slot ≡ self.old.slot }
+        ensures value { move_of result (state_of self.new) ≡ perform self.old.context self.old.text (state_of self.old) (Insn.Extend extension destination source) }
+        ensures stays { Stays self.old self.new }
     {
         let a = self.register(source)?;
         self.write_and_go(destination, extend(extension, a), 0)
@@ -144,8 +149,8 @@ impl Machine {
         bits: ConvertedBits,
         destination: Register,
     ) -> Result<Motion, FaultKind>
-        ensures value { (context text : List ℕ) → move_of result self.new ≡ perform context text self.old (Insn.Convert conversion bits destination) }
-        ensures slot { self.new.slot ≡ self.old.slot }
+        ensures value { move_of result (state_of self.new) ≡ perform self.old.context self.old.text (state_of self.old) (Insn.Convert conversion bits destination) }
+        ensures stays { Stays self.old self.new }
     {
         let a = self.register(destination)?;
         self.write_and_go(destination, convert(conversion, bits, a), 0)
@@ -159,7 +164,7 @@ impl Machine {
         right: Operand,
         distance: i16,
     ) -> Result<Motion, FaultKind>
-        ensures { (context text : List ℕ) → move_of result self.now ≡ perform context text self.now (Insn.Branch width comparison left right distance) }
+        ensures { move_of result (state_of self.now) ≡ perform self.now.context self.now.text (state_of self.now) (Insn.Branch width comparison left right distance) }
     {
         let a = self.register(left)?;
         let b = self.operand(right)?;
@@ -172,75 +177,61 @@ impl Machine {
 
     fn load(
         &mut self,
-        context: &[u8],
-        text: &[u8],
         size: Size,
         destination: Register,
         base: Register,
         offset: i16,
     ) -> Result<Motion, FaultKind>
-        requires context_short { length context.now < 2 ^ 32 }
-        requires text_short { length text.now < 2 ^ 32 }
-        ensures value { move_of result self.new ≡ perform context.now text.now self.old (Insn.Load size destination base offset) }
-        ensures slot { self.new.slot ≡ self.old.slot }
+        ensures value { move_of result (state_of self.new) ≡ perform self.old.context self.old.text (state_of self.old) (Insn.Load size destination base offset) }
+        ensures stays { Stays self.old self.new }
     {
         let address = address(self.register(base)?, offset);
-        let value = load(context, text, &self.stack, address, size)?;
+        let value = self.memory.load(address, size)?;
         self.write_and_go(destination, value, 0)
     }
 
     fn load_signed(
         &mut self,
-        context: &[u8],
-        text: &[u8],
         size: SignedSize,
         destination: Register,
         base: Register,
         offset: i16,
     ) -> Result<Motion, FaultKind>
-        requires context_short { length context.now < 2 ^ 32 }
-        requires text_short { length text.now < 2 ^ 32 }
-        ensures value { move_of result self.new ≡ perform context.now text.now self.old (Insn.LoadSigned size destination base offset) }
-        ensures slot { self.new.slot ≡ self.old.slot }
+        ensures value { move_of result (state_of self.new) ≡ perform self.old.context self.old.text (state_of self.old) (Insn.LoadSigned size destination base offset) }
+        ensures stays { Stays self.old self.new }
     {
         let address = address(self.register(base)?, offset);
-        let value = load(context, text, &self.stack, address, size_read(size))?;
+        let value = self.memory.load(address, size_read(size))?;
         self.write_and_go(destination, sign(size, value), 0)
     }
 
     fn store(
         &mut self,
-        context: &[u8],
-        text: &[u8],
         size: Size,
         base: Register,
         offset: i16,
         value: Operand,
     ) -> Result<Motion, FaultKind>
-        requires context_short { length context.now < 2 ^ 32 }
-        requires text_short { length text.now < 2 ^ 32 }
-        ensures value { move_of result self.new ≡ perform context.now text.now self.old (Insn.Store size base offset value) }
-        ensures slot { self.new.slot ≡ self.old.slot }
+        ensures value { move_of result (state_of self.new) ≡ perform self.old.context self.old.text (state_of self.old) (Insn.Store size base offset value) }
+        ensures stays { Stays self.old self.new }
     {
         let address = address(self.register(base)?, offset);
         let value = self.operand(value)?;
-        store(context, text, &mut self.stack, address, size, value)?;
+        self.memory.store(address, size, value)?;
         Ok(Motion::By(0))
     }
 
     fn exit(&self) -> Result<Motion, FaultKind>
-        ensures { (context text : List ℕ) → move_of result self.now ≡ perform context text self.now Insn.Exit }
+        ensures { move_of result (state_of self.now) ≡ perform self.now.context self.now.text (state_of self.now) Insn.Exit }
     {
         let value = self.register(Register::r0())?;
         Ok(Motion::Stops(value))
     }
 
     /// What an instruction does, whatever the program is.
-    fn perform(&mut self, context: &[u8], text: &[u8], insn: Insn) -> Result<Motion, FaultKind>
-        requires context_short { length context.now < 2 ^ 32 }
-        requires text_short { length text.now < 2 ^ 32 }
-        ensures value { move_of result self.new ≡ perform context.now text.now self.old insn }
-        ensures slot { self.new.slot ≡ self.old.slot }
+    fn perform(&mut self, insn: Insn) -> Result<Motion, FaultKind>
+        ensures value { move_of result (state_of self.new) ≡ perform self.old.context self.old.text (state_of self.old) insn }
+        ensures stays { Stays self.old self.new }
     {
         match insn {
             Insn::Compute {
@@ -274,19 +265,19 @@ impl Machine {
                 destination,
                 base,
                 offset,
-            } => self.load(context, text, size, destination, base, offset),
+            } => self.load(size, destination, base, offset),
             Insn::LoadSigned {
                 size,
                 destination,
                 base,
                 offset,
-            } => self.load_signed(context, text, size, destination, base, offset),
+            } => self.load_signed(size, destination, base, offset),
             Insn::Store {
                 size,
                 base,
                 offset,
                 value,
-            } => self.store(context, text, size, base, offset, value),
+            } => self.store(size, base, offset, value),
             Insn::LoadWide { destination, value } => self.write_and_go(destination, value, 1),
             Insn::Exit => self.exit(),
         }
@@ -295,9 +286,10 @@ impl Machine {
     /// On by a distance, counted from the slot after this one.
     fn go_by(&mut self, words: &Words<'_>, distance: i32) -> Result<(), FaultKind>
         requires { self.old.slot < length (program_of words.now) }
-        ensures ok { OnOk result (go_by (program_of words.now) self.old distance ≡ Ok (Next self.new)) }
-        ensures err { IfErr result (λ kind. go_by (program_of words.now) self.old distance ≡ Err kind) }
-        ensures stays { self.new.slot < length (program_of words.now) }
+        ensures ok { OnOk result (go_by (program_of words.now) (state_of self.old) distance ≡ Ok (Next (state_of self.new))) }
+        ensures err { IfErr result (λ kind. go_by (program_of words.now) (state_of self.old) distance ≡ Err kind) }
+        ensures within { self.new.slot < length (program_of words.now) }
+        ensures reads { Reads self.old self.new }
     {
         let count = words.len();
         let Some(slot) = (self.slot + 1).checked_add_signed(distance as isize) else {
@@ -311,22 +303,16 @@ impl Machine {
     }
 
     /// One step of the machine.
-    pub fn step(
-        &mut self,
-        words: &Words<'_>,
-        context: &[u8],
-        text: &[u8],
-    ) -> Result<Progress, FaultKind>
+    pub fn step(&mut self, words: &Words<'_>) -> Result<Progress, FaultKind>
         requires within { self.old.slot < length (program_of words.now) }
-        requires context_short { length context.now < 2 ^ 32 }
-        requires text_short { length text.now < 2 ^ 32 }
-        ensures value { result_of result self.new ≡ step (program_of words.now) context.now text.now self.old }
-        ensures stays { self.new.slot < length (program_of words.now) }
+        ensures value { result_of result (state_of self.new) ≡ step (program_of words.now) self.old.context self.old.text (state_of self.old) }
+        ensures within { self.new.slot < length (program_of words.now) }
+        ensures reads { Reads self.old self.new }
     {
         let Some(insn) = words.insn(self.slot) else {
             return Err(FaultKind::BadInstruction);
         };
-        match self.perform(context, text, insn)? {
+        match self.perform(insn)? {
             Motion::By(distance) => {
                 self.go_by(words, distance)?;
                 Ok(Progress::Goes)
@@ -344,14 +330,14 @@ fn address(base: u64, offset: i16) -> u64
 }
 
 /// What an instruction without a fault does to the run: it goes on by a distance, counted from the slot after it, or ends it.
-#[derive(Clone, Copy, Debug, PartialEq, Eq)]
+#[derive(Clone, Copy)]
 pub enum Motion {
     By(i32),
     Stops(u64),
 }
 
 /// How a step without a fault ends.
-#[derive(Clone, Copy, Debug, PartialEq, Eq)]
+#[derive(Clone, Copy)]
 pub enum Progress {
     Goes,
     Ends(u64),

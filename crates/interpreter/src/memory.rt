@@ -1,11 +1,13 @@
-ghost use Rattle.std.specs.Prelude.{◌≡◌, ℕ, ◌+◌, ◌<◌, ◌≤◌, ◌^◌, length, map, drop, Some, IfSome, IfOk, OnOk, IfErr, Ok, Err};
+ghost use Rattle.std.specs.Prelude.{◌≡◌, ℕ, ◌+◌, ◌<◌, ◌≤◌, ◌^◌, length, map, drop, replicate, Some, None, IfSome, IfOk, OnOk, IfErr, Ok, Err};
 ghost use Rattle.byteorder.specs.Endian.{little_bytes, little_number};
+ghost use Rattle.interpreter.specs.Running.{Regions};
 ghost use Rattle.meaning.specs.Memory.{load as load_of, store as store_of, bytes_in, bytes_in_signed, lies_in, stack_number, stored};
 
 use bpf_words::context::{CONTEXT, FRAME, TEXT};
 use bpf_words::instruction::{SignedSize, Size};
 use byteorder::{ByteOrder, LittleEndian};
 use meaning::FaultKind;
+use std::marker::Model;
 
 /// The address at which the stack begins.
 const STACK: u64 = FRAME - 512;
@@ -98,54 +100,73 @@ fn store_on_stack(stack: &mut [Option<u8>; 512], place: usize, size: Size, value
     stack[place..place + count].copy_from_slice(&bytes[..count]);
 }
 
-/// The number in the bytes at an address.
-pub fn load(
-    context: &[u8],
-    text: &[u8],
-    stack: &[Option<u8>; 512],
-    address: u64,
-    size: Size,
-) -> Result<u64, FaultKind>
-    requires context_short { length context.now < 2 ^ 32 }
-    requires text_short { length text.now < 2 ^ 32 }
-    ensures value { result ≡ load_of context.now text.now stack.now address (bytes_in size) }
-    ensures small { IfOk result (λ number. number < 256 ^ bytes_in size) }
-{
-    let count = count(size);
-    if is_in(CONTEXT, context.len(), address, count) {
-        Ok(number(context, (address - CONTEXT) as usize, size))
-    } else if is_in(TEXT, text.len(), address, count) {
-        Ok(number(text, (address - TEXT) as usize, size))
-    } else if is_in(STACK, 512, address, count) {
-        number_on_stack(stack, (address - STACK) as usize, count).ok_or(FaultKind::UnsetStack)
-    } else {
-        Err(FaultKind::BadAddress)
-    }
+/// What addresses lead to: the context and the text of a span, and the run's stack.
+#[derive(Drop)]
+pub struct Memory<'a> {
+    context: &'a [u8],
+    text: &'a [u8],
+    stack: [Option<u8>; 512],
 }
 
-/// Writes a number's low bytes at an address.
-pub fn store(
-    context: &[u8],
-    text: &[u8],
-    stack: &mut [Option<u8>; 512],
-    address: u64,
-    size: Size,
-    value: u64,
-) -> Result<(), FaultKind>
-    requires context_short { length context.now < 2 ^ 32 }
-    requires text_short { length text.now < 2 ^ 32 }
-    ensures ok { OnOk result (store_of context.now text.now stack.old address (bytes_in size) value ≡ Ok stack.new) }
-    ensures err { IfErr result (λ kind. store_of context.now text.now stack.old address (bytes_in size) value ≡ Err kind) }
-{
-    let count = count(size);
-    if is_in(STACK, 512, address, count) {
-        store_on_stack(stack, (address - STACK) as usize, size, value);
-        Ok(())
-    } else if is_in(CONTEXT, context.len(), address, count)
-        || is_in(TEXT, text.len(), address, count)
+impl<'a> Model for Memory<'a> {
+    ghost Value = { Regions };
+
+    ghost view = { λ m. record { context = m.context.now; text = m.text.now; stack = m.stack } };
+
+    ghost invariant = { λ m. (length m.context.now < 2 ^ 32) × (length m.text.now < 2 ^ 32) };
+}
+
+impl<'a> Memory<'a> {
+    /// The memory of a run that begins: no byte of the stack is set.
+    pub fn new(context: &'a [u8], text: &'a [u8]) -> Self
+        requires context_short { length context.now < 2 ^ 32 }
+        requires text_short { length text.now < 2 ^ 32 }
+        ensures span { (result.context ≡ context.now) × (result.text ≡ text.now) }
+        ensures unset { result.stack ≡ replicate 512 None }
     {
-        Err(FaultKind::ReadOnly)
-    } else {
-        Err(FaultKind::BadAddress)
+        Memory {
+            context,
+            text,
+            stack: [None; 512],
+        }
+    }
+
+    /// The number in the bytes at an address.
+    pub fn load(&self, address: u64, size: Size) -> Result<u64, FaultKind>
+        ensures value { result ≡ load_of self.now.context self.now.text self.now.stack address (bytes_in size) }
+        ensures small { IfOk result (λ number. number < 256 ^ bytes_in size) }
+    {
+        let count = count(size);
+        if is_in(CONTEXT, self.context.len(), address, count) {
+            Ok(number(self.context, (address - CONTEXT) as usize, size))
+        } else if is_in(TEXT, self.text.len(), address, count) {
+            Ok(number(self.text, (address - TEXT) as usize, size))
+        } else if is_in(STACK, 512, address, count) {
+            number_on_stack(&self.stack, (address - STACK) as usize, count).ok_or(
+                FaultKind::UnsetStack,
+            )
+        } else {
+            Err(FaultKind::BadAddress)
+        }
+    }
+
+    /// Writes a number's low bytes at an address.
+    pub fn store(&mut self, address: u64, size: Size, value: u64) -> Result<(), FaultKind>
+        ensures ok { OnOk result (store_of self.old.context self.old.text self.old.stack address (bytes_in size) value ≡ Ok self.new.stack) }
+        ensures err { IfErr result (λ kind. store_of self.old.context self.old.text self.old.stack address (bytes_in size) value ≡ Err kind) }
+        ensures context { self.new.context ≡ self.old.context }
+        ensures text { self.new.text ≡ self.old.text }
+    {
+        let count = count(size);
+        if is_in(STACK, 512, address, count) {
+            store_on_stack(&mut self.stack, (address - STACK) as usize, size, value);
+            Ok(())
+        } else if is_in(CONTEXT, self.context.len(), address, count)
+            || is_in(TEXT, self.text.len(), address, count)
+        {
+            Err(FaultKind::ReadOnly)
+        } else {
+            Err(FaultKind::BadAddress)
+        }
     }
 }

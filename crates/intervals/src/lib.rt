@@ -23,11 +23,10 @@ impl Range {
         ensures ends { IfSome result (λ r. Spans r low high) }
         ensures contains { (x : ℕ) → low ≤ x → x ≤ high → Within result x }
     {
-        if low <= high {
-            Some(Range { low, high })
-        } else {
-            None
+        if low > high {
+            return None;
         }
+        Some(Range { low, high })
     }
 
     /// Every number.

@@ -1,191 +1,260 @@
--- What `and`, `or`, `xor`, `join` and `meet` say, by what they say at one bit.
-use Rattle.std.proofs.Common.{◌≡◌, ℕ, ◌+◌, ◌-◌, ◌%◌, ◌^◌, ◌<◌, min, max, bit_and, bit_or, bit_xor, refl, sym, ap, ◌∙◌, arith}
-use Rattle.std.proofs.lemmas.Nat.{or_lt, xor_lt, and_le_l}
+-- What `and`, `or`, `xor`, `join` and `meet` say, by what they say at one place.
+use Rattle.std.proofs.Common.{◌≡◌, ℕ, ◌+◌, ◌-◌, ◌%◌, ◌^◌, ◌<◌, ◌≤◌, ⊎_elim, min, max, bit_and, bit_or, bit_xor, sym, ap, ◌∙◌, arith}
+use Rattle.std.proofs.lemmas.Bool.{cases_lt}
 use Rattle.known_bits.specs.declared.Bits.{Bits}
 use Rattle.known_bits.specs.Bits.{bit, Contains, Maps, MapsBoth, FixesBoth, most}
-use Rattle.known_bits.proofs.BitLaws.{bit-lt, bit-zero, bit-and, bit-or, bit-xor, same, bit-and_not}
-use Rattle.known_bits.proofs.Members.{Fit, fit, apart, apart_from, has_value, has_most}
+use Rattle.known_bits.proofs.BitLaws.{bit-lt, bit-zero, bit-and, bit-or, bit-xor, bit-above, same_below, and-fits, or-fits, xor-fits}
+use Rattle.known_bits.proofs.Members.{Fit, fit, apart, has_value, has_most}
 
--- `w & !v` shares no bit with v
-apart_not_bit : (v w : ℕ) → v < 2 → min v (min w (1 - v)) ≡ 0
-apart_not_bit v w a = grind arith
+-- what a bit of a result is, of the value and the unknown bit of each operand at its place
+abbrev pub Rule : Type 0
+Rule = ℕ → ℕ → ℕ → ℕ → ℕ
 
-apart_not : (v w : ℕ) → v < 2 ^ 64 → w < 2 ^ 64 → bit_and v (bit_and w (18446744073709551615 - v)) ≡ 0
-apart_not v w h g = apart_from _ _ (λ k. rw (bit-and_not w v k g h) (apart_not_bit _ _ (bit-lt v k)))
+-- a word that has such bits
+pub record IsMade (a b : Bits) (rule : Rule) (n : ℕ) : Type 0 where
+  pub fits : n < 2 ^ 64
+  pub bits : (k : ℕ) → k < 64 → bit n k ≡ rule (bit a.value k) (bit a.unknown k) (bit b.value k) (bit b.unknown k)
 
--- ---- and
-and_agrees_bit : (va ma vb mb x y : ℕ) → va < 2 → ma < 2 → vb < 2 → mb < 2 → x < 2 → y < 2 → (ma ≡ 0 → x ≡ va) → (mb ≡ 0 → y ≡ vb) → min va ma ≡ 0 → min vb mb ≡ 0 → min (min (max va ma) (max vb mb)) (1 - min va vb) ≡ 0 → min x y ≡ min va vb
-and_agrees_bit va ma vb mb x y a b c d xb yb ex ey da db h = grind arith
+-- the bits of one place
+pub record ArePlace (va ma vb mb : ℕ) : Type 0 where
+  pub value : va < 2
+  pub unknown : ma < 2
+  pub other_value : vb < 2
+  pub other_unknown : mb < 2
+  pub disjoint : min va ma ≡ 0
+  pub other_disjoint : min vb mb ≡ 0
 
-and_knows_bit : (va ma vb mb : ℕ) → va < 2 → ma < 2 → vb < 2 → mb < 2 → min va vb ≡ min (max va ma) (max vb mb) → min (min (max va ma) (max vb mb)) (1 - min va vb) ≡ 0
-and_knows_bit va ma vb mb a b c d h = grind arith
-
-and_lt : (a b : ℕ) → a < 2 ^ 64 → bit_and a b < 2 ^ 64
-and_lt a b h = omega (arith, and_le_l a b)
-
-pub and_apart : (a b : Bits) → Fit a → Fit b → bit_and (bit_and a.value b.value) (bit_and (bit_and (most a) (most b)) (18446744073709551615 - bit_and a.value b.value)) ≡ 0
-and_apart a b fa fb = apart_not _ _ (and_lt _ _ fa.value) (and_lt _ _ (or_lt 64 _ _ fa.value fa.unknown))
-
--- the bits of `(most a & most b) & !(a.value & b.value)`
-and_unknown : (a b : Bits) → Fit a → Fit b → (k : ℕ) → bit (bit_and (bit_and (most a) (most b)) (18446744073709551615 - bit_and a.value b.value)) k ≡ min (min (max (bit a.value k) (bit a.unknown k)) (max (bit b.value k) (bit b.unknown k))) (1 - min (bit a.value k) (bit b.value k))
-and_unknown a b fa fb k =
-    let mf : bit_and (most a) (most b) < 2 ^ 64 = and_lt _ _ (or_lt 64 _ _ fa.value fa.unknown) in
-    let vf : bit_and a.value b.value < 2 ^ 64 = and_lt _ _ fa.value in
-    bit-and_not _ _ k mf vf ∙ simp (bit-and, bit-or)
-
-pub and_contains : (a b r : Bits) → Fit a → Fit b → r.value ≡ bit_and a.value b.value → r.unknown ≡ bit_and (bit_and (most a) (most b)) (18446744073709551615 - bit_and a.value b.value) → MapsBoth a b r (λ x y. bit_and x y)
-and_contains a b r fa fb ev em x y ca cb = record {
-  fits = and_lt x y ca.fits;
-  agrees = λ k e.
-      rw (ev, bit-and, bit-and)
-      (and_agrees_bit _ _ _ _ _ _ (bit-lt _ k) (bit-lt _ k) (bit-lt _ k) (bit-lt _ k) (bit-lt x k) (bit-lt y k) (ca.agrees k) (cb.agrees k) (apart _ _ a.disjoint k) (apart _ _ b.disjoint k) (sym (and_unknown a b fa fb k) ∙ sym (ap (λ n. bit n k) em) ∙ e));
+place : (a b : Bits) (k : ℕ) → ArePlace (bit a.value k) (bit a.unknown k) (bit b.value k) (bit b.unknown k)
+place a b k = record {
+  value = bit-lt _ k;
+  unknown = bit-lt _ k;
+  other_value = bit-lt _ k;
+  other_unknown = bit-lt _ k;
+  disjoint = apart _ _ a.disjoint k;
+  other_disjoint = apart _ _ b.disjoint k;
 }
 
-pub and_knows : (a b : Bits) (m : ℕ) → Fit a → Fit b → m ≡ bit_and (bit_and (most a) (most b)) (18446744073709551615 - bit_and a.value b.value) → (k : ℕ) → FixesBoth a b k (λ x y. bit_and x y) → bit m k ≡ 0
+-- two words share no bit where no place does
+made_apart : (a b : Bits) (value unknown : Rule) (v m : ℕ) → IsMade a b value v → IsMade a b unknown m → ((va ma vb mb : ℕ) → ArePlace va ma vb mb → min (value va ma vb mb) (unknown va ma vb mb) ≡ 0) → bit_and v m ≡ 0
+made_apart a b value unknown v m ev em h =
+    let zero_fits : 0 < 2 ^ 64 = omega arith in
+    same_below _ _ (and-fits _ _ ev.fits) zero_fits (λ k below. rw (bit-and, ev.bits k below, em.bits k below, bit-zero) (h _ _ _ _ (place a b k)))
+
+-- a number is contained where each place below 64 agrees
+made_contains : (a b r : Bits) (value unknown : Rule) (x : ℕ) → IsMade a b value r.value → IsMade a b unknown r.unknown → x < 2 ^ 64 → ((k : ℕ) → k < 64 → unknown (bit a.value k) (bit a.unknown k) (bit b.value k) (bit b.unknown k) ≡ 0 → bit x k ≡ value (bit a.value k) (bit a.unknown k) (bit b.value k) (bit b.unknown k)) → Contains r x
+made_contains a b r value unknown x ev em fx h = record {
+  fits = fx;
+  agrees = λ k e.
+      ⊎_elim
+      (λ (below : k < 64). h k below (sym (em.bits k below) ∙ e) ∙ sym (ev.bits k below))
+      (λ (above : 64 ≤ k). bit-above x k fx above ∙ sym (bit-above r.value k ev.fits above))
+      (cases_lt k 64);
+}
+
+-- a bit is known where its place says so
+made_knows : (a b : Bits) (unknown : Rule) (m k : ℕ) → IsMade a b unknown m → unknown (bit a.value k) (bit a.unknown k) (bit b.value k) (bit b.unknown k) ≡ 0 → bit m k ≡ 0
+made_knows a b unknown m k em h =
+    ⊎_elim
+    (λ (below : k < 64). em.bits k below ∙ h)
+    (λ (above : 64 ≤ k). bit-above m k em.fits above)
+    (cases_lt k 64)
+
+-- ---- and
+abbrev pub and_value : Rule
+and_value va ma vb mb = min va vb
+
+abbrev pub and_unknown : Rule
+and_unknown va ma vb mb = min (min (max va ma) (max vb mb)) (1 - min va vb)
+
+and_apart_bit : (va ma vb mb : ℕ) → ArePlace va ma vb mb → min (min va vb) (min (min (max va ma) (max vb mb)) (1 - min va vb)) ≡ 0
+and_apart_bit va ma vb mb p = grind arith
+
+and_agrees_bit : (va ma vb mb x y : ℕ) → ArePlace va ma vb mb → x < 2 → y < 2 → (ma ≡ 0 → x ≡ va) → (mb ≡ 0 → y ≡ vb) → min (min (max va ma) (max vb mb)) (1 - min va vb) ≡ 0 → min x y ≡ min va vb
+and_agrees_bit va ma vb mb x y p xb yb ex ey h = grind arith
+
+and_knows_bit : (va ma vb mb : ℕ) → ArePlace va ma vb mb → min va vb ≡ min (max va ma) (max vb mb) → min (min (max va ma) (max vb mb)) (1 - min va vb) ≡ 0
+and_knows_bit va ma vb mb p h = grind arith
+
+pub and_apart : (a b : Bits) (v m : ℕ) → IsMade a b and_value v → IsMade a b and_unknown m → bit_and v m ≡ 0
+and_apart a b v m ev em = made_apart a b and_value and_unknown v m ev em and_apart_bit
+
+pub and_contains : (a b r : Bits) → IsMade a b and_value r.value → IsMade a b and_unknown r.unknown → MapsBoth a b r (λ x y. bit_and x y)
+and_contains a b r ev em x y ca cb =
+    made_contains a b r and_value and_unknown (bit_and x y) ev em (and-fits x y ca.fits)
+    (λ k below e. bit-and x y k ∙ and_agrees_bit _ _ _ _ _ _ (place a b k) (bit-lt x k) (bit-lt y k) (ca.agrees k) (cb.agrees k) e)
+
+pub and_knows : (a b : Bits) (m : ℕ) → Fit a → Fit b → IsMade a b and_unknown m → (k : ℕ) → FixesBoth a b k (λ x y. bit_and x y) → bit m k ≡ 0
 and_knows a b m fa fb em k same_bit =
     let e : min (bit a.value k) (bit b.value k) ≡ min (max (bit a.value k) (bit a.unknown k)) (max (bit b.value k) (bit b.unknown k)) =
     simp (bit-and, bit-or) at (same_bit a.value b.value (most a) (most b) (has_value a fa) (has_value b fb) (has_most a fa) (has_most b fb)) in
-    ap (λ n. bit n k) em ∙ and_unknown a b fa fb k ∙ and_knows_bit _ _ _ _ (bit-lt _ k) (bit-lt _ k) (bit-lt _ k) (bit-lt _ k) e
+    made_knows a b and_unknown m k em (and_knows_bit _ _ _ _ (place a b k) e)
 
 -- ---- or
-or_agrees_bit : (va ma vb mb x y : ℕ) → va < 2 → ma < 2 → vb < 2 → mb < 2 → x < 2 → y < 2 → (ma ≡ 0 → x ≡ va) → (mb ≡ 0 → y ≡ vb) → min va ma ≡ 0 → min vb mb ≡ 0 → min (max ma mb) (1 - max va vb) ≡ 0 → max x y ≡ max va vb
-or_agrees_bit va ma vb mb x y a b c d xb yb ex ey da db h = grind arith
+abbrev pub or_value : Rule
+or_value va ma vb mb = max va vb
 
-or_knows_bit : (va ma vb mb : ℕ) → va < 2 → ma < 2 → vb < 2 → mb < 2 → min va ma ≡ 0 → min vb mb ≡ 0 → max va vb ≡ max (max va ma) (max vb mb) → min (max ma mb) (1 - max va vb) ≡ 0
-or_knows_bit va ma vb mb a b c d da db h = grind arith
+abbrev pub or_unknown : Rule
+or_unknown va ma vb mb = min (max ma mb) (1 - max va vb)
 
-or_unknown : (a b : Bits) → Fit a → Fit b → (k : ℕ) → bit (bit_and (bit_or a.unknown b.unknown) (18446744073709551615 - bit_or a.value b.value)) k ≡ min (max (bit a.unknown k) (bit b.unknown k)) (1 - max (bit a.value k) (bit b.value k))
-or_unknown a b fa fb k = bit-and_not _ _ k (or_lt 64 _ _ fa.unknown fb.unknown) (or_lt 64 _ _ fa.value fb.value) ∙ simp bit-or
+or_apart_bit : (va ma vb mb : ℕ) → ArePlace va ma vb mb → min (max va vb) (min (max ma mb) (1 - max va vb)) ≡ 0
+or_apart_bit va ma vb mb p = grind arith
 
-pub or_apart : (a b : Bits) → Fit a → Fit b → bit_and (bit_or a.value b.value) (bit_and (bit_or a.unknown b.unknown) (18446744073709551615 - bit_or a.value b.value)) ≡ 0
-or_apart a b fa fb = apart_not _ _ (or_lt 64 _ _ fa.value fb.value) (or_lt 64 _ _ fa.unknown fb.unknown)
+or_agrees_bit : (va ma vb mb x y : ℕ) → ArePlace va ma vb mb → x < 2 → y < 2 → (ma ≡ 0 → x ≡ va) → (mb ≡ 0 → y ≡ vb) → min (max ma mb) (1 - max va vb) ≡ 0 → max x y ≡ max va vb
+or_agrees_bit va ma vb mb x y p xb yb ex ey h = grind arith
 
-pub or_contains : (a b r : Bits) → Fit a → Fit b → r.value ≡ bit_or a.value b.value → r.unknown ≡ bit_and (bit_or a.unknown b.unknown) (18446744073709551615 - bit_or a.value b.value) → MapsBoth a b r (λ x y. bit_or x y)
-or_contains a b r fa fb ev em x y ca cb = record {
-  fits = or_lt 64 x y ca.fits cb.fits;
-  agrees = λ k e.
-      rw (ev, bit-or, bit-or)
-      (or_agrees_bit _ _ _ _ _ _ (bit-lt _ k) (bit-lt _ k) (bit-lt _ k) (bit-lt _ k) (bit-lt x k) (bit-lt y k) (ca.agrees k) (cb.agrees k) (apart _ _ a.disjoint k) (apart _ _ b.disjoint k) (sym (or_unknown a b fa fb k) ∙ sym (ap (λ n. bit n k) em) ∙ e));
-}
+or_knows_bit : (va ma vb mb : ℕ) → ArePlace va ma vb mb → max va vb ≡ max (max va ma) (max vb mb) → min (max ma mb) (1 - max va vb) ≡ 0
+or_knows_bit va ma vb mb p h = grind arith
 
-pub or_knows : (a b : Bits) (m : ℕ) → Fit a → Fit b → m ≡ bit_and (bit_or a.unknown b.unknown) (18446744073709551615 - bit_or a.value b.value) → (k : ℕ) → FixesBoth a b k (λ x y. bit_or x y) → bit m k ≡ 0
+pub or_apart : (a b : Bits) (v m : ℕ) → IsMade a b or_value v → IsMade a b or_unknown m → bit_and v m ≡ 0
+or_apart a b v m ev em = made_apart a b or_value or_unknown v m ev em or_apart_bit
+
+pub or_contains : (a b r : Bits) → IsMade a b or_value r.value → IsMade a b or_unknown r.unknown → MapsBoth a b r (λ x y. bit_or x y)
+or_contains a b r ev em x y ca cb =
+    made_contains a b r or_value or_unknown (bit_or x y) ev em (or-fits x y ca.fits cb.fits)
+    (λ k below e. bit-or x y k ∙ or_agrees_bit _ _ _ _ _ _ (place a b k) (bit-lt x k) (bit-lt y k) (ca.agrees k) (cb.agrees k) e)
+
+pub or_knows : (a b : Bits) (m : ℕ) → Fit a → Fit b → IsMade a b or_unknown m → (k : ℕ) → FixesBoth a b k (λ x y. bit_or x y) → bit m k ≡ 0
 or_knows a b m fa fb em k same_bit =
     let e : max (bit a.value k) (bit b.value k) ≡ max (max (bit a.value k) (bit a.unknown k)) (max (bit b.value k) (bit b.unknown k)) =
     simp bit-or at (same_bit a.value b.value (most a) (most b) (has_value a fa) (has_value b fb) (has_most a fa) (has_most b fb)) in
-    ap (λ n. bit n k) em ∙ or_unknown a b fa fb k ∙ or_knows_bit _ _ _ _ (bit-lt _ k) (bit-lt _ k) (bit-lt _ k) (bit-lt _ k) (apart _ _ a.disjoint k) (apart _ _ b.disjoint k) e
+    made_knows a b or_unknown m k em (or_knows_bit _ _ _ _ (place a b k) e)
 
 -- ---- xor
-xor_agrees_bit : (va ma vb mb x y : ℕ) → va < 2 → ma < 2 → vb < 2 → mb < 2 → x < 2 → y < 2 → (ma ≡ 0 → x ≡ va) → (mb ≡ 0 → y ≡ vb) → max ma mb ≡ 0 → (x + y) % 2 ≡ min ((va + vb) % 2) (1 - max ma mb)
-xor_agrees_bit va ma vb mb x y a b c d xb yb ex ey h = grind arith
+abbrev pub xor_value : Rule
+xor_value va ma vb mb = min ((va + vb) % 2) (1 - max ma mb)
 
-xor_knows_bit : (va ma vb mb : ℕ) → min va ma ≡ 0 → min vb mb ≡ 0 → va < 2 → ma < 2 → vb < 2 → mb < 2 → (va + vb) % 2 ≡ (max va ma + vb) % 2 → (va + vb) % 2 ≡ (va + max vb mb) % 2 → max ma mb ≡ 0
-xor_knows_bit va ma vb mb da db a b c d h g = grind arith
+abbrev pub xor_unknown : Rule
+xor_unknown va ma vb mb = max ma mb
 
-pub xor_contains : (a b r : Bits) → Fit a → Fit b → r.value ≡ bit_and (bit_xor a.value b.value) (18446744073709551615 - bit_or a.unknown b.unknown) → r.unknown ≡ bit_or a.unknown b.unknown → MapsBoth a b r (λ x y. bit_xor x y)
-xor_contains a b r fa fb ev em x y ca cb = record {
-  fits = xor_lt 64 x y ca.fits cb.fits;
-  agrees = λ k e.
-      let none : max (bit a.unknown k) (bit b.unknown k) ≡ 0 = sym (bit-or _ _ k) ∙ sym (ap (λ n. bit n k) em) ∙ e in
-      rw (ev, bit-and_not (bit_xor a.value b.value) (bit_or a.unknown b.unknown) k (xor_lt 64 _ _ fa.value fb.value) (or_lt 64 _ _ fa.unknown fb.unknown))
-      (simp (bit-or, bit-xor) (xor_agrees_bit _ _ _ _ _ _ (bit-lt _ k) (bit-lt _ k) (bit-lt _ k) (bit-lt _ k) (bit-lt x k) (bit-lt y k) (ca.agrees k) (cb.agrees k) none));
-}
+xor_apart_bit : (va ma vb mb : ℕ) → ArePlace va ma vb mb → min (min ((va + vb) % 2) (1 - max ma mb)) (max ma mb) ≡ 0
+xor_apart_bit va ma vb mb p = grind arith
 
-pub xor_knows : (a b : Bits) (m : ℕ) → Fit a → Fit b → m ≡ bit_or a.unknown b.unknown → (k : ℕ) → FixesBoth a b k (λ x y. bit_xor x y) → bit m k ≡ 0
+xor_agrees_bit : (va ma vb mb x y : ℕ) → ArePlace va ma vb mb → x < 2 → y < 2 → (ma ≡ 0 → x ≡ va) → (mb ≡ 0 → y ≡ vb) → max ma mb ≡ 0 → (x + y) % 2 ≡ min ((va + vb) % 2) (1 - max ma mb)
+xor_agrees_bit va ma vb mb x y p xb yb ex ey h = grind arith
+
+xor_knows_bit : (va ma vb mb : ℕ) → ArePlace va ma vb mb → (va + vb) % 2 ≡ (max va ma + vb) % 2 → (va + vb) % 2 ≡ (va + max vb mb) % 2 → max ma mb ≡ 0
+xor_knows_bit va ma vb mb p h g = grind arith
+
+pub xor_apart : (a b : Bits) (v m : ℕ) → IsMade a b xor_value v → IsMade a b xor_unknown m → bit_and v m ≡ 0
+xor_apart a b v m ev em = made_apart a b xor_value xor_unknown v m ev em xor_apart_bit
+
+pub xor_contains : (a b r : Bits) → IsMade a b xor_value r.value → IsMade a b xor_unknown r.unknown → MapsBoth a b r (λ x y. bit_xor x y)
+xor_contains a b r ev em x y ca cb =
+    made_contains a b r xor_value xor_unknown (bit_xor x y) ev em (xor-fits x y ca.fits cb.fits)
+    (λ k below e. bit-xor x y k ∙ xor_agrees_bit _ _ _ _ _ _ (place a b k) (bit-lt x k) (bit-lt y k) (ca.agrees k) (cb.agrees k) e)
+
+pub xor_knows : (a b : Bits) (m : ℕ) → Fit a → Fit b → IsMade a b xor_unknown m → (k : ℕ) → FixesBoth a b k (λ x y. bit_xor x y) → bit m k ≡ 0
 xor_knows a b m fa fb em k same_bit =
     let left : (bit a.value k + bit b.value k) % 2 ≡ (max (bit a.value k) (bit a.unknown k) + bit b.value k) % 2 =
     simp (bit-or, bit-xor) at (same_bit a.value b.value (most a) b.value (has_value a fa) (has_value b fb) (has_most a fa) (has_value b fb)) in
     let right : (bit a.value k + bit b.value k) % 2 ≡ (bit a.value k + max (bit b.value k) (bit b.unknown k)) % 2 =
     simp (bit-or, bit-xor) at (same_bit a.value b.value a.value (most b) (has_value a fa) (has_value b fb) (has_value a fa) (has_most b fb)) in
-    ap (λ n. bit n k) em ∙ bit-or _ _ k ∙ xor_knows_bit _ _ _ _ (apart _ _ a.disjoint k) (apart _ _ b.disjoint k) (bit-lt _ k) (bit-lt _ k) (bit-lt _ k) (bit-lt _ k) left right
+    made_knows a b xor_unknown m k em (xor_knows_bit _ _ _ _ (place a b k) left right)
 
 -- ---- join
-join_left_bit : (va ma vb mb x : ℕ) → va < 2 → vb < 2 → (ma ≡ 0 → x ≡ va) → max (max ma mb) ((va + vb) % 2) ≡ 0 → x ≡ min va (1 - max (max ma mb) ((va + vb) % 2))
-join_left_bit va ma vb mb x a b e h = grind arith
+abbrev pub join_value : Rule
+join_value va ma vb mb = min va (1 - max (max ma mb) ((va + vb) % 2))
 
-join_right_bit : (va ma vb mb x : ℕ) → va < 2 → vb < 2 → (mb ≡ 0 → x ≡ vb) → max (max ma mb) ((va + vb) % 2) ≡ 0 → x ≡ min va (1 - max (max ma mb) ((va + vb) % 2))
-join_right_bit va ma vb mb x a b e h = grind arith
+abbrev pub join_unknown : Rule
+join_unknown va ma vb mb = max (max ma mb) ((va + vb) % 2)
 
-pub join_lt : (a b : Bits) → Fit a → Fit b → bit_or (bit_or a.unknown b.unknown) (bit_xor a.value b.value) < 2 ^ 64
-join_lt a b fa fb = or_lt 64 _ _ (or_lt 64 _ _ fa.unknown fb.unknown) (xor_lt 64 _ _ fa.value fb.value)
+join_apart_bit : (va ma vb mb : ℕ) → ArePlace va ma vb mb → min (min va (1 - max (max ma mb) ((va + vb) % 2))) (max (max ma mb) ((va + vb) % 2)) ≡ 0
+join_apart_bit va ma vb mb p = grind arith
 
-pub join_left : (a b r : Bits) → Fit a → Fit b → r.unknown ≡ bit_or (bit_or a.unknown b.unknown) (bit_xor a.value b.value) → r.value ≡ bit_and a.value (18446744073709551615 - bit_or (bit_or a.unknown b.unknown) (bit_xor a.value b.value)) → Maps a r (λ x. x)
-join_left a b r fa fb em ev x ca = record {
-  fits = ca.fits;
-  agrees = λ k e.
-      let known : max (max (bit a.unknown k) (bit b.unknown k)) ((bit a.value k + bit b.value k) % 2) ≡ 0 =
-      simp (bit-or, bit-xor) at (sym (ap (λ n. bit n k) em) ∙ e) in
-      rw (ev, bit-and_not a.value (bit_or (bit_or a.unknown b.unknown) (bit_xor a.value b.value)) k fa.value (join_lt a b fa fb))
-      (simp (bit-or, bit-xor) (join_left_bit _ _ _ _ _ (bit-lt _ k) (bit-lt _ k) (ca.agrees k) known));
-}
+join_left_bit : (va ma vb mb x : ℕ) → ArePlace va ma vb mb → (ma ≡ 0 → x ≡ va) → max (max ma mb) ((va + vb) % 2) ≡ 0 → x ≡ min va (1 - max (max ma mb) ((va + vb) % 2))
+join_left_bit va ma vb mb x p e h = grind arith
 
-pub join_right : (a b r : Bits) → Fit a → Fit b → r.unknown ≡ bit_or (bit_or a.unknown b.unknown) (bit_xor a.value b.value) → r.value ≡ bit_and a.value (18446744073709551615 - bit_or (bit_or a.unknown b.unknown) (bit_xor a.value b.value)) → Maps b r (λ x. x)
-join_right a b r fa fb em ev x cb = record {
-  fits = cb.fits;
-  agrees = λ k e.
-      let known : max (max (bit a.unknown k) (bit b.unknown k)) ((bit a.value k + bit b.value k) % 2) ≡ 0 =
-      simp (bit-or, bit-xor) at (sym (ap (λ n. bit n k) em) ∙ e) in
-      rw (ev, bit-and_not a.value (bit_or (bit_or a.unknown b.unknown) (bit_xor a.value b.value)) k fa.value (join_lt a b fa fb))
-      (simp (bit-or, bit-xor) (join_right_bit _ _ _ _ _ (bit-lt _ k) (bit-lt _ k) (cb.agrees k) known));
-}
+join_right_bit : (va ma vb mb x : ℕ) → ArePlace va ma vb mb → (mb ≡ 0 → x ≡ vb) → max (max ma mb) ((va + vb) % 2) ≡ 0 → x ≡ min va (1 - max (max ma mb) ((va + vb) % 2))
+join_right_bit va ma vb mb x p e h = grind arith
 
 agreed_bit : (va ma vb mb : ℕ) → ma ≡ 0 → mb ≡ 0 → va ≡ vb → max (max ma mb) ((va + vb) % 2) ≡ 0
 agreed_bit va ma vb mb a b e = grind arith
 
-pub join_agreed : (a b : Bits) (k : ℕ) → bit a.unknown k ≡ 0 → bit b.unknown k ≡ 0 → bit a.value k ≡ bit b.value k → bit (bit_or (bit_or a.unknown b.unknown) (bit_xor a.value b.value)) k ≡ 0
-join_agreed a b k p q e = simp (bit-or, bit-xor) (agreed_bit _ _ _ _ p q e)
+pub join_apart : (a b : Bits) (v m : ℕ) → IsMade a b join_value v → IsMade a b join_unknown m → bit_and v m ≡ 0
+join_apart a b v m ev em = made_apart a b join_value join_unknown v m ev em join_apart_bit
+
+pub join_left : (a b r : Bits) → IsMade a b join_value r.value → IsMade a b join_unknown r.unknown → Maps a r (λ x. x)
+join_left a b r ev em x ca =
+    made_contains a b r join_value join_unknown x ev em ca.fits (λ k below e. join_left_bit _ _ _ _ _ (place a b k) (ca.agrees k) e)
+
+pub join_right : (a b r : Bits) → IsMade a b join_value r.value → IsMade a b join_unknown r.unknown → Maps b r (λ x. x)
+join_right a b r ev em x cb =
+    made_contains a b r join_value join_unknown x ev em cb.fits (λ k below e. join_right_bit _ _ _ _ _ (place a b k) (cb.agrees k) e)
+
+pub join_agreed : (a b : Bits) (m : ℕ) → IsMade a b join_unknown m → (k : ℕ) → bit a.unknown k ≡ 0 → bit b.unknown k ≡ 0 → bit a.value k ≡ bit b.value k → bit m k ≡ 0
+join_agreed a b m em k p q e = made_knows a b join_unknown m k em (agreed_bit _ _ _ _ p q e)
 
 -- ---- meet
-meet_apart_bit : (va ma vb mb : ℕ) → min va ma ≡ 0 → min vb mb ≡ 0 → va < 2 → ma < 2 → vb < 2 → mb < 2 → min (max va vb) (min ma mb) ≡ 0
-meet_apart_bit va ma vb mb da db a b c d = grind arith
+abbrev pub meet_value : Rule
+meet_value va ma vb mb = max va vb
 
-pub meet_apart : (a b : Bits) → bit_and (bit_or a.value b.value) (bit_and a.unknown b.unknown) ≡ 0
-meet_apart a b =
-    apart_from _ _ (λ k. simp (bit-and, bit-or) (meet_apart_bit _ _ _ _ (apart _ _ a.disjoint k) (apart _ _ b.disjoint k) (bit-lt _ k) (bit-lt _ k) (bit-lt _ k) (bit-lt _ k)))
-
-meet_agrees_bit : (va ma vb mb x : ℕ) → min va ma ≡ 0 → min vb mb ≡ 0 → va < 2 → ma < 2 → vb < 2 → mb < 2 → (ma ≡ 0 → x ≡ va) → (mb ≡ 0 → x ≡ vb) → min ma mb ≡ 0 → x ≡ max va vb
-meet_agrees_bit va ma vb mb x da db a b c d ea eb h = grind arith
-
-pub meet_contains : (a b r : Bits) → r.value ≡ bit_or a.value b.value → r.unknown ≡ bit_and a.unknown b.unknown → (x : ℕ) → Contains a x → Contains b x → Contains r x
-meet_contains a b r ev em x ca cb = record {
-  fits = ca.fits;
-  agrees = λ k e.
-      let known : min (bit a.unknown k) (bit b.unknown k) ≡ 0 = sym (bit-and _ _ k) ∙ sym (ap (λ n. bit n k) em) ∙ e in
-      rw ev (simp bit-or (meet_agrees_bit _ _ _ _ _ (apart _ _ a.disjoint k) (apart _ _ b.disjoint k) (bit-lt _ k) (bit-lt _ k) (bit-lt _ k) (bit-lt _ k) (ca.agrees k) (cb.agrees k) known));
-}
+abbrev pub meet_unknown : Rule
+meet_unknown va ma vb mb = min ma mb
 
 -- the bits that both know and on which they differ
-clash_bits : (a b : Bits) → Fit a → Fit b → (k : ℕ) → bit (bit_and (bit_xor a.value b.value) (18446744073709551615 - bit_or a.unknown b.unknown)) k ≡ min ((bit a.value k + bit b.value k) % 2) (1 - max (bit a.unknown k) (bit b.unknown k))
-clash_bits a b fa fb k = bit-and_not _ _ k (xor_lt 64 _ _ fa.value fb.value) (or_lt 64 _ _ fa.unknown fb.unknown) ∙ simp (bit-or, bit-xor)
+abbrev pub clash : Rule
+clash va ma vb mb = min ((va + vb) % 2) (1 - max ma mb)
 
-meet_only_bit : (va ma vb mb x : ℕ) → va < 2 → ma < 2 → vb < 2 → mb < 2 → min vb mb ≡ 0 → min ((va + vb) % 2) (1 - max ma mb) ≡ 0 → (min ma mb ≡ 0 → x ≡ max va vb) → ma ≡ 0 → x ≡ va
-meet_only_bit va ma vb mb x a b c d db h e z = grind arith
+meet_apart_bit : (va ma vb mb : ℕ) → ArePlace va ma vb mb → min (max va vb) (min ma mb) ≡ 0
+meet_apart_bit va ma vb mb p = grind arith
 
-meet_only_right_bit : (va ma vb mb x : ℕ) → va < 2 → ma < 2 → vb < 2 → mb < 2 → min va ma ≡ 0 → min ((va + vb) % 2) (1 - max ma mb) ≡ 0 → (min ma mb ≡ 0 → x ≡ max va vb) → mb ≡ 0 → x ≡ vb
-meet_only_right_bit va ma vb mb x a b c d da h e z = grind arith
+meet_agrees_bit : (va ma vb mb x : ℕ) → ArePlace va ma vb mb → (ma ≡ 0 → x ≡ va) → (mb ≡ 0 → x ≡ vb) → min ma mb ≡ 0 → x ≡ max va vb
+meet_agrees_bit va ma vb mb x p ea eb h = grind arith
 
--- where no known bits clash, what the meet contains is in both
-met_bit : (a b r : Bits) → r.value ≡ bit_or a.value b.value → r.unknown ≡ bit_and a.unknown b.unknown → (x : ℕ) → Contains r x → (k : ℕ) → min (bit a.unknown k) (bit b.unknown k) ≡ 0 → bit x k ≡ max (bit a.value k) (bit b.value k)
-met_bit a b r ev em x c k z =
-    c.agrees k (ap (λ n. bit n k) em ∙ bit-and _ _ k ∙ z) ∙ ap (λ n. bit n k) ev ∙ bit-or _ _ k
+meet_only_bit : (va ma vb mb x : ℕ) → ArePlace va ma vb mb → min ((va + vb) % 2) (1 - max ma mb) ≡ 0 → (min ma mb ≡ 0 → x ≡ max va vb) → ma ≡ 0 → x ≡ va
+meet_only_bit va ma vb mb x p h e z = grind arith
 
-pub meet_only : (a b r : Bits) → Fit a → Fit b → bit_and (bit_xor a.value b.value) (18446744073709551615 - bit_or a.unknown b.unknown) ≡ 0 → r.value ≡ bit_or a.value b.value → r.unknown ≡ bit_and a.unknown b.unknown → (x : ℕ) → Contains r x → Contains a x × Contains b x
-meet_only a b r fa fb clash ev em x c =
-    let none : (k : ℕ) → min ((bit a.value k + bit b.value k) % 2) (1 - max (bit a.unknown k) (bit b.unknown k)) ≡ 0 = λ k. sym (clash_bits a b fa fb k) ∙ ap (λ n. bit n k) clash ∙ bit-zero k in (
-      record { fits = c.fits; agrees = λ k z. meet_only_bit _ _ _ _ _ (bit-lt _ k) (bit-lt _ k) (bit-lt _ k) (bit-lt _ k) (apart _ _ b.disjoint k) (none k) (met_bit a b r ev em x c k) z },
-      record { fits = c.fits; agrees = λ k z. meet_only_right_bit _ _ _ _ _ (bit-lt _ k) (bit-lt _ k) (bit-lt _ k) (bit-lt _ k) (apart _ _ a.disjoint k) (none k) (met_bit a b r ev em x c k) z },
-    )
+meet_only_right_bit : (va ma vb mb x : ℕ) → ArePlace va ma vb mb → min ((va + vb) % 2) (1 - max ma mb) ≡ 0 → (min ma mb ≡ 0 → x ≡ max va vb) → mb ≡ 0 → x ≡ vb
+meet_only_right_bit va ma vb mb x p h e z = grind arith
 
--- so both contain its value
-pub met : (a b : Bits) → Fit a → Fit b → bit_and (bit_xor a.value b.value) (18446744073709551615 - bit_or a.unknown b.unknown) ≡ 0 → Contains a (bit_or a.value b.value) × Contains b (bit_or a.value b.value)
-met a b fa fb clash =
-    let r : Bits = record { value = bit_or a.value b.value; unknown = bit_and a.unknown b.unknown; disjoint = meet_apart a b } in
-    meet_only a b r fa fb clash refl refl r.value (has_value r (fit r (or_lt 64 _ _ fa.value fb.value) (and_lt _ _ fa.unknown)))
+clash_bit : (va ma vb mb x : ℕ) → ArePlace va ma vb mb → (ma ≡ 0 → x ≡ va) → (mb ≡ 0 → x ≡ vb) → min ((va + vb) % 2) (1 - max ma mb) ≡ 0
+clash_bit va ma vb mb x p ea eb = grind arith
 
-clash_bit : (va ma vb mb x : ℕ) → va < 2 → ma < 2 → vb < 2 → mb < 2 → (ma ≡ 0 → x ≡ va) → (mb ≡ 0 → x ≡ vb) → min ((va + vb) % 2) (1 - max ma mb) ≡ 0
-clash_bit va ma vb mb x a b c d ea eb = grind arith
+pub meet_apart : (a b : Bits) (v m : ℕ) → IsMade a b meet_value v → IsMade a b meet_unknown m → bit_and v m ≡ 0
+meet_apart a b v m ev em = made_apart a b meet_value meet_unknown v m ev em meet_apart_bit
+
+pub meet_contains : (a b r : Bits) → IsMade a b meet_value r.value → IsMade a b meet_unknown r.unknown → (x : ℕ) → Contains a x → Contains b x → Contains r x
+meet_contains a b r ev em x ca cb =
+    made_contains a b r meet_value meet_unknown x ev em ca.fits (λ k below e. meet_agrees_bit _ _ _ _ _ (place a b k) (ca.agrees k) (cb.agrees k) e)
 
 -- where some number is in both, no known bits clash
-pub no_clash : (a b : Bits) → Fit a → Fit b → (x : ℕ) → Contains a x → Contains b x → bit_and (bit_xor a.value b.value) (18446744073709551615 - bit_or a.unknown b.unknown) ≡ 0
-no_clash a b fa fb x ca cb =
-    same _ _
-    (λ k. clash_bits a b fa fb k ∙ clash_bit _ _ _ _ (bit x k) (bit-lt _ k) (bit-lt _ k) (bit-lt _ k) (bit-lt _ k) (ca.agrees k) (cb.agrees k) ∙ sym (bit-zero k))
+pub no_clash : (a b : Bits) (n : ℕ) → IsMade a b clash n → (x : ℕ) → Contains a x → Contains b x → n ≡ 0
+no_clash a b n en x ca cb =
+    let zero_fits : 0 < 2 ^ 64 = omega arith in
+    same_below _ _ en.fits zero_fits
+    (λ k below. en.bits k below ∙ clash_bit _ _ _ _ (bit x k) (place a b k) (ca.agrees k) (cb.agrees k) ∙ sym (bit-zero k))
+
+no_clash_at : (a b : Bits) (n : ℕ) → IsMade a b clash n → n ≡ 0 → (k : ℕ) → k < 64 → min ((bit a.value k + bit b.value k) % 2) (1 - max (bit a.unknown k) (bit b.unknown k)) ≡ 0
+no_clash_at a b n en none k below = sym (en.bits k below) ∙ ap (λ m. bit m k) none ∙ bit-zero k
+
+-- where no known bits clash, what the meet contains is in both
+met_bit : (a b r : Bits) → IsMade a b meet_value r.value → IsMade a b meet_unknown r.unknown → (x : ℕ) → Contains r x → (k : ℕ) → k < 64 → min (bit a.unknown k) (bit b.unknown k) ≡ 0 → bit x k ≡ max (bit a.value k) (bit b.value k)
+met_bit a b r ev em x c k below z = c.agrees k (em.bits k below ∙ z) ∙ ev.bits k below
+
+pub meet_only : (a b r : Bits) (n : ℕ) → Fit a → Fit b → IsMade a b clash n → n ≡ 0 → IsMade a b meet_value r.value → IsMade a b meet_unknown r.unknown → (x : ℕ) → Contains r x → Contains a x × Contains b x
+meet_only a b r n fa fb en none ev em x c = (
+  record {
+    fits = c.fits;
+    agrees = λ k z.
+        ⊎_elim
+        (λ (below : k < 64). meet_only_bit _ _ _ _ _ (place a b k) (no_clash_at a b n en none k below) (met_bit a b r ev em x c k below) z)
+        (λ (above : 64 ≤ k). bit-above x k c.fits above ∙ sym (bit-above a.value k fa.value above))
+        (cases_lt k 64);
+  },
+  record {
+    fits = c.fits;
+    agrees = λ k z.
+        ⊎_elim
+        (λ (below : k < 64). meet_only_right_bit _ _ _ _ _ (place a b k) (no_clash_at a b n en none k below) (met_bit a b r ev em x c k below) z)
+        (λ (above : 64 ≤ k). bit-above x k c.fits above ∙ sym (bit-above b.value k fb.value above))
+        (cases_lt k 64);
+  },
+)
+
+-- so both contain its value
+pub met : (a b : Bits) (n : ℕ) → Fit a → Fit b → IsMade a b clash n → n ≡ 0 → (x : ℕ) × (Contains a x × Contains b x)
+met a b n fa fb en none =
+    let ev : IsMade a b meet_value (bit_or a.value b.value) = record { fits = or-fits _ _ fa.value fb.value; bits = λ k below. bit-or a.value b.value k } in
+    let em : IsMade a b meet_unknown (bit_and a.unknown b.unknown) = record { fits = and-fits _ _ fa.unknown; bits = λ k below. bit-and a.unknown b.unknown k } in
+    let r : Bits = record { value = bit_or a.value b.value; unknown = bit_and a.unknown b.unknown; disjoint = meet_apart a b _ _ ev em } in
+    (r.value, meet_only a b r n fa fb en none ev em r.value (has_value r (fit r ev.fits em.fits)))

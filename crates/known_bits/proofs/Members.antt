@@ -1,10 +1,10 @@
 -- Which numbers some known bits contain: the least, the greatest, and what lies between.
-use Rattle.std.proofs.Common.{◌≡◌, ℕ, ◌-◌, ◌^◌, ◌<◌, ◌≤◌, ⊎_elim, min, max, bit_and, bit_or, refl, sym, ap, ◌∙◌, arith}
+use Rattle.std.proofs.Common.{◌≡◌, ℕ, ◌-◌, ◌^◌, ◌<◌, ◌≤◌, ⊎_elim, min, max, bit_and, refl, sym, ap, ◌∙◌, arith}
 use Rattle.std.proofs.lemmas.Nat.{or_lt, and_le_r}
 use Rattle.std.proofs.lemmas.Bool.{cases_lt}
 use Rattle.known_bits.specs.declared.Bits.{Bits}
 use Rattle.known_bits.specs.Bits.{bit, Contains, most}
-use Rattle.known_bits.proofs.BitLaws.{bit-lt, bit-zero, bit-and, bit-or, bit-above, same, bit-and_not, bit-max}
+use Rattle.known_bits.proofs.BitLaws.{bit-lt, bit-zero, bit-and, bit-or, bit-above, same, bit-max}
 
 -- both words have 64 bits
 pub record Fit (b : Bits) : Type 0 where
@@ -62,18 +62,19 @@ any_contains r em ev x h = record {
       (cases_lt k 64);
 }
 
--- the test of `has`
-pub has_contains : (b : Bits) (x : ℕ) → Fit b → x < 2 ^ 64 → bit_and x (18446744073709551615 - b.unknown) ≡ b.value → Contains b x
+-- the test of `has`, place by place
+pub has_contains : (b : Bits) (x : ℕ) → Fit b → x < 2 ^ 64 → ((k : ℕ) → k < 64 → min (bit x k) (1 - bit b.unknown k) ≡ bit b.value k) → Contains b x
 has_contains b x f h e = record {
   fits = h;
   agrees = λ k z.
-      let e1 : min (bit x k) (1 - bit b.unknown k) ≡ bit b.value k = sym (bit-and_not x b.unknown k h f.unknown) ∙ ap (λ n. bit n k) e in
-      omega (arith, bit-lt x k);
+      ⊎_elim
+      (λ (below : k < 64). let here = e k below in omega (arith, bit-lt x k))
+      (λ (above : 64 ≤ k). bit-above x k h above ∙ sym (bit-above b.value k f.value above))
+      (cases_lt k 64);
 }
 
 has_bit : (v m x : ℕ) → min v m ≡ 0 → v < 2 → m < 2 → x < 2 → (m ≡ 0 → x ≡ v) → min x (1 - m) ≡ v
 has_bit v m x d a b c e = grind arith
 
-pub contains_has : (b : Bits) (x : ℕ) → Fit b → Contains b x → bit_and x (18446744073709551615 - b.unknown) ≡ b.value
-contains_has b x f c =
-    same _ _ (λ k. bit-and_not x b.unknown k c.fits f.unknown ∙ has_bit _ _ _ (apart _ _ b.disjoint k) (bit-lt b.value k) (bit-lt b.unknown k) (bit-lt x k) (c.agrees k))
+pub contains_has : (b : Bits) (x : ℕ) → Contains b x → (k : ℕ) → min (bit x k) (1 - bit b.unknown k) ≡ bit b.value k
+contains_has b x c k = has_bit _ _ _ (apart _ _ b.disjoint k) (bit-lt b.value k) (bit-lt b.unknown k) (bit-lt x k) (c.agrees k)

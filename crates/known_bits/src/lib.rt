@@ -115,6 +115,13 @@ impl Bits {
         }
     }
 
+    /// Whether no bit may be set in both.
+    fn is_apart(self, other: Bits) -> bool
+        ensures { IsTrue result ↔ IsApart self other }
+    {
+        self.greatest() & other.greatest() == 0
+    }
+
     /// The sum modulo 2^64: nothing is carried where no bit may be set in both, and the sum is then the `or`.
     pub fn add(self, other: Bits) -> Bits
         ensures contains { MapsBoth self other result (λ x y. (x + y) % 2 ^ 64) }
@@ -122,13 +129,21 @@ impl Bits {
         ensures constants { self.unknown ≡ 0 → other.unknown ≡ 0 → IsConstant result ((self.value + other.value) % 2 ^ 64) }
         ensures otherwise { ¬ IsApart self other → ¬ ((self.unknown ≡ 0) × (other.unknown ≡ 0)) → result.unknown ≡ 2 ^ 64 - 1 }
     {
-        if self.greatest() & other.greatest() == 0 {
+        if self.is_apart(other) {
             return self.or(other);
         }
         if self.unknown == 0 && other.unknown == 0 {
             return Bits::constant(self.value.wrapping_add(other.value));
         }
         Bits::unknown()
+    }
+
+    /// Whether each bit that `other` may have is a known 1.
+    fn covers(self, other: Bits) -> bool
+        ensures { IsTrue result ↔ Covers self other }
+    {
+        let most = other.greatest();
+        most & self.value == most
     }
 
     /// The difference modulo 2^64: nothing is borrowed where each bit that `other` may have is a known 1
@@ -139,8 +154,7 @@ impl Bits {
         ensures constants { self.unknown ≡ 0 → other.unknown ≡ 0 → IsConstant result ((self.value + (2 ^ 64 - other.value)) % 2 ^ 64) }
         ensures otherwise { ¬ Covers self other → ¬ ((self.unknown ≡ 0) × (other.unknown ≡ 0)) → result.unknown ≡ 2 ^ 64 - 1 }
     {
-        let most = other.greatest();
-        if most & self.value == most {
+        if self.covers(other) {
             return self.xor(other);
         }
         if self.unknown == 0 && other.unknown == 0 {
@@ -204,7 +218,8 @@ impl Bits {
         ensures only { IfSome result (λ r. (x : ℕ) → Contains r x → Contains self x × Contains other x) }
     {
         let known = !(self.unknown | other.unknown);
-        if (self.value ^ other.value) & known != 0 {
+        let clash = (self.value ^ other.value) & known;
+        if clash != 0 {
             return None;
         }
         Some(Bits {

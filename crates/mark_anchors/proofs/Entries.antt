@@ -1,7 +1,8 @@
 -- The operations that are held, each under its id.
-use Rattle.std.proofs.Common.{◌≡◌, ℕ, zero, suc, Bool, true, false, List, [], ◌∷◌, ◌++◌, Some, length, if◌then◌else◌, refl, sym, ap, subst, ◌∙◌, arith, ⊎_elim, Contains}
+use Rattle.std.proofs.Common.{◌≡◌, ℕ, zero, suc, Bool, true, false, cond, List, [], ◌∷◌, ◌++◌, Option, Some, None, Bor, MatchOption, length, if◌then◌else◌, refl, sym, ap, subst, ◌∙◌, arith, ⊎_elim, Contains}
 use Rattle.std.specs.List.{slice_get, AllZip}
-use Rattle.std.specs.Map.{values_of}
+use Rattle.std.specs.Map.{values_of, lookup}
+use Rattle.std.specs.Option.{option_copied}
 use Rattle.std.specs.Prelude.{nat_eq}
 use Rattle.std.specs.Cmp.{unsigned_Decides}
 use Rattle.std.proofs.Common.{◌<◌, ◌&&◌}
@@ -13,8 +14,10 @@ use Rattle.indexmap.specs.IndexMap.{insert_entry}
 use Rattle.change_ops.specs.Operations.{id_of}
 use Rattle.change_ops.specs.declared.id.OpId.{OpId}
 use Rattle.change_ops.specs.declared.operation.Op.{Op}
-use Rattle.mark_anchors.proofs.Lists.{pushed_cases, contains_from}
+use Rattle.char_sequence.proofs.Ids.{same_id_self}
+use Rattle.mark_anchors.proofs.Lists.{pushed_cases, contains_at, contains_from}
 use Rattle.mark_anchors.specs.Marks.{AreFiled}
+use Rattle.mark_anchors.specs.Anchored.{same_id as same_id_test}
 
 -- a key that is not there goes last
 pub entered_last : {K X : Type 0} (eq : K → K → Bool) (es : List (K × X)) (k : K) (v : X) → ((i : ℕ) (e : K × X) → slice_get es i ≡ Some e → eq k e.0 ≡ true → ⊥) → insert_entry eq es k v ≡ es ++ (k, v) ∷ []
@@ -69,3 +72,45 @@ same_entries C D same_key same_value (e ∷ es) (f ∷ fs) clones =
     let value : f.1 ≡ e.1 = same_value e.1 f.1 clones.0.1 in
     let rest : fs ≡ es = same_entries C D same_key same_value es fs clones.1 in
     λ i. (key i, value i) ∷ rest i
+
+-- ---- an entry by its id
+found : (test : OpId → Bool) (es : List (OpId × Op)) (o : Op) → lookup test es ≡ Some o → (i : ℕ) × ((e : OpId × Op) × (slice_get es i ≡ Some e) × (test e.0 ≡ true) × (e.1 ≡ o))
+found test [] o g = absurd (none-some o g)
+found test (e ∷ es) o g =
+    ⊎_elim
+    (λ (here : test e.0 ≡ true). (zero, (e, refl, here, same_Some e.1 o (ap (λ b. cond b (Some e.1) (lookup test es)) (sym here) ∙ g))))
+    (λ (not : test e.0 ≡ false).
+    let r = found test es o (ap (λ b. cond b (Some e.1) (lookup test es)) (sym not) ∙ g) in
+    (suc r.0, (r.1.0, r.1.1, r.1.2, r.1.3)))
+    (cases_Bool (test e.0))
+
+not_found : (test : OpId → Bool) (es : List (OpId × Op)) → lookup test es ≡ None → (i : ℕ) (e : OpId × Op) → slice_get es i ≡ Some e → test e.0 ≡ true → ⊥
+not_found test [] g i e at passes = none-some e at
+not_found test (x ∷ xs) g zero e at passes =
+    let here : test x.0 ≡ true = ap (λ z. test z.0) (same_Some x e at) ∙ passes in
+    none-some x.1 (sym g ∙ ap (λ b. cond b (Some x.1) (lookup test xs)) here)
+not_found test (x ∷ xs) g (suc i) e at passes =
+    ⊎_elim
+    (λ (here : test x.0 ≡ true). none-some x.1 (sym g ∙ ap (λ b. cond b (Some x.1) (lookup test xs)) here))
+    (λ (other : test x.0 ≡ false). not_found test xs (sym (ap (λ b. cond b (Some x.1) (lookup test xs)) other) ∙ g) i e at passes)
+    (cases_Bool (test x.0))
+
+values_at : (es : List (OpId × Op)) (i : ℕ) (o : Op) → slice_get (values_of es) i ≡ Some o → (e : OpId × Op) × (slice_get es i ≡ Some e) × (e.1 ≡ o)
+values_at [] i o g = absurd (none-some o g)
+values_at (x ∷ xs) zero o g = (x, refl, same_Some x.1 o g)
+values_at (x ∷ xs) (suc i) o g = values_at xs i o g
+
+-- what a look-up by the id answers
+pub mark_looked_up : (es : List (OpId × Op)) (marks : List Op) (id : OpId) → values_of es ≡ marks → AreFiled es → (r : Option (Bor Op)) → option_copied r ≡ lookup (same_id_test id) es → MatchOption r ((o : Op) → Contains marks o → id_of o ≡ id → ⊥) (λ o. Contains marks o.now × (id_of o.now ≡ id))
+mark_looked_up es marks id view filed None e =
+    λ o held same.
+    let at = contains_at marks o held in
+    let entry = values_at es at.0 o (ap (λ l. slice_get l at.0) view ∙ at.1) in
+    let key : id ≡ entry.0.0 = sym same ∙ ap id_of (sym entry.2) ∙ sym (filed.under at.0 entry.0 entry.1) in
+    not_found (same_id_test id) es (sym e) at.0 entry.0 entry.1 (subst (λ k. same_id_test id k ≡ true) key (same_id_self id))
+mark_looked_up es marks id view filed (Some b) e =
+    let r = found (same_id_test id) es b.now (sym e) in
+    let value : slice_get marks r.0 ≡ Some b.now = subst (λ l. slice_get l r.0 ≡ Some b.now) view (at_value es r.0 r.1.0 r.1.1 ∙ ap Some r.1.3) in (
+      contains_from marks r.0 b.now value,
+      sym (ap id_of r.1.3) ∙ sym (filed.under r.0 r.1.0 r.1.1) ∙ sym (same_id id r.1.0.0 r.1.2),
+    )

@@ -1,6 +1,9 @@
 pub mod Lists
+pub mod Rising
 pub mod Formats
 pub mod Entries
+pub mod AnchorLists
+pub mod Holding
 pub mod MarkLaws
 pub mod Places
 pub mod AnchorOrder
@@ -8,4 +11,6 @@ pub mod Deciding
 pub mod Gathering
 pub mod Values
 pub mod Commenting
+pub mod Uniform
+pub mod Cuts
 pub mod FormatLaws

@@ -3,7 +3,10 @@ pub mod Anchors
 pub mod AnchorList
 pub mod Format
 pub mod Marks
+pub mod MarkRange
+pub mod Anchored
 pub mod Places
 pub mod Placed
 pub mod Commented
 pub mod Resolution
+pub mod Ranges

@@ -1,9 +1,13 @@
 //! The marks of a text: which characters each covers, and the format that they give.
 #![tactic(auto)]
 
+mod anchored;
 pub mod anchors;
 mod comments;
 pub mod format;
+mod mark_index;
+mod mark_range;
 pub mod marks;
 mod placed;
+pub mod ranges;
 pub mod resolved;

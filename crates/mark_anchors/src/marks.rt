@@ -1,10 +1,11 @@
-ghost use Rattle.std.specs.Prelude.{◌≡◌, ◌≤◌, ◌+◌, ◌++◌, ◌∷◌, [], ◌↔◌, List, Contains, ℕ, true, Some, length, slice_get, OnOk, OnErr};
+ghost use Rattle.std.specs.Prelude.{◌≡◌, ◌≤◌, ◌++◌, ◌∷◌, [], ◌↔◌, List, Contains, true, length, IsTrue, MatchOption, OnOk, OnErr};
 ghost use Rattle.change_ops.specs.Operations.{id_of, is_mark};
 ghost use Rattle.mark_anchors.specs.Marks.{AreMarks};
+ghost use Rattle.mark_anchors.specs.Anchored.{Begins, Ends, AreIdsAt};
 
+use crate::mark_index::MarkIndex;
 use change_ops::id::OpId;
-use change_ops::operation::Op;
-use indexmap::IndexMap;
+use change_ops::operation::{Anchor, Op};
 use std::alloc::{AllocError, Global};
 use std::marker::Model;
 
@@ -29,34 +30,23 @@ impl From<AllocError> for MarksError {
     }
 }
 
-/// The operations that add and remove marks, by id, in the order in which they came.
+/// The operations that add and remove marks, by id and by their anchors, in the order in which they came.
 #[derive(Drop)]
 pub struct Marks {
-    by_id: IndexMap<OpId, Op>,
+    index: MarkIndex,
 }
 
 impl Model for Marks {
     ghost use Rattle.std.specs.Prelude.{List};
     ghost use Rattle.change_ops.specs.declared.operation.Op.{Op};
     ghost use Rattle.std.specs.Map.{values_of};
-    ghost use Rattle.mark_anchors.specs.Marks.{AreFiled};
+    ghost use Rattle.mark_anchors.specs.Anchored.{AreHeld};
 
     ghost Value = { List Op };
 
-    ghost view = { λ m. values_of m.by_id.entries };
+    ghost view = { λ m. values_of m.index.by_id.entries };
 
-    ghost invariant = { λ m. AreFiled m.by_id.entries };
-}
-
-/// Puts a new operation last.
-fn file(by_id: &mut IndexMap<OpId, Op>, op: &Op) -> Result<(), AllocError>
-    requires { (i : ℕ) (e : OpId × Op) → slice_get by_id.old.entries i ≡ Some e → e.0 ≡ id_of op.now → ⊥ }
-    ensures ok { OnOk result (by_id.new.entries ≡ by_id.old.entries ++ (id_of op.now, op.now) ∷ []) }
-    ensures err { OnErr result (by_id.new.entries ≡ by_id.old.entries) }
-{
-    let mark = op.clone()?;
-    by_id.insert(op.id(), mark)?;
-    Ok(())
+    ghost invariant = { λ m. AreHeld m.index.by_id.entries m.index.begins.lists.entries m.index.ends.lists.entries };
 }
 
 impl Marks {
@@ -65,8 +55,16 @@ impl Marks {
         ensures { result ≡ [] }
     {
         Marks {
-            by_id: IndexMap::new(alloc),
+            index: MarkIndex::new(alloc),
         }
+    }
+
+    /// Whether no further mark operation is taken.
+    pub fn is_full(&self) -> bool
+        ensures full { IsTrue result ↔ (length self.now ≡ 4096) }
+        ensures limit { length self.now ≤ 4096 }
+    {
+        self.index.by_id.len() >= MARK_LIMIT
     }
 
     /// Adds a mark operation, or leaves the marks unchanged.
@@ -78,18 +76,39 @@ impl Marks {
         ensures full { (result ≡ Err MarksError.MarksFull) ↔ (length self.old ≡ 4096) }
         ensures err { OnErr result (self.new ≡ self.old) }
     {
-        if self.by_id.len() >= MARK_LIMIT {
+        if self.is_full() {
             return Err(MarksError::MarksFull);
         }
-        file(&mut self.by_id, op)?;
+        self.index.add(op)?;
         Ok(())
+    }
+
+    /// The operation of the id, if it is held.
+    pub fn mark(&self, id: OpId) -> Option<&Op>
+        ensures { MatchOption result ((o : Op) → Contains self.now o → id_of o ≡ id → ⊥) (λ o. Contains self.now o.now × (id_of o.now ≡ id)) }
+    {
+        self.index.by_id.get(&id)
+    }
+
+    /// The ids, rising, of the marks whose first anchor this is.
+    pub fn begin_at(&self, anchor: &Anchor) -> &[OpId]
+        ensures { AreIdsAt Begins self.now anchor.now result.now }
+    {
+        self.index.begins.at(anchor)
+    }
+
+    /// The ids, rising, of the marks whose second anchor this is.
+    pub fn end_at(&self, anchor: &Anchor) -> &[OpId]
+        ensures { AreIdsAt Ends self.now anchor.now result.now }
+    {
+        self.index.ends.at(anchor)
     }
 
     /// The operations, in the order in which they came.
     pub fn operations(&self) -> &[Op]
         ensures { result.now ≡ self.now }
     {
-        self.by_id.values().as_slice()
+        self.index.by_id.values().as_slice()
     }
 }
 
@@ -97,7 +116,7 @@ impl Clone for Marks {
     ghost is_clone = { λ old new. new ≡ old };
 
     fn clone(&self) -> Result<Marks, AllocError> {
-        let by_id = self.by_id.clone()?;
-        Ok(Marks { by_id })
+        let index = self.index.clone()?;
+        Ok(Marks { index })
     }
 }

@@ -45,11 +45,11 @@ fn place_of(sequence: &Sequence, id: OpId) -> usize
 }
 
 /// The number of characters, removed ones too, before the anchor.
-fn boundary(sequence: &Sequence, anchor: Anchor) -> usize
+pub(crate) fn boundary(sequence: &Sequence, anchor: Anchor) -> usize
     requires { (ops : List Op) × Shows sequence.now.elements ops × ((x : OpId) → AnchorNames anchor x → Present ops x) }
     ensures { IsBoundary sequence.now.elements anchor result }
 {
-    let count = sequence.elements().len();
+    let count = sequence.len();
     match anchor {
         Anchor::TextStart => 0,
         Anchor::BeforeCharacter(id) => place_of(sequence, id),

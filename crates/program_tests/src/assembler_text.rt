@@ -90,19 +90,6 @@ fn two_faults(rt: HostRuntime) -> Result<(), Fail> {
 }
 
 #[test]
-fn refusals_are_printed(rt: HostRuntime) -> Result<(), Fail> {
-    let refusal = AsmError::Line {
-        line: 3,
-        fault: LineFault::Syntax,
-    };
-    let printed = refusal.to_string(rt.alloc())?;
-    assert!(rt; printed.as_str() == "30 Syntax line 3");
-    let printed = AsmError::OutOfMemory.to_string(rt.alloc())?;
-    assert!(rt; printed.as_str() == "36 OutOfMemory");
-    Ok(())
-}
-
-#[test]
 fn a_bounds_check_is_disassembled(rt: HostRuntime) -> Result<(), Fail> {
     let bytes = [
         0x79, 0x12, 0, 0, 0, 0, 0, 0, 0x79, 0x13, 8, 0, 0, 0, 0, 0, 0xbf, 0x24, 0, 0, 0, 0, 0, 0,

@@ -20,4 +20,6 @@ mod random_programs;
 #[cfg(test)]
 mod random_runs;
 #[cfg(test)]
+mod refusals;
+#[cfg(test)]
 mod token_lines;

@@ -1,66 +1,72 @@
 -- Cutting characters into runs: one character more, and that there is only one way.
 use Rattle.std.proofs.Common.{◌≡◌, ◌≢◌, ◌<◌, List, [], ◌∷◌, ◌++◌, Some, length, map, refl, sym, ap, subst, ◌∙◌, arith, append_assoc, length-append, encode_utf8_all, All}
 use Rattle.std.specs.List.{slice_get}
-use Rattle.std.specs.Char.{encode_utf8}
-use Rattle.std.proofs.lemmas.Option.{same_Some, none-some}
+use Rattle.std.proofs.lemmas.Option.{slice_get_within, get_or_from_slice_get}
+use Rattle.std.proofs.lemmas.Option.{none-some}
 use Rattle.std.proofs.lemmas.List.{append-nil, length_push, map-append}
-use Rattle.std.proofs.lemmas.List.Elements.{All-push, All-head, All-tail}
+use Rattle.std.proofs.lemmas.List.Elements.{All-append, All-contains, All-head, All-tail}
 use Rattle.std.proofs.lemmas.Str.{encodes-append}
 use Rattle.mark_anchors.specs.Formatting.{Formatting}
 use Rattle.span_flatten.specs.Spans.{Shown, Span, IsRun, Cuts}
+use Rattle.span_flatten.specs.Version.{IsPiece}
 
 pub cuts_nil : (spans : List Span) → Cuts [] spans → spans ≡ []
 cuts_nil [] c = refl
 cuts_nil (x ∷ xs) c = absurd (let some = c.1.2.some in omega (arith, length-append c.0 c.1.0, ap length c.1.1))
 
-still_longest : (x : Span) (xs : List Span) (s : Shown) (rest : List Shown) → Cuts rest xs → ((next : Shown) → slice_get rest 0 ≡ Some next → next.format ≢ x.format) → (xs ≡ [] → x.format ≡ s.format → ⊥) → (next : Shown) → slice_get (rest ++ s ∷ []) 0 ≡ Some next → next.format ≢ x.format
-still_longest x xs s [] c old other next g = λ e. other (cuts_nil xs c) (sym e ∙ sym (ap (λ z. z.format) (same_Some s next g)))
-still_longest x xs s (r ∷ rs) c old other next g = old next g
+first_of : (more : List Shown) (f : Formatting) (next : Shown) → All (λ s. s.format ≡ f) more → slice_get more 0 ≡ Some next → next.format ≡ f
+first_of more f next alike g = All-contains (λ s. s.format ≡ f) more next alike (0, slice_get_within more 0 next g, get_or_from_slice_get more 0 next next g)
 
--- a character of another format than the last span's begins a span
-pub cuts_fresh : (shown : List Shown) (spans : List Span) (s : Shown) (span : Span) → Cuts shown spans → ((front : List Span) (last : Span) → spans ≡ front ++ last ∷ [] → last.format ≡ s.format → ⊥) → span.format ≡ s.format → span.text ≡ encode_utf8 s.character → Cuts (shown ++ s ∷ []) (spans ++ span ∷ [])
-cuts_fresh shown [] s span c other same text =
-    let run : IsRun (s ∷ []) [] span = record {
-      some = omega arith;
-      alike = All-push (λ z. z.format ≡ span.format) [] s (λ k d h. absurd (omega arith)) (sym same);
+still_longest : (x : Span) (xs : List Span) (more : List Shown) (f : Formatting) (rest : List Shown) → All (λ s. s.format ≡ f) more → Cuts rest xs → ((next : Shown) → slice_get rest 0 ≡ Some next → next.format ≢ x.format) → (xs ≡ [] → x.format ≡ f → ⊥) → (next : Shown) → slice_get (rest ++ more) 0 ≡ Some next → next.format ≢ x.format
+still_longest x xs more f [] alike c old other next g = λ e. other (cuts_nil xs c) (sym e ∙ first_of more f next alike g)
+still_longest x xs more f (r ∷ rs) alike c old other next g = old next g
+
+-- characters of another format than the last span's begin a span
+pub cuts_fresh : (shown : List Shown) (spans : List Span) (more : List Shown) (span : Span) → Cuts shown spans → ((front : List Span) (last : Span) → spans ≡ front ++ last ∷ [] → last.format ≡ span.format → ⊥) → IsPiece more span → Cuts (shown ++ more) (spans ++ span ∷ [])
+cuts_fresh shown [] more span c other piece =
+    let run : IsRun more [] span = record {
+      some = piece.some;
+      alike = piece.alike;
       longest = λ next g. absurd (none-some next g);
-      spelt = text ∙ sym (append-nil (encode_utf8 s.character));
+      spelt = piece.spelt;
     } in
-    (s ∷ [], ([], ap (λ l. l ++ s ∷ []) c, run, refl))
-cuts_fresh shown (x ∷ xs) s span c other same text =
-    let run : IsRun c.0 (c.1.0 ++ s ∷ []) x = record {
+    (more, ([], ap (λ l. l ++ more) c ∙ sym (append-nil more), run, refl))
+cuts_fresh shown (x ∷ xs) more span c other piece =
+    let run : IsRun c.0 (c.1.0 ++ more) x = record {
       some = c.1.2.some;
       alike = c.1.2.alike;
-      longest = still_longest x xs s c.1.0 c.1.3 c.1.2.longest (λ e h. other [] x (ap (λ z. x ∷ z) e) h);
+      longest = still_longest x xs more span.format c.1.0 piece.alike c.1.3 c.1.2.longest (λ e h. other [] x (ap (λ z. x ∷ z) e) h);
       spelt = c.1.2.spelt;
     } in
-    (c.0, (c.1.0 ++ s ∷ [], ap (λ l. l ++ s ∷ []) c.1.1 ∙ append_assoc c.0 c.1.0 (s ∷ []), run, cuts_fresh c.1.0 xs s span c.1.3 (λ front last e. other (x ∷ front) last (ap (λ z. x ∷ z) e)) same text))
+    (c.0, (c.1.0 ++ more, ap (λ l. l ++ more) c.1.1 ∙ append_assoc c.0 c.1.0 more, run, cuts_fresh c.1.0 xs more span c.1.3 (λ front last e. other (x ∷ front) last (ap (λ z. x ∷ z) e)) piece))
 
--- a character of the last span's format lengthens it
-pub cuts_longer : (shown : List Shown) (spans : List Span) (last more : Span) (s : Shown) → Cuts shown (spans ++ last ∷ []) → last.format ≡ s.format → more.format ≡ last.format → more.text ≡ last.text ++ encode_utf8 s.character → Cuts (shown ++ s ∷ []) (spans ++ more ∷ [])
-cuts_longer shown [] last more s c same kept text =
+-- characters of the last span's format lengthen it
+pub cuts_longer : (shown : List Shown) (spans : List Span) (last longer : Span) (more : List Shown) (piece : Span) → Cuts shown (spans ++ last ∷ []) → IsPiece more piece → last.format ≡ piece.format → longer.format ≡ last.format → longer.text ≡ last.text ++ piece.text → Cuts (shown ++ more) (spans ++ longer ∷ [])
+cuts_longer shown [] last longer more piece c is same kept text =
     let front : List Shown = c.0 in
     let all : shown ≡ front = c.1.1 ∙ ap (λ r. front ++ r) c.1.3 ∙ append-nil front in
-    let alike : All (λ z. z.format ≡ more.format) front = λ k d h. c.1.2.alike k d h ∙ sym kept in
-    let run : IsRun (front ++ s ∷ []) [] more = record {
-      some = omega (arith, length_push front s);
-      alike = All-push (λ z. z.format ≡ more.format) front s alike (sym same ∙ sym kept);
+    let alike : All (λ z. z.format ≡ longer.format) front = λ k d h. c.1.2.alike k d h ∙ sym kept in
+    let also : All (λ z. z.format ≡ longer.format) more = λ k d h. is.alike k d h ∙ sym same ∙ sym kept in
+    let some : 0 < length more = is.some in
+    let run : IsRun (front ++ more) [] longer = record {
+      some = omega (arith, length-append front more);
+      alike = All-append (λ z. z.format ≡ longer.format) front more alike also;
       longest = λ next g. absurd (none-some next g);
       spelt =
-          text ∙ ap (λ t. t ++ encode_utf8 s.character) c.1.2.spelt
-          ∙ ap (λ t. encode_utf8_all (map (λ z. z.character) front) ++ t) (sym (append-nil (encode_utf8 s.character)))
-          ∙ sym (encodes-append (map (λ z. z.character) front) (s.character ∷ []))
-          ∙ ap encode_utf8_all (sym (map-append (λ z. z.character) front (s ∷ [])));
+          text ∙ ap (λ t. t ++ piece.text) c.1.2.spelt
+          ∙ ap (λ t. encode_utf8_all (map (λ z. z.character) front) ++ t) is.spelt
+          ∙ sym (encodes-append (map (λ z. z.character) front) (map (λ z. z.character) more))
+          ∙ ap encode_utf8_all (sym (map-append (λ z. z.character) front more));
     } in
-    (front ++ s ∷ [], ([], ap (λ l. l ++ s ∷ []) all ∙ sym (append-nil (front ++ s ∷ [])), run, refl))
-cuts_longer shown (x ∷ xs) last more s c same kept text =
-    let run : IsRun c.0 (c.1.0 ++ s ∷ []) x = record {
+    (front ++ more, ([], ap (λ l. l ++ more) all ∙ sym (append-nil (front ++ more)), run, refl))
+cuts_longer shown (x ∷ xs) last longer more piece c is same kept text =
+    let run : IsRun c.0 (c.1.0 ++ more) x = record {
       some = c.1.2.some;
       alike = c.1.2.alike;
-      longest = still_longest x (xs ++ last ∷ []) s c.1.0 c.1.3 c.1.2.longest (λ e h. absurd (omega (arith, length_push xs last, ap length e)));
+      longest = still_longest x (xs ++ last ∷ []) more piece.format c.1.0 is.alike c.1.3 c.1.2.longest (λ e h. absurd (omega (arith, length_push xs last, ap length e)));
       spelt = c.1.2.spelt;
     } in
-    (c.0, (c.1.0 ++ s ∷ [], ap (λ l. l ++ s ∷ []) c.1.1 ∙ append_assoc c.0 c.1.0 (s ∷ []), run, cuts_longer c.1.0 xs last more s c.1.3 same kept text))
+    (c.0, (c.1.0 ++ more, ap (λ l. l ++ more) c.1.1 ∙ append_assoc c.0 c.1.0 more, run, cuts_longer c.1.0 xs last longer more piece c.1.3 is same kept text))
 
 -- two fronts of one format, each followed by another, are one
 one_front : (format : Formatting) (a b r q : List Shown) → a ++ r ≡ b ++ q → All (λ s. s.format ≡ format) a → All (λ s. s.format ≡ format) b → ((next : Shown) → slice_get r 0 ≡ Some next → next.format ≢ format) → ((next : Shown) → slice_get q 0 ≡ Some next → next.format ≢ format) → (a ≡ b) × (r ≡ q)

@@ -1,11 +1,12 @@
 -- A text with its rows while its characters are taken in.
-use Rattle.std.proofs.Common.{◌≡◌, ℕ, ◌+◌, ◌-◌, ◌<◌, List, [], ◌∷◌, ◌++◌, length, set, get_or, refl, sym, ap, subst, ◌∙◌, arith, append_assoc, length-append}
-use Rattle.std.specs.Char.{encode_utf8}
+use Rattle.std.proofs.Common.{◌≡◌, ℕ, ◌+◌, ◌-◌, ◌<◌, List, [], ◌∷◌, ◌++◌, length, set, get_or, refl, sym, ap, subst, ◌∙◌, arith, append_assoc, length-append, All, IsUtf8}
+use Rattle.std.proofs.lemmas.List.Elements.{All-push, All-cons, All-head, All-tail, All-contains, Contains-push}
+use Rattle.std.proofs.lemmas.Str.{IsUtf8-append}
 use Rattle.std.proofs.lemmas.List.{length_push, get_or_push, set_at, get_or_default}
 use Rattle.mark_anchors.specs.Formatting.{Formatting}
 use Rattle.span_flatten.specs.declared.version.Row.{Row}
 use Rattle.span_flatten.specs.Spans.{Shown, Span, Cuts}
-use Rattle.span_flatten.specs.Version.{joined, rows_from, IsLayout, IsDraft}
+use Rattle.span_flatten.specs.Version.{joined, rows_from, IsLayout, IsPiece, IsDraft}
 use Rattle.span_flatten.proofs.Cutting.{cuts_fresh, cuts_longer}
 use Rattle.span_flatten.proofs.Laying.{joined-push, rows_from-push, length-rows_from}
 
@@ -38,17 +39,23 @@ read_row front last text rows count d l counted =
     ap (λ r. get_or r (count - 1) d) (last_row front last text rows l)
     ∙ get_or_push (rows_from 0 front) row d (count - 1) (count_row front last text rows count l counted)
 
+front_of : (front : List Span) (last : Span) → All (λ s. IsUtf8 s.text) (front ++ last ∷ []) → All (λ s. IsUtf8 s.text) front
+front_of [] last all = λ k d h. absurd (omega arith)
+front_of (x ∷ xs) last all =
+    All-cons (λ s. IsUtf8 s.text) x xs (All-head (λ s. IsUtf8 s.text) x (xs ++ last ∷ []) all) (front_of xs last (All-tail (λ s. IsUtf8 s.text) x (xs ++ last ∷ []) all))
+
 -- the last row is lengthened
-pub draft_longer : (shown : List Shown) (spans : List Span) (text text' : List ℕ) (rows : List Row) (count : ℕ) (was kept now : Row) (s : Shown) → Cuts shown spans → IsLayout spans text rows → count ≡ length rows → 0 < count → was ≡ get_or rows (count - 1) was → kept ≡ get_or rows (count - 1) kept → was.format ≡ s.format → text' ≡ text ++ encode_utf8 s.character → now.start ≡ kept.start → now.end ≡ length text' → now.format ≡ kept.format → IsDraft (shown ++ s ∷ []) text' (set rows (count - 1) now)
-draft_longer shown spans text text' rows count was kept now s cut layout counted some reads reads' same grown start end format =
+pub draft_longer : (shown : List Shown) (spans : List Span) (text text' : List ℕ) (rows : List Row) (count : ℕ) (was kept now : Row) (more : List Shown) (piece : Span) → Cuts shown spans → IsLayout spans text rows → All (λ s. IsUtf8 s.text) spans → count ≡ length rows → 0 < count → was ≡ get_or rows (count - 1) was → kept ≡ get_or rows (count - 1) kept → IsPiece more piece → was.format ≡ piece.format → text' ≡ text ++ piece.text → now.start ≡ kept.start → now.end ≡ length text' → now.format ≡ kept.format → IsDraft (shown ++ more) text' (set rows (count - 1) now)
+draft_longer shown spans text text' rows count was kept now more piece cut layout texts counted some reads reads' is same grown start end format =
     let split = last_of spans (omega (arith, length-rows_from 0 spans, ap length layout.end_to_end)) in
     let front : List Span = split.0 in
     let last : Span = split.1.0 in
-    let bytes : List ℕ = encode_utf8 s.character in
+    let bytes : List ℕ = piece.text in
     let layout' : IsLayout (front ++ last ∷ []) text rows = subst (λ z. IsLayout z text rows) split.1.1 layout in
+    let texts' : All (λ s. IsUtf8 s.text) (front ++ last ∷ []) = subst (λ (z : List Span). All (λ s. IsUtf8 s.text) z) split.1.1 texts in
     let read = reads ∙ read_row front last text rows count was layout' counted in
     let read' = reads' ∙ read_row front last text rows count kept layout' counted in
-    let more : Span = record { text = last.text ++ bytes; format = last.format } in
+    let grew : Span = record { text = last.text ++ bytes; format = last.format } in
     let whole : text' ≡ joined front ++ (last.text ++ bytes) =
     grown ∙ ap (λ t. t ++ bytes) (layout'.whole ∙ joined-push front last) ∙ append_assoc (joined front) last.text bytes in
     let row : Row = row_at (length (joined front)) (length last.text) last.format in
@@ -56,15 +63,16 @@ draft_longer shown spans text text' rows count was kept now s cut layout counted
     let is_row : now ≡ longer =
     same_rows now longer (start ∙ ap (λ r. r.start) read') (end ∙ ap length whole ∙ length-append (joined front) (last.text ++ bytes)) (format ∙ ap (λ r. r.format) read') in
     record {
-      spans = front ++ more ∷ [];
-      cut = cuts_longer shown front last more s (subst (λ z. Cuts shown z) split.1.1 cut) (sym (ap (λ r. r.format) read) ∙ same) refl refl;
+      spans = front ++ grew ∷ [];
+      cut = cuts_longer shown front last grew more piece (subst (λ z. Cuts shown z) split.1.1 cut) is (sym (ap (λ r. r.format) read) ∙ same) refl refl;
       layout = record {
-        whole = whole ∙ sym (joined-push front more);
+        whole = whole ∙ sym (joined-push front grew);
         end_to_end =
             ap (λ r. set r (count - 1) now) (last_row front last text rows layout')
             ∙ set_at (rows_from 0 front) row [] now (count - 1) (count_row front last text rows count layout' counted)
-            ∙ ap (λ r. rows_from 0 front ++ r ∷ []) is_row ∙ sym (rows_from-push 0 front more (length (joined front)) (omega arith));
+            ∙ ap (λ r. rows_from 0 front ++ r ∷ []) is_row ∙ sym (rows_from-push 0 front grew (length (joined front)) (omega arith));
       };
+      texts = All-push (λ s. IsUtf8 s.text) front grew (front_of front last texts') (IsUtf8-append last.text bytes (All-contains (λ s. IsUtf8 s.text) (front ++ last ∷ []) last texts' (Contains-push front last)) is.utf8);
     }
 
 -- the last row has another format
@@ -74,26 +82,26 @@ other_last rows count was f counted reads other d some same =
     other (ap (λ r. r.format) (reads ∙ ap (λ n. get_or rows n was) place ∙ get_or_default rows (length rows - 1) was d (omega arith)) ∙ same)
 
 -- a row is added
-pub draft_fresh : (shown : List Shown) (spans : List Span) (text text' : List ℕ) (rows : List Row) (now : Row) (s : Shown) → Cuts shown spans → IsLayout spans text rows → ((d : Row) → 0 < length rows → (get_or rows (length rows - 1) d).format ≡ s.format → ⊥) → text' ≡ text ++ encode_utf8 s.character → now.start ≡ length text → now.end ≡ length text' → now.format ≡ s.format → IsDraft (shown ++ s ∷ []) text' (rows ++ now ∷ [])
-draft_fresh shown spans text text' rows now s cut layout other grown start end format =
-    let bytes : List ℕ = encode_utf8 s.character in
-    let fresh : Span = record { text = bytes; format = s.format } in
-    let row : Row = row_at (length text) (length bytes) s.format in
+pub draft_fresh : (shown : List Shown) (spans : List Span) (text text' : List ℕ) (rows : List Row) (now : Row) (more : List Shown) (piece : Span) → Cuts shown spans → IsLayout spans text rows → All (λ s. IsUtf8 s.text) spans → ((d : Row) → 0 < length rows → (get_or rows (length rows - 1) d).format ≡ piece.format → ⊥) → IsPiece more piece → text' ≡ text ++ piece.text → now.start ≡ length text → now.end ≡ length text' → now.format ≡ piece.format → IsDraft (shown ++ more) text' (rows ++ now ∷ [])
+draft_fresh shown spans text text' rows now more piece cut layout texts other is grown start end format =
+    let bytes : List ℕ = piece.text in
+    let row : Row = row_at (length text) (length bytes) piece.format in
     let is_row : now ≡ row = same_rows now row start (end ∙ ap length grown ∙ length-append text bytes) format in
     record {
-      spans = spans ++ fresh ∷ [];
+      spans = spans ++ piece ∷ [];
       cut =
-          cuts_fresh shown spans s fresh cut
+          cuts_fresh shown spans more piece cut
           (λ front last e same.
           let layout' : IsLayout (front ++ last ∷ []) text rows = subst (λ z. IsLayout z text rows) e layout in
           let row' : Row = row_at (length (joined front)) (length last.text) last.format in
           other row' (omega (arith, ap length (last_row front last text rows layout'), length_push (rows_from 0 front) row'))
           (ap (λ r. r.format) (read_row front last text rows (length rows) row' layout' refl) ∙ same))
-          refl refl;
+          is;
       layout = record {
-        whole = grown ∙ ap (λ t. t ++ bytes) layout.whole ∙ sym (joined-push spans fresh);
+        whole = grown ∙ ap (λ t. t ++ bytes) layout.whole ∙ sym (joined-push spans piece);
         end_to_end =
             ap (λ r. r ++ now ∷ []) layout.end_to_end ∙ ap (λ r. rows_from 0 spans ++ r ∷ []) is_row
-            ∙ sym (rows_from-push 0 spans fresh (length text) (let size : length text ≡ length (joined spans) = ap length layout.whole in omega arith));
+            ∙ sym (rows_from-push 0 spans piece (length text) (let size : length text ≡ length (joined spans) = ap length layout.whole in omega arith));
       };
+      texts = All-push (λ s. IsUtf8 s.text) spans piece texts is.utf8;
     }

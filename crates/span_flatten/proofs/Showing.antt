@@ -12,13 +12,7 @@ use Rattle.char_sequence.specs.Tree.{Removed}
 use Rattle.char_sequence.specs.Order.{Before, IsText}
 use Rattle.mark_anchors.specs.Format.{IsFormat}
 use Rattle.span_flatten.specs.Spans.{Shown, AreVisible}
-
--- the element that a shown character was
-abbrev pub element_of : Shown → Element
-element_of s = record { id = s.id; character = s.character; visible = true }
-
-abbrev pub is_visible : Element → Bool
-is_visible e = e.visible
+use Rattle.span_flatten.specs.Taken.{element_of, is_visible}
 
 filter_keeps : {X : Type 0} (p : X → Bool) (xs : List X) (i : ℕ) (x : X) → slice_get xs i ≡ Some x → p x ≡ true → (j : ℕ) × (slice_get (filter p xs) j ≡ Some x)
 filter_keeps p [] i x g passes = absurd (none-some x g)
@@ -36,7 +30,7 @@ first_from : {X : Type 0} (y : X) (ys zs : List X) (j : ℕ) (x : X) → ((k : �
 first_from y ys zs zero x later g = (zero, g)
 first_from y ys zs (suc j) x later g = let r = later j g in (suc r.0, r.1)
 
-filter_from : {X : Type 0} (p : X → Bool) (xs : List X) (j : ℕ) (x : X) → slice_get (filter p xs) j ≡ Some x → (i : ℕ) × (slice_get xs i ≡ Some x)
+pub filter_from : {X : Type 0} (p : X → Bool) (xs : List X) (j : ℕ) (x : X) → slice_get (filter p xs) j ≡ Some x → (i : ℕ) × (slice_get xs i ≡ Some x)
 filter_from p [] j x g = absurd (none-some x g)
 filter_from p (y ∷ ys) j x g =
     ⊎_elim

@@ -1,37 +1,28 @@
--- The characters are taken in one after another.
-use Rattle.std.proofs.Common.{◌≡◌, ℕ, ◌+◌, ◌*◌, ◌<◌, ◌≤◌, Bool, true, false, cond, ◌&&◌, List, [], ◌∷◌, ◌++◌, Some, length, map, get_or, take, refl, sym, ap, subst, ◌∙◌, arith, append-nil, All, IsUtf8}
-use Rattle.std.specs.List.{filter, slice_get}
-use Rattle.std.specs.Char.{IsScalar}
-use Rattle.std.specs.Str.{all_scalars, IsCharBoundary}
-use Rattle.std.proofs.lemmas.Bool.Decides.{nat_tests}
-use Rattle.std.proofs.lemmas.Option.{slice_get-get_or}
-use Rattle.std.proofs.lemmas.List.{map_push, take_all}
-use Rattle.std.proofs.lemmas.List.Elements.{All-push, All-head, All-tail, All-cons, filter_more}
-use Rattle.change_ops.specs.Ids.{is_character}
+-- The text is taken in range after range.
+use Rattle.std.proofs.Common.{◌≡◌, ℕ, zero, suc, ◌+◌, ◌-◌, ◌*◌, ◌<◌, ◌≤◌, Bool, true, false, cond, List, [], ◌∷◌, ◌++◌, Some, length, map, take, drop, refl, sym, ap, subst, ◌∙◌, arith, zero-add, append-nil, length-append, All, IsUtf8, encode_utf8_all, ⊎_elim}
+use Rattle.std.specs.List.{filter, slice_get, slice_range}
+use Rattle.std.specs.Str.{IsCharBoundary}
+use Rattle.std.proofs.lemmas.Bool.{cases_Bool}
+use Rattle.std.proofs.lemmas.Option.{none-some}
+use Rattle.std.proofs.lemmas.List.{map-append, take_all, drop_at, take_at}
+use Rattle.std.proofs.lemmas.List.Elements.{All-append, All-cons, filter-append}
+use Rattle.std.proofs.lemmas.Str.{length-encode, len_utf8_bounds, length-le-encodes, IsUtf8-drop, IsCharBoundary-from_take}
+use Rattle.std.specs.Char.{encode_utf8}
 use Rattle.change_ops.specs.declared.operation.Op.{Op}
 use Rattle.char_sequence.specs.declared.sequence.Element.{Element}
 use Rattle.char_sequence.specs.Order.{Shows}
+use Rattle.char_sequence.specs.Visible.{visible_text}
 use Rattle.mark_anchors.specs.Format.{IsFormat}
 use Rattle.mark_anchors.specs.Formatting.{Formatting}
 use Rattle.mark_anchors.specs.Marks.{AreMarks}
+use Rattle.mark_anchors.specs.Ranges.{IsOfFormat, AreRanges}
+use Rattle.mark_anchors.specs.declared.ranges.FormattedRange.{FormattedRange}
 use Rattle.span_flatten.specs.declared.version.Row.{Row}
-use Rattle.span_flatten.specs.Spans.{Shown, Span, Cuts, IsRun}
-use Rattle.span_flatten.specs.Version.{rows_from, IsDraft, IsWhole, IsVersion}
+use Rattle.span_flatten.specs.Spans.{Shown, Cuts}
+use Rattle.span_flatten.specs.Taken.{element_of, is_visible, IsTaken}
+use Rattle.span_flatten.specs.Version.{rows_from, IsPiece, IsDraft, IsWhole, IsVersion}
 use Rattle.span_flatten.proofs.Laying.{spans_back, layout_back, rows_ordered, cut_starts, cut_ends}
-use Rattle.span_flatten.proofs.Showing.{element_of, is_visible, shown_visible}
-
-pub scalar_of : (c : ℕ) → is_character c ≡ true → IsScalar c
-scalar_of c e = grind (arith, nat_tests)
-
--- what of the first elements is visible is laid out
-pub record IsTaken (elements : List Element) (marks : List Op) (place : ℕ) (text : List ℕ) (rows : List Row) : Type 0 where
-  pub shown : List Shown
-  pub drawn : map element_of shown ≡ filter is_visible (take place elements)
-  pub formatted : (ops : List Op) → Shows elements ops → AreMarks ops marks → All (λ s. IsFormat ops s.id s.format) shown
-  pub scalars : All (λ s. IsScalar s.character) shown
-  pub draft : IsDraft shown text rows
-  pub short : length text ≤ 4 * place
-  pub few : length rows ≤ place
+use Rattle.span_flatten.proofs.Showing.{filter_from, shown_visible}
 
 none : {X : Type 0} (P : X → Type 0) → All P []
 none P k d h = absurd (omega arith)
@@ -41,82 +32,203 @@ taken_none elements marks = record {
   shown = [];
   drawn = refl;
   formatted = λ ops h m. none (λ s. IsFormat ops s.id s.format);
-  scalars = none (λ s. IsScalar s.character);
-  draft = record { spans = []; cut = refl; layout = record { whole = refl; end_to_end = refl } };
+  draft = record { spans = []; cut = refl; layout = record { whole = refl; end_to_end = refl }; texts = none (λ s. IsUtf8 s.text) };
   short = omega arith;
   few = omega arith;
 }
 
-next : (elements : List Element) (place : ℕ) (e : Element) (b : Bool) → place < length elements → e ≡ get_or elements place e → e.visible ≡ b → filter is_visible (take (place + 1) elements) ≡ filter is_visible (take place elements) ++ cond b (e ∷ []) []
-next elements place e b within read is =
-    filter_more is_visible elements place e within
-    ∙ ap (λ x. filter is_visible (take place elements) ++ cond x.visible (x ∷ []) []) (sym read)
-    ∙ ap (λ v. filter is_visible (take place elements) ++ cond v (e ∷ []) []) is
+-- ---- the places of a range
+take_nil : {X : Type 0} (n : ℕ) → take {A = X} n [] ≡ []
+take_nil zero = refl
+take_nil (suc n) = refl
 
-pub taken_hidden : (elements : List Element) (marks : List Op) (place : ℕ) (e : Element) (text : List ℕ) (rows : List Row) → place < length elements → e ≡ get_or elements place e → e.visible ≡ false → IsTaken elements marks place text rows → IsTaken elements marks (place + 1) text rows
-taken_hidden elements marks place e text rows within read hidden t =
-    let short : length text ≤ 4 * place = t.short in
-    let few : length rows ≤ place = t.few in
-    record {
-      shown = t.shown;
-      drawn = t.drawn ∙ sym (append-nil (filter is_visible (take place elements))) ∙ sym (next elements place e false within read hidden);
-      formatted = t.formatted;
-      scalars = t.scalars;
-      draft = t.draft;
-      short = omega arith;
-      few = omega arith;
-    }
+take_on : {X : Type 0} (i n : ℕ) (xs : List X) → take (i + n) xs ≡ take i xs ++ take n (drop i xs)
+take_on zero n xs = ap (λ k. take k xs) (zero-add n)
+take_on (suc i) n [] = take_nil (suc i + n) ∙ sym (take_nil n)
+take_on (suc i) n (x ∷ xs) =
+    let next : suc i + n ≡ suc (i + n) = omega arith in
+    ap (λ k. take k (x ∷ xs)) next ∙ ap (λ l. x ∷ l) (take_on i n xs)
 
-same_element : (e : Element) → e.visible ≡ true → (f : Formatting) → element_of (record { id = e.id; character = e.character; format = f }) ≡ e
-same_element e visible f = λ i. record { id = e.id; character = e.character; visible = sym visible i }
+take_range : {X : Type 0} (xs : List X) (from to : ℕ) → from ≤ to → take to xs ≡ take from xs ++ slice_range xs from to
+take_range xs from to le =
+    let sum : to ≡ from + (to - from) = omega arith in
+    ap (λ k. take k xs) sum ∙ take_on from (to - from) xs
 
-pub taken_shown : (elements : List Element) (marks : List Op) (place : ℕ) (e : Element) (f : Formatting) (text text' : List ℕ) (rows rows' : List Row) → place < length elements → e ≡ get_or elements place e → e.visible ≡ true → IsScalar e.character → ((ops : List Op) (x : Element) → Shows elements ops → AreMarks ops marks → slice_get elements place ≡ Some x → IsFormat ops x.id f) → ((shown : List Shown) (s : Shown) → s.character ≡ e.character → s.format ≡ f → IsDraft shown text rows → IsDraft (shown ++ s ∷ []) text' rows') → length text' ≤ length text + 4 → length rows' ≤ length rows + 1 → IsTaken elements marks place text rows → IsTaken elements marks (place + 1) text' rows'
-taken_shown elements marks place e f text text' rows rows' within read visible scalar format drafted size count t =
-    let s : Shown = record { id = e.id; character = e.character; format = f } in
-    let short : length text ≤ 4 * place = t.short in
-    let few : length rows ≤ place = t.few in
-    record {
-      shown = t.shown ++ s ∷ [];
-      drawn =
-          map_push element_of t.shown s ∙ ap (λ l. l ++ element_of s ∷ []) t.drawn
-          ∙ ap (λ x. filter is_visible (take place elements) ++ x ∷ []) (same_element e visible f)
-          ∙ sym (next elements place e true within read visible);
-      formatted =
-          λ ops h m.
-          All-push (λ z. IsFormat ops z.id z.format) t.shown s (t.formatted ops h m)
-          (format ops e h m (slice_get-get_or elements place e within ∙ ap Some (sym read)));
-      scalars = All-push (λ z. IsScalar z.character) t.shown s t.scalars scalar;
-      draft = drafted t.shown s refl refl t.draft;
-      short = omega arith;
-      few = omega arith;
-    }
+in_take : {X : Type 0} (n : ℕ) (xs : List X) (m : ℕ) (x : X) → slice_get (take n xs) m ≡ Some x → (m < n) × (slice_get xs m ≡ Some x)
+in_take zero xs m x g = absurd (none-some x g)
+in_take (suc n) [] m x g = absurd (none-some x g)
+in_take (suc n) (y ∷ ys) zero x g = (omega arith, g)
+in_take (suc n) (y ∷ ys) (suc m) x g = let r = in_take n ys m x g in let less : m < n = r.0 in (omega arith, r.1)
 
--- spans of characters are text
-spelt : (front : List Shown) → All (λ s. IsScalar s.character) front → all_scalars (map (λ s. s.character) front) ≡ true
-spelt [] scalars = refl
-spelt (s ∷ ss) scalars =
-    let others = spelt ss (All-tail (λ z. IsScalar z.character) s ss scalars) in
-    let here : IsScalar s.character = All-head (λ z. IsScalar z.character) s ss scalars in
-    ap (λ b. b && all_scalars (map (λ z. z.character) ss)) here ∙ others
+in_drop : {X : Type 0} (i : ℕ) (xs : List X) (m : ℕ) (x : X) → slice_get (drop i xs) m ≡ Some x → slice_get xs (i + m) ≡ Some x
+in_drop zero xs m x g = ap (slice_get xs) (zero-add m) ∙ g
+in_drop (suc i) [] m x g = absurd (none-some x g)
+in_drop (suc i) (y ∷ ys) m x g = let next : suc i + m ≡ suc (i + m) = omega arith in ap (slice_get (y ∷ ys)) next ∙ in_drop i ys m x g
 
-front_of : (P : Shown → Type 0) (front rest : List Shown) → All P (front ++ rest) → All P front × All P rest
-front_of P [] rest all = (none P, all)
-front_of P (x ∷ xs) rest all =
-    let r = front_of P xs rest (All-tail P x (xs ++ rest) all) in
-    (All-cons P x xs (All-head P x (xs ++ rest) all) r.0, r.1)
+in_range : (es : List Element) (from to m : ℕ) (x : Element) → slice_get (slice_range es from to) m ≡ Some x → (k : ℕ) × (from ≤ k) × (k < to) × (slice_get es k ≡ Some x)
+in_range es from to m x g =
+    let r = in_take (to - from) (drop from es) m x g in
+    let less : m < to - from = r.0 in
+    (from + m, omega arith, omega arith, in_drop from es m x r.1)
 
-texts : (shown : List Shown) (spans : List Span) → All (λ s. IsScalar s.character) shown → Cuts shown spans → All (λ s. IsUtf8 s.text) spans
-texts shown [] scalars c = none (λ s. IsUtf8 s.text)
-texts shown (x ∷ xs) scalars c =
-    let parts = front_of (λ s. IsScalar s.character) c.0 c.1.0 (subst (λ l. All (λ s. IsScalar s.character) l) c.1.1 scalars) in
-    let run : IsRun c.0 c.1.0 x = c.1.2 in
-    let here : IsUtf8 x.text = (map (λ s. s.character) c.0, (spelt c.0 parts.0, sym run.spelt)) in
-    All-cons (λ s. IsUtf8 s.text) x xs here (texts c.1.0 xs parts.1 c.1.3)
+-- ---- the visible characters of a range, with its format
+abbrev pub shown_as : Formatting → Element → Shown
+shown_as f e = record { id = e.id; character = e.character; format = f }
 
+abbrev pub more_of : Formatting → List Element → List Shown
+more_of f es = map (shown_as f) (filter is_visible es)
+
+drawn_more : (f : Formatting) (es : List Element) → map element_of (more_of f es) ≡ filter is_visible es
+drawn_more f [] = refl
+drawn_more f (e ∷ es) =
+    ⊎_elim
+    (λ (yes : e.visible ≡ true).
+    let same : element_of (shown_as f e) ≡ e = λ i. record { id = e.id; character = e.character; visible = sym yes i } in
+    ap (λ b. map element_of (map (shown_as f) (cond b (e ∷ filter is_visible es) (filter is_visible es)))) yes
+    ∙ (λ i. same i ∷ drawn_more f es i)
+    ∙ ap (λ b. cond b (e ∷ filter is_visible es) (filter is_visible es)) (sym yes))
+    (λ (no : e.visible ≡ false).
+    ap (λ b. map element_of (map (shown_as f) (cond b (e ∷ filter is_visible es) (filter is_visible es)))) no
+    ∙ drawn_more f es
+    ∙ ap (λ b. cond b (e ∷ filter is_visible es) (filter is_visible es)) (sym no))
+    (cases_Bool e.visible)
+
+all_as : (P : Shown → Type 0) (f : Formatting) (xs : List Element) → ((m : ℕ) (x : Element) → slice_get xs m ≡ Some x → P (shown_as f x)) → All P (map (shown_as f) xs)
+all_as P f [] each = none P
+all_as P f (x ∷ xs) each = All-cons P (shown_as f x) (map (shown_as f) xs) (each zero x refl) (all_as P f xs (λ m y g. each (suc m) y g))
+
+characters_as : (f : Formatting) (xs : List Element) → map (λ s. s.character) (map (shown_as f) xs) ≡ map (λ e. e.character) xs
+characters_as f [] = refl
+characters_as f (x ∷ xs) = ap (λ l. x.character ∷ l) (characters_as f xs)
+
+spelt_more : (f : Formatting) (es : List Element) → visible_text es ≡ encode_utf8_all (map (λ s. s.character) (more_of f es))
+unfolding visible_text
+spelt_more f es = ap encode_utf8_all (sym (characters_as f (filter is_visible es)))
+
+empty_more : (f : Formatting) (es : List Element) → length (visible_text es) ≡ 0 → filter is_visible es ≡ []
+unfolding visible_text
+empty_more f es none_shown = nil_of (filter is_visible es) (length-le-encodes (map (λ e. e.character) (filter is_visible es)))
+  where
+    nil_of : (xs : List Element) → length (map (λ e. e.character) xs) ≤ length (visible_text es) → xs ≡ []
+    nil_of [] le = refl
+    nil_of (x ∷ xs) le = absurd (omega arith)
+
+shown_none : (es : List Element) → filter is_visible es ≡ [] → length (visible_text es) ≡ 0
+unfolding visible_text
+shown_none es e = ap (λ xs. length (encode_utf8_all (map (λ z. z.character) xs))) e
+
+encoded_short : (cs : List ℕ) → length (encode_utf8_all cs) ≤ 4 * length cs
+encoded_short [] = omega arith
+encoded_short (c ∷ cs) =
+    let rest : length (encode_utf8_all cs) ≤ 4 * length cs = encoded_short cs in
+    let bounds = len_utf8_bounds c in
+    let whole = length-append (encode_utf8 c) (encode_utf8_all cs) in
+    let one = length-encode c in
+    omega arith
+
+filter_short : (es : List Element) → length (filter is_visible es) ≤ length es
+filter_short [] = omega arith
+filter_short (e ∷ es) =
+    let rest : length (filter is_visible es) ≤ length es = filter_short es in
+    ⊎_elim
+    (λ (yes : e.visible ≡ true). subst (λ (b : Bool). length (cond b (e ∷ filter is_visible es) (filter is_visible es)) ≤ suc (length es)) (sym yes) (omega arith))
+    (λ (no : e.visible ≡ false). subst (λ (b : Bool). length (cond b (e ∷ filter is_visible es) (filter is_visible es)) ≤ suc (length es)) (sym no) (omega arith))
+    (cases_Bool e.visible)
+
+characters_count : (xs : List Element) → length (map (λ e. e.character) xs) ≡ length xs
+characters_count [] = refl
+characters_count (x ∷ xs) = ap suc (characters_count xs)
+
+pub visible_short : (es : List Element) → length (visible_text es) ≤ 4 * length es
+unfolding visible_text
+visible_short es =
+    let bytes = encoded_short (map (λ e. e.character) (filter is_visible es)) in
+    let count = characters_count (filter is_visible es) in
+    let few = filter_short es in
+    omega arith
+
+range_short : (es : List Element) (from to : ℕ) → length (slice_range es from to) ≤ to - from
+range_short es from to = length_take_le (to - from) (drop from es)
+  where
+    length_take_le : (n : ℕ) (xs : List Element) → length (take n xs) ≤ n
+    length_take_le zero xs = omega arith
+    length_take_le (suc n) [] = omega arith
+    length_take_le (suc n) (x ∷ xs) = let rest : length (take n xs) ≤ n = length_take_le n xs in omega arith
+
+-- ---- one range more
+drawn_range : (es : List Element) (f : Formatting) (shown : List Shown) (from to : ℕ) → from ≤ to → map element_of shown ≡ filter is_visible (take from es) → map element_of (shown ++ more_of f (slice_range es from to)) ≡ filter is_visible (take to es)
+drawn_range es f shown from to le drawn =
+    map-append element_of shown (more_of f (slice_range es from to))
+    ∙ ap (λ l. l ++ map element_of (more_of f (slice_range es from to))) drawn
+    ∙ ap (λ l. filter is_visible (take from es) ++ l) (drawn_more f (slice_range es from to))
+    ∙ sym (filter-append is_visible (take from es) (slice_range es from to))
+    ∙ ap (filter is_visible) (sym (take_range es from to le))
+
+module _ (es : List Element) (marks : List Op) (r : FormattedRange) (text text' : List ℕ) (rows : List Row) (some : r.from < r.to) (of : IsOfFormat es marks r) (grown : text' ≡ text ++ visible_text (slice_range es r.from r.to)) (t : IsTaken es marks r.from text rows) where
+  pub taken_empty : length text ≡ length text' → IsTaken es marks r.to text' rows
+  taken_empty same =
+      let none_shown : length (visible_text (slice_range es r.from r.to)) ≡ 0 = omega (arith, ap length grown, length-append text (visible_text (slice_range es r.from r.to))) in
+      let hidden : filter is_visible (slice_range es r.from r.to) ≡ [] = empty_more r.format (slice_range es r.from r.to) none_shown in
+      let kept : text' ≡ text = grown ∙ ap (λ l. text ++ l) (nil_bytes (visible_text (slice_range es r.from r.to)) none_shown) ∙ append-nil text in
+      let short : length text ≤ 4 * r.from = t.short in
+      let few : length rows ≤ r.from = t.few in
+      record {
+        shown = t.shown;
+        drawn =
+            t.drawn ∙ sym (append-nil (filter is_visible (take r.from es))) ∙ ap (λ l. filter is_visible (take r.from es) ++ l) (sym hidden)
+            ∙ sym (filter-append is_visible (take r.from es) (slice_range es r.from r.to)) ∙ ap (filter is_visible) (sym (take_range es r.from r.to (omega arith)));
+        formatted = t.formatted;
+        draft = subst (λ l. IsDraft t.shown l rows) (sym kept) t.draft;
+        short = omega (arith, ap length kept);
+        few = omega arith;
+      }
+    where
+      nil_bytes : (xs : List ℕ) → length xs ≡ 0 → xs ≡ []
+      nil_bytes [] e = refl
+      nil_bytes (x ∷ xs) e = absurd (omega arith)
+
+  pub piece_more : (length text ≡ length text' → ⊥) → IsUtf8 text → IsUtf8 text' → IsPiece (more_of r.format (slice_range es r.from r.to)) (record { text = visible_text (slice_range es r.from r.to); format = r.format })
+  piece_more grew utf8 utf8' = record {
+    some = some_of (filter is_visible (slice_range es r.from r.to)) (λ e. grew (omega (arith, ap length grown, length-append text (visible_text (slice_range es r.from r.to)), shown_none (slice_range es r.from r.to) e)));
+    alike = all_as (λ s. s.format ≡ r.format) r.format (filter is_visible (slice_range es r.from r.to)) (λ m x g. refl);
+    spelt = spelt_more r.format (slice_range es r.from r.to);
+    utf8 =
+        let cut : drop (length text) text' ≡ visible_text (slice_range es r.from r.to) = ap (drop (length text)) grown ∙ drop_at text (visible_text (slice_range es r.from r.to)) (length text) refl in
+        let front : take (length text) text' ≡ text = ap (take (length text)) grown ∙ take_at text (visible_text (slice_range es r.from r.to)) (length text) refl in
+        let within : length text ≤ length text' = omega (arith, ap length grown, length-append text (visible_text (slice_range es r.from r.to))) in
+        subst IsUtf8 cut (IsUtf8-drop text' (length text) utf8' (IsCharBoundary-from_take text' (length text) utf8' within (subst IsUtf8 (sym front) utf8)));
+  }
+    where
+      some_of : (xs : List Element) → (xs ≡ [] → ⊥) → 0 < length (map (shown_as r.format) xs)
+      some_of [] not = absurd (not refl)
+      some_of (x ∷ xs) not = omega arith
+
+  pub taken_more : (rows' : List Row) → IsDraft (t.shown ++ more_of r.format (slice_range es r.from r.to)) text' rows' → length rows' ≤ length rows + 1 → IsTaken es marks r.to text' rows'
+  taken_more rows' draft count =
+      let short : length text ≤ 4 * r.from = t.short in
+      let few : length rows ≤ r.from = t.few in
+      let bytes : length (visible_text (slice_range es r.from r.to)) ≤ 4 * length (slice_range es r.from r.to) = visible_short (slice_range es r.from r.to) in
+      let size : length (slice_range es r.from r.to) ≤ r.to - r.from = range_short es r.from r.to in
+      record {
+        shown = t.shown ++ more_of r.format (slice_range es r.from r.to);
+        drawn = drawn_range es r.format t.shown r.from r.to (omega arith) t.drawn;
+        formatted =
+            λ ops h m.
+            All-append (λ s. IsFormat ops s.id s.format) t.shown (more_of r.format (slice_range es r.from r.to)) (t.formatted ops h m)
+            (all_as (λ s. IsFormat ops s.id s.format) r.format (filter is_visible (slice_range es r.from r.to))
+            (λ j x g.
+            let at = filter_from is_visible (slice_range es r.from r.to) j x g in
+            let k = in_range es r.from r.to at.0 x at.1 in
+            of ops k.0 x h m k.1 k.2 k.3));
+        draft = draft;
+        short = omega (arith, ap length grown, length-append text (visible_text (slice_range es r.from r.to)));
+        few = omega arith;
+      }
+
+-- ---- the whole
 pub taken_whole : (elements : List Element) (marks : List Op) (place : ℕ) (text : List ℕ) (rows : List Row) → place ≤ 32768 → IsTaken elements marks place text rows → IsWhole text rows
 taken_whole elements marks place text rows limit t =
     let d = t.draft in
-    let all = texts t.shown d.spans t.scalars d.cut in
     let short : length text ≤ 4 * place = t.short in
     let few : length rows ≤ place = t.few in
     record {
@@ -127,10 +239,10 @@ taken_whole elements marks place text rows limit t =
         ordered = subst (λ r. All (λ row. row.start ≤ row.end) r) (sym d.layout.end_to_end) (rows_ordered 0 d.spans);
         starts =
             subst (λ r. All (λ row. IsCharBoundary text row.start) r) (sym d.layout.end_to_end)
-            (subst (λ x. All (λ row. IsCharBoundary x row.start) (rows_from 0 d.spans)) (sym d.layout.whole) (cut_starts d.spans all));
+            (subst (λ x. All (λ row. IsCharBoundary x row.start) (rows_from 0 d.spans)) (sym d.layout.whole) (cut_starts d.spans d.texts));
         ends =
             subst (λ r. All (λ row. IsCharBoundary text row.end) r) (sym d.layout.end_to_end)
-            (subst (λ x. All (λ row. IsCharBoundary x row.end) (rows_from 0 d.spans)) (sym d.layout.whole) (cut_ends d.spans all));
+            (subst (λ x. All (λ row. IsCharBoundary x row.end) (rows_from 0 d.spans)) (sym d.layout.whole) (cut_ends d.spans d.texts));
       };
     }
 
@@ -143,3 +255,21 @@ taken_version elements marks place number text rows end t ops h m =
       spans = (t.shown, shown_visible ops elements t.shown h.text drawn (t.formatted ops h m), subst (λ s. Cuts t.shown s) (sym (spans_back d.spans text rows d.layout)) d.cut);
       layout = layout_back d.spans text rows d.layout;
     }
+
+-- ---- from range to range
+pub record IsAlong (es : List Element) (marks : List Op) (ranges : List FormattedRange) (k : ℕ) (text : List ℕ) (rows : List Row) : Type 0 where
+  pub place : ℕ
+  pub taken : IsTaken es marks place text rows
+  pub next : (r : FormattedRange) → slice_get ranges k ≡ Some r → r.from ≡ place
+  pub end : k ≡ length ranges → place ≡ length es
+
+pub along_none : (es : List Element) (marks : List Op) (ranges : List FormattedRange) → AreRanges es marks (length es) ranges → IsAlong es marks ranges 0 [] []
+along_none es marks ranges are = record { place = 0; taken = taken_none es marks; next = are.first; end = λ e. sym (are.none (sym e)) }
+
+pub along_more : (es : List Element) (marks : List Op) (ranges : List FormattedRange) (k : ℕ) (r : FormattedRange) (text text' : List ℕ) (rows rows' : List Row) → AreRanges es marks (length es) ranges → slice_get ranges k ≡ Some r → ((held : List Op) → IsOfFormat es held r → IsTaken es held r.from text rows → IsTaken es held r.to text' rows') → IsAlong es marks ranges k text rows → IsAlong es marks ranges (k + 1) text' rows'
+along_more es marks ranges k r text text' rows rows' are at more along = record {
+  place = r.to;
+  taken = more marks (are.formatted k r at) (subst (λ n. IsTaken es marks n text rows) (sym (along.next r at)) along.taken);
+  next = λ s g. are.next k r s at g;
+  end = λ e. are.last k r e at;
+}

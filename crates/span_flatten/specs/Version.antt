@@ -1,6 +1,6 @@
 -- A version: the spans of a set of operations as one text, with a row for each span (Peritext, CSCW 2022).
-use Rattle.std.specs.Prelude.{◌≡◌, ◌≤◌, ◌+◌, ℕ, List, [], ◌∷◌, length, map, flat_map, slice_range, All}
-use Rattle.std.specs.Str.{IsCharBoundary}
+use Rattle.std.specs.Prelude.{◌≡◌, ◌<◌, ◌≤◌, ◌+◌, ℕ, List, [], ◌∷◌, length, map, flat_map, slice_range, All, encode_utf8_all}
+use Rattle.std.specs.Str.{IsUtf8, IsCharBoundary}
 use Rattle.change_ops.specs.declared.operation.Op.{Op}
 use Rattle.span_flatten.specs.declared.version.Row.{Row}
 use Rattle.span_flatten.specs.Spans.{Shown, Span, Cuts, AreSpans}
@@ -55,8 +55,16 @@ pub record IsVersion (ops : List Op) (number : ℕ) (version : Snapshot) : Type 
   pub spans : AreSpans ops (spans_of version)
   pub layout : IsLayout (spans_of version) version.text version.rows
 
+-- the span is that of these characters, which have one format
+pub record IsPiece (more : List Shown) (span : Span) : Type 0 where
+  pub some : 0 < length more
+  pub alike : All (λ s. s.format ≡ span.format) more
+  pub spelt : span.text ≡ encode_utf8_all (map (λ s. s.character) more)
+  pub utf8 : IsUtf8 span.text
+
 -- the first characters, cut and laid out
 pub record IsDraft (shown : List Shown) (text : List ℕ) (rows : List Row) : Type 0 where
   pub spans : List Span
   pub cut : Cuts shown spans
   pub layout : IsLayout spans text rows
+  pub texts : All (λ s. IsUtf8 s.text) spans

@@ -1,39 +1,58 @@
-ghost use Rattle.std.specs.Prelude.{◌≡◌, ◌≤◌, ◌+◌, ◌++◌, ◌∷◌, [], ℕ, List, IfOk, length, string_bytes};
+ghost use Rattle.std.specs.Prelude.{◌≡◌, ◌<◌, ◌≤◌, ◌+◌, ◌++◌, ℕ, List, IfOk, length, string_bytes};
 ghost use Rattle.change_ops.specs.declared.operation.Op.{Op};
 ghost use Rattle.char_sequence.specs.declared.sequence.Element.{Element};
 ghost use Rattle.char_sequence.specs.Order.{Shows, SameSet};
 ghost use Rattle.mark_anchors.specs.Marks.{AreMarks};
+ghost use Rattle.mark_anchors.specs.Ranges.{IsOfFormat};
 ghost use Rattle.span_flatten.specs.Spans.{Shown, Span, AreSpans};
-ghost use Rattle.span_flatten.specs.Version.{IsDraft, IsVersion};
+ghost use Rattle.span_flatten.specs.Taken.{IsTaken};
+ghost use Rattle.span_flatten.specs.Version.{IsPiece, IsDraft, IsVersion};
 
 use crate::version::{Row, Version};
 use char_sequence::sequence::Sequence;
 use mark_anchors::format::Format;
 use mark_anchors::marks::Marks;
+use mark_anchors::ranges::FormattedRange;
 use std::alloc::{AllocError, Global};
 
-/// Adds a character to the text, and to the last row if it has that row's format, else as a row of its own.
-fn take_in(
-    text: &mut String,
-    rows: &mut Vec<Row>,
-    character: char,
-    format: Format,
-) -> Result<(), AllocError>
-    ensures draft { IfOk result (λ _. (shown : List Shown) (s : Shown) → s.character ≡ character → s.format ≡ format → IsDraft shown (string_bytes text.old) rows.old.items → IsDraft (shown ++ s ∷ []) (string_bytes text.new) rows.new.items) }
-    ensures size { IfOk result (λ _. length (string_bytes text.new) ≤ length (string_bytes text.old) + 4) }
+/// Gives the text from `start` on a row, or lengthens the last row where that has the same format.
+fn add_row(rows: &mut Vec<Row>, start: usize, end: usize, format: &Format) -> Result<(), AllocError>
+    ensures draft { IfOk result (λ _. (shown more : List Shown) (piece : Span) (text text' : List ℕ) → IsPiece more piece → piece.format ≡ format.now → text' ≡ text ++ piece.text → start ≡ length text → end ≡ length text' → IsDraft shown text rows.old.items → IsDraft (shown ++ more) text' rows.new.items) }
     ensures count { IfOk result (λ _. length rows.new.items ≤ length rows.old.items + 1) }
 {
-    let start = text.len();
-    text.push(character)?;
-    let end = text.len();
     let count = rows.len();
     if count > 0 {
-        if rows[count - 1].format == format {
+        if rows[count - 1].format == *format {
             rows[count - 1].end = end;
             return Ok(());
         }
     }
-    rows.push(Row { start, end, format })?;
+    rows.push(Row {
+        start,
+        end,
+        format: format.clone()?,
+    })?;
+    Ok(())
+}
+
+/// Adds the visible text of a range. One without visible characters makes no row.
+fn take_in(
+    text: &mut String,
+    rows: &mut Vec<Row>,
+    sequence: &Sequence,
+    range: &FormattedRange,
+) -> Result<(), AllocError>
+    requires some { range.now.from < range.now.to }
+    requires within { range.now.to ≤ length sequence.now.elements }
+    ensures { (marks : List Op) → IsOfFormat sequence.now.elements marks range.now → IsTaken sequence.now.elements marks range.now.from (string_bytes text.old) rows.old.items → IfOk result (λ _. IsTaken sequence.now.elements marks range.now.to (string_bytes text.new) rows.new.items) }
+{
+    let start = text.len();
+    sequence.push_visible(range.from, range.to, text)?;
+    let end = text.len();
+    if start == end {
+        return Ok(());
+    }
+    add_row(rows, start, end, &range.format)?;
     Ok(())
 }
 
@@ -47,14 +66,12 @@ pub fn flatten(
     requires { (ops : List Op) × Shows sequence.now.elements ops × AreMarks ops marks.now }
     ensures { IfOk result (λ version. (ops : List Op) → Shows sequence.now.elements ops → AreMarks ops marks.now → IsVersion ops number version) }
 {
-    let resolved = marks.resolve(alloc, sequence)?;
+    let ranges = marks.ranges(alloc, sequence)?;
     let mut text = String::new(alloc);
     let mut rows = Vec::new(alloc);
-    for (place, element) in sequence.elements().iter().enumerate() {
-        if element.visible {
-            let format = resolved.format_at_place(alloc, place)?;
-            take_in(&mut text, &mut rows, element.character.value(), format)?;
-        }
+    let _count = sequence.len();
+    for range in &ranges {
+        take_in(&mut text, &mut rows, sequence, range)?;
     }
     Ok(Version { number, text, rows })
 }

@@ -3,52 +3,20 @@ use change_ops::id::OpId;
 use change_ops::operation::Op;
 use char_sequence::sequence::{Sequence, SequenceError};
 use std::alloc::{AllocError, Global};
-use std::marker::Model;
 use std::test::Fail;
 use test_inputs::lines::lines;
 
-/// A sequence that was handed only what it accepted.
-#[derive(Drop)]
-struct Replica {
-    sequence: Sequence,
-}
-
-impl Model for Replica {
-    ghost use Rattle.std.specs.Prelude.{List};
-    ghost use Rattle.change_ops.specs.declared.operation.Op.{Op};
-    ghost use Rattle.std.specs.Ordering.{nat_cmp};
-    ghost use Rattle.std.specs.FinMap.{code};
-    ghost use Rattle.std.specs.Coded.{codes, coded_ℕ};
-    ghost use Rattle.char_sequence.specs.Held.{Contents, Holds};
-
-    ghost Value = { Contents };
-
-    ghost coded = { Prim.hlevel (codes, code {R = nat_cmp} coded_ℕ coded_ℕ) };
-
-    ghost view = { λ r. r.sequence };
-
-    ghost invariant = { λ r. (ops : List Op) × Holds r.sequence ops };
-}
-
-impl Replica {
-    fn new(alloc: Global) -> Self {
-        Replica {
-            sequence: Sequence::new(alloc),
-        }
+/// Takes an insert or a removal, if it is accepted.
+fn deliver(sequence: &mut Sequence, op: &Op) -> Result<bool, AllocError> {
+    if sequence.check(op).is_err() {
+        return Ok(false);
     }
-
-    /// Takes an insert or a removal, if it is accepted.
-    fn deliver(&mut self, op: &Op) -> Result<bool, AllocError> {
-        if self.sequence.check(op).is_err() {
-            return Ok(false);
-        }
-        match op {
-            Op::Insert { .. } => self.sequence.insert(op)?,
-            Op::Remove { .. } => self.sequence.remove(op)?,
-            _ => {}
-        }
-        Ok(true)
+    match op {
+        Op::Insert { .. } => sequence.insert(op)?,
+        Op::Remove { .. } => sequence.remove(op)?,
+        _ => {}
     }
+    Ok(true)
 }
 
 /// A character, and after it two that two peers typed at once, of which one is removed again.
@@ -59,26 +27,26 @@ static CHANGES: [&str; 3] = [
 ];
 
 /// Whether all operations of the change of that text are taken.
-fn is_taken(alloc: Global, replica: &mut Replica, text: &str) -> Result<bool, Fail> {
+fn is_taken(alloc: Global, sequence: &mut Sequence, text: &str) -> Result<bool, Fail> {
     let text = lines(alloc, text)?;
     let (change, _) = read_change(alloc, text.as_str())?;
     for op in change.operations() {
-        if !replica.deliver(op)? {
+        if !deliver(sequence, op)? {
             return Ok(false);
         }
     }
     Ok(true)
 }
 
-/// The replica that takes `CHANGES`, if it takes them all.
-fn replica_of_changes(alloc: Global) -> Result<Option<Replica>, Fail> {
-    let mut replica = Replica::new(alloc);
-    for text in &CHANGES {
-        if !is_taken(alloc, &mut replica, text)? {
+/// The sequence that takes changes, if it takes them all.
+fn sequence_of(alloc: Global, texts: &[&'static str]) -> Result<Option<Sequence>, Fail> {
+    let mut sequence = Sequence::new(alloc);
+    for text in texts {
+        if !is_taken(alloc, &mut sequence, text)? {
             return Ok(None);
         }
     }
-    Ok(Some(replica))
+    Ok(Some(sequence))
 }
 
 /// Why the first operation of the change of that text is refused.
@@ -98,7 +66,7 @@ fn are_refused(alloc: Global, sequence: &Sequence) -> Result<bool, Fail> {
 
 /// Whether the greater id stands first, and the removed character keeps its place.
 fn is_in_order(sequence: &Sequence) -> bool {
-    let shown = sequence.elements().iter().map(|element| (
+    let shown = sequence.elements().map(|element| (
         element.id.counter(),
         element.id.node(),
         element.visible,
@@ -121,9 +89,8 @@ fn are_found(sequence: &Sequence) -> bool {
 
 #[test]
 fn a_sequence_is_asked(rt: HostRuntime) -> Result<(), Fail> {
-    let replica = replica_of_changes(rt.alloc())?.ok_or("an operation is not taken")?;
-    let sequence = &replica.sequence;
-    let are_right = is_in_order(sequence) && are_found(sequence);
-    assert!(rt; are_right && are_refused(rt.alloc(), sequence)?);
+    let sequence = sequence_of(rt.alloc(), &CHANGES)?.ok_or("an operation is not taken")?;
+    let are_right = is_in_order(&sequence) && are_found(&sequence);
+    assert!(rt; are_right && are_refused(rt.alloc(), &sequence)?);
     Ok(())
 }

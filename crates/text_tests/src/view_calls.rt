@@ -23,10 +23,10 @@ fn accept(alloc: Global, history: &mut History, text: &str) -> Result<(), Fail> 
     Ok(())
 }
 
-/// The history that `CHANGES` make.
-fn history(alloc: Global) -> Result<History, Fail> {
+/// The history that changes make.
+fn history_of(alloc: Global, texts: &[&'static str]) -> Result<History, Fail> {
     let mut history = History::new(alloc);
-    for text in &CHANGES {
+    for text in texts {
         accept(alloc, &mut history, text)?;
     }
     Ok(history)
@@ -34,7 +34,7 @@ fn history(alloc: Global) -> Result<History, Fail> {
 
 /// The version that `CHANGES` make.
 fn version(alloc: Global) -> Result<Version, Fail> {
-    let history = history(alloc)?;
+    let history = history_of(alloc, &CHANGES)?;
     let version = history.version(alloc)?;
     Ok(version)
 }
@@ -76,23 +76,16 @@ fn is_walked_from_both_ends(version: &Version) -> bool {
 #[test]
 fn a_version_is_walked_from_both_ends(rt: HostRuntime) -> Result<(), Fail> {
     let version = version(rt.alloc())?;
-    assert!(rt; is_walked_from_both_ends(&version));
-    assert!(rt; view(&version, 2).is_none());
+    assert!(rt; is_walked_from_both_ends(&version) && view(&version, 2).is_none());
     Ok(())
 }
 
-/// Changes that are read and written again.
-static SPELLINGS: [&str; 10] = [
-    "change 1 4 / i 1@1 - 61 / i 2@1 1@1 62 / i 3@1 2@1 63 / m 4@1 strong - <1@1 <3@1",
-    "change 2 1 / u 4@2 strong <2@1 $",
-    "change 1 5 / i 1@1 - 61 / i 2@1 1@1 62 / i 3@1 2@1 63 / m 4@1 link https://a.b <1@1 >2@1 / i 5@1 2@1 78",
-    "change 1 1 / i 1@1 - 61",
-    "change 1 1 / i 2@1 1@1 78",
-    "change 2 1 / i 2@2 1@1 79",
-    "change 3 2 / d 3@3 2@2 / m 4@3 em - <2@2 >2@1",
-    "change 1 6 / i 1@1 - 61 / i 2@1 1@1 62 / m 3@1 color ff0080 ^ $ / m 4@1 comment:7 - >1@1 $ / m 5@1 comment:2 - ^ <2@1 / m 6@1 em - $ ^",
-    "change 1 3 / i 1@1 - 61 / m 3@1 color 0f0080 ^ $ / u 5@1 comment:2 ^ <1@1",
-    "change 65535 1 / i 281474976710655@65535 - 10ffff",
+/// Changes that are read and written again: each kind of operation, of anchor and of value.
+static SPELLINGS: [&str; 4] = [
+    "change 1 3 / i 1@1 - 61 / i 2@1 1@1 10ffff / d 3@1 2@1",
+    "change 1 3 / m 4@1 link https://a.b <1@1 >2@1 / m 5@1 comment:7 - >1@1 $ / m 6@1 em - $ ^",
+    "change 2 2 / m 3@2 strong - ^ <1@1 / m 4@2 color 0f0080 ^ $",
+    "change 65535 2 / u 1@65535 comment:2 ^ <1@1 / u 281474976710655@65535 link ^ $",
 ];
 
 /// Whether a change is written as it was read, with nothing behind it.
@@ -105,11 +98,19 @@ fn is_written_again(alloc: Global, text: &str) -> Result<bool, Fail> {
     Ok(rest.is_empty() && written == Some(text.as_str()))
 }
 
+/// The first of the changes that is written otherwise.
+fn first_unlike(alloc: Global, texts: &[&'static str]) -> Result<Option<&'static str>, Fail> {
+    for text in texts {
+        if !is_written_again(alloc, text)? {
+            return Ok(Some(*text));
+        }
+    }
+    Ok(None)
+}
+
 #[test]
 fn changes_are_written_as_they_were_read(rt: HostRuntime) -> Result<(), Fail> {
-    for text in &SPELLINGS {
-        assert!(rt; is_written_again(rt.alloc(), text)?, "{text}");
-    }
+    assert_eq!(rt; first_unlike(rt.alloc(), &SPELLINGS)?, None);
     Ok(())
 }
 
@@ -132,7 +133,7 @@ fn is_first_strong(alloc: Global, history: &History) -> Result<bool, Fail> {
 
 #[test]
 fn a_history_says_the_format_of_a_character(rt: HostRuntime) -> Result<(), Fail> {
-    let history = history(rt.alloc())?;
+    let history = history_of(rt.alloc(), &CHANGES)?;
     let is_right = is_first_strong(rt.alloc(), &history)?;
     assert!(rt; is_right);
     Ok(())

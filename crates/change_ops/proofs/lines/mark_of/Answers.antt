@@ -1,19 +1,21 @@
-use Rattle.std.proofs.Common.{◌≡◌, Option, Some, ap, sym, ◌∙◌}
-use Rattle.std.specs.Option.{option_map}
-use Rattle.change_ops.specs.Ids.{checked, within_limits}
-use Rattle.change_ops.specs.Limits.{marked_within}
-use Rattle.change_ops.specs.Reading.{id_at, marked_at, owned}
-use Rattle.change_ops.specs.declared.id.OpId.{OpId}
-use Rattle.change_ops.specs.declared.attribute.Attribute.{Attribute}
-use Rattle.change_ops.specs.declared.operation.Anchor.{Anchor}
+use Rattle.std.proofs.Common.{◌≡◌, Err, arith}
+use Rattle.std.proofs.lemmas.Grind.{common_steps}
+use Rattle.change_ops.specs.Ids.{within_limits}
+use Rattle.change_ops.specs.Limits.{anchors_within}
+use Rattle.change_ops.specs.Reading.{mark_at, line_verdict, owned, id_at, anchors_at, within, both, Reads}
 use Rattle.change_ops.specs.declared.operation.Op.TheVariants.{AddMark}
-use Rattle.change_ops.proofs.Judging.{mark_judged, owned_gives}
+use Rattle.change_ops.proofs.Judging.{mark_line}
 use Rattle.change_ops.proofs.lines.mark_of.Goals as goal
+
+pub returns-in_err-attribute : goal.returns-in_err-attribute
+returns-in_err-attribute c =
+    let read : c.both.result ≡ both (both c.attribute_of.result (within anchors_within (anchors_at c.in_ok-value.fields.now))) (within within_limits (id_at c.in_ok-id.id.now)) = cc in
+    let told : Reads (Err c.in_err-attribute.field-0.0) (line_verdict c.args.peer (mark_at c.args.fields.now)) = rw c.in_err-attribute.was at (mark_line c.args.peer c.args.fields.now _ _ _ _ _ _ c.attribute_of.result c.both.result c.in_ok-id.ensures c.in_ok-name.ensures c.in_ok-value.ensures c.attribute_of.ensures read) in
+    let given : c.from_residual-in_err-attribute.result ≡ Err c.in_err-attribute.field-0.0 = grind (arith, common_steps) in
+    rw given told
 
 pub returns : goal.returns
 returns c =
-    let own : option_map (checked within_limits) (id_at c.in_ok-id.id.now) ≡ Some (Some c.in-Some-Some.id) = rw (← c.as_bytes.ensures.value) (sym c.in_ok-id-2.ensures ∙ ap (λ (x : Option OpId). Some x) c.in-Some-Some.is-0) in
-    let read : option_map (checked marked_within) (marked_at c.in_ok-id.fields.now) ≡ Some c.in_ok-marked.marked = rw c.in_ok-marked.was at (sym c.in-Ok.ensures) in
-    let marked : option_map (checked marked_within) (marked_at c.in_ok-id.fields.now) ≡ Some (Some c.in-Some-Some.marked) = read ∙ ap (λ (x : Option (Attribute × (Anchor × Anchor))). Some x) c.in-Some-Some.is-1 in
-    let result : c.owned.result ≡ owned c.args.peer (AddMark c.in-Some-Some.id c.in-Some-Some.marked.0 c.in-Some-Some.marked.1.0 c.in-Some-Some.marked.1.1) = c.owned.ensures in
-    owned_gives c.args.peer (AddMark c.in-Some-Some.id c.in-Some-Some.marked.0 c.in-Some-Some.marked.1.0 c.in-Some-Some.marked.1.1) _ _ result (mark_judged c.args.peer c.args.fields.now _ _ _ _ _ _ (sym c.in_ok-id.ensures) own marked)
+    let read : c.both.result ≡ both (both c.attribute_of.result (within anchors_within (anchors_at c.in_ok-value.fields.now))) (within within_limits (id_at c.in_ok-id.id.now)) = cc in
+    let told : Reads (owned c.args.peer (AddMark c.in_ok-attribute.id c.in_ok-attribute.attribute c.in_ok-attribute.start c.in_ok-attribute.end)) (line_verdict c.args.peer (mark_at c.args.fields.now)) = rw c.in_ok-attribute.was at (mark_line c.args.peer c.args.fields.now _ _ _ _ _ _ c.attribute_of.result c.both.result c.in_ok-id.ensures c.in_ok-name.ensures c.in_ok-value.ensures c.attribute_of.ensures read) in
+    rw c.owned.ensures told

@@ -1,20 +1,21 @@
-use Rattle.std.proofs.Common.{◌≡◌, Option, Some, Result, ap, sym, ◌∙◌}
-use Rattle.std.specs.Option.{option_map}
-use Rattle.change_ops.specs.Ids.{checked, within_limits}
-use Rattle.change_ops.specs.Limits.{unmarked_within}
-use Rattle.change_ops.specs.Reading.{id_at, unmarked_at, owned}
-use Rattle.change_ops.specs.declared.id.OpId.{OpId}
-use Rattle.change_ops.specs.declared.attribute.Key.{Key}
-use Rattle.change_ops.specs.declared.operation.Anchor.{Anchor}
-use Rattle.change_ops.specs.declared.operation.Op.{Op}
+use Rattle.std.proofs.Common.{◌≡◌, Err, sym, ◌∙◌, arith}
+use Rattle.std.proofs.lemmas.Grind.{common_steps}
+use Rattle.change_ops.specs.Ids.{within_limits}
+use Rattle.change_ops.specs.Limits.{key_within, anchors_within}
+use Rattle.change_ops.specs.Reading.{unmark_at, line_verdict, owned, id_at, key_at, anchors_at, within, both}
 use Rattle.change_ops.specs.declared.operation.Op.TheVariants.{RemoveMark}
-use Rattle.change_ops.specs.declared.refusal.LineFault.{LineFault}
-use Rattle.change_ops.proofs.Judging.{unmark_judged}
+use Rattle.change_ops.proofs.Judging.{unmark_line}
 use Rattle.change_ops.proofs.lines.unmark_of.Goals as goal
+
+pub returns-in_err-key : goal.returns-in_err-key
+returns-in_err-key c =
+    let read : c.both.result ≡ both (both (within key_within (key_at c.in_ok-name.name.now)) (within anchors_within (anchors_at c.in_ok-name.fields.now))) (within within_limits (id_at c.in_ok-id.id.now)) = cc in
+    let told : line_verdict c.args.peer (unmark_at c.args.fields.now) ≡ Err c.in_err-key.field-0.0 = rw c.in_err-key.was at (unmark_line c.args.peer c.args.fields.now _ _ _ _ c.both.result c.in_ok-id.ensures c.in_ok-name.ensures read) in
+    let given : c.from_residual-in_err-key.result ≡ Err c.in_err-key.field-0.0 = grind (arith, common_steps) in
+    given ∙ sym told
 
 pub returns : goal.returns
 returns c =
-    let own : option_map (checked within_limits) (id_at c.in_ok-id.id.now) ≡ Some (Some c.in-Some-Some.id) = rw (← c.as_bytes.ensures.value) (sym c.in_ok-id-2.ensures ∙ ap (λ (x : Option OpId). Some x) c.in-Some-Some.is-0) in
-    let unmarked : option_map (checked unmarked_within) (unmarked_at c.in_ok-id.fields.now) ≡ Some (Some c.in-Some-Some.unmarked) = sym c.in_ok-unmarked.ensures ∙ ap (λ (x : Option (Key × (Anchor × Anchor))). Some x) c.in-Some-Some.is-1 in
-    let result : c.owned.result ≡ owned c.args.peer (RemoveMark c.in-Some-Some.id c.in-Some-Some.unmarked.0 c.in-Some-Some.unmarked.1.0 c.in-Some-Some.unmarked.1.1) = c.owned.ensures in
-    ap (λ (x : Result Op LineFault). Some x) result ∙ sym (unmark_judged c.args.peer c.args.fields.now _ _ _ _ _ _ (sym c.in_ok-id.ensures) own unmarked)
+    let read : c.both.result ≡ both (both (within key_within (key_at c.in_ok-name.name.now)) (within anchors_within (anchors_at c.in_ok-name.fields.now))) (within within_limits (id_at c.in_ok-id.id.now)) = cc in
+    let told : line_verdict c.args.peer (unmark_at c.args.fields.now) ≡ owned c.args.peer (RemoveMark c.in_ok-key.id c.in_ok-key.key c.in_ok-key.start c.in_ok-key.end) = rw c.in_ok-key.was at (unmark_line c.args.peer c.args.fields.now _ _ _ _ c.both.result c.in_ok-id.ensures c.in_ok-name.ensures read) in
+    c.owned.ensures ∙ sym told

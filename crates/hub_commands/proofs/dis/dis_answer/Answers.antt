@@ -6,7 +6,8 @@ use Rattle.disassembler.specs.Canonical.{canonical}
 use Rattle.hub_commands.specs.declared.reason.Reason.TheVariants.{BadHex, Words}
 use Rattle.hub_commands.specs.Answers.{Reply, done}
 use Rattle.hub_commands.specs.Hexadecimal.{without_blanks}
-use Rattle.hub_commands.specs.Programs.{refusal, IsDisReply}
+use Rattle.hub_commands.specs.Reasons.{refusal}
+use Rattle.hub_commands.specs.Programs.{IsDisReply}
 use Rattle.hub_commands.proofs.Replies.{mapped, hex_refused, words_refused, program_answered}
 use Rattle.hub_commands.proofs.dis.dis_answer.Goals as goal
 

@@ -1,25 +1,18 @@
-use Rattle.std.proofs.Common.{◌≢◌, ◌∙◌, ℕ, ◌+◌, sym, ap, []}
-use Rattle.hub_commands.proofs.Accepting.{begins_more, not_empty, none_left, unread_reply, is_indexed, unaccepted_reply}
+use Rattle.std.proofs.Common.{◌≢◌, ◌∙◌, sym, []}
+use Rattle.std.proofs.lemmas.Result.{err_from_is_err_and}
+use Rattle.hub_commands.proofs.Accepting.{begins_more, not_empty, none_left, stops_within}
 use Rattle.hub_commands.proofs.spans.history_of.Goals as goal
 
-pub returns-in-Err : goal.returns-in-Err
-returns-in-Err c =
-    let counted = ap (λ (n : ℕ). n + 1) c.len-number.ensures.value in
+pub returns-in_err-rest : goal.returns-in_err-rest
+returns-in_err-rest c =
     let more : c.loop-rest.rest.now ≢ [] = not_empty c.loop-rest.rest.now (sym c.is_empty.ensures ∙ c.loop-rest-test.true) in
-    unread_reply c.args.text.now c.loop-rest.rest.now c.loop-rest.history (c.len-number.result + 1) c.in-Err.error c.in_ok-unread-in-Err.field-0 c.loop-rest.invariant.front more counted c.in-Err.ensures.exact c.in_ok-unread-in-Err.ensures
-
-pub unaccepted-requires : goal.unaccepted-requires
-unaccepted-requires c = is_indexed c.loop-rest.history c.in-Ok.read.0 c.in-Err-accept.error c.in-Ok.ensures.spelled.0 c.in-Err-accept.ensures.1
-
-pub returns-in-Err-accept : goal.returns-in-Err-accept
-returns-in-Err-accept c =
-    let counted = ap (λ (n : ℕ). n + 1) c.len-number.ensures.value in
-    unaccepted_reply c.args.text.now c.loop-rest.rest.now c.in-Ok.read.1.now c.loop-rest.history c.in-Ok.read.0 (c.len-number.result + 1) c.in-Err-accept.error c.in_ok-unaccepted.field-0 c.loop-rest.invariant.front c.in-Ok.ensures.spelled counted c.in-Err-accept.ensures.1 c.in_ok-unaccepted.ensures
+    let p = err_from_is_err_and c.from_residual.result c.from_residual.ensures.1 in
+    rw (p.1, p.2) (stops_within c.args.text.now c.loop-rest.rest.now c.loop-rest.history c.in_err-rest.field-0.0 c.loop-rest.invariant.front more c.in_err-rest.ensures.taken)
 
 pub loop-rest-preserved : goal.loop-rest-preserved
 loop-rest-preserved c = record {
-  text = c.in-Ok.ensures.text;
-  front = begins_more c.args.text.now c.loop-rest.rest.now c.in-Ok.read.1.now c.loop-rest.history c.accept.new.self c.in-Ok.read.0 c.loop-rest.invariant.front c.in-Ok.ensures.spelled (rw c.in_default.is at c.accept.ensures);
+  text = c.in_ok-rest.ensures.text;
+  front = begins_more c.args.text.now c.loop-rest.rest.now c.in_ok-rest.rest.now c.loop-rest.history c.take_change.new.history c.loop-rest.invariant.front c.in_ok-rest.ensures.taken;
 }
 
 pub returns : goal.returns

@@ -1,13 +1,23 @@
-use Rattle.std.proofs.Common.{refl, rules}
-use Rattle.known_bits.proofs.Members.{fit}
+use Rattle.std.proofs.Common.{arith, rules}
+use Rattle.known_bits.proofs.BitLaws.{word_bits}
+use Rattle.known_bits.proofs.Members.{Fit, fit}
 use Rattle.known_bits.proofs.Bitwise.{and_apart, and_contains, and_knows}
 use Rattle.known_bits.proofs.Bits.and.Goals as goal
 
 pub invariant_of-result : goal.invariant_of-result
-invariant_of-result c = rw (c.greatest.ensures.value, c.greatest-2.ensures.value) (record { disjoint = and_apart c.args.self c.args.other (fit c.args.self (search rules) (search rules)) (fit c.args.other (search rules) (search rules)) })
+invariant_of-result c =
+    let fa : Fit c.args.self = fit c.args.self (search rules) (search rules) in
+    let fb : Fit c.args.other = fit c.args.other (search rules) (search rules) in
+    record { disjoint = and_apart c.args.self c.args.other _ _ (record { fits = grind (arith, word_bits); bits = λ k below. grind (arith, word_bits) }) (record { fits = grind (arith, word_bits); bits = λ k below. grind (arith, word_bits) }) }
 
 pub returns-clause-contains : goal.returns-clause-contains
-returns-clause-contains c = and_contains c.args.self c.args.other _ (fit c.args.self (search rules) (search rules)) (fit c.args.other (search rules) (search rules)) refl (rw (c.greatest.ensures.value, c.greatest-2.ensures.value))
+returns-clause-contains c =
+    let fa : Fit c.args.self = fit c.args.self (search rules) (search rules) in
+    let fb : Fit c.args.other = fit c.args.other (search rules) (search rules) in
+    and_contains c.args.self c.args.other _ (record { fits = grind (arith, word_bits); bits = λ k below. grind (arith, word_bits) }) (record { fits = grind (arith, word_bits); bits = λ k below. grind (arith, word_bits) })
 
 pub returns-clause-knows : goal.returns-clause-knows
-returns-clause-knows c = and_knows c.args.self c.args.other _ (fit c.args.self (search rules) (search rules)) (fit c.args.other (search rules) (search rules)) (rw (c.greatest.ensures.value, c.greatest-2.ensures.value))
+returns-clause-knows c =
+    let fa : Fit c.args.self = fit c.args.self (search rules) (search rules) in
+    let fb : Fit c.args.other = fit c.args.other (search rules) (search rules) in
+    and_knows c.args.self c.args.other _ fa fb (record { fits = grind (arith, word_bits); bits = λ k below. grind (arith, word_bits) })

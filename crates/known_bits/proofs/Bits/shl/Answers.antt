@@ -1,13 +1,14 @@
-use Rattle.std.proofs.Common.{refl, rules}
+use Rattle.std.proofs.Common.{◌%◌, rules}
 use Rattle.known_bits.proofs.Members.{fit}
 use Rattle.known_bits.proofs.Shifts.{shl_apart, shl_contains, shl_knows}
 use Rattle.known_bits.proofs.Bits.shl.Goals as goal
 
 pub invariant_of-result : goal.invariant_of-result
-invariant_of-result c = record { disjoint = shl_apart _ _ _ c.args.self.disjoint }
+invariant_of-result c = record { disjoint = shl_apart c.args.self _ _ (c.args.count % 64) (search rules) (search rules) }
 
 pub returns-clause-contains : goal.returns-clause-contains
-returns-clause-contains c = shl_contains c.args.self _ _ refl refl
+returns-clause-contains c = shl_contains c.args.self _ (c.args.count % 64) (search rules) (search rules)
 
 pub returns-clause-knows : goal.returns-clause-knows
-returns-clause-knows c = shl_knows c.args.self _ _ (fit c.args.self (search rules) (search rules)) refl
+returns-clause-knows c =
+    shl_knows c.args.self _ (c.args.count % 64) (fit c.args.self (search rules) (search rules)) (search rules)

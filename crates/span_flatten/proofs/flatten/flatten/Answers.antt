@@ -1,45 +1,60 @@
-use Rattle.std.proofs.Common.{◌≡◌, ◌<◌, ◌+◌, ℕ, List, length, get_or, sym, ◌∙◌, ap, subst, arith, string_bytes}
+use Rattle.std.proofs.Common.{◌≡◌, ◌≤◌, ℕ, List, [], Some, length, refl, sym, subst, rules, arith, string_bytes}
 use Rattle.std.specs.List.{slice_get}
+use Rattle.std.proofs.lemmas.Option.{slice_get_read}
 use Rattle.change_ops.specs.declared.operation.Op.{Op}
 use Rattle.char_sequence.specs.declared.sequence.Element.{Element}
-use Rattle.char_sequence.specs.Order.{Shows}
-use Rattle.mark_anchors.specs.Marks.{AreMarks}
-use Rattle.span_flatten.proofs.Taking.{scalar_of, taken_hidden, taken_shown, taken_whole, taken_version, IsTaken}
+use Rattle.mark_anchors.specs.Ranges.{AreRanges}
+use Rattle.mark_anchors.specs.declared.ranges.FormattedRange.{FormattedRange}
+use Rattle.span_flatten.specs.declared.version.Row.{Row}
+use Rattle.span_flatten.proofs.Taking.{IsAlong, along_none, along_more, taken_whole, taken_version}
 use Rattle.span_flatten.proofs.flatten.flatten.Goals as goal
-use Rattle.span_flatten.proofs.flatten.flatten.Goals.{then-element+in_ok-format+in_ok-take_in, else-element}
 
-pub loop-place-preserved : goal.loop-place-preserved
-loop-place-preserved c =
+pub loop-range-init : goal.loop-range-init
+loop-range-init c =
     let es : List Element = c.args.sequence.now.elements in
     let marks : List Op = c.args.marks.now in
-    let place : ℕ = c.loop-place.place in
-    let e : Element = c.element-item.result in
-    let items : c.elements-element-items.result.now ≡ es = c.elements-element-items.ensures.value in
-    let within : place < length es = omega (arith, ap length items) in
-    let read : e ≡ get_or es place e = c.element-item.is ∙ ap (λ l. get_or l place e) items in
-    elim c.if-element.branch [
-      | then-element+in_ok-format+in_ok-take_in w ↦
-          (let same = c.in_ok-resolved.ensures in
-          let took = w.in_ok-take_in.ensures in
-          subst (λ t. IsTaken es marks (place + 1) (string_bytes t) c.if-element.rows.items) (sym w.text-is)
-          (subst (λ r. IsTaken es marks (place + 1) (string_bytes w.take_in.new.text) r.items) (sym w.rows-is)
-          (taken_shown es marks place e w.in_ok-format.format (string_bytes c.loop-place.text) (string_bytes w.take_in.new.text) c.loop-place.rows.items w.take_in.new.rows.items within read w.if-element.true
-          (scalar_of e.character w.value.ensures.valid)
-          (λ ops x shows are at. w.in_ok-format.ensures ops x (subst (λ l. Shows l ops) (sym same.elements) shows) (subst (λ m. AreMarks ops m) (sym same.marks) are) (ap (λ l. slice_get l place) same.elements ∙ at))
-          (λ shown s character format draft. took.draft shown s (character ∙ sym w.value.ensures.value) format draft)
-          took.size took.count c.loop-place.invariant)))
-      | else-element w ↦
-          subst (λ t. IsTaken es marks (place + 1) (string_bytes t) c.if-element.rows.items) (sym w.text-is)
-          (subst (λ r. IsTaken es marks (place + 1) (string_bytes c.loop-place.text) r.items) (sym w.rows-is)
-          (taken_hidden es marks place e (string_bytes c.loop-place.text) c.loop-place.rows.items within read w.if-element.false c.loop-place.invariant))
-    ]
+    let xs : List FormattedRange = c.deref-range-items.result.now in
+    let are : AreRanges es marks (length es) xs = subst (AreRanges es marks (length es)) (sym c.deref-range-items.ensures.value) c.in_ok-ranges.ensures in
+    let text : string_bytes c.new-text.result ≡ [] = search rules in
+    let rows : c.new-rows.result.items ≡ [] = search rules in
+    subst (λ (t : List ℕ). IsAlong es marks xs 0 t c.new-rows.result.items) (sym text)
+    (subst (λ (r : List Row). IsAlong es marks xs 0 [] r) (sym rows) (along_none es marks xs are))
+
+pub take_in-requires-clause-some : goal.take_in-requires-clause-some
+take_in-requires-clause-some c =
+    let es : List Element = c.args.sequence.now.elements in
+    let xs : List FormattedRange = c.deref-range-items.result.now in
+    let are : AreRanges es c.args.marks.now (length es) xs = subst (AreRanges es c.args.marks.now (length es)) (sym c.deref-range-items.ensures.value) c.in_ok-ranges.ensures in
+    are.some c.loop-range.range-index c.range-item.result (slice_get_read xs (length xs) c.loop-range.range-index c.range-item.result refl c.loop-range-test.true c.range-item.is)
+
+pub take_in-requires-clause-within : goal.take_in-requires-clause-within
+take_in-requires-clause-within c =
+    let es : List Element = c.args.sequence.now.elements in
+    let xs : List FormattedRange = c.deref-range-items.result.now in
+    let are : AreRanges es c.args.marks.now (length es) xs = subst (AreRanges es c.args.marks.now (length es)) (sym c.deref-range-items.ensures.value) c.in_ok-ranges.ensures in
+    are.within c.loop-range.range-index c.range-item.result (slice_get_read xs (length xs) c.loop-range.range-index c.range-item.result refl c.loop-range-test.true c.range-item.is)
+
+pub loop-range-preserved : goal.loop-range-preserved
+loop-range-preserved c =
+    let es : List Element = c.args.sequence.now.elements in
+    let marks : List Op = c.args.marks.now in
+    let xs : List FormattedRange = c.deref-range-items.result.now in
+    let are : AreRanges es marks (length es) xs = subst (AreRanges es marks (length es)) (sym c.deref-range-items.ensures.value) c.in_ok-ranges.ensures in
+    let read : slice_get xs c.loop-range.range-index ≡ Some c.range-item.result = slice_get_read xs (length xs) c.loop-range.range-index c.range-item.result refl c.loop-range-test.true c.range-item.is in
+    along_more es marks xs c.loop-range.range-index c.range-item.result (string_bytes c.loop-range.text) (string_bytes c.take_in.new.text) c.loop-range.rows.items c.take_in.new.rows.items
+    are read c.in_ok-take_in.ensures c.loop-range.invariant
 
 pub invariant_of-result : goal.invariant_of-result
 invariant_of-result c =
-    taken_whole c.args.sequence.now.elements c.args.marks.now c.loop-place.place (string_bytes c.loop-place.text) c.loop-place.rows.items
-    (omega (arith, ap length c.elements-element-items.ensures.value, c.elements-element-items.ensures.limit)) c.loop-place.invariant
+    let along = c.loop-range.invariant in
+    let whole : c.loop-range.range-index ≡ length c.deref-range-items.result.now = omega arith in
+    let place : along.place ≡ length c.args.sequence.now.elements = along.end whole in
+    let limit : length c.args.sequence.now.elements ≤ 32768 = c.len-count.ensures.limit in
+    taken_whole c.args.sequence.now.elements c.args.marks.now along.place (string_bytes c.loop-range.text) c.loop-range.rows.items (omega arith) along.taken
 
 pub returns : goal.returns
 returns c =
-    taken_version c.args.sequence.now.elements c.args.marks.now c.loop-place.place c.args.number (string_bytes c.loop-place.text) c.loop-place.rows.items
-    (omega (arith, ap length c.elements-element-items.ensures.value)) c.loop-place.invariant
+    let along = c.loop-range.invariant in
+    let whole : c.loop-range.range-index ≡ length c.deref-range-items.result.now = omega arith in
+    let place : along.place ≡ length c.args.sequence.now.elements = along.end whole in
+    taken_version c.args.sequence.now.elements c.args.marks.now along.place c.args.number (string_bytes c.loop-range.text) c.loop-range.rows.items (omega arith) along.taken

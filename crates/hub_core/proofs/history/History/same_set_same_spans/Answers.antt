@@ -6,5 +6,5 @@ use Rattle.hub_core.proofs.history.History.same_set_same_spans.Goals as goal
 
 pub returns : goal.returns
 returns c = λ spans others same first second.
-    let kept = subst (λ (cs : List Edit). Keeps (operations_of cs) c.self.inside.parts) c.self.view_is c.self.invariant.kept in
+    let kept = subst (λ (cs : List Edit). Keeps (operations_of cs) c.self.inside.parts) c.self.view_is c.self.invariant.0.kept in
     c.same_set_same_spans.ensures (operations_of c.args.self.now) (operations_of c.args.other.now) spans others kept same first second

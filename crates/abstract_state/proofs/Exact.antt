@@ -1,0 +1,44 @@
+-- What is known of one number stays that.
+use Rattle.std.proofs.Common.{◌≡◌, ℕ, Option, Some, None, refl, ap, ◌∙◌, arith}
+use Rattle.std.specs.Option.{IfSome}
+use Rattle.intervals.specs.declared.Range.{Range}
+use Rattle.abstract_state.specs.declared.region.Tails.{Tails}
+use Rattle.abstract_state.specs.declared.quantity.Quantity.{Quantity}
+use Rattle.abstract_state.specs.Quantity.{Narrows}
+use Rattle.abstract_state.specs.declared.region.Region.TheVariants.{Text}
+use Rattle.abstract_state.specs.declared.known.Known.{Known}
+use Rattle.abstract_state.specs.declared.known.Known.TheVariants.{Number, Context, Stack, Lent}
+use Rattle.abstract_state.specs.declared.place.LentPlace.{LentPlace}
+use Rattle.abstract_state.specs.declared.state.AbsReg.{AbsReg}
+use Rattle.abstract_state.specs.declared.state.AbsReg.TheVariants.{Unset, Set}
+use Rattle.abstract_state.specs.Kinds.{IsNumberReg}
+use Rattle.abstract_state.specs.Known.{AreNumbers}
+use Rattle.abstract_state.specs.Exact.{IsIn, IsTextIn, Says, Holds, NumberIn, AnyNumber}
+use Rattle.abstract_state.proofs.Options.{some_is, where_some}
+
+pub one_stays : (o : Option Quantity) (range : Range) (tails : Tails) (n : ℕ) (t : Option ℕ) → Narrows o range tails → range.low ≡ n → range.high ≡ n → tails.text ≡ t → IfSome o (λ q. IsIn q n n t)
+one_stays o range tails n t narrows low high tail = where_some _ o (λ q is.
+    let inner = some_is _ o q is narrows in
+    let ordered = q.range.ordered in
+    (omega arith, omega arith, ap (λ (s : Tails). s.text) inner.2 ∙ tail))
+
+pub text_is : (low high : ℕ) (t : Option ℕ) (k : Known) → IsTextIn low high t k → (p : LentPlace) × (k ≡ Lent p) × (p.region ≡ Text) × IsIn p.offset low high t
+text_is low high t (Number q) h = absurd h
+text_is low high t (Context p) h = absurd h
+text_is low high t (Stack p) h = absurd h
+text_is low high t (Lent p) h = (p, refl, h.0, h.1)
+
+pub any_number : (o : Option Known) → AreNumbers o → IfSome o (λ k. Says AnyNumber k)
+any_number None h = tt
+any_number (Some k) h = h
+
+pub any_is_number : (reg : AbsReg) → Holds AnyNumber reg → IsNumberReg reg
+any_is_number Unset h = absurd h
+any_is_number (Set k) h = h
+
+pub in_is_number : (low high : ℕ) (t : Option ℕ) (reg : AbsReg) → Holds (NumberIn low high t) reg → IsNumberReg reg
+in_is_number low high t Unset h = absurd h
+in_is_number low high t (Set (Number q)) h = tt
+in_is_number low high t (Set (Context p)) h = absurd h
+in_is_number low high t (Set (Stack p)) h = absurd h
+in_is_number low high t (Set (Lent p)) h = absurd h

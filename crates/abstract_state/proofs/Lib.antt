@@ -1,0 +1,14 @@
+pub mod Options
+pub mod Widths
+pub mod Sides
+pub mod Addresses
+pub mod Registers
+pub mod Loads
+pub mod Slots
+pub mod Memories
+pub mod Steps
+pub mod Lists
+pub mod Branches
+pub mod KindLaws
+pub mod Exact
+pub mod Guards

@@ -1,0 +1,159 @@
+-- Loads and stores of the machine, region by region, and byte by byte on the stack.
+use Rattle.std.proofs.Common.{◌≡◌, ℕ, ℤ, pos, negsuc, zero, suc, ◌+◌, ◌-◌, ◌*◌, ◌/◌, ◌%◌, ◌^◌, ◌<◌, ◌≤◌, ◌+ℤ◌, true, false, List, ◌++◌, length, map, take, drop, get_or, Option, Some, None, Ok, refl, sym, ◌∙◌, ap, subst, arith, length-append, length-drop}
+use Rattle.std.proofs.lemmas.Bool.Decides.{nat_tests}
+use Rattle.std.proofs.lemmas.Grind.{common_steps}
+use Rattle.std.proofs.lemmas.Int.{ints}
+use Rattle.std.proofs.lemmas.Nat.{mod-pow-add, shr-shr}
+use Rattle.std.proofs.lemmas.List.{get_or-take, get_or-drop, get_or_append_left, get_or-append-add}
+use Rattle.std.proofs.Math.Nat.{pow-succ'}
+use Rattle.byteorder.proofs.Bytes.{pow256}
+use Rattle.std.specs.Int.{byte_at, bytes_low_first}
+use Rattle.std.proofs.lemmas.List.{length-map}
+use Rattle.byteorder.specs.Endian.{little_number, little_bytes}
+use Rattle.byteorder.specs.Numbers.{length-bytes_low_first}
+use Rattle.bpf_words.specs.Context.{context_base, text_base}
+use Rattle.meaning.specs.Memory.{address_of, in_context, in_text, in_stack, stack_base, load, store, stored, stack_number, or_unset}
+use Rattle.abstract_state.specs.State.{bytes_of, HasByte}
+
+-- a place moved by an offset
+pub moved_is : (base x place a : ℕ) (o : ℤ) → pos a ≡ pos place +ℤ o → place ≤ x → base + x < 2 ^ 63 → a ≤ place + 2 ^ 16 → place ≤ a + 2 ^ 16 → address_of (base + x) o ≡ base + (a + (x - place))
+moved_is base x place a (pos n) e lo small above below = let same : a ≡ place + n = cc in omega arith
+moved_is base x place a (negsuc n) e lo small above below = let same : a + suc n ≡ place = omega (arith, ints) in omega arith
+
+-- ---- which region
+pub loads_context : (context text : List ℕ) (stack : List (Option ℕ)) (place count : ℕ) → length context ≡ 56 → place + count ≤ 56 → load context text stack (context_base + place) count ≡ Ok (little_number count (drop place context))
+loads_context context text stack place count long h =
+    let yes : in_context context (context_base + place) count ≡ true = grind (arith, nat_tests) in
+    let at : context_base + place - context_base ≡ place = omega arith in
+    simp (yes, at)
+
+pub loads_text : (context text : List ℕ) (stack : List (Option ℕ)) (place count : ℕ) → length context ≡ 56 → place + count ≤ length text → load context text stack (text_base + place) count ≡ Ok (little_number count (drop place text))
+loads_text context text stack place count long h =
+    let no : in_context context (text_base + place) count ≡ false = grind (arith, nat_tests) in
+    let yes : in_text text (text_base + place) count ≡ true = grind (arith, nat_tests) in
+    let at : text_base + place - text_base ≡ place = omega arith in
+    simp (no, yes, at)
+
+pub loads_stack : (context text : List ℕ) (stack : List (Option ℕ)) (place count : ℕ) → length context ≡ 56 → place + count ≤ 512 → load context text stack (stack_base + place) count ≡ or_unset (stack_number stack place count)
+loads_stack context text stack place count long h =
+    let no : in_context context (stack_base + place) count ≡ false = grind (arith, nat_tests) in
+    let neither : in_text text (stack_base + place) count ≡ false = grind (arith, nat_tests) in
+    let yes : in_stack (stack_base + place) count ≡ true = grind (arith, nat_tests) in
+    let at : stack_base + place - stack_base ≡ place = omega arith in
+    simp (no, neither, yes, at)
+
+pub stores_stack : (context text : List ℕ) (stack : List (Option ℕ)) (place count value : ℕ) → place + count ≤ 512 → store context text stack (stack_base + place) count value ≡ Ok (stored stack place count value)
+stores_stack context text stack place count value h =
+    let yes : in_stack (stack_base + place) count ≡ true = grind (arith, nat_tests) in
+    let at : stack_base + place - stack_base ≡ place = omega arith in
+    simp (yes, at)
+
+-- ---- bytes of the stack that are set make a number
+pub number_set : (stack : List (Option ℕ)) (place count : ℕ) → ((j : ℕ) → j < count → HasByte (bytes_of stack) (place + j)) → (n : ℕ) × (stack_number stack place count ≡ Some n) × (n < 256 ^ count)
+unfolding stack_number
+number_set stack place zero h = (0, refl, omega arith)
+number_set stack place (suc count) h =
+    let first : HasByte (bytes_of stack) place = subst (λ (k : ℕ). HasByte (bytes_of stack) k) (omega arith) (h 0 (omega arith)) in
+    let rest = number_set stack (place + 1) count (λ j l. subst (λ (k : ℕ). HasByte (bytes_of stack) k) (let e : place + suc j ≡ place + 1 + j = omega arith in e) (h (suc j) (omega arith))) in
+    let low = first.1 in
+    let high = rest.1 in
+    (first.0 + 256 * rest.0, simp (low, high), omega (arith, pow-succ' 256 count, first.2, rest.2))
+
+low_and_high : (n count : ℕ) → n % 256 + 256 * (n / 256 % 256 ^ count) ≡ n % 256 ^ suc count
+low_and_high n count =
+    let whole = mod-pow-add n (8 * count) 8 in
+    let small = pow256 count in
+    let large : 256 ^ suc count ≡ 2 ^ (8 * count + 8) = pow256 (suc count) ∙ ap (λ (k : ℕ). 2 ^ k) (omega arith) in
+    rw (large, small) (omega (arith, whole))
+
+next_quotient : (n j : ℕ) → n / 256 ^ suc j ≡ n / 256 / 256 ^ j
+next_quotient n j =
+    let parts : n / 2 ^ 8 / 2 ^ (8 * j) ≡ n / 2 ^ (8 + 8 * j) = shr-shr n 8 (8 * j) in
+    let large : 256 ^ suc j ≡ 2 ^ (8 + 8 * j) = pow256 (suc j) ∙ ap (λ (k : ℕ). 2 ^ k) (omega arith) in
+    let small = pow256 j in
+    rw (large, small) (sym parts)
+
+first_byte : (stack : List (Option ℕ)) (place n : ℕ) → bytes_of stack (place + 0) ≡ Some (n / 256 ^ 0 % 256) → bytes_of stack place ≡ Some (n % 256)
+first_byte stack place n e =
+    let at : place ≡ place + 0 = omega arith in
+    ap (bytes_of stack) at ∙ e ∙ ap (λ (m : ℕ). Some m) (omega arith)
+
+next_byte : (stack : List (Option ℕ)) (place j n : ℕ) → bytes_of stack (place + suc j) ≡ Some (n / 256 ^ suc j % 256) → bytes_of stack (place + 1 + j) ≡ Some (n / 256 / 256 ^ j % 256)
+next_byte stack place j n e =
+    let at : place + 1 + j ≡ place + suc j = omega arith in
+    ap (bytes_of stack) at ∙ e ∙ ap (λ (m : ℕ). Some (m % 256)) (next_quotient n j)
+
+-- the bytes of a number, read again
+pub number_back : (stack : List (Option ℕ)) (place count n : ℕ) → ((j : ℕ) → j < count → bytes_of stack (place + j) ≡ Some (n / 256 ^ j % 256)) → stack_number stack place count ≡ Some (n % 256 ^ count)
+unfolding stack_number
+number_back stack place zero n h = ap (λ (m : ℕ). Some m) (omega arith)
+number_back stack place (suc count) n h =
+    let low : bytes_of stack place ≡ Some (n % 256) = first_byte stack place n (h 0 (omega arith)) in
+    let high = number_back stack (place + 1) count (n / 256) (λ j l. next_byte stack place j n (h (suc j) (omega arith))) in
+    simp (low, high) (ap (λ (m : ℕ). Some m) (low_and_high n count))
+
+-- ---- what a store leaves on the stack
+low_byte : (i n : ℕ) → byte_at i n ≡ n / 256 ^ i % 256
+low_byte zero n = omega arith
+low_byte (suc i) n = refl
+
+byte_there : (i n x j : ℕ) → j < n → get_or (map Some (bytes_low_first i n x)) j None ≡ Some (x / 256 ^ (i + j) % 256)
+byte_there i zero x j h = absurd (omega arith)
+byte_there i (suc n) x zero h =
+    let at : i ≡ i + 0 = omega arith in ap (λ (b : ℕ). Some b) (low_byte i x ∙ ap (λ (k : ℕ). x / 256 ^ k % 256) at)
+byte_there i (suc n) x (suc j) h =
+    let at : suc i + j ≡ i + suc j = omega arith in byte_there (suc i) n x j (omega arith) ∙ ap (λ (k : ℕ). Some (x / 256 ^ k % 256)) at
+
+length_stored : (stack : List (Option ℕ)) (place count value : ℕ) → place + count ≤ length stack → (length (take place stack) ≡ place) × (length (map Some (little_bytes count value)) ≡ count)
+length_stored stack place count value h =
+    (grind (arith, common_steps), simp length-map (length-bytes_low_first 0 count value))
+
+pub stored_long : (stack : List (Option ℕ)) (place count value : ℕ) → place + count ≤ length stack → length (stored stack place count value) ≡ length stack
+stored_long stack place count value h =
+    let sizes = length_stored stack place count value h in
+    let taken : length (take place stack) ≡ place = sizes.0 in
+    let added : length (map Some (little_bytes count value)) ≡ count = sizes.1 in
+    simp (length-append, length-drop, taken, added) (omega arith)
+
+pub stored_before : (stack : List (Option ℕ)) (place count value k : ℕ) → place + count ≤ length stack → k < place → bytes_of (stored stack place count value) k ≡ bytes_of stack k
+stored_before stack place count value k h before =
+    let front = take place stack in
+    let mid = map Some (little_bytes count value) in
+    let back = drop (place + count) stack in
+    let sizes = length_stored stack place count value h in
+    let taken : length (take place stack) ≡ place = sizes.0 in
+    let both : length (front ++ mid) ≡ length front + length mid = length-append front mid in
+    get_or_append_left (front ++ mid) back None k (omega arith) ∙ get_or_append_left front mid None k (omega arith) ∙ get_or-take place stack k None before
+
+pub stored_at : (stack : List (Option ℕ)) (place count value j : ℕ) → place + count ≤ length stack → j < count → bytes_of (stored stack place count value) (place + j) ≡ Some (value / 256 ^ j % 256)
+stored_at stack place count value j h within =
+    let front = take place stack in
+    let mid = map Some (little_bytes count value) in
+    let back = drop (place + count) stack in
+    let sizes = length_stored stack place count value h in
+    let taken : length (take place stack) ≡ place = sizes.0 in
+    let added : length (map Some (little_bytes count value)) ≡ count = sizes.1 in
+    let both : length (front ++ mid) ≡ length front + length mid = length-append front mid in
+    let at : place + j ≡ length front + j = omega arith in
+    let zeroth : 0 + j ≡ j = omega arith in
+    get_or_append_left (front ++ mid) back None (place + j) (omega arith)
+    ∙ ap (λ (k : ℕ). get_or (front ++ mid) k None) at
+    ∙ get_or-append-add front mid j None
+    ∙ byte_there 0 count value j within
+    ∙ ap (λ (k : ℕ). Some (value / 256 ^ k % 256)) zeroth
+
+pub stored_after : (stack : List (Option ℕ)) (place count value k : ℕ) → place + count ≤ length stack → place + count ≤ k → bytes_of (stored stack place count value) k ≡ bytes_of stack k
+stored_after stack place count value k h after =
+    let front = take place stack in
+    let mid = map Some (little_bytes count value) in
+    let back = drop (place + count) stack in
+    let sizes = length_stored stack place count value h in
+    let taken : length (take place stack) ≡ place = sizes.0 in
+    let added : length (map Some (little_bytes count value)) ≡ count = sizes.1 in
+    let both : length (front ++ mid) ≡ length front + length mid = length-append front mid in
+    let at : k ≡ length (front ++ mid) + (k - (place + count)) = omega arith in
+    let again : place + count + (k - (place + count)) ≡ k = omega arith in
+    ap (λ (i : ℕ). get_or ((front ++ mid) ++ back) i None) at
+    ∙ get_or-append-add (front ++ mid) back (k - (place + count)) None
+    ∙ get_or-drop (place + count) stack (k - (place + count)) None
+    ∙ ap (bytes_of stack) again

@@ -1,0 +1,16 @@
+use Rattle.std.proofs.Common.{◌≡◌, ap, ◌∙◌}
+use Rattle.std.proofs.lemmas.Int.{to_z-of_z}
+use Rattle.std.specs.Int.{cast_unsigned, w32, w64}
+use Rattle.meaning.specs.Value.{cut}
+use Rattle.abstract_state.proofs.Widths.{cut_of_narrow}
+use Rattle.abstract_state.proofs.branch.compared.Goals as goal
+
+pub returns-in-Full : goal.returns-in-Full
+returns-in-Full c = λ lengths.
+    let same : c.extended-value.result ≡ cast_unsigned w64 c.args.value = c.extended-value.ensures ∙ ap (cast_unsigned w64) (to_z-of_z w32 c.args.value c.ranges.value) in
+    (c.extended-value.result, ap (cut c.args.width) same, c.constant.ensures.contains lengths)
+
+pub returns-in-Narrow : goal.returns-in-Narrow
+returns-in-Narrow c = λ lengths.
+    let same : c.extended-value.result ≡ cast_unsigned w64 c.args.value = c.extended-value.ensures ∙ ap (cast_unsigned w64) (to_z-of_z w32 c.args.value c.ranges.value) in
+    (_, cut_of_narrow c.args.width c.extended-value.result c.in-Narrow.is ∙ ap (cut c.args.width) same, c.constant-in-Narrow.ensures.contains lengths)

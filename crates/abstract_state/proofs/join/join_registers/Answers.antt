@@ -1,0 +1,32 @@
+use Rattle.std.proofs.Common.{◌≡◌, ◌<◌, ◌≤◌, ℕ, length, get_or, subst, sym, ◌∙◌, rules, arith}
+use Rattle.abstract_state.specs.declared.state.AbsReg.{AbsReg}
+use Rattle.abstract_state.specs.declared.state.AbsReg.TheVariants.{Unset}
+use Rattle.abstract_state.specs.Kinds.{JoinsReg}
+use Rattle.abstract_state.specs.State.{ContainsRegister, register_at}
+use Rattle.abstract_state.proofs.Lists.{written_at, read_again, beyond}
+use Rattle.abstract_state.proofs.join.join_registers.Goals as goal
+
+pub loop-i-preserved : goal.loop-i-preserved
+loop-i-preserved c =
+    let within : c.loop-i.i < length c.loop-i.a = omega arith in
+    let second : c.loop-i.i < length c.args.b.now = omega (arith, c.told-b) in
+    let before = λ (k : ℕ) (e : k ≡ c.loop-i.i).
+    let from : c.loop-i.i ≤ k = omega arith in
+    sym (c.loop-i.invariant.rest k from) ∙ read_again c.loop-i.a c.loop-i.i k Unset c.index-a-i.result within e in
+    record {
+      long = search rules;
+      kinds = λ k h.
+          written_at c.loop-i.a c.loop-i.i k c.join_register.result Unset (λ (v : AbsReg). JoinsReg (register_at c.args.a.now k) (register_at c.args.b.now k) v) within h
+          (λ e. subst (λ (v : AbsReg). JoinsReg v (register_at c.args.b.now k) c.join_register.result) (sym (before k e))
+          (subst (λ (v : AbsReg). JoinsReg (get_or c.loop-i.a c.loop-i.i c.index-a-i.result) v c.join_register.result) (sym (read_again c.args.b.now c.loop-i.i k Unset c.index-b-i.result second e)) c.join_register.ensures.kinds))
+          (λ less. c.loop-i.invariant.kinds k less);
+      left = λ k lengths o h s.
+          written_at c.loop-i.a c.loop-i.i k c.join_register.result Unset (λ (v : AbsReg). ContainsRegister v lengths o) within h
+          (λ e. c.join_register.ensures.left lengths o (subst (λ (v : AbsReg). ContainsRegister v lengths o) (before k e) s))
+          (λ less. c.loop-i.invariant.left k lengths o less s);
+      right = λ k lengths o h s.
+          written_at c.loop-i.a c.loop-i.i k c.join_register.result Unset (λ (v : AbsReg). ContainsRegister v lengths o) within h
+          (λ e. c.join_register.ensures.right lengths o (subst (λ (v : AbsReg). ContainsRegister v lengths o) (read_again c.args.b.now c.loop-i.i k Unset _ second e) s))
+          (λ less. c.loop-i.invariant.right k lengths o less s);
+      rest = λ k h. beyond c.loop-i.a c.loop-i.i k c.join_register.result Unset h ∙ c.loop-i.invariant.rest k (omega arith);
+    }

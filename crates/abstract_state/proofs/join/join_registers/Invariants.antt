@@ -1,0 +1,14 @@
+use Rattle.std.proofs.Common.{◌≡◌, ℕ, ◌<◌, ◌≤◌, length, Option}
+use Rattle.abstract_state.specs.Lent.{Lengths}
+use Rattle.abstract_state.specs.Kinds.{JoinsReg}
+use Rattle.abstract_state.specs.State.{ContainsRegister, register_at}
+use Rattle.abstract_state.proofs.join.join_registers.Given as goal
+
+abbrev pub invariant-loop-i : goal.invariant-loop-i
+invariant-loop-i l = record {
+  long : length l.a ≡ 11;
+  kinds : (k : ℕ) → k < l.i → JoinsReg (register_at l.initial.a k) (register_at l.b k) (register_at l.a k);
+  left : (k : ℕ) (lengths : Lengths) (o : Option ℕ) → k < l.i → ContainsRegister (register_at l.initial.a k) lengths o → ContainsRegister (register_at l.a k) lengths o;
+  right : (k : ℕ) (lengths : Lengths) (o : Option ℕ) → k < l.i → ContainsRegister (register_at l.b k) lengths o → ContainsRegister (register_at l.a k) lengths o;
+  rest : (k : ℕ) → l.i ≤ k → register_at l.a k ≡ register_at l.initial.a k;
+}

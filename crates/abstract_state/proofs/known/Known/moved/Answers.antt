@@ -1,0 +1,35 @@
+use Rattle.std.proofs.Common.{◌≤◌, ℕ, ◌%◌, ◌^◌, refl, subst, arith}
+use Rattle.abstract_state.specs.Exact.{IsTextIn}
+use Rattle.abstract_state.proofs.Exact.{one_stays}
+use Rattle.std.proofs.lemmas.Result.{IfOk-weaker}
+use Rattle.abstract_state.specs.Known.{ContainsKnown, WithinKnown}
+use Rattle.abstract_state.specs.declared.known.Known.{Known}
+use Rattle.abstract_state.proofs.Widths.{full_is}
+use Rattle.abstract_state.proofs.Addresses.{known_fits, lent_moved}
+use Rattle.abstract_state.proofs.known.Known.moved.Goals as goal
+
+pub returns-in-Number-default-clause-sound : goal.returns-in-Number-default-clause-sound
+returns-in-Number-default-clause-sound c = λ lengths x a.
+    c.number.ensures.contains lengths _ (c.moved.ensures.contains lengths x (subst (λ (k : Known). ContainsKnown k lengths x) c.in-Number-default.is-0 a))
+
+pub returns-in-Lent-Full-clause-sound : goal.returns-in-Lent-Full-clause-sound
+returns-in-Lent-Full-clause-sound c = IfOk-weaker c.lent.result _ _
+    (λ o h lengths x a.
+    let place = subst (λ (k : Known). ContainsKnown k lengths x) c.in-Lent-Full.is-0 a in
+    subst (λ (n : ℕ). WithinKnown o lengths n) (lent_moved c.in-Lent-Full.a.region c.args.width x place.0 c.in-Lent-Full.is-1 place.1)
+    (h lengths (place.0 % 2 ^ 64) (c.moved-in-Lent-Full.ensures.contains lengths place.0 place.2)))
+    c.lent.ensures.sound
+
+pub returns-in-Context-Full-clause-sound : goal.returns-in-Context-Full-clause-sound
+returns-in-Context-Full-clause-sound c = λ lengths x a.
+    (_, refl, subst (λ (n : ℕ). ContainsKnown c.args.self lengths n) (full_is c.args.width x c.in-Context-Full.is-1 (known_fits c.args.self lengths x a)) a)
+
+pub returns-in-Stack-Full-clause-sound : goal.returns-in-Stack-Full-clause-sound
+returns-in-Stack-Full-clause-sound c = λ lengths x a.
+    (_, refl, subst (λ (n : ℕ). ContainsKnown c.args.self lengths n) (full_is c.args.width x c.in-Stack-Full.is-1 (known_fits c.args.self lengths x a)) a)
+
+pub returns-in-Lent-Full-clause-text : goal.returns-in-Lent-Full-clause-text
+returns-in-Lent-Full-clause-text c = λ wide n t is.
+    let given = subst (λ (k : Known). IsTextIn n n t k) c.in-Lent-Full.is-0 is in
+    let near : n ≤ 2 ^ 20 = omega (arith, c.in-Lent-Full.a.near, given.1.1) in
+    c.lent.ensures.text n n t given.0 (one_stays c.moved-in-Lent-Full.result c.in-Lent-Full.a.offset.range c.in-Lent-Full.a.offset.tails n t (c.moved-in-Lent-Full.ensures.narrows refl) given.1.0 given.1.1 given.1.2) near

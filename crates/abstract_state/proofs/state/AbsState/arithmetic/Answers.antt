@@ -1,0 +1,27 @@
+use Rattle.std.proofs.Common.{refl, ◌∙◌, subst, sym, pos}
+use Rattle.abstract_state.proofs.Guards.{compute_rows}
+use Rattle.std.proofs.lemmas.Result.{IfOk-weaker}
+use Rattle.bpf_words.specs.declared.instruction.Arithmetic.{Arithmetic}
+use Rattle.bpf_words.specs.declared.instruction.Insn.TheVariants.{Compute}
+use Rattle.abstract_state.specs.State.{StepsBy}
+use Rattle.abstract_state.specs.Steps.{after}
+use Rattle.abstract_state.proofs.state.AbsState.arithmetic.Goals as goal
+
+pub returns-in-Mov-clause-sound : goal.returns-in-Mov-clause-sound
+returns-in-Mov-clause-sound c = IfOk-weaker c.move_to.result _ _
+    (λ flow h. subst (λ (op : Arithmetic). StepsBy c.args.self.now (Compute c.args.width op c.args.destination c.args.operand) (pos 0) (after flow c.move_to.new.self)) (sym c.in-Mov.is) h)
+    c.move_to.ensures.sound
+
+pub returns-in-Mov-clause-yields : goal.returns-in-Mov-clause-yields
+returns-in-Mov-clause-yields c = λ d fact y.
+    compute_rows c.args.self.now _ d fact c.args.width c.args.operation c.args.destination c.args.operand c.move_to.result c.move_to.new.self y refl
+    (λ r n t w o e h. c.move_to.ensures.text r n t w e h)
+    (λ k n t w o e h near. let bad = sym o ∙ c.in-Mov.is in absurd (cc))
+    (λ k w o e h. c.move_to.ensures.constant k w e h)
+
+pub returns-in_default-clause-yields : goal.returns-in_default-clause-yields
+returns-in_default-clause-yields c = λ d fact y.
+    compute_rows c.args.self.now _ d fact c.args.width c.args.operation c.args.destination c.args.operand c.compute.result c.compute.new.self y refl
+    (λ r n t w o e h. absurd (c.in_default.not-Mov o))
+    (λ k n t w o e h near. c.compute.ensures.adds k n t w o e h near)
+    (λ k w o e h. absurd (c.in_default.not-Mov o))

@@ -1,0 +1,23 @@
+use Rattle.std.proofs.Common.{◌+◌, ◌%◌, ◌^◌, ℕ, subst, ap, ◌∙◌, rules, arith}
+use Rattle.std.specs.Bool.{IsTrue}
+use Rattle.meaning.specs.Memory.{stack_base}
+use Rattle.abstract_state.specs.declared.known.Known.{Known}
+use Rattle.abstract_state.specs.Known.{ContainsKnown}
+use Rattle.abstract_state.specs.State.{lengths_of, bytes_of}
+use Rattle.abstract_state.proofs.Memories.{loads_lent, loads_set}
+use Rattle.abstract_state.proofs.state.AbsState.bytes.Goals as goal
+
+pub returns-then-reaches-clause-sound : goal.returns-then-reaches-clause-sound
+returns-then-reaches-clause-sound c = λ span s n a k.
+    let place = subst (λ (v : Known). ContainsKnown v (lengths_of span) n) c.in-Lent.is k in
+    let yes : IsTrue c.reaches.result = search rules in
+    let there = c.reaches.ensures.sound yes (lengths_of span) place.0 a.bounds place.2 in
+    loads_lent span s.stack c.in-Lent.place.region _ there.0 c.args.count (ap (λ (m : ℕ). (m + c.args.offset) % 2 ^ 64) place.1 ∙ there.1) there.2
+
+pub returns-then-are_set-clause-sound : goal.returns-then-are_set-clause-sound
+returns-then-are_set-clause-sound c = λ span s n a k.
+    let place = subst (λ (v : Known). ContainsKnown v (lengths_of span) n) c.in-Stack.is k in
+    let yes : IsTrue c.are_set.result = search rules in
+    let at = c.in_ok-p-in-Stack.ensures.at stack_base (omega arith) in
+    loads_set span s.stack _ c.in_ok-p-in-Stack.p c.args.count (ap (λ (m : ℕ). (m + c.args.offset) % 2 ^ 64) place ∙ at) c.in_ok-p-in-Stack.ensures.within
+    (c.are_set.ensures yes (lengths_of span) (bytes_of s.stack) a.stack)

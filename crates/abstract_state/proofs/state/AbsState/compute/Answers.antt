@@ -1,0 +1,28 @@
+use Rattle.std.proofs.Common.{◌≡◌, ◌+◌, true, false, refl, arith}
+use Rattle.abstract_state.specs.Exact.{TextIn, tail_after}
+use Rattle.abstract_state.specs.State.{lengths_of}
+use Rattle.abstract_state.proofs.Steps.{computes}
+use Rattle.abstract_state.proofs.state.AbsState.compute.Goals as goal
+
+pub returns-clause-sound : goal.returns-clause-sound
+returns-clause-sound c = λ span s held.
+    let a = c.in_ok-a.ensures.sound (lengths_of span) s held in
+    let b = c.in_ok-b.ensures.sound (lengths_of span) s held in (
+      _,
+      computes span s c.args.width c.args.operation c.args.destination c.args.operand a.0 b.0 c.requires.frame c.requires.reads a.1 b.1,
+      c.write.ensures.sound (lengths_of span) s _ held (c.in_ok-known.ensures.sound (lengths_of span) a.0 b.0 a.2 b.2),
+    )
+
+pub returns-in_err-a-clause-adds : goal.returns-in_err-a-clause-adds
+returns-in_err-a-clause-adds c = λ k n t w o e h near. let bad : false ≡ true = (c.in_err-a.ensures.holds (TextIn n n t) h).0 in absurd (cc)
+
+pub returns-in_err-known-clause-adds : goal.returns-in_err-known-clause-adds
+returns-in_err-known-clause-adds c = λ k n t w o e h near.
+    let bad : false ≡ true = (c.in_err-known.ensures.adds o w n k t (c.in_ok-a.ensures.holds (TextIn n n t) h).1 (c.in_ok-b.ensures.constant k e (omega arith)).1 near).0 in absurd (cc)
+
+pub returns-clause-adds : goal.returns-clause-adds
+returns-clause-adds c = λ k n t w o e h near. (
+  refl,
+  c.write.ensures.holds (TextIn (n + k) (n + k) (tail_after t k))
+      (c.in_ok-known.ensures.adds o w n k t (c.in_ok-a.ensures.holds (TextIn n n t) h).1 (c.in_ok-b.ensures.constant k e (omega arith)).1 near).1,
+)

@@ -1,0 +1,23 @@
+use Rattle.std.proofs.Common.{◌≡◌, Ok, ℕ, ℤ, subst, sym, ap, ◌∙◌, rules}
+use Rattle.std.proofs.lemmas.Int.{to_z-of_z}
+use Rattle.std.specs.Int.{w32, w64, cast_unsigned}
+use mir.Val.{SFits}
+use Rattle.std.proofs.lemmas.Result.{IfOk-weaker}
+use Rattle.meaning.specs.State.{operand_in}
+use Rattle.abstract_state.specs.Exact.{Holds}
+use Rattle.abstract_state.specs.State.{register_at}
+use Rattle.abstract_state.proofs.state.AbsState.operand.Goals as goal
+
+pub returns-in-Immediate-clause-sound : goal.returns-in-Immediate-clause-sound
+returns-in-Immediate-clause-sound c = λ lengths s a.
+    let fits : SFits w32 c.in-Immediate.value = search rules in
+    let same = to_z-of_z w32 c.in-Immediate.value fits in
+    (c.extended.result, ap (operand_in s) c.in-Immediate.is ∙ ap (λ (z : ℤ). Ok (cast_unsigned w64 z)) (sym same) ∙ ap (λ (n : ℕ). Ok n) (sym c.extended.ensures), c.constant.ensures.contains lengths)
+
+pub returns-in-Source-clause-sound : goal.returns-in-Source-clause-sound
+returns-in-Source-clause-sound c = IfOk-weaker c.read.result _ _ (λ k h lengths s a. let there = h lengths s a in (there.0, ap (operand_in s) c.in-Source.is ∙ there.1, there.2)) c.read.ensures.sound
+
+pub returns-in-Source-clause-holds : goal.returns-in-Source-clause-holds
+returns-in-Source-clause-holds c = λ r fact e h.
+    let same : r ≡ c.in-Source.register = cc in
+    c.read.ensures.holds fact (subst (λ (k : ℕ). Holds fact (register_at c.args.self.now.registers k)) same h)

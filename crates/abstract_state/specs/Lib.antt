@@ -1,0 +1,10 @@
+pub mod Known
+pub mod Lent
+pub mod Quantity
+pub mod Branch
+pub mod Relation
+pub mod State
+pub mod Steps
+pub mod Kinds
+pub mod Exact
+pub mod Guard

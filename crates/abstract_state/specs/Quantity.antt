@@ -1,0 +1,41 @@
+-- Which numbers a quantity contains.
+use Rattle.std.specs.Prelude.{◌≡◌, ℕ, ◌<◌, ◌^◌, ◌≤◌, Option, Some, IfSome}
+use Rattle.known_bits.specs.declared.Bits.{Bits}
+use Rattle.intervals.specs.declared.Range.{Range}
+use Rattle.abstract_state.specs.declared.region.Tails.{Tails}
+use Rattle.known_bits.specs.Bits as known
+use Rattle.bpf_words.specs.declared.instruction.Width.{Width}
+use Rattle.meaning.specs.Value.{bits_of}
+use Rattle.abstract_state.specs.declared.quantity.Quantity.{Quantity}
+use Rattle.abstract_state.specs.Lent.{Lengths, HasTails, InRange}
+
+abbrev pub InBits : Bits → ℕ → Type 0
+InBits b x = known.Contains b x
+
+-- x agrees with the known bits, lies in the interval, and has the tails
+pub record Contains (q : Quantity) (lengths : Lengths) (x : ℕ) : Type 0 where
+  pub bits : InBits q.bits x
+  pub range : InRange q.range x
+  pub tails : HasTails q.tails lengths x
+
+-- x is in the quantity, which is there
+abbrev pub Within : Option Quantity → Lengths → ℕ → Type 0
+Within o lengths x = (q : Quantity) × (o ≡ Some q) × Contains q lengths x
+
+-- x has as many bits as the width
+abbrev pub Fits : Width → ℕ → Type 0
+Fits width x = x < 2 ^ bits_of width
+
+-- the result contains f x for each x of a that has the width
+abbrev pub Maps : Width → Quantity → Option Quantity → (ℕ → ℕ) → Type 0
+Maps width a o f = (lengths : Lengths) (x : ℕ) → Contains a lengths x → Fits width x → Within o lengths (f x)
+
+-- the result contains f x y for each x of a and y of b that have the width
+abbrev pub MapsBoth : Width → Quantity → Quantity → Option Quantity → (ℕ → ℕ → ℕ) → Type 0
+MapsBoth width a b o f =
+    (lengths : Lengths) (x y : ℕ) → Contains a lengths x → Contains b lengths y → Fits width x → Fits width y
+    → Within o lengths (f x y)
+
+-- the answer lies within the interval, and keeps the tails
+abbrev pub Narrows : Option Quantity → Range → Tails → Type 0
+Narrows o range tails = IfSome o (λ q. (range.low ≤ q.range.low) × (q.range.high ≤ range.high) × (q.tails ≡ tails))

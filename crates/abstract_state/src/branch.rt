@@ -1,0 +1,298 @@
+//! Comparisons: what is known on either edge.
+ghost use Rattle.std.specs.Prelude.{◌≡◌, ◌≢◌, ℕ, true, false, ◌+◌, ◌%◌, ◌^◌, ◌<◌, ◌≤◌, Option, Some, Ok, IfSome, IfOk, IsOk, IsTrue, ◌↔◌};
+ghost use Rattle.bpf_words.specs.declared.instruction.Width.TheVariants.{Narrow, Full};
+ghost use Rattle.meaning.specs.State.{State, register_of, operand_in};
+ghost use Rattle.meaning.specs.Value.{cut, holds_of};
+ghost use Rattle.std.specs.Int.{cast_unsigned, w64};
+ghost use Rattle.abstract_state.specs.Lent.{Lengths, base_of};
+ghost use Rattle.abstract_state.specs.Quantity.{Contains as ContainsNumber};
+ghost use Rattle.abstract_state.specs.Known.{ContainsKnown, IsNumber};
+ghost use Rattle.abstract_state.specs.Kinds.{HasNumberAt, HasNumberIn, KeepsAll, AreNumbersOn};
+ghost use Rattle.abstract_state.specs.State.{Contains, WithinState, register_at};
+ghost use Rattle.abstract_state.specs.Branch.{WithinPair, IsOrder, ReadsAs, Edge, LongFrom, LeavesSides};
+ghost use Rattle.abstract_state.specs.Relation.{EndsFrom};
+ghost use Rattle.abstract_state.specs.Exact.{Fact, Says, Holds};
+ghost use Rattle.abstract_state.specs.Guard.{SameBut};
+ghost use Rattle.abstract_state.specs.Steps.{after};
+
+use crate::known::Known;
+use crate::place::LentPlace;
+use crate::quantity::Quantity;
+use crate::refusal::Refusal;
+use crate::relation::{Sides, edge};
+use crate::state::{AbsState, extended};
+use crate::step::Flow;
+use bpf_words::instruction::{Comparison, Operand, Width};
+use bpf_words::register::Register;
+
+/// What is known of the two sides of a comparison.
+#[derive(Clone, Copy)]
+pub struct Pair {
+    pub left: Known,
+    pub right: Known,
+}
+
+/// The states after a comparison, `None` where no run goes that way.
+#[derive(Clone, Copy)]
+pub struct Edges {
+    pub taken: Option<AbsState>,
+    pub untaken: Option<AbsState>,
+}
+
+/// Whether a test asks for the order of its sides without sign, or whether they are equal.
+fn is_order(comparison: Comparison) -> bool
+    ensures { IsTrue result ↔ IsOrder comparison }
+{
+    match comparison {
+        Comparison::Equal
+        | Comparison::NotEqual
+        | Comparison::Greater
+        | Comparison::GreaterOrEqual
+        | Comparison::Less
+        | Comparison::LessOrEqual => true,
+        _ => false,
+    }
+}
+
+/// Both sides on an edge of a comparison of two numbers.
+fn numbers_on(
+    width: Width,
+    comparison: Comparison,
+    taken: bool,
+    x: Quantity,
+    y: Quantity,
+) -> Option<Pair>
+    ensures sound { (lengths : Lengths) (m n : ℕ) → ContainsNumber x lengths m → ContainsNumber y lengths n → holds_of comparison width (cut width m) (cut width n) ≡ taken → WithinPair result lengths m n }
+    ensures numbers { AreNumbersOn result }
+{
+    let Some(sides) = edge(width, comparison, taken, x, y) else {
+        return None;
+    };
+    Some(Pair {
+        left: Known::Number(sides.left),
+        right: Known::Number(sides.right),
+    })
+}
+
+/// A place of which more is known.
+fn narrowed(place: LentPlace, offset: Quantity) -> Known
+    requires { offset.range.high ≤ place.offset.range.high }
+    ensures sound { (lengths : Lengths) (n x : ℕ) → n ≡ base_of place.region + x → ContainsNumber offset lengths x → ContainsKnown result lengths n }
+    ensures ends { (n : ℕ) → EndsFrom n offset → LongFrom n result }
+{
+    Known::Lent(LentPlace {
+        region: place.region,
+        offset,
+    })
+}
+
+/// Both sides on an edge of a comparison of two addresses in one lent region.
+fn places_on(comparison: Comparison, taken: bool, x: LentPlace, y: LentPlace) -> Option<Pair>
+    requires order { IsOrder comparison }
+    requires region { x.region ≡ y.region }
+    ensures sound { (lengths : Lengths) (m n : ℕ) → ContainsKnown (Known.Lent x) lengths m → ContainsKnown (Known.Lent y) lengths n → holds_of comparison Full (cut Full m) (cut Full n) ≡ taken → WithinPair result lengths m n }
+    ensures guards { comparison ≡ Comparison.Greater → taken ≡ false → (t : ℕ) → y.offset.tails.text ≡ Some t → IfSome result (λ p. LongFrom x.offset.range.low p.left) }
+{
+    let Some(sides) = edge(Width::Full, comparison, taken, x.offset, y.offset) else {
+        return None;
+    };
+    Some(Pair {
+        left: narrowed(x, sides.left),
+        right: narrowed(y, sides.right),
+    })
+}
+
+/// Both sides on an edge of a comparison.
+fn pair_on(
+    width: Width,
+    comparison: Comparison,
+    taken: bool,
+    a: Known,
+    b: Known,
+) -> Result<Option<Pair>, Refusal>
+    ensures sound { IfOk result (λ o. (lengths : Lengths) (m n : ℕ) → ContainsKnown a lengths m → ContainsKnown b lengths n → holds_of comparison width (cut width m) (cut width n) ≡ taken → WithinPair o lengths m n) }
+    ensures texts { (l1 h1 l2 h2 : ℕ) (t1 t2 : Option ℕ) → width ≡ Full → IsOrder comparison → Says (Fact.TextIn l1 h1 t1) a → Says (Fact.TextIn l2 h2 t2) b → IsOk result }
+    ensures guards { (n high l2 h2 t : ℕ) (t1 : Option ℕ) → width ≡ Full → comparison ≡ Comparison.Greater → taken ≡ false → Says (Fact.TextIn n high t1) a → Says (Fact.TextIn l2 h2 (Some t)) b → IfOk result (λ o. IfSome o (λ p. LongFrom n p.left)) }
+    ensures floor { IsNumber a → IsNumber b → IsOk result }
+    ensures numbers { IsNumber a → IsNumber b → IfOk result (λ o. AreNumbersOn o) }
+{
+    match (a, b, width) {
+        (Known::Number(x), Known::Number(y), _) => Ok(numbers_on(width, comparison, taken, x, y)),
+        (Known::Lent(x), Known::Lent(y), Width::Full) => {
+            if x.region == y.region && is_order(comparison) {
+                Ok(places_on(comparison, taken, x, y))
+            } else {
+                Err(Refusal::PointerCompare)
+            }
+        }
+        _ => Err(Refusal::PointerCompare),
+    }
+}
+
+/// Whether both sides are one register.
+fn is_one_register(left: Register, right: &Operand) -> bool
+    ensures { (r : ℕ) → right.now ≡ Operand.Source r → left ≢ r → result ≡ false }
+{
+    match *right {
+        Operand::Source(register) => register.index() == left.index(),
+        Operand::Immediate(_) => false,
+    }
+}
+
+/// What is known before the comparison, where that is to stay.
+fn unless(same: bool, pair: Option<Pair>, a: Known, b: Known) -> Option<Pair>
+    ensures sound { (lengths : Lengths) (m n : ℕ) → ContainsKnown a lengths m → ContainsKnown b lengths n → WithinPair pair lengths m n → WithinPair result lengths m n }
+    ensures apart { same ≡ false → result ≡ pair }
+    ensures numbers { IsNumber a → IsNumber b → AreNumbersOn pair → AreNumbersOn result }
+{
+    if same {
+        return Some(Pair { left: a, right: b });
+    }
+    pair
+}
+
+/// An immediate as a comparison of the width reads it.
+fn compared(width: Width, value: i32) -> Quantity
+    ensures { (lengths : Lengths) → (n : ℕ) × (cut width n ≡ cut width (cast_unsigned w64 value)) × ContainsNumber result lengths n }
+{
+    let value = extended(value);
+    match width {
+        Width::Full => Quantity::constant(value),
+        Width::Narrow => Quantity::constant(value % (1 << 32)),
+    }
+}
+
+impl AbsState {
+    /// The right side of a comparison.
+    fn right_side(&self, width: Width, right: &Operand) -> Result<Known, Refusal>
+        ensures sound { IfOk result (λ k. (lengths : Lengths) (s : State) → Contains self.now lengths s → (n : ℕ) × ((r : ℕ) × (operand_in s right.now ≡ Ok n) × (cut width r ≡ cut width n) × ReadsAs s right.now r × ContainsKnown k lengths r)) }
+        ensures holds { (r : ℕ) (fact : Fact) → right.now ≡ Operand.Source r → Holds fact (register_at self.now.registers r) → IsOk result × IfOk result (λ k. Says fact k) }
+        ensures floor { HasNumberIn self.now right.now → IsOk result }
+        ensures numbers { HasNumberIn self.now right.now → IfOk result (λ k. IsNumber k) }
+    {
+        match *right {
+            Operand::Immediate(value) => Ok(Known::Number(compared(width, value))),
+            Operand::Source(register) => self.read(register),
+        }
+    }
+
+    /// Notes what more is known of a register.
+    fn keep(&mut self, register: Register, known: Known)
+        ensures sound { (lengths : Lengths) (s : State) (n : ℕ) → Contains self.old lengths s → register_of s register ≡ Ok n → ContainsKnown known lengths n → Contains self.new lengths s }
+        ensures others { SameBut register self.old self.new }
+        ensures bounds { self.new.bounds ≡ self.old.bounds }
+        ensures kinds { HasNumberAt self.old register → IsNumber known → KeepsAll self.old self.new }
+    {
+        self.put(register, known);
+    }
+
+    /// Notes what more is known of a right side.
+    fn keep_right(&mut self, right: &Operand, known: Known)
+        ensures sound { (lengths : Lengths) (s : State) (n : ℕ) → Contains self.old lengths s → ReadsAs s right.now n → ContainsKnown known lengths n → Contains self.new lengths s }
+        ensures others { (i : ℕ) → (right.now ≡ Operand.Source i → ⊥) → register_at self.new.registers i ≡ register_at self.old.registers i }
+        ensures bounds { self.new.bounds ≡ self.old.bounds }
+        ensures kinds { HasNumberIn self.old right.now → IsNumber known → KeepsAll self.old self.new }
+    {
+        if let Operand::Source(register) = *right {
+            self.keep(register, known);
+        }
+    }
+
+    /// Notes that lent regions are as long as a side says.
+    fn raise(&mut self, known: Known) -> Flow
+        ensures sound { (lengths : Lengths) (s : State) (n : ℕ) → Contains self.old lengths s → ContainsKnown known lengths n → WithinState (after result self.new) lengths s }
+        ensures same { self.new.registers ≡ self.old.registers }
+        ensures raised { (n : ℕ) → LongFrom n known → IfSome (after result self.new) (λ b. n ≤ b.bounds.text) }
+        ensures grows { IfSome (after result self.new) (λ b. self.old.bounds.text ≤ b.bounds.text) }
+    {
+        match known {
+            Known::Number(quantity) => self.lengthen(quantity),
+            Known::Lent(place) => self.lengthen(place.offset),
+            Known::Context(_) => Flow::Live,
+            Known::Stack(_) => Flow::Live,
+        }
+    }
+
+    /// Notes that lent regions are as long as a quantity says.
+    fn lengthen(&mut self, quantity: Quantity) -> Flow
+        ensures sound { (lengths : Lengths) (s : State) (x : ℕ) → Contains self.old lengths s → ContainsNumber quantity lengths x → WithinState (after result self.new) lengths s }
+        ensures same { self.new.registers ≡ self.old.registers }
+        ensures raised { (n : ℕ) → EndsFrom n quantity → IfSome (after result self.new) (λ b. n ≤ b.bounds.text) }
+        ensures grows { IfSome (after result self.new) (λ b. self.old.bounds.text ≤ b.bounds.text) }
+    {
+        let Some(bounds) = self.bounds.raise(quantity) else {
+            return Flow::Dead;
+        };
+        self.bounds = bounds;
+        Flow::Live
+    }
+
+    /// Notes what is known on an edge.
+    fn refine(&mut self, left: Register, right: &Operand, pair: Option<Pair>) -> Flow
+        ensures sound { (lengths : Lengths) (s : State) (m n : ℕ) → Contains self.old lengths s → register_of s left ≡ Ok m → ReadsAs s right.now n → WithinPair pair lengths m n → WithinState (after result self.new) lengths s }
+        ensures others { IfSome (after result self.new) (λ b. LeavesSides left right.now self.old b) }
+        ensures raised { (n : ℕ) → IfSome pair (λ p. LongFrom n p.left) → IfSome (after result self.new) (λ b. n ≤ b.bounds.text) }
+        ensures kinds { HasNumberAt self.old left → HasNumberIn self.old right.now → AreNumbersOn pair → IfSome (after result self.new) (λ b. KeepsAll self.old b) }
+    {
+        let Some(pair) = pair else {
+            return Flow::Dead;
+        };
+        self.keep(left, pair.left);
+        self.keep_right(right, pair.right);
+        match self.raise(pair.left) {
+            Flow::Live => self.raise(pair.right),
+            Flow::Dead => Flow::Dead,
+        }
+    }
+
+    /// The state on the edge where the comparison holds, or on the other.
+    fn edge_on(
+        &self,
+        width: Width,
+        comparison: Comparison,
+        left: Register,
+        right: &Operand,
+        taken: bool,
+    ) -> Result<Option<AbsState>, Refusal>
+        ensures sound { IfOk result (λ o. Edge self.now width comparison left right.now taken o) }
+        ensures others { IfOk result (λ o. IfSome o (λ b. LeavesSides left right.now self.now b)) }
+        ensures texts { (r l1 h1 l2 h2 : ℕ) (t1 t2 : Option ℕ) → right.now ≡ Operand.Source r → width ≡ Full → IsOrder comparison → Holds (Fact.TextIn l1 h1 t1) (register_at self.now.registers left) → Holds (Fact.TextIn l2 h2 t2) (register_at self.now.registers r) → IsOk result }
+        ensures guards { (r n high l2 h2 t : ℕ) (t1 : Option ℕ) → right.now ≡ Operand.Source r → left ≢ r → width ≡ Full → comparison ≡ Comparison.Greater → taken ≡ false → Holds (Fact.TextIn n high t1) (register_at self.now.registers left) → Holds (Fact.TextIn l2 h2 (Some t)) (register_at self.now.registers r) → IfOk result (λ o. IfSome o (λ b. n ≤ b.bounds.text)) }
+        ensures floor { HasNumberAt self.now left → HasNumberIn self.now right.now → IsOk result }
+        ensures kinds { HasNumberAt self.now left → HasNumberIn self.now right.now → IfOk result (λ o. IfSome o (λ b. KeepsAll self.now b)) }
+    {
+        let a = self.read(left)?;
+        let b = self.right_side(width, right)?;
+        let pair = pair_on(width, comparison, taken, a, b)?;
+        let same = is_one_register(left, right);
+        let pair = unless(same, pair, a, b);
+        let mut edge = *self;
+        match edge.refine(left, right, pair) {
+            Flow::Live => Ok(Some(edge)),
+            Flow::Dead => Ok(None),
+        }
+    }
+
+    /// The states after a comparison that holds, and after one that doesn't.
+    pub fn branch(
+        &self,
+        width: Width,
+        comparison: Comparison,
+        left: Register,
+        right: &Operand,
+    ) -> Result<Edges, Refusal>
+        ensures taken { IfOk result (λ edges. Edge self.now width comparison left right.now true edges.taken) }
+        ensures untaken { IfOk result (λ edges. Edge self.now width comparison left right.now false edges.untaken) }
+        ensures taken_others { IfOk result (λ edges. IfSome edges.taken (λ b. LeavesSides left right.now self.now b)) }
+        ensures untaken_others { IfOk result (λ edges. IfSome edges.untaken (λ b. LeavesSides left right.now self.now b)) }
+        ensures texts { (r l1 h1 l2 h2 : ℕ) (t1 t2 : Option ℕ) → right.now ≡ Operand.Source r → width ≡ Full → IsOrder comparison → Holds (Fact.TextIn l1 h1 t1) (register_at self.now.registers left) → Holds (Fact.TextIn l2 h2 t2) (register_at self.now.registers r) → IsOk result }
+        ensures guards { (r n high l2 h2 t : ℕ) (t1 : Option ℕ) → right.now ≡ Operand.Source r → left ≢ r → width ≡ Full → comparison ≡ Comparison.Greater → Holds (Fact.TextIn n high t1) (register_at self.now.registers left) → Holds (Fact.TextIn l2 h2 (Some t)) (register_at self.now.registers r) → IfOk result (λ edges. IfSome edges.untaken (λ b. n ≤ b.bounds.text)) }
+        ensures floor { HasNumberAt self.now left → HasNumberIn self.now right.now → IsOk result }
+        ensures taken_kinds { HasNumberAt self.now left → HasNumberIn self.now right.now → IfOk result (λ edges. IfSome edges.taken (λ b. KeepsAll self.now b)) }
+        ensures untaken_kinds { HasNumberAt self.now left → HasNumberIn self.now right.now → IfOk result (λ edges. IfSome edges.untaken (λ b. KeepsAll self.now b)) }
+    {
+        let taken = self.edge_on(width, comparison, left, right, true)?;
+        let untaken = self.edge_on(width, comparison, left, right, false)?;
+        Ok(Edges { taken, untaken })
+    }
+}

@@ -1,0 +1,61 @@
+//! What either of two states contains.
+ghost use Rattle.std.specs.Prelude.{◌≡◌, ℕ, ◌<◌, ◌≤◌, Option, slice_index_or};
+ghost use Rattle.meaning.specs.State.{State};
+ghost use Rattle.abstract_state.specs.Lent.{Lengths};
+ghost use Rattle.abstract_state.specs.Kinds.{JoinsReg};
+ghost use Rattle.abstract_state.specs.State.{Contains, ContainsRegister, IsLong, register_at};
+
+use crate::bounds::Bounds;
+use crate::stack::join_slots;
+use crate::state::{AbsReg, AbsState};
+
+/// What either register holds.
+fn join_register(a: AbsReg, b: AbsReg) -> AbsReg
+    ensures left { (lengths : Lengths) (o : Option ℕ) → ContainsRegister a lengths o → ContainsRegister result lengths o }
+    ensures right { (lengths : Lengths) (o : Option ℕ) → ContainsRegister b lengths o → ContainsRegister result lengths o }
+    ensures kinds { JoinsReg a b result }
+{
+    let (AbsReg::Set(x), AbsReg::Set(y)) = (a, b) else {
+        return AbsReg::Unset;
+    };
+    match x.join(y) {
+        Some(known) => AbsReg::Set(known),
+        None => AbsReg::Unset,
+    }
+}
+
+/// Takes in what the other registers hold, for all of them.
+fn join_registers(a: &mut [AbsReg; 11], b: &[AbsReg; 11])
+    ensures left { (i : ℕ) (lengths : Lengths) (o : Option ℕ) → i < 11 → ContainsRegister (register_at a.old i) lengths o → ContainsRegister (register_at a.new i) lengths o }
+    ensures right { (i : ℕ) (lengths : Lengths) (o : Option ℕ) → i < 11 → ContainsRegister (register_at b.now i) lengths o → ContainsRegister (register_at a.new i) lengths o }
+    ensures kinds { (i : ℕ) → i < 11 → JoinsReg (register_at a.old i) (register_at b.now i) (register_at a.new i) }
+{
+    for i in 0..11 {
+        a[i] = join_register(a[i], b[i]);
+    }
+}
+
+impl Bounds {
+    /// The bounds of either.
+    fn join(self, other: Bounds) -> Bounds
+        ensures left { (lengths : Lengths) → IsLong self lengths → IsLong result lengths }
+        ensures right { (lengths : Lengths) → IsLong other lengths → IsLong result lengths }
+    {
+        Bounds {
+            text: self.text.min(other.text),
+        }
+    }
+}
+
+impl AbsState {
+    /// Takes in what another state contains.
+    pub fn join(&mut self, other: &AbsState)
+        ensures left { (lengths : Lengths) (s : State) → Contains self.old lengths s → Contains self.new lengths s }
+        ensures right { (lengths : Lengths) (s : State) → Contains other.now lengths s → Contains self.new lengths s }
+        ensures kinds { (i : ℕ) → i < 11 → JoinsReg (register_at self.old.registers i) (register_at other.now.registers i) (register_at self.new.registers i) }
+    {
+        join_registers(&mut self.registers, &other.registers);
+        join_slots(&mut self.stack, &other.stack);
+        self.bounds = self.bounds.join(other.bounds);
+    }
+}

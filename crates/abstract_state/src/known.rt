@@ -1,0 +1,231 @@
+ghost use Rattle.std.specs.Prelude.{◌≡◌, ℕ, ◌+◌, ◌-◌, ◌%◌, ◌^◌, ◌<◌, ◌≤◌, Option, Some, None, IsSome, IfSome, IfOk, IsOk, IsTrue, ◌↔◌};
+ghost use Rattle.abstract_state.specs.Lent.{Lengths, HasTails, base_of};
+ghost use Rattle.abstract_state.specs.Quantity.{Contains, Within};
+ghost use Rattle.abstract_state.specs.Known.{ContainsKnown, WithinKnown, IsNumber, AreNumbers};
+ghost use Rattle.abstract_state.specs.declared.state.AbsReg.TheVariants as TheRegs;
+ghost use Rattle.abstract_state.specs.Kinds.{IsContextAt, IsStackAt};
+ghost use Rattle.abstract_state.specs.Exact.{tail_after, IsIn, IsNumberIn, IsTextIn};
+ghost use Rattle.meaning.specs.Value.{cut, value_of, negated, extended, converted};
+
+use crate::place::{ContextPlace, LentPlace, StackPlace};
+use crate::quantity::Quantity;
+use crate::refusal::Refusal;
+use crate::region::Region;
+use crate::transfer::transfer;
+use bpf_words::instruction::{Arithmetic, Conversion, ConvertedBits, Extension, Width};
+
+/// What is known of a number that a register or a stack slot holds.
+#[derive(Clone, Copy)]
+pub enum Known {
+    Number(Quantity),
+    Context(ContextPlace),
+    Stack(StackPlace),
+    Lent(LentPlace),
+}
+
+/// How far a result may lie from the begin of a lent region.
+pub const NEAR: u64 = 1 << 20;
+
+pub fn number(quantity: Option<Quantity>) -> Option<Known>
+    ensures contains { (lengths : Lengths) (x : ℕ) → Within quantity lengths x → WithinKnown result lengths x }
+    ensures numbers { AreNumbers result }
+    ensures same { (low high : ℕ) (t : Option ℕ) → IfSome quantity (λ q. IsIn q low high t) → IfSome result (λ k. IsNumberIn low high t k) }
+{
+    let Some(quantity) = quantity else {
+        return None;
+    };
+    Some(Known::Number(quantity))
+}
+
+/// An address in a lent region, if it is near enough.
+pub fn lent(region: Region, offset: Option<Quantity>) -> Result<Option<Known>, Refusal>
+    ensures sound { IfOk result (λ o. (lengths : Lengths) (x : ℕ) → Within offset lengths x → WithinKnown o lengths ((base_of region + x) % 2 ^ 64)) }
+    ensures text { (low high : ℕ) (t : Option ℕ) → region ≡ Region.Text → IfSome offset (λ q. IsIn q low high t) → high ≤ 2 ^ 20 → IsOk result × IfOk result (λ o. IfSome o (λ k. IsTextIn low high t k)) }
+{
+    let Some(offset) = offset else {
+        return Ok(None);
+    };
+    if offset.range.high > NEAR {
+        return Err(Refusal::TextOffset);
+    }
+    Ok(Some(Known::Lent(LentPlace { region, offset })))
+}
+
+/// A place moved by a constant, modulo 2^64.
+fn displaced(operation: Arithmetic, width: Width, place: u64, by: Quantity) -> Option<u64>
+    ensures { IfSome result (λ r. (lengths : Lengths) (base y : ℕ) → Contains by lengths y → value_of operation width (cut width (base + place)) (cut width y) ≡ (base + r) % 2 ^ 64) }
+{
+    let c = by.only()?;
+    match (width, operation) {
+        (Width::Full, Arithmetic::Add) => Some(place.wrapping_add(c)),
+        (Width::Full, Arithmetic::Sub) => Some(place.wrapping_sub(c)),
+        _ => None,
+    }
+}
+
+fn from_context(
+    operation: Arithmetic,
+    width: Width,
+    place: ContextPlace,
+    by: Quantity,
+) -> Result<Known, Refusal>
+    ensures { IfOk result (λ k. (lengths : Lengths) (x y : ℕ) → ContainsKnown (Known.Context place) lengths x → Contains by lengths y → ContainsKnown k lengths (value_of operation width (cut width x) (cut width y))) }
+{
+    match displaced(operation, width, place.place, by) {
+        Some(place) if place <= 56 => Ok(Known::Context(ContextPlace { place })),
+        _ => Err(Refusal::PointerArithmetic),
+    }
+}
+
+fn from_stack(
+    operation: Arithmetic,
+    width: Width,
+    place: StackPlace,
+    by: Quantity,
+) -> Result<Known, Refusal>
+    ensures { IfOk result (λ k. (lengths : Lengths) (x y : ℕ) → ContainsKnown (Known.Stack place) lengths x → Contains by lengths y → ContainsKnown k lengths (value_of operation width (cut width x) (cut width y))) }
+{
+    match displaced(operation, width, place.place, by) {
+        Some(place) if place <= 512 => Ok(Known::Stack(StackPlace { place })),
+        _ => Err(Refusal::PointerArithmetic),
+    }
+}
+
+fn from_lent(
+    operation: Arithmetic,
+    width: Width,
+    place: LentPlace,
+    by: Quantity,
+) -> Result<Option<Known>, Refusal>
+    ensures sound { IfOk result (λ o. (lengths : Lengths) (x y : ℕ) → ContainsKnown (Known.Lent place) lengths x → Contains by lengths y → WithinKnown o lengths (value_of operation width (cut width x) (cut width y))) }
+    ensures adds { operation ≡ Arithmetic.Add → width ≡ Width.Full → place.region ≡ Region.Text → (m n : ℕ) (t : Option ℕ) → IsIn place.offset m m t → IsIn by n n None → m + n ≤ 2 ^ 20 → IsOk result × IfOk result (λ o. IfSome o (λ k. IsTextIn (m + n) (m + n) (tail_after t n) k)) }
+{
+    match (width, operation) {
+        (Width::Full, Arithmetic::Add) => lent(place.region, place.offset.add(by, Width::Full)),
+        (Width::Full, Arithmetic::Sub) => lent(place.region, place.offset.sub(by, Width::Full)),
+        _ => Err(Refusal::PointerArithmetic),
+    }
+}
+
+fn onto_lent(
+    operation: Arithmetic,
+    width: Width,
+    by: Quantity,
+    place: LentPlace,
+) -> Result<Option<Known>, Refusal>
+    ensures { IfOk result (λ o. (lengths : Lengths) (x y : ℕ) → Contains by lengths x → ContainsKnown (Known.Lent place) lengths y → WithinKnown o lengths (value_of operation width (cut width x) (cut width y))) }
+{
+    match (width, operation) {
+        (Width::Full, Arithmetic::Add) => lent(place.region, by.add(place.offset, Width::Full)),
+        _ => Err(Refusal::PointerArithmetic),
+    }
+}
+
+impl Known {
+    /// Whether it is no address.
+    pub fn is_number(self) -> bool
+        ensures { IsTrue result ↔ IsNumber self }
+    {
+        match self {
+            Known::Number(_) => true,
+            _ => false,
+        }
+    }
+
+    /// What an operation other than a move gives.
+    pub fn compute(
+        self,
+        operation: Arithmetic,
+        width: Width,
+        other: Known,
+    ) -> Result<Option<Known>, Refusal>
+        ensures sound { IfOk result (λ o. (lengths : Lengths) (x y : ℕ) → ContainsKnown self lengths x → ContainsKnown other lengths y → WithinKnown o lengths (value_of operation width (cut width x) (cut width y))) }
+        ensures adds { operation ≡ Arithmetic.Add → width ≡ Width.Full → (m n : ℕ) (t : Option ℕ) → IsTextIn m m t self → IsNumberIn n n None other → m + n ≤ 2 ^ 20 → IsOk result × IfOk result (λ o. IfSome o (λ k. IsTextIn (m + n) (m + n) (tail_after t n) k)) }
+        ensures floor { IsNumber self → IsNumber other → IsOk result }
+        ensures numbers { IsNumber self → IsNumber other → IfOk result (λ o. AreNumbers o) }
+    {
+        match (self, other) {
+            (Known::Number(a), Known::Number(b)) => Ok(number(transfer(operation, width, a, b))),
+            (Known::Context(a), Known::Number(b)) => Ok(Some(from_context(
+                operation, width, a, b,
+            )?)),
+            (Known::Stack(a), Known::Number(b)) => Ok(Some(from_stack(operation, width, a, b)?)),
+            (Known::Lent(a), Known::Number(b)) => from_lent(operation, width, a, b),
+            (Known::Number(a), Known::Lent(b)) => onto_lent(operation, width, a, b),
+            _ => Err(Refusal::PointerArithmetic),
+        }
+    }
+
+    /// What a move gives: of 32 bits, of a number alone.
+    pub fn moved(self, width: Width) -> Result<Option<Known>, Refusal>
+        ensures sound { IfOk result (λ o. (lengths : Lengths) (x : ℕ) → ContainsKnown self lengths x → WithinKnown o lengths (cut width x)) }
+        ensures text { width ≡ Width.Full → (n : ℕ) (t : Option ℕ) → IsTextIn n n t self → IsOk result × IfOk result (λ o. IfSome o (λ k. IsTextIn n n t k)) }
+        ensures constant { width ≡ Width.Full → (n : ℕ) (t : Option ℕ) → IsNumberIn n n t self → IfOk result (λ o. IfSome o (λ k. IsNumberIn n n t k)) }
+        ensures floor { IsNumber self → IsOk result }
+        ensures numbers { IsNumber self → IfOk result (λ o. AreNumbers o) }
+    {
+        match (self, width) {
+            (Known::Number(a), _) => Ok(number(a.moved(width))),
+            (Known::Lent(a), Width::Full) => lent(a.region, a.offset.moved(Width::Full)),
+            (Known::Context(_), Width::Full) => Ok(Some(self)),
+            (Known::Stack(_), Width::Full) => Ok(Some(self)),
+            _ => Err(Refusal::PointerArithmetic),
+        }
+    }
+
+    /// What either is; `None` where they are of different kinds or places.
+    pub fn join(self, other: Known) -> Option<Known>
+        ensures left { IfSome result (λ k. (lengths : Lengths) (x : ℕ) → ContainsKnown self lengths x → ContainsKnown k lengths x) }
+        ensures right { IfSome result (λ k. (lengths : Lengths) (x : ℕ) → ContainsKnown other lengths x → ContainsKnown k lengths x) }
+        ensures numbers { IsNumber self → IsNumber other → IsSome result × AreNumbers result }
+        ensures context { (n : ℕ) → IsContextAt n (TheRegs.Set self) → IsContextAt n (TheRegs.Set other) → IsSome result × IfSome result (λ k. IsContextAt n (TheRegs.Set k)) }
+        ensures stack { (n : ℕ) → IsStackAt n (TheRegs.Set self) → IsStackAt n (TheRegs.Set other) → IsSome result × IfSome result (λ k. IsStackAt n (TheRegs.Set k)) }
+    {
+        match (self, other) {
+            (Known::Number(a), Known::Number(b)) => Some(Known::Number(a.join(b))),
+            (Known::Context(a), Known::Context(b)) => join_context(a, b),
+            (Known::Stack(a), Known::Stack(b)) => join_stack(a, b),
+            (Known::Lent(a), Known::Lent(b)) => join_lent(a, b),
+            _ => None,
+        }
+    }
+}
+
+/// What either place may be.
+fn join_lent(a: LentPlace, b: LentPlace) -> Option<Known>
+    ensures left { IfSome result (λ k. (lengths : Lengths) (x : ℕ) → ContainsKnown (Known.Lent a) lengths x → ContainsKnown k lengths x) }
+    ensures right { IfSome result (λ k. (lengths : Lengths) (x : ℕ) → ContainsKnown (Known.Lent b) lengths x → ContainsKnown k lengths x) }
+{
+    if a.region != b.region {
+        return None;
+    }
+    let offset = a.offset.join(b.offset);
+    Some(Known::Lent(LentPlace {
+        region: a.region,
+        offset,
+    }))
+}
+
+/// The one place, where both are it.
+fn join_context(a: ContextPlace, b: ContextPlace) -> Option<Known>
+    ensures left { IfSome result (λ k. (lengths : Lengths) (x : ℕ) → ContainsKnown (Known.Context a) lengths x → ContainsKnown k lengths x) }
+    ensures right { IfSome result (λ k. (lengths : Lengths) (x : ℕ) → ContainsKnown (Known.Context b) lengths x → ContainsKnown k lengths x) }
+    ensures same { a.place ≡ b.place → result ≡ Some (Known.Context a) }
+{
+    if a.place != b.place {
+        return None;
+    }
+    Some(Known::Context(a))
+}
+
+/// The one place, where both are it.
+fn join_stack(a: StackPlace, b: StackPlace) -> Option<Known>
+    ensures left { IfSome result (λ k. (lengths : Lengths) (x : ℕ) → ContainsKnown (Known.Stack a) lengths x → ContainsKnown k lengths x) }
+    ensures right { IfSome result (λ k. (lengths : Lengths) (x : ℕ) → ContainsKnown (Known.Stack b) lengths x → ContainsKnown k lengths x) }
+    ensures same { a.place ≡ b.place → result ≡ Some (Known.Stack a) }
+{
+    if a.place != b.place {
+        return None;
+    }
+    Some(Known::Stack(a))
+}

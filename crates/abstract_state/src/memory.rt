@@ -1,0 +1,261 @@
+//! Loads and stores.
+ghost use Rattle.std.specs.Prelude.{◌≡◌, ◌≢◌, ℕ, ◌+◌, ◌-◌, ◌*◌, ◌/◌, ◌%◌, ◌^◌, ◌<◌, ◌≤◌, Option, Some, Ok, IfSome, IfOk, IsOk, IsTrue, ◌↔◌, List, length, drop};
+ghost use Rattle.byteorder.specs.Endian.{little_number};
+ghost use Rattle.meaning.specs.State.{State};
+ghost use Rattle.meaning.specs.Memory.{address_of, bytes_in, bytes_in_signed, load as load_of, store as store_of};
+ghost use Rattle.abstract_state.specs.Lent.{Lengths, base_of, length_of};
+ghost use Rattle.abstract_state.specs.Quantity.{Contains as ContainsNumber, Within as WithinNumber};
+ghost use Rattle.abstract_state.specs.Known.{ContainsKnown, WithinKnown, AreNumbers};
+ghost use Rattle.abstract_state.specs.Kinds.{IsNumberField, IsContextAt};
+ghost use Rattle.abstract_state.specs.Exact.{IsTextIn};
+ghost use Rattle.abstract_state.specs.declared.state.AbsReg.TheVariants as TheRegs;
+ghost use Rattle.abstract_state.specs.State.{Span, lengths_of, IsLong, Contains, LoadsAs, StoresAs};
+
+use crate::bounds::Bounds;
+use crate::known::{Known, lent, number};
+use crate::place::{ContextPlace, LentPlace, StackPlace};
+use crate::quantity::Quantity;
+use crate::refusal::Refusal;
+use crate::region::Region;
+use crate::stack::{are_set, filled, overwrite, spill};
+use crate::state::AbsState;
+use bpf_words::instruction::{SignedSize, Size};
+
+/// A place moved by an offset modulo 2^64, where it isn't before the begin.
+fn moved(place: u64, offset: u64) -> Option<u64>
+    requires { place ≤ 2 ^ 20 }
+    ensures small { IfSome result (λ a. a ≤ place + 2 ^ 16) }
+    ensures at { IfSome result (λ a. (base x : ℕ) → place ≤ x → base + x < 2 ^ 63 → (base + x + offset) % 2 ^ 64 ≡ base + (a + (x - place))) }
+    ensures there { offset ≤ 2 ^ 16 → result ≡ Some (place + offset) }
+{
+    let sum = place.wrapping_add(offset);
+    if sum > place + 65_536 {
+        return None;
+    }
+    Some(sum)
+}
+
+/// How many bytes a load or a store moves.
+pub fn count(size: Size) -> usize
+    ensures value { result ≡ bytes_in size }
+    ensures few { result ≤ 8 }
+{
+    match size {
+        Size::Byte => 1,
+        Size::Half => 2,
+        Size::Word => 4,
+        Size::Double => 8,
+    }
+}
+
+/// How many bytes a sign-extending load moves.
+pub fn count_signed(size: SignedSize) -> usize
+    ensures value { result ≡ bytes_in_signed size }
+    ensures few { result ≤ 8 }
+{
+    match size {
+        SignedSize::SignedByte => 1,
+        SignedSize::SignedHalf => 2,
+        SignedSize::SignedWord => 4,
+    }
+}
+
+/// The numbers that so many bytes make.
+fn loaded(size: Size) -> Quantity
+    ensures { (lengths : Lengths) (v : ℕ) → v < 256 ^ bytes_in size → ContainsNumber result lengths v }
+{
+    match size {
+        Size::Byte => Quantity::up_to(0xff),
+        Size::Half => Quantity::up_to(0xffff),
+        Size::Word => Quantity::up_to(0xffff_ffff),
+        Size::Double => Quantity::up_to(u64::MAX),
+    }
+}
+
+/// Whether four bytes of the context are a field of which nothing more is known.
+fn is_word_field(place: u64) -> bool
+    ensures { IsTrue result ↔ (20 ≤ place) × (place ≤ 44) × (place % 4 ≡ 0) }
+{
+    place >= 20 && place <= 44 && place % 4 == 0
+}
+
+/// What a field of the context holds.
+fn field(place: u64, size: Size) -> Result<Option<Known>, Refusal>
+    ensures within { IfOk result (λ _. place + bytes_in size ≤ 56) }
+    ensures sound { IfOk result (λ o. (span : Span) → WithinKnown o (lengths_of span) (little_number (bytes_in size) (drop place span.context))) }
+    ensures begin { size ≡ Size.Double → place ≡ 0 → IsOk result × IfOk result (λ o. IfSome o (λ k. IsTextIn 0 0 (Some 0) k)) }
+    ensures end { size ≡ Size.Double → place ≡ 8 → IsOk result × IfOk result (λ o. IfSome o (λ k. IsTextIn 0 131072 (Some 0) k)) }
+    ensures floor { IsNumberField size place → IsOk result }
+    ensures numbers { IsNumberField size place → IfOk result (λ o. AreNumbers o) }
+{
+    match size {
+        Size::Double if place == 0 => Ok(Some(Known::Lent(LentPlace {
+            region: Region::Text,
+            offset: Quantity::begin(Region::Text),
+        }))),
+        Size::Double if place == 8 => lent(
+            Region::Text,
+            Quantity::up_to_end(Region::Text, u64::MAX),
+        ),
+        Size::Double if place == 48 => Ok(Some(Known::Number(loaded(size)))),
+        Size::Word if place == 16 => Ok(number(Quantity::up_to_end(Region::Text, 0xffff_ffff))),
+        Size::Word if is_word_field(place) => Ok(Some(Known::Number(loaded(size)))),
+        _ => Err(Refusal::ContextField),
+    }
+}
+
+/// Whether so many bytes at a place in a lent region lie in it.
+fn reaches(bounds: Bounds, place: LentPlace, offset: u64, count: usize) -> bool
+    requires { count ≤ 8 }
+    ensures sound { IsTrue result → (lengths : Lengths) (x : ℕ) → IsLong bounds lengths → ContainsNumber place.offset lengths x → (a : ℕ) × ((base_of place.region + x + offset) % 2 ^ 64 ≡ base_of place.region + a) × (a + count ≤ length_of lengths place.region) }
+    ensures floor { offset ≤ 2 ^ 15 → (bound : ℕ) → place.region ≡ Region.Text → bounds.text ≡ bound → place.offset.range.high + offset + count ≤ bound → IsTrue result }
+{
+    let range = place.offset.range;
+    let Some(least) = moved(range.low, offset) else {
+        return false;
+    };
+    let end = least + count as u64;
+    if end + (range.high - range.low) <= bounds.of(place.region) {
+        return true;
+    }
+    let Some(tail) = place.offset.tails.of(place.region) else {
+        return false;
+    };
+    if end <= range.low.saturating_add(tail) {
+        return true;
+    }
+    false
+}
+
+/// The place of so many bytes on the stack.
+fn place_on_stack(place: StackPlace, offset: u64, count: usize) -> Result<usize, Refusal>
+    requires { count ≤ 8 }
+    ensures within { IfOk result (λ p. p + count ≤ 512) }
+    ensures at { IfOk result (λ p. (base : ℕ) → base < 2 ^ 62 → (base + place.place + offset) % 2 ^ 64 ≡ base + p) }
+{
+    let Some(p) = moved(place.place, offset) else {
+        return Err(Refusal::StackBounds);
+    };
+    if p + count as u64 > 512 {
+        return Err(Refusal::StackBounds);
+    }
+    Ok(p as usize)
+}
+
+impl AbsState {
+    /// Checks that so many bytes can be loaded as a number.
+    fn bytes(&self, base: Known, offset: u64, count: usize) -> Result<(), Refusal>
+        requires { count ≤ 8 }
+        ensures sound { IfOk result (λ _. LoadsAs self.now base offset count (λ lengths v. v < 256 ^ count)) }
+        ensures text { (p : LentPlace) → base ≡ Known.Lent p → p.region ≡ Region.Text → offset ≤ 2 ^ 15 → p.offset.range.high + offset + count ≤ self.now.bounds.text → IsOk result }
+    {
+        match base {
+            Known::Number(_) => Err(Refusal::NotAnAddress),
+            Known::Context(_) => Err(Refusal::ContextField),
+            Known::Lent(place) => {
+                if reaches(self.bounds, place, offset, count) {
+                    Ok(())
+                } else {
+                    Err(Refusal::TextBounds)
+                }
+            }
+            Known::Stack(place) => {
+                let p = place_on_stack(place, offset, count)?;
+                if are_set(&self.stack, p, count) {
+                    Ok(())
+                } else {
+                    Err(Refusal::StackUnset)
+                }
+            }
+        }
+    }
+
+    /// What a load of a field gives.
+    fn field(&self, place: ContextPlace, offset: u64, size: Size) -> Result<Option<Known>, Refusal>
+        ensures sound { IfOk result (λ o. LoadsAs self.now (Known.Context place) offset (bytes_in size) (λ lengths v. WithinKnown o lengths v)) }
+        ensures begin { place.place ≡ 0 → size ≡ Size.Double → offset ≡ 0 → IsOk result × IfOk result (λ o. IfSome o (λ k. IsTextIn 0 0 (Some 0) k)) }
+        ensures end { place.place ≡ 0 → size ≡ Size.Double → offset ≡ 8 → IsOk result × IfOk result (λ o. IfSome o (λ k. IsTextIn 0 131072 (Some 0) k)) }
+        ensures floor { place.place ≡ 0 → IsNumberField size offset → IsOk result }
+        ensures numbers { place.place ≡ 0 → IsNumberField size offset → IfOk result (λ o. AreNumbers o) }
+    {
+        let Some(p) = moved(place.place, offset) else {
+            return Err(Refusal::ContextField);
+        };
+        let known = field(p, size)?;
+        Ok(known)
+    }
+
+    /// What was spilled at a place, where a load takes all of it.
+    fn fill(&self, base: Known, offset: u64, size: Size) -> Option<Known>
+        ensures sound { IfSome result (λ k. LoadsAs self.now base offset (bytes_in size) (λ lengths v. ContainsKnown k lengths v)) }
+        ensures stack_alone { IfSome result (λ _. (p : LentPlace) → base ≡ Known.Lent p → ⊥) }
+    {
+        let (Known::Stack(place), Size::Double) = (base, size) else {
+            return None;
+        };
+        let Ok(p) = place_on_stack(place, offset, 8) else {
+            return None;
+        };
+        if p % 8 != 0 {
+            return None;
+        }
+        filled(&self.stack, p / 8)
+    }
+
+    /// What a load gives.
+    pub fn load(&self, base: Known, offset: u64, size: Size) -> Result<Option<Known>, Refusal>
+        ensures sound { IfOk result (λ o. LoadsAs self.now base offset (bytes_in size) (λ lengths v. WithinKnown o lengths v)) }
+        ensures begin { IsContextAt 0 (TheRegs.Set base) → size ≡ Size.Double → offset ≡ 0 → IsOk result × IfOk result (λ o. IfSome o (λ k. IsTextIn 0 0 (Some 0) k)) }
+        ensures end { IsContextAt 0 (TheRegs.Set base) → size ≡ Size.Double → offset ≡ 8 → IsOk result × IfOk result (λ o. IfSome o (λ k. IsTextIn 0 131072 (Some 0) k)) }
+        ensures floor { IsContextAt 0 (TheRegs.Set base) → IsNumberField size offset → IsOk result }
+        ensures numbers { IsContextAt 0 (TheRegs.Set base) → IsNumberField size offset → IfOk result (λ o. AreNumbers o) }
+        ensures text { (p : LentPlace) → base ≡ Known.Lent p → p.region ≡ Region.Text → offset ≤ 2 ^ 15 → p.offset.range.high + offset + bytes_in size ≤ self.now.bounds.text → IsOk result }
+        ensures text_numbers { (p : LentPlace) → base ≡ Known.Lent p → IfOk result (λ o. AreNumbers o) }
+    {
+        if let Known::Context(place) = base {
+            return self.field(place, offset, size);
+        }
+        if let Some(known) = self.fill(base, offset, size) {
+            return Ok(Some(known));
+        }
+        self.bytes(base, offset, count(size))?;
+        Ok(Some(Known::Number(loaded(size))))
+    }
+
+    /// Checks that a sign-extending load finds its bytes.
+    pub fn load_signed(&self, base: Known, offset: u64, size: SignedSize) -> Result<(), Refusal>
+        ensures { IfOk result (λ _. LoadsAs self.now base offset (bytes_in_signed size) (λ lengths v. v < 256 ^ bytes_in_signed size)) }
+    {
+        self.bytes(base, offset, count_signed(size))
+    }
+
+    /// Stores a number.
+    pub fn store(
+        &mut self,
+        base: Known,
+        offset: u64,
+        size: Size,
+        value: Known,
+    ) -> Result<(), Refusal>
+        ensures sound { IfOk result (λ _. StoresAs self.old base offset (bytes_in size) value self.new) }
+        ensures registers { self.new.registers ≡ self.old.registers }
+    {
+        if base.is_number() {
+            return Err(Refusal::NotAnAddress);
+        }
+        let Known::Stack(place) = base else {
+            return Err(Refusal::ReadOnlyStore);
+        };
+        let count = count(size);
+        let p = place_on_stack(place, offset, count)?;
+        if count == 8 && p % 8 == 0 {
+            spill(&mut self.stack, p / 8, value);
+            return Ok(());
+        }
+        if !value.is_number() {
+            return Err(Refusal::PointerStore);
+        }
+        overwrite(&mut self.stack, p, count);
+        Ok(())
+    }
+}

@@ -1,0 +1,129 @@
+ghost use Rattle.std.specs.Prelude.{◌≡◌, ℕ, ◌+◌, ◌-◌, ◌*◌, ◌/◌, ◌%◌, ◌^◌, ◌<◌, ◌≤◌, Option, Some, None, IfSome, bit_and, bit_or, bit_xor};
+ghost use Rattle.abstract_state.specs.Lent.{Lengths, length_of, HasTails, InRange, InRanges};
+ghost use Rattle.abstract_state.specs.Quantity.{InBits, Contains, Within, Fits, Maps, MapsBoth, Narrows};
+ghost use Rattle.abstract_state.specs.Exact.{IsIn};
+ghost use Rattle.meaning.specs.Value.{cut, value_of};
+
+use crate::region::{Region, Tails};
+use bpf_words::instruction::Width;
+use intervals::Range;
+use known_bits::Bits;
+
+/// What is known of a number: its bits, its interval, and its tails.
+#[derive(Clone, Copy)]
+pub struct Quantity {
+    pub bits: Bits,
+    pub range: Range,
+    pub tails: Tails,
+}
+
+impl Quantity {
+    /// The one number.
+    pub fn constant(value: u64) -> Quantity
+        ensures contains { (lengths : Lengths) → Contains result lengths value }
+        ensures is { IsIn result value value None }
+    {
+        Quantity {
+            bits: Bits::constant(value),
+            range: Range {
+                low: value,
+                high: value,
+            },
+            tails: Tails::none(),
+        }
+    }
+
+    /// The numbers up to `high`.
+    pub fn up_to(high: u64) -> Quantity
+        ensures { (lengths : Lengths) (x : ℕ) → x ≤ high → Contains result lengths x }
+    {
+        Quantity {
+            bits: Bits::between(0, high),
+            range: Range { low: 0, high },
+            tails: Tails::none(),
+        }
+    }
+
+    /// The normal form, in which bits and interval have narrowed one another; `None` where nothing is left.
+    pub fn normal(bits: Bits, range: Range, tails: Tails) -> Option<Quantity>
+        ensures contains { (lengths : Lengths) (x : ℕ) → InBits bits x → InRange range x → HasTails tails lengths x → Within result lengths x }
+        ensures narrows { Narrows result range tails }
+        ensures limits { (t : ℕ) → tails.text ≡ Some t → IfSome result (λ q. q.range.high + t ≤ 131072) }
+    {
+        let first = narrow(bits, range, tails)?;
+        let high_bits = Bits::between(first.low, first.high);
+        let known = bits.meet(high_bits)?;
+        let second = narrow(known, first, tails)?;
+        Some(Quantity {
+            bits: known,
+            range: second,
+            tails,
+        })
+    }
+
+    /// The normal form of a result cut to the width.
+    pub(crate) fn finish(width: Width, bits: Bits, range: Range, tails: Tails) -> Option<Quantity>
+        ensures contains { (lengths : Lengths) (x : ℕ) → InBits bits x → InRange range x → HasTails tails lengths x → Within result lengths (cut width x) }
+        ensures narrows { width ≡ Width.Full → Narrows result range tails }
+    {
+        match width {
+            Width::Full => Quantity::normal(bits, range, tails),
+            Width::Narrow => Quantity::normal(bits.low32(), range.low32(), tails),
+        }
+    }
+}
+
+/// The interval cut to what the bits and the tails allow.
+fn narrow(bits: Bits, range: Range, tails: Tails) -> Option<Range>
+    ensures contains { (lengths : Lengths) (x : ℕ) → InBits bits x → InRange range x → HasTails tails lengths x → InRanges result x }
+    ensures within { IfSome result (λ r. (range.low ≤ r.low) × (r.high ≤ range.high)) }
+    ensures limits { (t : ℕ) → tails.text ≡ Some t → IfSome result (λ r. r.high + t ≤ 131072) }
+{
+    let above = range.at_least(bits.least())?;
+    let between = above.at_most(bits.greatest())?;
+    tails.narrow(between)
+}
+
+impl Quantity {
+    /// What either contains; where that is nothing, one of them.
+    pub fn join(self, other: Quantity) -> Quantity
+        ensures left { (lengths : Lengths) (x : ℕ) → Contains self lengths x → Contains result lengths x }
+        ensures right { (lengths : Lengths) (x : ℕ) → Contains other lengths x → Contains result lengths x }
+        ensures within { (n : ℕ) → self.range.high ≤ n → other.range.high ≤ n → result.range.high ≤ n }
+    {
+        let Some(joined) = Quantity::normal(
+            self.bits.join(other.bits),
+            self.range.hull(other.range),
+            self.tails.lesser(other.tails),
+        ) else {
+            return self;
+        };
+        joined
+    }
+}
+
+impl Quantity {
+    /// The number 0, as a place in a region.
+    pub fn begin(region: Region) -> Quantity
+        ensures contains { (lengths : Lengths) → Contains result lengths 0 }
+        ensures is { region ≡ Region.Text → IsIn result 0 0 (Some 0) }
+    {
+        Quantity {
+            bits: Bits::constant(0),
+            range: Range { low: 0, high: 0 },
+            tails: Tails::ending(region),
+        }
+    }
+
+    /// The numbers up to `high` and up to the region's length.
+    pub fn up_to_end(region: Region, high: u64) -> Option<Quantity>
+        ensures contains { (lengths : Lengths) (x : ℕ) → x ≤ high → x ≤ length_of lengths region → Within result lengths x }
+        ensures is { region ≡ Region.Text → 131072 ≤ high → IfSome result (λ q. IsIn q 0 131072 (Some 0)) }
+    {
+        Quantity::normal(
+            Bits::between(0, high),
+            Range { low: 0, high },
+            Tails::ending(region),
+        )
+    }
+}

@@ -1,0 +1,157 @@
+//! What is known of the stack's slots.
+ghost use Rattle.std.specs.Prelude.{◌≡◌, ◌≢◌, ℕ, ◌+◌, ◌-◌, ◌*◌, ◌/◌, ◌%◌, ◌^◌, ◌<◌, ◌≤◌, Option, Some, None, true, false, IfSome, IfOk, IsTrue, length, slice_index_or, nat_le, nat_lt, ◌&&◌, ◌||◌};
+ghost use Rattle.abstract_state.specs.Lent.{Lengths};
+ghost use Rattle.abstract_state.specs.Known.{ContainsKnown};
+ghost use Rattle.abstract_state.specs.State.{Bytes, HasByte, HasNumber, ContainsSlot, ContainsStack, slot_at, Spares, Fills};
+
+use crate::known::Known;
+use crate::slot::Slot;
+
+/// Which of a slot's bytes are set for sure; those of a spilled address count as unset.
+fn marks(slot: Slot) -> [bool; 8]
+    ensures { (lengths : Lengths) (bytes : Bytes) (i : ℕ) → ContainsSlot slot lengths bytes i → ContainsSlot (Slot.Marks result) lengths bytes i }
+{
+    match slot {
+        Slot::Marks(marks) => marks,
+        Slot::Spilled(known) if known.is_number() => all_set(),
+        Slot::Spilled(_) => none_set(),
+    }
+}
+
+fn none_set() -> [bool; 8]
+    ensures { (j : ℕ) → slice_index_or result j false ≡ false }
+{
+    [false; 8]
+}
+
+fn all_set() -> [bool; 8] {
+    [true; 8]
+}
+
+/// The bytes that are set in both.
+fn both(a: &[bool; 8], b: &[bool; 8]) -> [bool; 8]
+    ensures left { (j : ℕ) → j < 8 → slice_index_or result j false ≡ true → slice_index_or a.now j false ≡ true }
+    ensures right { (j : ℕ) → j < 8 → slice_index_or result j false ≡ true → slice_index_or b.now j false ≡ true }
+{
+    let mut marks = *a;
+    for j in 0..8 {
+        marks[j] = a[j] && b[j];
+    }
+    marks
+}
+
+/// What either slot holds.
+pub fn join(a: Slot, b: Slot) -> Slot
+    ensures left { (lengths : Lengths) (bytes : Bytes) (i : ℕ) → ContainsSlot a lengths bytes i → ContainsSlot result lengths bytes i }
+    ensures right { (lengths : Lengths) (bytes : Bytes) (i : ℕ) → ContainsSlot b lengths bytes i → ContainsSlot result lengths bytes i }
+{
+    if let (Slot::Spilled(x), Slot::Spilled(y)) = (a, b) {
+        return match x.join(y) {
+            Some(known) => Slot::Spilled(known),
+            None => Slot::Marks(none_set()),
+        };
+    }
+    let x = marks(a);
+    let y = marks(b);
+    Slot::Marks(both(&x, &y))
+}
+
+/// Takes in what another stack holds.
+pub fn join_slots(a: &mut [Slot; 64], b: &[Slot; 64])
+    ensures left { (lengths : Lengths) (bytes : Bytes) → ContainsStack a.old lengths bytes → ContainsStack a.new lengths bytes }
+    ensures right { (lengths : Lengths) (bytes : Bytes) → ContainsStack b.now lengths bytes → ContainsStack a.new lengths bytes }
+{
+    for i in 0..64 {
+        a[i] = join(a[i], b[i]);
+    }
+}
+
+/// A slot's marks, with those that a store of so many bytes at a place sets.
+fn with_store(marks: &[bool; 8], first: usize, place: usize, count: usize) -> [bool; 8]
+    requires first { first ≤ 504 }
+    requires place { place + count ≤ 512 }
+    ensures { (j : ℕ) → j < 8 → slice_index_or result j false ≡ (slice_index_or marks.now j false || (nat_le place (first + j) && nat_lt (first + j) (place + count))) }
+{
+    let mut result = *marks;
+    for j in 0..8 {
+        result[j] = is_marked(marks, j, first, place, count);
+    }
+    result
+}
+
+/// Whether a byte is set after the store.
+fn is_marked(marks: &[bool; 8], j: usize, first: usize, place: usize, count: usize) -> bool
+    requires j { j < 8 }
+    requires first { first ≤ 504 }
+    requires place { place + count ≤ 512 }
+    ensures { result ≡ (slice_index_or marks.now j false || (nat_le place (first + j) && nat_lt (first + j) (place + count))) }
+{
+    marks[j] || (place <= first + j && first + j < place + count)
+}
+
+/// The slot of eight bytes from `first` on after a store of so many bytes at a place.
+fn rewritten(slot: Slot, first: usize, place: usize, count: usize) -> Slot
+    requires first { first ≤ 504 }
+    requires place { place + count ≤ 512 }
+    ensures { (lengths : Lengths) (old new : Bytes) (i : ℕ) → first ≡ 8 * i → ContainsSlot slot lengths old i → Spares place count old new → Fills place count new → ContainsSlot result lengths new i }
+{
+    if first + 8 <= place {
+        return slot;
+    }
+    if place + count <= first {
+        return slot;
+    }
+    let marks = marks(slot);
+    Slot::Marks(with_store(&marks, first, place, count))
+}
+
+/// Notes a store of so many bytes of a number.
+pub fn overwrite(slots: &mut [Slot; 64], place: usize, count: usize)
+    requires { place + count ≤ 512 }
+    ensures { (lengths : Lengths) (old new : Bytes) → ContainsStack slots.old lengths old → Spares place count old new → Fills place count new → ContainsStack slots.new lengths new }
+{
+    for i in 0..64 {
+        slots[i] = rewritten(slots[i], 8 * i, place, count);
+    }
+}
+
+/// Notes that all eight bytes of a slot hold a number.
+pub fn spill(slots: &mut [Slot; 64], slot: usize, known: Known)
+    requires { slot < 64 }
+    ensures { (lengths : Lengths) (old new : Bytes) (n : ℕ) → ContainsStack slots.old lengths old → ContainsKnown known lengths n → HasNumber new (8 * slot) n → Spares (8 * slot) 8 old new → ContainsStack slots.new lengths new }
+{
+    slots[slot] = Slot::Spilled(known);
+}
+
+/// What was spilled into a slot.
+pub fn filled(slots: &[Slot; 64], slot: usize) -> Option<Known>
+    requires { slot < 64 }
+    ensures { IfSome result (λ k. (lengths : Lengths) (bytes : Bytes) → ContainsStack slots.now lengths bytes → (n : ℕ) × ContainsKnown k lengths n × HasNumber bytes (8 * slot) n) }
+{
+    match slots[slot] {
+        Slot::Spilled(known) => Some(known),
+        Slot::Marks(_) => None,
+    }
+}
+
+/// Whether a byte is set for sure.
+fn is_set(slots: &[Slot; 64], place: usize) -> bool
+    requires { place < 512 }
+    ensures { IsTrue result → (lengths : Lengths) (bytes : Bytes) → ContainsStack slots.now lengths bytes → HasByte bytes place }
+{
+    let marks = marks(slots[place / 8]);
+    marks[place % 8]
+}
+
+/// Whether so many bytes are set for sure.
+pub fn are_set(slots: &[Slot; 64], place: usize, count: usize) -> bool
+    requires { place + count ≤ 512 }
+    ensures { IsTrue result → (lengths : Lengths) (bytes : Bytes) → ContainsStack slots.now lengths bytes → (j : ℕ) → j < count → HasByte bytes (place + j) }
+{
+    for j in 0..count {
+        if !is_set(slots, place + j) {
+            return false;
+        }
+    }
+    true
+}

@@ -1,0 +1,173 @@
+ghost use Rattle.std.specs.Prelude.{◌≡◌, ◌≢◌, ℕ, ◌+◌, ◌-◌, ◌*◌, ◌/◌, ◌%◌, ◌^◌, ◌<◌, ◌≤◌, Option, Some, Ok, IfSome, IfOk, IsOk, IsTrue, None, length, slice_set, slice_index_or, pos};
+ghost use Rattle.abstract_state.specs.Lent.{Lengths, length_of};
+ghost use Rattle.abstract_state.specs.Quantity.{Contains as ContainsNumber, Within as WithinNumber};
+ghost use Rattle.abstract_state.specs.Known.{ContainsKnown, WithinKnown, IsNumber, AreNumbers};
+ghost use Rattle.abstract_state.specs.State.{Span, lengths_of, IsLong, WithinLong, Contains, WithinState, with_register, register_at, ContainsRegister, Bytes, ContainsStack, ContainsSlot};
+ghost use Rattle.std.specs.Int.{cast_unsigned, w64};
+ghost use Rattle.abstract_state.specs.Kinds.{HasNumberAt, HasNumberIn, WritesNumber, IsContextAt, IsStackAt};
+ghost use Rattle.abstract_state.specs.Exact.{Fact, Says, Holds, IsNumberIn};
+ghost use Rattle.abstract_state.specs.Guard.{SameBut};
+ghost use Rattle.abstract_state.specs.Steps.{after};
+ghost use Rattle.meaning.specs.State.{State, start, register_of, operand_in};
+
+use crate::bounds::Bounds;
+use crate::known::Known;
+use crate::place::{ContextPlace, StackPlace};
+use crate::quantity::Quantity;
+use crate::refusal::Refusal;
+use crate::region::Region;
+use crate::slot::Slot;
+use crate::step::Flow;
+use bpf_words::instruction::Operand;
+use bpf_words::register::Register;
+
+/// What is known of a register.
+#[derive(Clone, Copy)]
+pub enum AbsReg {
+    /// It may be unset, or hold anything.
+    Unset,
+    Set(Known),
+}
+
+/// What is known of the machine before an instruction.
+#[derive(Clone, Copy)]
+pub struct AbsState {
+    pub registers: [AbsReg; 11],
+    pub stack: [Slot; 64],
+    pub bounds: Bounds,
+}
+
+impl Bounds {
+    /// The bound of one region.
+    pub fn of(self, region: Region) -> u64
+        ensures short { result ≤ 131072 }
+        ensures long { (lengths : Lengths) → IsLong self lengths → result ≤ length_of lengths region }
+        ensures text { region ≡ Region.Text → result ≡ self.text }
+    {
+        match region {
+            Region::Text => self.text,
+        }
+    }
+
+    /// The bounds where a number of the quantity stands; `None` where no region is so long.
+    pub fn raise(self, q: Quantity) -> Option<Bounds>
+        ensures sound { (lengths : Lengths) (x : ℕ) → IsLong self lengths → ContainsNumber q lengths x → WithinLong result lengths }
+        ensures raised { (t : ℕ) → q.tails.text ≡ Some t → IfSome result (λ b. q.range.low + t ≤ b.text) }
+        ensures grows { IfSome result (λ b. self.text ≤ b.text) }
+    {
+        let Some(tail) = q.tails.text else {
+            return Some(self);
+        };
+        let least = q.range.low.checked_add(tail)?;
+        if least > 131_072 {
+            return None;
+        }
+        Some(Bounds {
+            text: self.text.max(least),
+        })
+    }
+}
+
+impl AbsState {
+    /// What is known at the start of each run.
+    pub fn entry() -> AbsState
+        ensures contains { (span : Span) → Contains result (lengths_of span) start }
+        ensures context { IsContextAt 0 (register_at result.registers 1) }
+        ensures frame { IsStackAt 512 (register_at result.registers 10) }
+        ensures unset { (i : ℕ) → i ≢ 1 → i ≢ 10 → register_at result.registers i ≡ AbsReg.Unset }
+        ensures bounds { result.bounds.text ≡ 0 }
+    {
+        AbsState {
+            registers: first_registers(),
+            stack: unset_stack(),
+            bounds: Bounds { text: 0 },
+        }
+    }
+
+    /// What is known of a register that is read.
+    pub fn read(&self, register: Register) -> Result<Known, Refusal>
+        ensures sound { IfOk result (λ k. (lengths : Lengths) (s : State) → Contains self.now lengths s → (n : ℕ) × (register_of s register ≡ Ok n) × ContainsKnown k lengths n) }
+        ensures holds { (fact : Fact) → Holds fact (register_at self.now.registers register) → IsOk result × IfOk result (λ k. Says fact k) }
+        ensures floor { HasNumberAt self.now register → IsOk result }
+        ensures context { (n : ℕ) → IsContextAt n (register_at self.now.registers register) → IsOk result × IfOk result (λ k. IsContextAt n (AbsReg.Set k)) }
+        ensures numbers { HasNumberAt self.now register → IfOk result (λ k. IsNumber k) }
+    {
+        match self.registers[register.index()] {
+            AbsReg::Unset => Err(Refusal::UnsetRegister),
+            AbsReg::Set(known) => Ok(known),
+        }
+    }
+
+    /// What is known of an operand.
+    pub fn operand(&self, operand: Operand) -> Result<Known, Refusal>
+        ensures sound { IfOk result (λ k. (lengths : Lengths) (s : State) → Contains self.now lengths s → (n : ℕ) × (operand_in s operand ≡ Ok n) × ContainsKnown k lengths n) }
+        ensures holds { (r : ℕ) (fact : Fact) → operand ≡ Operand.Source r → Holds fact (register_at self.now.registers r) → IsOk result × IfOk result (λ k. Says fact k) }
+        ensures constant { (k : ℕ) → operand ≡ Operand.Immediate (pos k) → k < 2 ^ 31 → IsOk result × IfOk result (λ v. IsNumberIn k k None v) }
+        ensures floor { HasNumberIn self.now operand → IsOk result }
+        ensures numbers { HasNumberIn self.now operand → IfOk result (λ k. IsNumber k) }
+    {
+        match operand {
+            Operand::Immediate(value) => Ok(Known::Number(Quantity::constant(extended(value)))),
+            Operand::Source(register) => self.read(register),
+        }
+    }
+
+    /// Writes a register.
+    pub fn put(&mut self, register: Register, known: Known)
+        ensures contains { (lengths : Lengths) (s : State) (n : ℕ) → Contains self.old lengths s → ContainsKnown known lengths n → Contains self.new lengths (with_register s register n) }
+        ensures others { SameBut register self.old self.new }
+        ensures there { register_at self.new.registers register ≡ AbsReg.Set known }
+        ensures bounds { self.new.bounds ≡ self.old.bounds }
+    {
+        self.registers[register.index()] = AbsReg::Set(known);
+    }
+
+    /// Writes a register, if there is something to write.
+    pub fn write(&mut self, register: Register, known: Option<Known>) -> Flow
+        ensures sound { (lengths : Lengths) (s : State) (n : ℕ) → Contains self.old lengths s → WithinKnown known lengths n → WithinState (after result self.new) lengths (with_register s register n) }
+        ensures others { IfSome (after result self.new) (λ b. SameBut register self.old b) }
+        ensures holds { (fact : Fact) → IfSome known (λ k. Says fact k) → IfSome (after result self.new) (λ b. Holds fact (register_at b.registers register)) }
+        ensures numbers { AreNumbers known → IfSome (after result self.new) (λ b. WritesNumber self.old register b) }
+    {
+        let Some(known) = known else {
+            return Flow::Dead;
+        };
+        self.put(register, known);
+        Flow::Live
+    }
+}
+
+/// What is known of the registers at first.
+fn first_registers() -> [AbsReg; 11]
+    ensures contains { (lengths : Lengths) (i : ℕ) → i < 11 → ContainsRegister (register_at result i) lengths (slice_index_or start.registers i None) }
+    ensures context { IsContextAt 0 (register_at result 1) }
+    ensures frame { IsStackAt 512 (register_at result 10) }
+    ensures unset { (i : ℕ) → i ≢ 1 → i ≢ 10 → register_at result i ≡ AbsReg.Unset }
+{
+    let mut registers = [AbsReg::Unset; 11];
+    registers[1] = AbsReg::Set(Known::Context(ContextPlace { place: 0 }));
+    registers[10] = AbsReg::Set(Known::Stack(StackPlace { place: 512 }));
+    registers
+}
+
+/// A stack of which nothing is known.
+fn unset_stack() -> [Slot; 64]
+    ensures { (lengths : Lengths) (bytes : Bytes) → ContainsStack result lengths bytes }
+{
+    let slot = unset_slot();
+    [slot; 64]
+}
+
+/// A slot of which nothing is known.
+fn unset_slot() -> Slot
+    ensures { (lengths : Lengths) (bytes : Bytes) (i : ℕ) → ContainsSlot result lengths bytes i }
+{
+    Slot::Marks([false; 8])
+}
+
+/// An immediate with its sign, in 64 bits.
+pub fn extended(value: i32) -> u64
+    ensures { result ≡ cast_unsigned w64 value }
+{
+    i64::from(value).cast_unsigned()
+}

@@ -1,0 +1,276 @@
+//! Instructions that go on to one slot.
+ghost use Rattle.std.specs.Prelude.{◌≡◌, ◌≢◌, ℕ, pos, ◌+◌, ◌%◌, ◌^◌, ◌<◌, ◌≤◌, Option, Some, None, Ok, IfSome, IfOk, IsOk};
+ghost use Rattle.std.specs.Int.{cast_unsigned, w64};
+ghost use Rattle.meaning.specs.State.{State, register_of};
+ghost use Rattle.meaning.specs.Step.{Returns};
+ghost use Rattle.abstract_state.specs.State.{Span, lengths_of, Contains, StepsBy, does, register_at};
+ghost use Rattle.abstract_state.specs.Kinds.{HasNumberAt, HasNumberIn, ReadsFirst, ReadsNumbers, WritesNumber, Carries, IsNumberField, IsContextAt};
+ghost use Rattle.abstract_state.specs.Steps.{MayStep, StepsTo, after};
+ghost use Rattle.abstract_state.specs.Exact.{Fact, Holds, tail_after};
+ghost use Rattle.abstract_state.specs.Guard.{Yields, Keeps, SameBut, LeavesOthers};
+ghost use Rattle.meaning.specs.Memory.{bytes_in};
+
+use crate::known::Known;
+use crate::quantity::Quantity;
+use crate::refusal::Refusal;
+use crate::state::AbsState;
+use bpf_words::instruction::{
+    Arithmetic, Conversion, ConvertedBits, Extension, Insn, Operand, SignedSize, Size, Width,
+};
+use bpf_words::register::Register;
+
+/// Whether a run can come past an instruction.
+#[derive(Clone, Copy)]
+pub enum Flow {
+    Live,
+    Dead,
+}
+
+/// An offset as what is added to an address modulo 2^64.
+fn displacement(offset: i16) -> u64
+    ensures { result ≡ cast_unsigned w64 offset }
+{
+    i64::from(offset).cast_unsigned()
+}
+
+impl AbsState {
+    fn move_to(
+        &mut self,
+        width: Width,
+        destination: Register,
+        operand: Operand,
+    ) -> Result<Flow, Refusal>
+        requires { destination ≢ 10 }
+        ensures sound { IfOk result (λ flow. StepsBy self.old (Insn.Compute width Arithmetic.Mov destination operand) (pos 0) (after flow self.new)) }
+        ensures others { IfOk result (λ flow. IfSome (after flow self.new) (λ b. SameBut destination self.old b)) }
+        ensures text { (r n : ℕ) (t : Option ℕ) → width ≡ Width.Full → operand ≡ Operand.Source r → Holds (Fact.TextIn n n t) (register_at self.old.registers r) → Keeps result self.new destination (Fact.TextIn n n t) }
+        ensures constant { (k : ℕ) → width ≡ Width.Full → operand ≡ Operand.Immediate (pos k) → k < 2 ^ 31 → Keeps result self.new destination (Fact.NumberIn k k None) }
+        ensures floor { HasNumberIn self.old operand → IsOk result }
+        ensures numbers { HasNumberIn self.old operand → IfOk result (λ flow. IfSome (after flow self.new) (λ b. WritesNumber self.old destination b)) }
+    {
+        let b = self.operand(operand)?;
+        let known = b.moved(width)?;
+        Ok(self.write(destination, known))
+    }
+
+    fn compute(
+        &mut self,
+        width: Width,
+        operation: Arithmetic,
+        destination: Register,
+        operand: Operand,
+    ) -> Result<Flow, Refusal>
+        requires frame { destination ≢ 10 }
+        requires reads { operation ≢ Arithmetic.Mov }
+        ensures sound { IfOk result (λ flow. StepsBy self.old (Insn.Compute width operation destination operand) (pos 0) (after flow self.new)) }
+        ensures others { IfOk result (λ flow. IfSome (after flow self.new) (λ b. SameBut destination self.old b)) }
+        ensures adds { (k n : ℕ) (t : Option ℕ) → width ≡ Width.Full → operation ≡ Arithmetic.Add → operand ≡ Operand.Immediate (pos k) → Holds (Fact.TextIn n n t) (register_at self.old.registers destination) → n + k ≤ 2 ^ 20 → Keeps result self.new destination (Fact.TextIn (n + k) (n + k) (tail_after t k)) }
+        ensures floor { HasNumberAt self.old destination → HasNumberIn self.old operand → IsOk result }
+        ensures numbers { HasNumberAt self.old destination → HasNumberIn self.old operand → IfOk result (λ flow. IfSome (after flow self.new) (λ b. WritesNumber self.old destination b)) }
+    {
+        let a = self.read(destination)?;
+        let b = self.operand(operand)?;
+        let known = a.compute(operation, width, b)?;
+        Ok(self.write(destination, known))
+    }
+
+    fn negate(&mut self, width: Width, destination: Register) -> Result<Flow, Refusal>
+        requires { destination ≢ 10 }
+        ensures sound { IfOk result (λ flow. StepsBy self.old (Insn.Negate width destination) (pos 0) (after flow self.new)) }
+        ensures others { IfOk result (λ flow. IfSome (after flow self.new) (λ b. SameBut destination self.old b)) }
+        ensures floor { HasNumberAt self.old destination → IsOk result }
+        ensures numbers { HasNumberAt self.old destination → IfOk result (λ flow. IfSome (after flow self.new) (λ b. WritesNumber self.old destination b)) }
+    {
+        let a = self.read(destination)?;
+        let known = a.negate(width)?;
+        Ok(self.write(destination, known))
+    }
+
+    fn extend(
+        &mut self,
+        extension: Extension,
+        destination: Register,
+        source: Register,
+    ) -> Result<Flow, Refusal>
+        requires { destination ≢ 10 }
+        ensures sound { IfOk result (λ flow. StepsBy self.old (Insn.Extend extension destination source) (pos 0) (after flow self.new)) }
+        ensures others { IfOk result (λ flow. IfSome (after flow self.new) (λ b. SameBut destination self.old b)) }
+        ensures floor { HasNumberAt self.old source → IsOk result }
+        ensures numbers { HasNumberAt self.old source → IfOk result (λ flow. IfSome (after flow self.new) (λ b. WritesNumber self.old destination b)) }
+    {
+        let a = self.read(source)?;
+        let known = a.extend(extension)?;
+        Ok(self.write(destination, known))
+    }
+
+    fn convert(
+        &mut self,
+        conversion: Conversion,
+        bits: ConvertedBits,
+        destination: Register,
+    ) -> Result<Flow, Refusal>
+        requires { destination ≢ 10 }
+        ensures sound { IfOk result (λ flow. StepsBy self.old (Insn.Convert conversion bits destination) (pos 0) (after flow self.new)) }
+        ensures others { IfOk result (λ flow. IfSome (after flow self.new) (λ b. SameBut destination self.old b)) }
+        ensures floor { HasNumberAt self.old destination → IsOk result }
+        ensures numbers { HasNumberAt self.old destination → IfOk result (λ flow. IfSome (after flow self.new) (λ b. WritesNumber self.old destination b)) }
+    {
+        let a = self.read(destination)?;
+        let known = a.convert(conversion, bits)?;
+        Ok(self.write(destination, Some(known)))
+    }
+
+    fn load_into(
+        &mut self,
+        size: Size,
+        destination: Register,
+        base: Register,
+        offset: i16,
+    ) -> Result<Flow, Refusal>
+        requires { destination ≢ 10 }
+        ensures sound { IfOk result (λ flow. StepsBy self.old (Insn.Load size destination base offset) (pos 0) (after flow self.new)) }
+        ensures others { IfOk result (λ flow. IfSome (after flow self.new) (λ b. SameBut destination self.old b)) }
+        ensures begin { offset ≡ pos 0 → size ≡ Size.Double → IsContextAt 0 (register_at self.old.registers base) → Keeps result self.new destination (Fact.TextIn 0 0 (Some 0)) }
+        ensures end { offset ≡ pos 8 → size ≡ Size.Double → IsContextAt 0 (register_at self.old.registers base) → Keeps result self.new destination (Fact.TextIn 0 131072 (Some 0)) }
+        ensures text { (o low high : ℕ) (t : Option ℕ) → offset ≡ pos o → Holds (Fact.TextIn low high t) (register_at self.old.registers base) → o < 2 ^ 15 → high + o + bytes_in size ≤ self.old.bounds.text → Keeps result self.new destination Fact.AnyNumber }
+        ensures floor { IsContextAt 0 (register_at self.old.registers base) → IsNumberField size (cast_unsigned w64 offset) → IsOk result }
+        ensures numbers { IsContextAt 0 (register_at self.old.registers base) → IsNumberField size (cast_unsigned w64 offset) → IfOk result (λ flow. IfSome (after flow self.new) (λ b. WritesNumber self.old destination b)) }
+    {
+        let a = self.read(base)?;
+        let known = self.load(a, displacement(offset), size)?;
+        Ok(self.write(destination, known))
+    }
+
+    fn load_signed_into(
+        &mut self,
+        size: SignedSize,
+        destination: Register,
+        base: Register,
+        offset: i16,
+    ) -> Result<Flow, Refusal>
+        requires { destination ≢ 10 }
+        ensures sound { IfOk result (λ flow. StepsBy self.old (Insn.LoadSigned size destination base offset) (pos 0) (after flow self.new)) }
+        ensures others { IfOk result (λ flow. IfSome (after flow self.new) (λ b. SameBut destination self.old b)) }
+    {
+        let a = self.read(base)?;
+        self.load_signed(a, displacement(offset), size)?;
+        let known = Known::Number(Quantity::unknown(Width::Full));
+        Ok(self.write(destination, Some(known)))
+    }
+
+    fn store_at(
+        &mut self,
+        size: Size,
+        base: Register,
+        offset: i16,
+        value: Operand,
+    ) -> Result<Flow, Refusal>
+        ensures sound { IfOk result (λ flow. StepsBy self.old (Insn.Store size base offset value) (pos 0) (after flow self.new)) }
+        ensures others { IfOk result (λ _. self.new.registers ≡ self.old.registers) }
+    {
+        let a = self.read(base)?;
+        let b = self.operand(value)?;
+        self.store(a, displacement(offset), size, b)?;
+        Ok(Flow::Live)
+    }
+
+    fn load_wide(&mut self, destination: Register, value: u64) -> Flow
+        requires { destination ≢ 10 }
+        ensures sound { StepsBy self.old (Insn.LoadWide destination value) (pos 1) (after result self.new) }
+        ensures others { IfSome (after result self.new) (λ b. SameBut destination self.old b) }
+        ensures numbers { IfSome (after result self.new) (λ b. WritesNumber self.old destination b) }
+    {
+        let known = Known::Number(Quantity::constant(value));
+        self.write(destination, Some(known))
+    }
+
+    fn arithmetic(
+        &mut self,
+        width: Width,
+        operation: Arithmetic,
+        destination: Register,
+        operand: Operand,
+    ) -> Result<Flow, Refusal>
+        requires { destination ≢ 10 }
+        ensures sound { IfOk result (λ flow. StepsBy self.old (Insn.Compute width operation destination operand) (pos 0) (after flow self.new)) }
+        ensures others { IfOk result (λ flow. IfSome (after flow self.new) (λ b. SameBut destination self.old b)) }
+        ensures yields { (d : ℕ) (fact : Fact) → Yields self.old (Insn.Compute width operation destination operand) d fact → Keeps result self.new d fact }
+        ensures floor { ReadsFirst self.old operation destination → HasNumberIn self.old operand → IsOk result }
+        ensures numbers { ReadsFirst self.old operation destination → HasNumberIn self.old operand → IfOk result (λ flow. IfSome (after flow self.new) (λ b. WritesNumber self.old destination b)) }
+    {
+        match operation {
+            Arithmetic::Mov => self.move_to(width, destination, operand),
+            _ => self.compute(width, operation, destination, operand),
+        }
+    }
+
+    /// Checks that a run may end here.
+    pub fn exit(&self) -> Result<(), Refusal>
+        ensures sound { IfOk result (λ _. (span : Span) (s : State) → Contains self.now (lengths_of span) s → (v : ℕ) × (does span s Insn.Exit ≡ Ok (Returns v))) }
+        ensures floor { HasNumberAt self.now 0 → IsOk result }
+    {
+        let known = self.read(Register::r0())?;
+        if known.is_number() {
+            Ok(())
+        } else {
+            Err(Refusal::ReturnPointer)
+        }
+    }
+
+    /// Makes of what is known before an instruction that is no comparison what is known after it. A state that answers
+    /// `Dead`, or a refusal, says nothing more.
+    pub fn step(&mut self, insn: &Insn) -> Result<Flow, Refusal>
+        requires { MayStep insn.now }
+        ensures sound { IfOk result (λ flow. StepsTo self.old insn.now (after flow self.new)) }
+        ensures others { IfOk result (λ flow. IfSome (after flow self.new) (λ b. LeavesOthers self.old insn.now b)) }
+        ensures yields { (d : ℕ) (fact : Fact) → Yields self.old insn.now d fact → Keeps result self.new d fact }
+        ensures floor { ReadsNumbers self.old insn.now → IsOk result }
+        ensures carries { ReadsNumbers self.old insn.now → IfOk result (λ flow. IfSome (after flow self.new) (λ b. Carries self.old insn.now b)) }
+    {
+        match *insn {
+            Insn::Compute {
+                width,
+                operation,
+                destination,
+                operand,
+            } => self.arithmetic(width, operation, destination, operand),
+            Insn::Negate { width, destination } => self.negate(width, destination),
+            Insn::Extend {
+                extension,
+                destination,
+                source,
+            } => self.extend(extension, destination, source),
+            Insn::Convert {
+                conversion,
+                bits,
+                destination,
+            } => self.convert(conversion, bits, destination),
+            Insn::Jump { .. } => Ok(Flow::Live),
+            Insn::JumpLong { .. } => Ok(Flow::Live),
+            Insn::Branch { .. } => unreachable!(),
+            Insn::Load {
+                size,
+                destination,
+                base,
+                offset,
+            } => self.load_into(size, destination, base, offset),
+            Insn::LoadSigned {
+                size,
+                destination,
+                base,
+                offset,
+            } => self.load_signed_into(size, destination, base, offset),
+            Insn::Store {
+                size,
+                base,
+                offset,
+                value,
+            } => self.store_at(size, base, offset, value),
+            Insn::LoadWide { destination, value } => Ok(self.load_wide(destination, value)),
+            Insn::Exit => {
+                self.exit()?;
+                Ok(Flow::Live)
+            }
+        }
+    }
+}

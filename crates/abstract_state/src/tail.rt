@@ -1,0 +1,87 @@
+//! One tail of a number x: a number t, if it is there, so that x + t is at most a length.
+ghost use Rattle.std.specs.Prelude.{◌≡◌, ℕ, ◌+◌, ◌≤◌, Option, Some, None, IfSome};
+ghost use Rattle.abstract_state.specs.Lent.{HasTail, InRange, InRanges};
+ghost use Rattle.abstract_state.specs.Exact.{tail_after};
+
+use intervals::Range;
+
+/// The interval cut to what the tail allows, where lengths are up to `limit`.
+pub fn narrow(tail: Option<u64>, limit: u64, range: Range) -> Option<Range>
+    ensures contains { (long x : ℕ) → long ≤ limit → InRange range x → HasTail tail long x → InRanges result x }
+    ensures within { IfSome result (λ r. (range.low ≤ r.low) × (r.high ≤ range.high)) }
+    ensures limits { (t : ℕ) → tail ≡ Some t → IfSome result (λ r. r.high + t ≤ limit) }
+{
+    let Some(t) = tail else {
+        return Some(range);
+    };
+    if t > limit {
+        return None;
+    }
+    range.at_most(limit - t)
+}
+
+/// The tail after up to `added` is added.
+pub fn after(tail: Option<u64>, added: u64) -> Option<u64>
+    ensures contains { (long x y : ℕ) → HasTail tail long x → y ≤ added → HasTail result long (x + y) }
+    ensures value { result ≡ tail_after tail added }
+{
+    match tail {
+        Some(t) if t >= added => Some(t - added),
+        _ => None,
+    }
+}
+
+/// The tail of the sum of a number up to `high` with this tail and of a number up to `added` with the other.
+pub fn sum(tail: Option<u64>, high: u64, other: Option<u64>, added: u64) -> Option<u64>
+    ensures contains { (long x y : ℕ) → HasTail tail long x → x ≤ high → HasTail other long y → y ≤ added → HasTail result long (x + y) }
+    ensures alone { other ≡ None → result ≡ tail_after tail added }
+{
+    match after(tail, added) {
+        Some(t) => Some(t),
+        None => after(other, high),
+    }
+}
+
+/// The tail after at least `taken` is taken away.
+pub fn difference(tail: Option<u64>, taken: u64) -> Option<u64>
+    ensures { (long x y : ℕ) → HasTail tail long (x + y) → taken ≤ y → HasTail result long x }
+{
+    let Some(t) = tail else {
+        return None;
+    };
+    Some(t.saturating_add(taken))
+}
+
+/// The tail of a number that is no greater than either.
+pub fn greater(a: Option<u64>, b: Option<u64>) -> Option<u64>
+    ensures contains { (long x y z : ℕ) → HasTail a long x → HasTail b long y → z ≤ x → z ≤ y → HasTail result long z }
+    ensures there { (u : ℕ) → b ≡ Some u → (t : ℕ) × (result ≡ Some t) }
+{
+    match (a, b) {
+        (Some(t), Some(u)) => Some(t.max(u)),
+        (Some(t), None) => Some(t),
+        (None, _) => b,
+    }
+}
+
+/// The tail of a number that may be either.
+pub fn lesser(a: Option<u64>, b: Option<u64>) -> Option<u64>
+    ensures left { (long x : ℕ) → HasTail a long x → HasTail result long x }
+    ensures right { (long x : ℕ) → HasTail b long x → HasTail result long x }
+{
+    match (a, b) {
+        (Some(t), Some(u)) => Some(t.min(u)),
+        _ => None,
+    }
+}
+
+/// The tail of a number that is less by at least so much.
+pub fn raised(tail: Option<u64>, by: u64) -> Option<u64>
+    ensures contains { (long x y : ℕ) → HasTail tail long y → x + by ≤ y → HasTail result long x }
+    ensures there { (t : ℕ) → tail ≡ Some t → (u : ℕ) × (result ≡ Some u) }
+{
+    let Some(t) = tail else {
+        return None;
+    };
+    Some(t.saturating_add(by))
+}

@@ -1,0 +1,38 @@
+-- Verdicts, and how many there are.
+use Rattle.std.proofs.Common.{◌≡◌, ℕ, ◌≤◌, List, [], ◌∷◌, ◌++◌, length, map, drop, sym, ap, ◌∙◌}
+use Rattle.std.specs.List.{enumerate_from}
+use Rattle.std.proofs.lemmas.List.{length-map, map-append, append-nil, drop_all}
+use Rattle.std.proofs.lemmas.List.FromFn.{length-enumerate_from}
+use Rattle.meaning.specs.Step.{Program}
+use Rattle.meaning.specs.Outcomes.{outcome}
+use Rattle.meaning.specs.Safe.{Verdict}
+use Rattle.span_flatten.specs.Version.{Snapshot}
+use Rattle.span_view.specs.Views.{LentSpan, view_of, views}
+use Rattle.span_view.specs.ContextOf.{context_of}
+use Rattle.version_history.specs.Tokens.{Token}
+use Rattle.batches.specs.declared.item.Finding.TheVariants.{End}
+use Rattle.batches.specs.Batches.{Entry, entry, hits_from, items_of}
+use Rattle.batches.specs.Verdicts.{number_of, verdict_on, verdicts_of}
+
+pub verdict_is : (program : Program) (span : LentSpan) (context text : List ℕ) (value : ℕ) → context ≡ context_of span → text ≡ span.text
+    → Verdict program context text value → value ≡ verdict_on program span
+unfolding verdict_on
+verdict_is program span context text value c t v =
+    sym (ap number_of (ap (λ (x : List ℕ × List ℕ). outcome program x.0 x.1) (λ i. (sym c i, sym t i)) ∙ v))
+
+pub verdict_count : (program : Program) (version : Snapshot) → length (verdicts_of program version) ≡ length version.rows
+verdict_count program version =
+    length-map (views version) (verdict_on program) ∙ length-map (enumerate_from 0 version.rows) (λ placed. view_of version placed.0 placed.1)
+    ∙ length-enumerate_from 0 version.rows
+
+-- the hits of all verdicts, and the end, are the batch
+pub batch_whole : (before all : List Entry) (p : Token Program) (v : Token Snapshot) (verdicts : List ℕ) (number spans span : ℕ)
+    → verdicts ≡ verdicts_of p.value v.value → number ≡ v.value.number → spans ≡ length v.value.rows → length verdicts ≤ span
+    → before ++ map (entry p v) (hits_from number span (drop span verdicts)) ≡ map (entry p v) (hits_from number 0 verdicts)
+    → all ≡ before ++ entry p v (End number spans) ∷ [] → all ≡ items_of p v
+batch_whole before all p v verdicts number spans span are n s past whole is =
+    let none : drop span verdicts ≡ [] = drop_all span verdicts past in
+    let hits : before ≡ map (entry p v) (hits_from number 0 verdicts) =
+    sym (append-nil before) ∙ ap (λ l. before ++ map (entry p v) (hits_from number span l)) (sym none) ∙ whole in
+    is ∙ ap (λ l. l ++ entry p v (End number spans) ∷ []) hits ∙ sym (map-append (entry p v) (hits_from number 0 verdicts) (End number spans ∷ []))
+    ∙ ap (λ (x : ℕ × ℕ × List ℕ). map (entry p v) (hits_from x.0 0 x.2 ++ End x.0 x.1 ∷ [])) (λ i. (n i, s i, are i))

@@ -1,0 +1,4 @@
+pub mod Verdicts
+pub mod Batches
+pub mod Orderly
+pub mod Feed

@@ -1,0 +1,7 @@
+//! What a program says of a version, as a batch of items, and how a subscriber's batches reach its sink.
+#![tactic(auto)]
+
+pub mod batch;
+pub mod item;
+pub mod sink;
+pub mod subscriber;

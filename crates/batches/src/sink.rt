@@ -1,0 +1,89 @@
+ghost use Rattle.std.specs.Prelude.{◌≡◌, [], IfOk};
+
+use crate::item::Item;
+use std::alloc::{AllocError, Global};
+use std::marker::Model;
+use version_history::published::Naming;
+
+/// What a clause sees of an item, whatever hub it is of.
+pub trait Entered {
+    ghost use Rattle.batches.specs.Batches.{Entry};
+
+    ghost entered: { Self → Entry };
+}
+
+impl<N: Naming> Entered for Item<N> {
+    ghost entered = { λ i. i };
+}
+
+/// Where a subscriber's items go.
+pub trait Sink<I: Entered>: Drop {
+    ghost use Rattle.std.specs.Prelude.{◌≡◌, ◌++◌, ◌∷◌, [], List, IfErr, OnOk};
+    ghost use Rattle.batches.specs.Batches.{Entry};
+    ghost use Rattle.batches.specs.Orderly.{IsOrderly};
+
+    /// What was sent so far.
+    ghost sent: { Self → List Entry };
+
+    /// It may refuse an item.
+    ghost full: { Self → Type 0 };
+
+    /// Sends an item. Where the sink is full it comes back.
+    fn push(&mut self, item: I) -> Result<(), I>
+        requires { IsOrderly (sent self.old ++ I.entered item ∷ []) }
+        ensures ok { OnOk result (sent self.new ≡ sent self.old ++ I.entered item ∷ []) }
+        ensures err { IfErr result (λ back. (back ≡ item) × (sent self.new ≡ sent self.old) × full self.new) };
+}
+
+/// A sink that keeps a fixed number of items.
+#[derive(Drop)]
+pub struct ListSink<N: Naming> {
+    items: Vec<Item<N>>,
+    capacity: usize,
+}
+
+impl<N: Naming> Model for ListSink<N> {
+    ghost use Rattle.std.specs.Prelude.{◌≤◌, vec_len, vec_capacity};
+    ghost use Rattle.batches.specs.Orderly.{Listed};
+
+    ghost Value = { Listed };
+
+    ghost view = { λ s. record { sent = s.items.items; capacity = s.capacity } };
+
+    ghost invariant = { λ s. (vec_len s.items ≤ s.capacity) × (s.capacity ≤ vec_capacity s.items) };
+}
+
+impl<N: Naming> ListSink<N> {
+    pub fn new(alloc: Global, capacity: usize) -> Result<ListSink<N>, AllocError>
+        ensures { IfOk result (λ s. s ≡ record { sent = []; capacity = capacity }) }
+    {
+        let items = Vec::with_capacity(alloc, capacity)?;
+        Ok(ListSink { items, capacity })
+    }
+
+    /// What was sent.
+    pub fn sent(&self) -> &[Item<N>]
+        ensures { result.now ≡ self.now.sent }
+    {
+        self.items.as_slice()
+    }
+}
+
+impl<N: Naming> Sink<Item<N>> for ListSink<N> {
+    ghost use Rattle.std.specs.Prelude.{◌≡◌, ◌++◌, ◌∷◌, [], length, IfErr, OnOk};
+
+    ghost sent = { λ s. s.sent };
+
+    ghost full = { λ s. length s.sent ≡ s.capacity };
+
+    fn push(&mut self, item: Item<N>) -> Result<(), Item<N>>
+        ensures ok { OnOk result (self.new.sent ≡ self.old.sent ++ item ∷ []) }
+        ensures err { IfErr result (λ back. (back ≡ item) × (self.new.sent ≡ self.old.sent) × (length self.new.sent ≡ self.new.capacity)) }
+    {
+        if self.items.len() == self.capacity {
+            return Err(item);
+        }
+        self.items.push_reserved(item);
+        Ok(())
+    }
+}

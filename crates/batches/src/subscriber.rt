@@ -1,0 +1,252 @@
+ghost use Rattle.std.specs.Prelude.{◌≡◌, ◌≤◌, ◌<◌, ◌-◌, ◌+◌, ◌++◌, ◌⊎◌, true, false, None, Some, [], length, take, drop, replicate, slice_get, MatchBool, IfOk};
+ghost use Rattle.batches.specs.Batches.{items_of};
+ghost use Rattle.batches.specs.Orderly.{IsOrderly, RisesFrom};
+ghost use Rattle.batches.specs.Feed.{IsFed, IsWanted, Keeps, Moved, Stops, Finds, fresh, nothing_held};
+
+use crate::batch::Batch;
+use crate::item::{Item, Job};
+use crate::sink::Sink;
+use std::alloc::{AllocError, Global};
+use std::marker::Model;
+use version_history::published::{Naming, ProgramToken, Published, VersionToken};
+
+/// A subscriber: its program, how far it got, and the batches that wait to be sent.
+#[derive(Drop)]
+pub struct Subscriber<N: Naming, S: Sink<Item<N>>> {
+    program: ProgramToken<N>,
+    first: u64,
+    cursor: u64,
+    handed: u64,
+    held: Vec<Option<Batch<N>>>,
+    count: usize,
+    closed: bool,
+    sink: S,
+}
+
+impl<N: Naming, S: Sink<Item<N>>> Model for Subscriber<N, S> {
+    ghost use Rattle.std.specs.Coded.{codes};
+    ghost use Rattle.batches.specs.Feed.{Sub};
+
+    ghost Value = { Sub S };
+
+    ghost coded = { Prim.hlevel (codes, S.code) };
+
+    ghost view = { λ s. record { program = s.program; first = s.first; cursor = s.cursor; handed = s.handed; held = s.held.items; count = s.count; closed = s.closed; sink = s.sink } };
+}
+
+/// Sends the items of a batch from one on, until the sink is full. It answers how many items of the batch are sent then.
+fn send_batch<N: Naming, S: Sink<Item<N>>>(sink: &mut S, batch: &Batch<N>, from: usize) -> usize
+    requires from { from ≤ length (items_of batch.now.program batch.now.version) }
+    requires orderly { IsOrderly (S.sent sink.old ++ drop from (items_of batch.now.program batch.now.version)) }
+    ensures reached { (from ≤ result) × (result ≤ length (items_of batch.now.program batch.now.version)) }
+    ensures sent { S.sent sink.new ≡ S.sent sink.old ++ take (result - from) (drop from (items_of batch.now.program batch.now.version)) }
+    ensures stop { (result ≡ length (items_of batch.now.program batch.now.version)) ⊎ S.full sink.new }
+{
+    let items = batch.items();
+    let mut at = from;
+    while at < items.len() {
+        match sink.push(items[at].again()) {
+            Ok(()) => at += 1,
+            Err(_) => return at,
+        }
+    }
+    at
+}
+
+/// Eight places, all empty.
+fn no_batches<N: Naming>(alloc: Global) -> Result<Vec<Option<Batch<N>>>, AllocError>
+    ensures { IfOk result (λ held. held.items ≡ nothing_held) }
+{
+    let mut held = Vec::with_capacity(alloc, 8)?;
+    for _i in 0..8usize {
+        held.push(None)?;
+    }
+    Ok(held)
+}
+
+/// Empties all places.
+fn let_go<N: Naming>(held: &mut [Option<Batch<N>>])
+    ensures { held.new ≡ replicate (length held.old) None }
+{
+    for place in held.iter_mut() {
+        *place = None;
+    }
+}
+
+impl<N: Naming, S: Sink<Item<N>>> Subscriber<N, S> {
+    /// Sends what it can of the batch at the cursor. It answers how many items, and whether the batch is all sent.
+    fn send_next(&mut self, versions: &[VersionToken<N>]) -> (usize, bool)
+        requires rises { RisesFrom 0 versions.now }
+        requires fed { IsFed S.sent S.full versions.now self.old }
+        ensures fed { IsFed S.sent S.full versions.now self.new }
+        ensures moved { Moved S.sent S.full self.old result.0 self.new }
+        ensures few { result.0 ≤ 32769 }
+        ensures on { result.1 ≡ true → self.new.cursor ≡ self.old.cursor + 1 }
+        ensures stop { result.1 ≡ false → Stops S.sent S.full self.new }
+    {
+        let _ = versions;
+        let Some(batch) = &self.held[0] else {
+            return (0, false);
+        };
+        let reached = send_batch(&mut self.sink, batch, self.count);
+        let sent = reached - self.count;
+        if reached < batch.items().len() {
+            self.count = reached;
+            return (sent, false);
+        }
+        self.held[0] = None;
+        self.held.rotate_left(1);
+        self.cursor += 1;
+        self.count = 0;
+        (sent, true)
+    }
+
+    /// Sends what it can. It answers how many items.
+    pub fn pump(&mut self, versions: &[VersionToken<N>]) -> usize
+        requires rises { RisesFrom 0 versions.now }
+        requires fed { IsFed S.sent S.full versions.now self.old }
+        ensures fed { IsFed S.sent S.full versions.now self.new }
+        ensures moved { Moved S.sent S.full self.old result self.new }
+        ensures stop { Stops S.sent S.full self.new }
+    {
+        let mut pushed = 0;
+        'pumping: loop {
+            let (sent, on) = self.send_next(versions);
+            pushed += sent;
+            if !on {
+                return pushed;
+            }
+        }
+    }
+
+    /// Whether it waits for this batch.
+    pub fn wants(
+        &self,
+        published: &Published<'_, N>,
+        versions: &[VersionToken<N>],
+        batch: &Batch<N>,
+    ) -> bool
+        requires { length self.now.held ≡ 8 }
+        ensures low { result ≡ true → self.now.cursor ≤ batch.now.number }
+        ensures high { result ≡ true → batch.now.number ≤ self.now.cursor + 7 }
+        ensures wanted { MatchBool result (IsWanted versions.now self.now batch.now) (¬ IsWanted versions.now self.now batch.now) }
+    {
+        let job = batch.job();
+        if job.number < self.cursor || job.number - self.cursor > 7 {
+            return false;
+        }
+        if self.held[(job.number - self.cursor) as usize].is_some() {
+            return false;
+        }
+        if !published.is_same_program(&job.program, &self.program) {
+            return false;
+        }
+        if job.number as usize >= versions.len() {
+            return false;
+        }
+        published.is_same(&versions[job.number as usize], &job.version)
+    }
+
+    /// Keeps a batch, if it waits for it.
+    pub fn commit(
+        &mut self,
+        published: &Published<'_, N>,
+        versions: &[VersionToken<N>],
+        batch: Batch<N>,
+    ) -> bool
+        requires { IsFed S.sent S.full versions.now self.old }
+        ensures fed { IsFed S.sent S.full versions.now self.new }
+        ensures keeps { Keeps versions.now self.old batch result self.new }
+    {
+        if !self.wants(published, versions, &batch) {
+            return false;
+        }
+        let place = (batch.job().number - self.cursor) as usize;
+        self.held[place] = Some(batch);
+        true
+    }
+    /// A subscriber that is sent the versions from this one on, and was sent nothing yet.
+    pub fn new(
+        alloc: Global,
+        program: ProgramToken<N>,
+        first: u64,
+        sink: S,
+    ) -> Result<Subscriber<N, S>, AllocError>
+        ensures { IfOk result (λ subscriber. subscriber ≡ fresh program first sink) }
+    {
+        let held = no_batches(alloc)?;
+        Ok(Subscriber {
+            program,
+            first,
+            cursor: first,
+            handed: first,
+            held,
+            count: 0,
+            closed: false,
+            sink,
+        })
+    }
+
+    pub fn is_closed(&self) -> bool
+        ensures { result ≡ self.now.closed }
+    {
+        self.closed
+    }
+
+    /// Where its items go.
+    pub fn sink(&self) -> &S
+        ensures { result.now ≡ self.now.sink }
+    {
+        &self.sink
+    }
+
+    /// The next version for a job, where this is the latest.
+    pub fn next_version(&self, latest: u64) -> Option<u64>
+        requires wide { length self.now.held ≡ 8 }
+        requires behind { self.now.cursor ≤ latest + 1 }
+        requires few { latest ≤ 4096 }
+        ensures { Finds latest self.now result }
+    {
+        let from = self.handed.max(self.cursor);
+        let last = latest.min(self.cursor + 7);
+        for number in from..last + 1 {
+            if self.held[(number - self.cursor) as usize].is_none() {
+                return Some(number);
+            }
+        }
+        None
+    }
+
+    /// The job of a version. The next one is handed out for a version after it.
+    pub fn hand_out(&mut self, id: usize, number: u64, versions: &[VersionToken<N>]) -> Job<N>
+        requires there { number < length versions.now }
+        requires few { length versions.now ≤ 4097 }
+        ensures of { (result.subscriber ≡ id) × (result.number ≡ number) × (result.program ≡ self.old.program) }
+        ensures version { slice_get versions.now number ≡ Some result.version }
+        ensures handed { self.new ≡ record self.old { handed = number + 1 } }
+    {
+        self.handed = number + 1;
+        Job {
+            subscriber: id,
+            number,
+            program: self.program.again(),
+            version: versions[number as usize].again(),
+        }
+    }
+
+    /// Versions that are not held may be handed out again.
+    pub fn reissue(&mut self)
+        ensures { self.new ≡ record self.old { handed = self.old.cursor } }
+    {
+        self.handed = self.cursor;
+    }
+
+    /// Closes it for good, and drops the held batches.
+    pub fn close(&mut self)
+        requires { length self.old.held ≡ 8 }
+        ensures { self.new ≡ record self.old { held = nothing_held; closed = true } }
+    {
+        let_go(self.held.as_mut_slice());
+        self.closed = true;
+    }
+}

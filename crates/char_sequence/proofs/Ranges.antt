@@ -1,0 +1,78 @@
+-- The visible text of ranges of places, chunk after chunk.
+use Rattle.std.proofs.Common.{◌≡◌, ℕ, zero, suc, ◌+◌, ◌-◌, ◌≤◌, List, [], ◌∷◌, ◌++◌, Some, length, take, drop, slice_range, sym, ap, refl, ◌∙◌, arith, append_assoc, append-nil, length-append}
+use Rattle.std.specs.List.{slice_get}
+use Rattle.std.proofs.lemmas.Option.{same_Some, none-some}
+use Rattle.std.proofs.lemmas.Grind.{common_steps}
+use Rattle.char_sequence.specs.declared.sequence.Element.{Element}
+use Rattle.char_sequence.specs.Chunks.{joined, start_of}
+use Rattle.char_sequence.specs.Visible.{visible_text}
+use Rattle.char_sequence.proofs.VisibleText.{visible_none, visible_append}
+
+abbrev the_nil : List Element
+the_nil = []
+
+drop_nil : (n : ℕ) → drop n the_nil ≡ the_nil
+drop_nil zero = refl
+drop_nil (suc n) = refl
+
+take_nil : (n : ℕ) → take n the_nil ≡ the_nil
+take_nil zero = refl
+take_nil (suc n) = refl
+
+-- of no chunk
+pub range_none : (from to : ℕ) → visible_text (slice_range [] from to) ≡ []
+range_none from to = ap (λ es. visible_text (take (to - from) es)) (drop_nil from) ∙ ap visible_text (take_nil (to - from)) ∙ visible_none
+
+take_append : (n : ℕ) (xs ys : List Element) → take n (xs ++ ys) ≡ take n xs ++ take (n - length xs) ys
+take_append n [] ys = let same : n ≡ n - 0 = omega arith in ap (λ m. take m ys) same ∙ sym (ap (λ z. z ++ take (n - 0) ys) (take_nil n))
+take_append zero (x ∷ xs) ys = let none : 0 - length (x ∷ xs) ≡ 0 = omega arith in sym (ap (λ m. take m ys) none)
+take_append (suc n) (x ∷ xs) ys =
+    let less : n - length xs ≡ suc n - length (x ∷ xs) = omega arith in
+    ap (λ z. x ∷ z) (take_append n xs ys ∙ ap (λ m. take n xs ++ take m ys) less)
+
+drop_append : (n : ℕ) (xs ys : List Element) → drop n (xs ++ ys) ≡ drop n xs ++ drop (n - length xs) ys
+drop_append n [] ys = let same : n ≡ n - 0 = omega arith in ap (λ m. drop m ys) same ∙ sym (ap (λ z. z ++ drop (n - 0) ys) (drop_nil n))
+drop_append zero (x ∷ xs) ys = let none : 0 - length (x ∷ xs) ≡ 0 = omega arith in sym (ap (λ m. (x ∷ xs) ++ drop m ys) none)
+drop_append (suc n) (x ∷ xs) ys =
+    let less : n - length xs ≡ suc n - length (x ∷ xs) = omega arith in
+    drop_append n xs ys ∙ ap (λ m. drop n xs ++ drop m ys) less
+
+pub range_append : (xs ys : List Element) (from to : ℕ) → from ≤ to → slice_range (xs ++ ys) from to ≡ slice_range xs from to ++ slice_range ys (from - length xs) (to - length xs)
+range_append xs ys from to order =
+    let size : length (drop from xs) ≡ length xs - from = grind (arith, common_steps) in
+    let left : (to - from) - length (drop from xs) ≡ (to - length xs) - (from - length xs) = omega (arith, size) in
+    ap (take (to - from)) (drop_append from xs ys)
+    ∙ take_append (to - from) (drop from xs) (drop (from - length xs) ys)
+    ∙ ap (λ n. take (to - from) (drop from xs) ++ take n (drop (from - length xs) ys)) left
+
+pub joined_more : (cs : List (List Element)) (i : ℕ) (c : List Element) → slice_get cs i ≡ Some c → joined (take (i + 1) cs) ≡ joined (take i cs) ++ c
+joined_more [] i c here = absurd (none-some c here)
+joined_more (x ∷ xs) zero c here = append-nil x ∙ same_Some x c here
+joined_more (x ∷ xs) (suc i) c here =
+    let next : suc i + 1 ≡ suc (i + 1) = omega arith in
+    ap (λ n. joined (take n (x ∷ xs))) next ∙ ap (λ z. x ++ z) (joined_more xs i c here) ∙ sym (append_assoc x (joined (take i xs)) c)
+
+-- one chunk more
+pub range_more : (cs : List (List Element)) (i from to : ℕ) (c : List Element) → slice_get cs i ≡ Some c → from ≤ to → visible_text (slice_range (joined (take (i + 1) cs)) from to) ≡ visible_text (slice_range (joined (take i cs)) from to) ++ visible_text (slice_range c (from - start_of cs i) (to - start_of cs i))
+range_more cs i from to c here order =
+    ap (λ es. visible_text (slice_range es from to)) (joined_more cs i c here)
+    ∙ ap visible_text (range_append (joined (take i cs)) c from to order)
+    ∙ visible_append (slice_range (joined (take i cs)) from to) (slice_range c (from - start_of cs i) (to - start_of cs i))
+
+joined_cut : (cs : List (List Element)) (i : ℕ) → joined cs ≡ joined (take i cs) ++ joined (drop i cs)
+joined_cut [] zero = refl
+joined_cut [] (suc i) = refl
+joined_cut (x ∷ xs) zero = refl
+joined_cut (x ∷ xs) (suc i) = ap (λ z. x ++ z) (joined_cut xs i) ∙ sym (append_assoc x (joined (take i xs)) (joined (drop i xs)))
+
+-- no front of the chunks has more
+pub range_front : (cs : List (List Element)) (i from to : ℕ) → from ≤ to → length (visible_text (slice_range (joined (take i cs)) from to)) ≤ length (visible_text (slice_range (joined cs) from to))
+range_front cs i from to order =
+    let front = joined (take i cs) in
+    let back = joined (drop i cs) in
+    let whole = ap (λ es. length (visible_text (slice_range es from to))) (joined_cut cs i)
+    ∙ ap (λ es. length (visible_text es)) (range_append front back from to order)
+    ∙ ap length (visible_append (slice_range front from to) (slice_range back (from - length front) (to - length front)))
+    ∙ length-append (visible_text (slice_range front from to)) (visible_text (slice_range back (from - length front) (to - length front)))
+    in
+    omega (arith, whole)

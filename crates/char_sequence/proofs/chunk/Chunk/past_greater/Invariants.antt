@@ -1,0 +1,9 @@
+use Rattle.std.proofs.Common.{◌≡◌, ℕ, ◌<◌, ◌≤◌, Some}
+use Rattle.std.specs.List.{slice_get}
+use Rattle.change_ops.specs.Ids.{Less}
+use Rattle.char_sequence.specs.declared.sequence.Element.{Element}
+use Rattle.char_sequence.proofs.chunk.Chunk.past_greater.Given as goal
+
+abbrev pub invariant-loop-place : goal.invariant-loop-place
+invariant-loop-place l =
+    (i : ℕ) (x : Element) → l.start ≤ i → i < l.place → slice_get l.self-inside.items.items i ≡ Some x → Less l.id x.id

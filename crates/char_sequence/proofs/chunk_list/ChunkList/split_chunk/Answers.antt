@@ -1,0 +1,39 @@
+use Rattle.std.proofs.Common.{◌≡◌, ◌+◌, Some, length, set, take, drop, sym, ap, ◌∙◌, rules, subst}
+use Rattle.std.specs.List.{slice_get, insert}
+use Rattle.std.proofs.lemmas.Option.{same_Some, slice_get_within}
+use Rattle.char_sequence.specs.Index.{HasId}
+use Rattle.char_sequence.proofs.Chunking.{kept_split, here_at}
+use Rattle.char_sequence.proofs.chunk_list.ChunkList.split_chunk.Goals as goal
+
+pub invariant_of-self-2 : goal.invariant_of-self-2
+invariant_of-self-2 c =
+    let cs = c.self.inside.chunks.items in
+    let p = c.args.position in
+    let same = ap (λ v. v.chunks) c.self.view_is in
+    let room = c.in_ok-reserve.ensures.items in
+    let old : slice_get cs p ≡ Some c.requires.0 = ap (λ z. slice_get z p) same ∙ c.requires.1 in
+    let grown : slice_get c.reserve.new.self.items p ≡ Some c.requires.0 = ap (λ z. slice_get z p) room ∙ old in
+    let here = here_at c.reserve.new.self.items p c.index_mut.result.now (slice_get_within c.reserve.new.self.items p _ grown) c.index_mut.ensures.value in
+    let one = same_Some c.index_mut.result.now _ (sym here ∙ grown) in
+    let chunks : c.insert.new.self.items ≡ insert (set cs p c.split-right.new.self) (p + 1) c.split-right.result = search rules in
+    let names : c.insert-2.new.self.items ≡ insert c.self.inside.names.items (p + 1) c.len-name.result = search rules in
+    let fresh : c.len-name.result ≡ length c.self.inside.names.items = search rules in
+    let right = c.as_slice.ensures.value in
+    kept_split cs _ _ _ _ _ p c.args.at c.len-name.result _ c.requires.0 c.split-right.new.self c.split-right.result c.self.invariant old (c.split-right.ensures.left ∙ ap (λ z. take c.args.at z) one) (c.split-right.ensures.right ∙ ap (λ z. drop c.args.at z) one) fresh chunks names
+    (λ k e g. c.rename.ensures.renamed k e (ap (λ z. slice_get z k) right ∙ g))
+    (λ q none. c.rename.ensures.kept q (subst (λ z. HasId z q → ⊥) (sym right) none))
+
+pub returns-clause-split : goal.returns-clause-split
+returns-clause-split c =
+    λ chunk g.
+    let cs = c.self.inside.chunks.items in
+    let p = c.args.position in
+    let same = ap (λ v. v.chunks) c.self.view_is in
+    let room = c.in_ok-reserve.ensures.items in
+    let grown : slice_get c.reserve.new.self.items p ≡ Some chunk = ap (λ z. slice_get z p) (room ∙ same) ∙ g in
+    let here = here_at c.reserve.new.self.items p c.index_mut.result.now (slice_get_within c.reserve.new.self.items p _ grown) c.index_mut.ensures.value in
+    let one = same_Some c.index_mut.result.now chunk (sym here ∙ grown) in
+    let chunks : c.insert.new.self.items ≡ insert (set cs p c.split-right.new.self) (p + 1) c.split-right.result = search rules in
+    chunks ∙ ap (λ z. insert (set z p c.split-right.new.self) (p + 1) c.split-right.result) same
+    ∙ ap (λ z. insert (set c.args.self.now.chunks p z) (p + 1) c.split-right.result) (c.split-right.ensures.left ∙ ap (λ z. take c.args.at z) one)
+    ∙ ap (λ z. insert (set c.args.self.now.chunks p (take c.args.at chunk)) (p + 1) z) (c.split-right.ensures.right ∙ ap (λ z. drop c.args.at z) one)

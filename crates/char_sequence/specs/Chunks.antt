@@ -1,0 +1,54 @@
+-- Elements in chunks, and the index from ids to the chunks' names.
+use Rattle.std.specs.Prelude.{◌≡◌, ℕ, ◌+◌, ◌<◌, ◌≤◌, List, [], ◌∷◌, ◌++◌, Some, None, length, take, slice_get}
+use Rattle.std.specs.Map.{lookup}
+use Rattle.change_ops.specs.declared.id.OpId.{OpId}
+use Rattle.char_sequence.specs.declared.sequence.Element.{Element}
+use Rattle.char_sequence.specs.Order.{IsAt}
+use Rattle.char_sequence.specs.Index.{same_id, HasId}
+
+-- the chunks' elements, chunk after chunk
+abbrev pub joined : List (List Element) → List Element
+joined [] = []
+joined (chunk ∷ chunks) = chunk ++ joined chunks
+
+-- so many elements stand before the chunk at this position
+abbrev pub start_of : List (List Element) → ℕ → ℕ
+start_of chunks position = length (joined (take position chunks))
+
+-- from 1 to 64 elements, with memory for 64
+pub record IsChunk (items : List Element) (capacity : ℕ) : Type 0 where
+  pub some : 0 < length items
+  pub few : length items ≤ 64
+  pub room : 64 ≤ capacity
+
+-- the place among all elements that has so many of the chunk's before it
+pub record IsSpot (chunks : List (List Element)) (position at place : ℕ) : Type 0 where
+  pub chunk : List Element
+  pub here : slice_get chunks position ≡ Some chunk
+  pub within : at ≤ length chunk
+  pub is : place ≡ start_of chunks position + at
+
+-- each chunk has a name of its own, and the index has each element's id with the name of a chunk that has it
+pub record IsIndexed (chunks : List (List Element)) (names : List ℕ) (index : List (OpId × ℕ)) : Type 0 where
+  pub counted : length names ≡ length chunks
+  pub below : (i n : ℕ) → slice_get names i ≡ Some n → n < length names
+  pub apart : (i j n : ℕ) → slice_get names i ≡ Some n → slice_get names j ≡ Some n → i ≡ j
+  pub behind : (id : OpId) (n : ℕ) → lookup (same_id id) index ≡ Some n → (i : ℕ) × ((c : List Element) × (slice_get names i ≡ Some n) × (slice_get chunks i ≡ Some c) × HasId c id)
+  pub listed : (i : ℕ) (c : List Element) → slice_get chunks i ≡ Some c → (k : ℕ) (e : Element) → slice_get c k ≡ Some e → lookup (same_id e.id) index ≡ None → ⊥
+
+-- chunks, and for how many more entries there is room
+pub record Chunked : Type 0 where
+  pub chunks : List (List Element)
+  pub room : ℕ
+
+-- the element of this id is in a chunk
+pub record IsSpotOf (chunks : List (List Element)) (id : OpId) (position at : ℕ) : Type 0 where
+  pub chunk : List Element
+  pub here : slice_get chunks position ≡ Some chunk
+  pub has : IsAt chunk id at
+
+-- what the type of a list of chunks keeps
+pub record IsKept (chunks : List (List Element)) (names : List ℕ) (index : List (OpId × ℕ)) (count : ℕ) : Type 0 where
+  pub indexed : IsIndexed chunks names index
+  pub counted : count ≡ length (joined chunks)
+  pub few : length (joined chunks) ≤ 32768

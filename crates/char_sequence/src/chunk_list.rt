@@ -1,0 +1,359 @@
+ghost use Rattle.std.specs.Prelude.{◌≡◌, ℕ, ◌<◌, ◌≤◌, ◌+◌, ◌-◌, ◌^◌, ◌⊎◌, ◌∷◌, List, [], true, false, length, take, drop, slice_get, set, insert, OnErr, MatchOption, IfSome, OnOk, IfOk, Some, None};
+ghost use Rattle.std.specs.Map.{lookup};
+ghost use Rattle.char_sequence.specs.declared.sequence.Element.{Element};
+ghost use Rattle.char_sequence.specs.Order.{IsAt};
+ghost use Rattle.char_sequence.specs.Index.{same_id, HasId};
+ghost use Rattle.char_sequence.specs.Places.{IsPast, IsAfter};
+ghost use Rattle.char_sequence.specs.Chunks.{joined, start_of};
+
+use crate::chunk::{Blank, CHUNK_LIMIT, Chunk};
+use crate::sequence::Element;
+use change_ops::id::OpId;
+use indexmap::IndexMap;
+use std::alloc::{AllocError, Global};
+use std::marker::Model;
+
+/// A chunk by its position, and how many of its elements stand before.
+#[derive(Clone, Copy)]
+pub(crate) struct Spot {
+    position: usize,
+    at: usize,
+}
+
+impl Spot {
+    /// The spot once the elements from `at` on are in the chunk after this one.
+    fn after_split(self, at: usize) -> Spot
+        requires { self.position < usize.MAX }
+        ensures { ((self.at < at) × (result.position ≡ self.position) × (result.at ≡ self.at)) ⊎ ((at ≤ self.at) × (result.position ≡ self.position + 1) × (result.at ≡ self.at - at)) }
+    {
+        if self.at < at {
+            self
+        } else {
+            Spot {
+                position: self.position + 1,
+                at: self.at - at,
+            }
+        }
+    }
+}
+
+/// Where a full chunk is split for an element at a place: in the middle, but where the element goes to the end, as in text
+/// that is typed on, before the last element, so that chunks stay nearly full.
+fn split_point(at: usize) -> usize
+    ensures { (0 < result) × (result < 64) }
+{
+    if at == CHUNK_LIMIT {
+        CHUNK_LIMIT - 1
+    } else {
+        CHUNK_LIMIT / 2
+    }
+}
+
+/// Where an element goes, with memory for it.
+#[derive(Drop)]
+pub(crate) enum Room {
+    /// It is the first of all.
+    First(Blank),
+    /// It goes into a chunk that is not full.
+    In(Spot),
+}
+
+/// Elements in a row, of which none is taken out, in chunks, found by their ids.
+#[derive(Drop)]
+pub(crate) struct ChunkList {
+    chunks: Vec<Chunk>,
+    // The chunks' names in the same order. A name stays as chunks before it are split.
+    names: Vec<usize>,
+    // The name of each element's chunk.
+    index: IndexMap<OpId, usize>,
+    count: usize,
+}
+
+impl Model for ChunkList {
+    ghost use Rattle.std.specs.Prelude.{◌-◌, min, vec_len, vec_capacity};
+    ghost use Rattle.indexmap.specs.IndexMap.{spare};
+    ghost use Rattle.char_sequence.specs.Chunks.{Chunked, IsKept};
+
+    ghost Value = { Chunked };
+
+    ghost view = { λ l. record { chunks = l.chunks.items; room = min (spare l.index) (min (vec_capacity l.chunks - vec_len l.chunks) (vec_capacity l.names - vec_len l.names)) } };
+
+    ghost invariant = { λ l. IsKept l.chunks.items l.names.items l.index.entries l.count };
+}
+
+ghost use Rattle.char_sequence.specs.Chunks.{IsSpot, IsSpotOf};
+ghost use Rattle.char_sequence.specs.Rooms.{IsRoom};
+
+/// The position of a name.
+fn position_of(names: &[usize], name: usize) -> Option<usize>
+    ensures { MatchOption result ((i : ℕ) → slice_get names.now i ≡ Some name → ⊥) (λ i. slice_get names.now i ≡ Some name) }
+{
+    for position in 0..names.len() {
+        if names[position] == name {
+            return Some(position);
+        }
+    }
+    None
+}
+
+/// How many elements stand before the chunk at a position.
+fn start(chunks: &[Chunk], position: usize) -> usize
+    requires within { position ≤ length chunks.now }
+    requires fits { length (joined chunks.now) < 2 ^ 64 }
+    ensures { result ≡ start_of chunks.now position }
+{
+    let mut start = 0;
+    for earlier in 0..position {
+        start += chunks[earlier].len();
+    }
+    start
+}
+
+/// The spot past the greater ids, from this one on.
+fn past_greater(chunks: &[Chunk], from: Spot, id: OpId) -> Spot
+    requires { (place : ℕ) × IsSpot chunks.now from.position from.at place }
+    ensures { (start : ℕ) → IsSpot chunks.now from.position from.at start → (place : ℕ) × IsSpot chunks.now result.position result.at place × IsPast (joined chunks.now) id start place }
+{
+    let mut at = from.at;
+    for position in from.position..chunks.len() {
+        if let Some(at) = chunks[position].past_greater(at, id) {
+            return Spot { position, at };
+        }
+        at = 0;
+    }
+    let position = chunks.len() - 1;
+    Spot {
+        position,
+        at: chunks[position].len(),
+    }
+}
+
+/// Gives the elements, which have names, a new one.
+fn rename(index: &mut IndexMap<OpId, usize>, elements: &[Element], name: usize)
+    requires { (k : ℕ) (e : Element) → slice_get elements.now k ≡ Some e → lookup (same_id e.id) index.old.entries ≡ None → ⊥ }
+    ensures renamed { (k : ℕ) (e : Element) → slice_get elements.now k ≡ Some e → lookup (same_id e.id) index.new.entries ≡ Some name }
+    ensures kept { (q : OpId) → (HasId elements.now q → ⊥) → lookup (same_id q) index.new.entries ≡ lookup (same_id q) index.old.entries }
+{
+    for element in elements {
+        index.insert(element.id, name).unwrap();
+    }
+}
+
+impl ChunkList {
+    /// No element.
+    pub(crate) fn new(alloc: Global) -> Self
+        ensures { result.chunks ≡ [] }
+    {
+        ChunkList {
+            chunks: Vec::new(alloc),
+            names: Vec::new(alloc),
+            index: IndexMap::new(alloc),
+            count: 0,
+        }
+    }
+
+    /// The chunks in order.
+    pub(crate) fn as_slice(&self) -> &[Chunk]
+        ensures { result.now ≡ self.now.chunks }
+    {
+        self.chunks.as_slice()
+    }
+
+    /// The number of elements.
+    pub(crate) fn len(&self) -> usize
+        ensures { result ≡ length (joined self.now.chunks) }
+    {
+        self.count
+    }
+
+    /// Whether there is an element of this id.
+    pub(crate) fn has(&self, id: OpId) -> bool
+        ensures yes { result ≡ true → HasId (joined self.now.chunks) id }
+        ensures no { result ≡ false → HasId (joined self.now.chunks) id → ⊥ }
+    {
+        self.index.contains_key(&id)
+    }
+
+    /// The spot of an element of this id.
+    fn spot_of(&self, id: OpId) -> Option<Spot>
+        ensures within { IfSome result (λ s. s.at < 64) }
+        ensures found { MatchOption result (HasId (joined self.now.chunks) id → ⊥) (λ s. IsSpotOf self.now.chunks id s.position s.at) }
+    {
+        let name = *self.index.get(&id)?;
+        let position = position_of(&self.names, name).unwrap();
+        let at = self.chunks[position].place_of(id).unwrap();
+        Some(Spot { position, at })
+    }
+
+    /// The element of this id.
+    pub(crate) fn element_of(&self, id: OpId) -> Option<Element>
+        ensures { MatchOption result (HasId (joined self.now.chunks) id → ⊥) (λ e. (k : ℕ) × (slice_get (joined self.now.chunks) k ≡ Some e) × (e.id ≡ id)) }
+    {
+        let spot = self.spot_of(id)?;
+        Some(self.chunks[spot.position].as_slice()[spot.at])
+    }
+
+    /// The place of an element of this id.
+    pub(crate) fn place_of(&self, id: OpId) -> Option<usize>
+        ensures { MatchOption result (HasId (joined self.now.chunks) id → ⊥) (λ k. IsAt (joined self.now.chunks) id k) }
+    {
+        let spot = self.spot_of(id)?;
+        Some(start(&self.chunks, spot.position) + spot.at)
+    }
+
+    /// The spot after the parent, or the start, past the greater ids.
+    fn spot_for(&self, parent: Option<OpId>, id: OpId) -> Spot
+        requires some { 0 < length self.now.chunks }
+        requires there { (m : OpId) → parent ≡ Some m → HasId (joined self.now.chunks) m }
+        ensures { (start : ℕ) × ((place : ℕ) × IsAfter (joined self.now.chunks) parent start × IsPast (joined self.now.chunks) id start place × IsSpot self.now.chunks result.position result.at place) }
+    {
+        let from = match parent {
+            Some(parent) => {
+                let spot = self.spot_of(parent).unwrap();
+                Spot {
+                    position: spot.position,
+                    at: spot.at + 1,
+                }
+            }
+            None => Spot { position: 0, at: 0 },
+        };
+        past_greater(&self.chunks, from, id)
+    }
+
+    /// Moves the elements of a chunk from a place on into a chunk of their own after it.
+    fn split_chunk(&mut self, position: usize, at: usize) -> Result<(), AllocError>
+        requires { (chunk : List Element) × (slice_get self.old.chunks position ≡ Some chunk) × (0 < at) × (at < length chunk) }
+        ensures split { (chunk : List Element) → slice_get self.old.chunks position ≡ Some chunk → OnOk result (self.new.chunks ≡ insert (set self.old.chunks position (take at chunk)) (position + 1) (drop at chunk)) }
+        ensures err { OnErr result (self.new.chunks ≡ self.old.chunks) }
+        ensures next { position < usize.MAX }
+    {
+        let blank = Blank::new(*self.names.allocator())?;
+        self.chunks.reserve(1)?;
+        self.names.reserve(1)?;
+        let right = self.chunks[position].split(at, blank);
+        let name = self.names.len();
+        rename(&mut self.index, right.as_slice(), name);
+        self.chunks.insert(position + 1, right).unwrap();
+        self.names.insert(position + 1, name).unwrap();
+        Ok(())
+    }
+
+    /// Splits a full chunk, and gives the spot among its parts.
+    fn split(&mut self, spot: Spot) -> Result<Spot, AllocError>
+        requires { (chunk : List Element) × (slice_get self.old.chunks spot.position ≡ Some chunk) × (length chunk ≡ 64) × (spot.at ≤ 64) }
+        ensures same { joined self.new.chunks ≡ joined self.old.chunks }
+        ensures spot { IfOk result (λ s. (chunk : List Element) × (slice_get self.new.chunks s.position ≡ Some chunk) × (length chunk < 64) × (s.at ≤ length chunk) × (start_of self.new.chunks s.position + s.at ≡ start_of self.old.chunks spot.position + spot.at)) }
+    {
+        let at = split_point(spot.at);
+        self.split_chunk(spot.position, at)?;
+        Ok(spot.after_split(at))
+    }
+
+    /// Makes room for one more entry of each list.
+    fn make_room(&mut self) -> Result<(), AllocError>
+        ensures same { self.new.chunks ≡ self.old.chunks }
+        ensures room { OnOk result (1 ≤ self.new.room) }
+    {
+        self.chunks.reserve(1)?;
+        self.names.reserve(1)?;
+        self.index.reserve(1)
+    }
+
+    /// Finds where a new element goes, after its parent and past the greater ids, and makes room for it there.
+    pub(crate) fn reserve(&mut self, parent: Option<OpId>, id: OpId) -> Result<Room, AllocError>
+        requires { (m : OpId) → parent ≡ Some m → HasId (joined self.old.chunks) m }
+        ensures same { joined self.new.chunks ≡ joined self.old.chunks }
+        ensures room { IfOk result (λ room. (start : ℕ) × ((place : ℕ) × IsAfter (joined self.old.chunks) parent start × IsPast (joined self.old.chunks) id start place × IsRoom self.new room place)) }
+    {
+        if self.chunks.is_empty() {
+            let blank = Blank::new(*self.names.allocator())?;
+            self.make_room()?;
+            return Ok(Room::First(blank));
+        }
+        let spot = self.spot_for(parent, id);
+        let spot = if self.chunks[spot.position].len() < CHUNK_LIMIT {
+            spot
+        } else {
+            self.split(spot)?
+        };
+        self.make_room()?;
+        Ok(Room::In(spot))
+    }
+
+    fn put_first(&mut self, blank: Blank, element: Element)
+        requires none { self.old.chunks ≡ [] }
+        requires room { 1 ≤ self.old.room }
+        ensures { self.new.chunks ≡ (element ∷ []) ∷ [] }
+    {
+        self.index.insert(element.id, 0).unwrap();
+        self.names.push_reserved(0);
+        self.chunks.push_reserved(Chunk::one(blank, element));
+        self.count = 1;
+    }
+
+    fn put_in(&mut self, spot: Spot, element: Element)
+        requires there { (chunk : List Element) × (slice_get self.old.chunks spot.position ≡ Some chunk) × (length chunk < 64) × (spot.at ≤ length chunk) }
+        requires room { 1 ≤ self.old.room }
+        requires few { length (joined self.old.chunks) < 32768 }
+        ensures { (chunk : List Element) → slice_get self.old.chunks spot.position ≡ Some chunk → self.new.chunks ≡ set self.old.chunks spot.position (insert chunk spot.at element) }
+    {
+        let name = self.names[spot.position];
+        self.index.insert(element.id, name).unwrap();
+        self.chunks[spot.position].insert(spot.at, element);
+        self.count += 1;
+    }
+
+    /// Puts an element where there is room for it.
+    pub(crate) fn put(&mut self, room: Room, element: Element)
+        requires room { (place : ℕ) × IsRoom self.old room place }
+        requires few { length (joined self.old.chunks) < 32768 }
+        ensures { (place : ℕ) → IsRoom self.old room place → joined self.new.chunks ≡ insert (joined self.old.chunks) place element }
+    {
+        match room {
+            Room::First(blank) => self.put_first(blank, element),
+            Room::In(spot) => self.put_in(spot, element),
+        }
+    }
+
+    /// Makes the element of this id a tombstone.
+    pub(crate) fn hide(&mut self, id: OpId)
+        requires { HasId (joined self.old.chunks) id }
+        ensures { (place : ℕ) × IsAt (joined self.old.chunks) id place × ((x : Element) → slice_get (joined self.old.chunks) place ≡ Some x → joined self.new.chunks ≡ set (joined self.old.chunks) place (record { id = x.id; character = x.character; visible = false })) }
+    {
+        let spot = self.spot_of(id).unwrap();
+        self.chunks[spot.position].hide(spot.at);
+    }
+
+    /// The number of chunks, and the length of the longest.
+    pub(crate) fn shape(&self) -> (usize, usize)
+        ensures count { result.0 ≡ length self.now.chunks }
+        ensures limit { result.1 ≤ 64 }
+        ensures each { (i : ℕ) (c : List Element) → slice_get self.now.chunks i ≡ Some c → (0 < length c) × (length c ≤ result.1) }
+        ensures reached { (result.1 ≡ 0) ⊎ ((i : ℕ) × ((c : List Element) × (slice_get self.now.chunks i ≡ Some c) × (length c ≡ result.1))) }
+    {
+        let mut longest = 0;
+        for position in 0..self.chunks.len() {
+            let len = self.chunks[position].len();
+            if len > longest {
+                longest = len;
+            }
+        }
+        (self.chunks.len(), longest)
+    }
+}
+
+impl Clone for ChunkList {
+    ghost is_clone = { λ old new. new.chunks ≡ old.chunks };
+
+    fn clone(&self) -> Result<ChunkList, AllocError> {
+        let chunks = self.chunks.clone()?;
+        let names = self.names.clone()?;
+        let index = self.index.clone()?;
+        Ok(ChunkList {
+            chunks,
+            names,
+            index,
+            count: self.count,
+        })
+    }
+}

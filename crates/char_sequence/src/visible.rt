@@ -1,0 +1,96 @@
+//! The visible text of elements in a row, and of a range of places.
+ghost use Rattle.std.specs.Prelude.{◌≡◌, ◌≤◌, ◌+◌, ◌-◌, ◌*◌, ◌++◌, length, slice_range, string_bytes, OnOk, OnErr};
+ghost use Rattle.std.specs.String.{string_len, string_capacity};
+ghost use Rattle.char_sequence.specs.Chunks.{joined};
+ghost use Rattle.char_sequence.specs.Visible.{visible_text};
+
+use crate::chunk::Chunk;
+use crate::sequence::{CHARACTER_LIMIT, Element};
+use std::alloc::AllocError;
+
+/// How many bytes the visible text has.
+fn visible_len(elements: &[Element]) -> usize
+    requires { length elements.now ≤ CHARACTER_LIMIT }
+    ensures value { result ≡ length (visible_text elements.now) }
+    ensures limit { result ≤ 4 * length elements.now }
+{
+    let mut count = 0;
+    for element in elements {
+        if element.visible {
+            count += element.character.value().len_utf8();
+        }
+    }
+    count
+}
+
+/// Appends the visible text, for which there is room.
+fn push_with_room(elements: &[Element], text: &mut String)
+    requires { string_len text.old + length (visible_text elements.now) ≤ string_capacity text.old }
+    ensures bytes { string_bytes text.new ≡ string_bytes text.old ++ visible_text elements.now }
+    ensures capacity { string_capacity text.old ≤ string_capacity text.new }
+{
+    for element in elements {
+        if element.visible {
+            text.push(element.character.value()).unwrap();
+        }
+    }
+}
+
+/// Those of a chunk's elements that stand at the places from `from` up to `to`, where the chunk starts at `start`.
+fn part(items: &[Element], start: usize, from: usize, to: usize) -> &[Element]
+    requires { from ≤ to }
+    ensures value { result.now ≡ slice_range items.now (from - start) (to - start) }
+    ensures few { length result.now ≤ length items.now }
+{
+    let low = from.saturating_sub(start).min(items.len());
+    let high = to.saturating_sub(start).min(items.len());
+    &items[low..high]
+}
+
+/// How many bytes the visible text of a range of places has.
+fn visible_len_of_range(chunks: &[Chunk], from: usize, to: usize) -> usize
+    requires order { from ≤ to }
+    requires few { length (joined chunks.now) ≤ CHARACTER_LIMIT }
+    ensures { result ≡ length (visible_text (slice_range (joined chunks.now) from to)) }
+{
+    let mut start = 0;
+    let mut count = 0;
+    for position in 0..chunks.len() {
+        let items = chunks[position].as_slice();
+        count += visible_len(part(items, start, from, to));
+        start += items.len();
+    }
+    count
+}
+
+/// Appends the visible text of a range of places, for which there is room.
+fn push_range_with_room(chunks: &[Chunk], from: usize, to: usize, text: &mut String)
+    requires order { from ≤ to }
+    requires few { length (joined chunks.now) ≤ CHARACTER_LIMIT }
+    requires room { string_len text.old + length (visible_text (slice_range (joined chunks.now) from to)) ≤ string_capacity text.old }
+    ensures { string_bytes text.new ≡ string_bytes text.old ++ visible_text (slice_range (joined chunks.now) from to) }
+{
+    let mut start = 0;
+    for position in 0..chunks.len() {
+        let items = chunks[position].as_slice();
+        push_with_room(part(items, start, from, to), text);
+        start += items.len();
+    }
+}
+
+/// Appends the visible text of a range of places; the error is want of memory, and changes nothing.
+pub(crate) fn push_visible(
+    chunks: &[Chunk],
+    from: usize,
+    to: usize,
+    text: &mut String,
+) -> Result<(), AllocError>
+    requires order { from ≤ to }
+    requires few { length (joined chunks.now) ≤ CHARACTER_LIMIT }
+    ensures ok { OnOk result (string_bytes text.new ≡ string_bytes text.old ++ visible_text (slice_range (joined chunks.now) from to)) }
+    ensures err { OnErr result (string_bytes text.new ≡ string_bytes text.old) }
+{
+    text.reserve(visible_len_of_range(chunks, from, to))?;
+    push_range_with_room(chunks, from, to, text);
+    Ok(())
+}

@@ -1,0 +1,208 @@
+-- What the core keeps when something is added or changed.
+use Rattle.std.proofs.Common.{◌≡◌, ℕ, zero, suc, ◌+◌, ◌<◌, ◌≤◌, Bool, true, false, true≢false, Ok, Err, List, [], ◌∷◌, ◌++◌, length, take, set, get_or, refl, sym, ap, ◌∙◌, subst, arith, rules, length-append, length-set, ⊎_elim}
+use Rattle.std.specs.Prelude.{slice_get, Option, Some, None, All}
+use Rattle.std.proofs.Math.Nat.{zero-add}
+use Rattle.std.proofs.lemmas.List.{take-append-le, take_all, get_or_default, set-get_or}
+use Rattle.std.proofs.lemmas.List.Elements.{All-set, All-push, All-weaker, All-get_or}
+use Rattle.std.proofs.lemmas.Option.{slice_get_within, slice_get_read, slice_get_past, same_Some, none-some}
+use Rattle.change_ops.specs.Changes.{Edit}
+use Rattle.meaning.specs.Step.{Program}
+use Rattle.span_flatten.specs.Version.{Snapshot, IsVersion}
+use Rattle.version_history.specs.Tokens.{Token}
+use Rattle.batches.specs.Batches.{Entry, Slip}
+use Rattle.batches.specs.Orderly.{RisesFrom}
+use Rattle.batches.specs.Feed.{Sub, IsFed, IsWanted, Keeps, Moved, Stops, IsDue, IsNext, Finds, fresh, nothing_held}
+use Rattle.batches.proofs.Feeding.{get_push, rises_are, fed_more, fresh_fed, fed_handed, fed_closed}
+use Rattle.hub_core.specs.Accepted.{operations_of}
+use Rattle.hub_core.specs.declared.error.CommitError.TheVariants.{Stale}
+use Rattle.hub_core.specs.VersionAt.{IsVersionAt}
+use Rattle.hub_core.specs.Machine.{State, IsOpen, Commits, Pumps, Reissues, Closes, TakesJob, FindsAt, IsSound}
+
+-- the version of all changes
+pub version_of_all : (changes : List Edit) (c : Edit) (v : Snapshot) → IsVersion (operations_of (changes ++ c ∷ [])) (length changes + 1) v → IsVersionAt (changes ++ c ∷ []) (length changes + 1) v
+version_of_all changes c v is =
+    let all : take (length changes + 1) (changes ++ c ∷ []) ≡ changes ++ c ∷ [] = take_all (length changes + 1) (changes ++ c ∷ []) (omega (arith, length-append changes (c ∷ []))) in
+    subst (λ l. IsVersion (operations_of l) (length changes + 1) v) (sym all) is
+
+module _ {S : Type 0} (sent : S → List Entry) (full : S → Type 0) where
+  pub rises : (s : State S) → IsSound sent full s → RisesFrom 0 s.versions
+  rises s sound = rises_are 0 s.versions (λ n t e. (sound.versions_are n t e).numbered ∙ sym (zero-add n))
+
+  pub sound_submit : (s : State S) (c : Edit) (t : Token Snapshot) → IsSound sent full s → length s.changes < 4096 → IsVersionAt (s.changes ++ c ∷ []) (length s.changes + 1) t.value
+      → IsSound sent full (record s { changes = s.changes ++ c ∷ []; versions = s.versions ++ t ∷ [] })
+  sound_submit s c t sound room is =
+      record {
+        named = omega (arith, length-append s.versions (t ∷ []), length-append s.changes (c ∷ []), sound.named);
+        few = omega (arith, length-append s.changes (c ∷ []));
+        few_subs = sound.few_subs;
+        versions_are = λ n u e. ⊎_elim
+            (λ (old : slice_get s.versions n ≡ Some u).
+            let within = slice_get_within s.versions n u old in
+            let front : n ≤ length s.changes = omega (arith, sound.named) in
+            subst (λ l. IsVersion (operations_of l) n u.value) (sym (take-append-le n s.changes (c ∷ []) front)) (sound.versions_are n u old))
+            (λ (new : (n ≡ length s.versions) × (u ≡ t)).
+            let n_is : length s.changes + 1 ≡ n = omega (arith, sound.named, new.0) in
+            subst (λ (x : ℕ × Token Snapshot). IsVersionAt (s.changes ++ c ∷ []) x.0 x.1.value) (λ i. (n_is i, sym new.1 i)) is)
+            (get_push s.versions t n u e);
+        fed = All-weaker (IsFed sent full s.versions) (IsFed sent full (s.versions ++ t ∷ [])) (λ a. fed_more sent full s.versions (t ∷ []) a) s.subs sound.fed;
+      }
+
+  pub sound_start : (s : State S) (t : Token Snapshot) → s.changes ≡ [] → s.versions ≡ [] ++ t ∷ [] → s.subs ≡ [] → IsVersionAt [] 0 t.value → IsSound sent full s
+  sound_start s t changes versions subs is =
+      let no_subs : All (IsFed sent full (t ∷ [])) [] = search rules in
+      subst (λ (x : List Edit × List (Token Snapshot) × List (Sub S)). IsSound sent full (record { changes = x.0; versions = x.1; subs = x.2 }))
+      (λ i. (sym changes i, sym versions i, sym subs i))
+      (record {
+        named = refl;
+        few = omega arith;
+        few_subs = omega arith;
+        versions_are = λ n u e. elim n as (λ (k : ℕ). slice_get (t ∷ []) k ≡ Some u → IsVersionAt [] k u.value)
+            [ zero ↦ λ e. subst (λ (x : Token Snapshot). IsVersionAt [] 0 x.value) (same_Some t u e) is | suc k ↦ λ e. absurd (none-some u e) ] e;
+        fed = no_subs;
+      })
+
+  -- what the code has is the state with a change and a token more
+  pub sound_added : (s : State S) (c : Edit) (t : Token Snapshot) (changes : List Edit) (versions : List (Token Snapshot)) → IsSound sent full s → length s.changes < 4096
+      → IsVersion (operations_of (s.changes ++ c ∷ [])) (length s.changes + 1) t.value → changes ≡ s.changes ++ c ∷ [] → versions ≡ s.versions ++ t ∷ []
+      → IsSound sent full (record s { changes = changes; versions = versions })
+  sound_added s c t changes versions sound room is e f =
+      subst (λ (x : List Edit × List (Token Snapshot)). IsSound sent full (record s { changes = x.0; versions = x.1 })) (λ i. (sym e i, sym f i))
+      (sound_submit s c t sound room (version_of_all s.changes c t.value is))
+
+  pub sound_set : (s : State S) (id : ℕ) (b : Sub S) → IsSound sent full s → IsFed sent full s.versions b → IsSound sent full (record s { subs = set s.subs id b })
+  sound_set s id b sound fed = record {
+    named = sound.named;
+    few = sound.few;
+    few_subs = omega (arith, length-set s.subs id b, sound.few_subs);
+    versions_are = sound.versions_are;
+    fed = All-set (IsFed sent full s.versions) s.subs id b fed sound.fed;
+  }
+
+  pub sound_subscribe : (s : State S) (p : Token Program) (sink : S) → IsSound sent full s → length s.subs < 64 → sent sink ≡ []
+      → IsSound sent full (record s { subs = s.subs ++ fresh p (length s.changes) sink ∷ [] })
+  sound_subscribe s p sink sound room none = record {
+    named = sound.named;
+    few = sound.few;
+    few_subs = omega (arith, length-append s.subs (fresh p (length s.changes) sink ∷ []));
+    versions_are = sound.versions_are;
+    fed = All-push (IsFed sent full s.versions) s.subs (fresh p (length s.changes) sink) sound.fed (fresh_fed sent full s.versions p (length s.changes) sink (omega (arith, sound.named)) none);
+  }
+
+  -- what the code has is the state with a subscriber more
+  pub sound_subscribed : (s : State S) (p : Token Program) (sink : S) (n : ℕ) (a : Sub S) (old subs : List (Sub S)) → IsSound sent full s → length s.subs < 64 → sent sink ≡ []
+      → a ≡ fresh p n sink → n ≡ length s.changes → old ≡ s.subs → subs ≡ old ++ a ∷ [] → IsSound sent full (record s { subs = subs })
+  sound_subscribed s p sink n a old subs sound room none made latest same is =
+      let now : subs ≡ s.subs ++ fresh p (length s.changes) sink ∷ [] =
+      is ∙ ap (λ (x : Sub S × List (Sub S)). x.1 ++ x.0 ∷ []) (λ i. (made i, same i)) ∙ ap (λ k. s.subs ++ fresh p k sink ∷ []) latest in
+      subst (λ (l : List (Sub S)). IsSound sent full (record s { subs = l })) (sym now) (sound_subscribe s p sink sound room none)
+
+  -- a subscriber that is read
+  pub fed_at : (s : State S) (id : ℕ) (a : Sub S) → IsSound sent full s → id < length s.subs → a ≡ get_or s.subs id a → IsFed sent full s.versions a
+  fed_at s id a sound within is = subst (IsFed sent full s.versions) (sym is) (All-get_or (IsFed sent full s.versions) s.subs id a within sound.fed)
+
+  pub pumped : (o s : State S) (id m : ℕ) (x a b : Sub S) → s ≡ o → id < length s.subs → x ≡ get_or s.subs id x → x.closed ≡ false → a ≡ get_or s.subs id a
+      → Moved sent full a m b → Stops sent full b → Pumps sent full o id (Ok m) (record s { subs = set s.subs id b })
+  pumped o s id m x a b same within read opened found moved stops =
+      let one : a ≡ x = found ∙ get_or_default s.subs id a x within ∙ sym read in
+      subst (λ z. Pumps sent full z id (Ok m) (record s { subs = set s.subs id b })) same
+      (a, b, (slice_get_read s.subs (length s.subs) id a refl within found, ap (λ (z : Sub S). z.closed) one ∙ opened), moved, stops, refl)
+
+  -- the subscriber that was read as open
+  pub open_at : (s : State S) (id : ℕ) (x a : Sub S) → id < length s.subs → x ≡ get_or s.subs id x → x.closed ≡ false → a ≡ get_or s.subs id a → IsOpen s id a
+  open_at s id x a within read opened found =
+      let one : a ≡ x = found ∙ get_or_default s.subs id a x within ∙ sym read in
+      (slice_get_read s.subs (length s.subs) id a refl within found, ap (λ (z : Sub S). z.closed) one ∙ opened)
+
+module _ {S : Type 0} (sent : S → List Entry) (full : S → Type 0) where
+  pub committed : (o s : State S) (b : Slip) (ts : List (Token Snapshot)) (id : ℕ) (x a a' : Sub S) (k : Bool) → s ≡ o → id ≡ b.subscriber → id < length s.subs
+      → x ≡ get_or s.subs id x → x.closed ≡ false → a ≡ get_or s.subs id a → ts ≡ s.versions → Keeps ts a b k a' → k ≡ true
+      → Commits o b (Ok tt) (record s { subs = set s.subs id a' })
+  committed o s b ts id x a a' true same number within read opened found versions keeps kept =
+      let here = subst (λ n. IsOpen s n a) number (open_at sent full s id x a within read opened found) in
+      let wanted = subst (λ (l : List (Token Snapshot)). IsWanted l a b) versions keeps.0 in
+      subst (λ (y : State S). Commits y b (Ok tt) (record s { subs = set s.subs id a' })) same
+      (a, here, wanted, (λ i. record s { subs = set s.subs (number i) (keeps.1 i) }))
+  committed o s b ts id x a a' false same number within read opened found versions keeps kept = absurd (true≢false (sym kept))
+
+  pub refused : (o s : State S) (b : Slip) (ts : List (Token Snapshot)) (id : ℕ) (x a a' : Sub S) (k : Bool) → s ≡ o → id ≡ b.subscriber → id < length s.subs
+      → x ≡ get_or s.subs id x → x.closed ≡ false → a ≡ get_or s.subs id a → ts ≡ s.versions → Keeps ts a b k a' → k ≡ false
+      → Commits o b (Err Stale) (record s { subs = set s.subs id a' })
+  refused o s b ts id x a a' true same number within read opened found versions keeps kept = absurd (true≢false kept)
+  refused o s b ts id x a a' false same number within read opened found versions keeps kept =
+      let here = subst (λ n. IsOpen s n a) number (open_at sent full s id x a within read opened found) in
+      let back : set s.subs id a' ≡ s.subs = ap (set s.subs id) (keeps.1 ∙ found) ∙ set-get_or s.subs id a in
+      subst (λ (y : State S). Commits y b (Err Stale) (record s { subs = set s.subs id a' })) same
+      (ap (λ (l : List (Sub S)). record s { subs = l }) back, a, here, subst (λ (l : List (Token Snapshot)). ¬ IsWanted l a b) versions keeps.0)
+
+  -- a subscriber from which something was handed out, or may be again
+  pub sound_handed : (s : State S) (id n : ℕ) (a a' : Sub S) → IsSound sent full s → id < length s.subs → a ≡ get_or s.subs id a → a' ≡ record a { handed = n }
+      → IsSound sent full (record s { subs = set s.subs id a' })
+  sound_handed s id n a a' sound within at made =
+      sound_set sent full s id a' sound (subst (IsFed sent full s.versions) (sym made) (fed_handed sent full s.versions a n (fed_at sent full s id a sound within at)))
+
+  pub sound_closed : (s : State S) (id : ℕ) (a a' : Sub S) → IsSound sent full s → id < length s.subs → a ≡ get_or s.subs id a → a' ≡ record a { held = nothing_held; closed = true }
+      → IsSound sent full (record s { subs = set s.subs id a' })
+  sound_closed s id a a' sound within at made =
+      sound_set sent full s id a' sound (subst (IsFed sent full s.versions) (sym made) (fed_closed sent full s.versions a (fed_at sent full s id a sound within at)))
+
+module _ {S : Type 0} where
+  reads : (s : State S) (id : ℕ) (a : Sub S) → id < length s.subs → a ≡ get_or s.subs id a → slice_get s.subs id ≡ Some a
+  reads s id a within at = slice_get_read s.subs (length s.subs) id a refl within at
+
+  -- the subscriber that was read as open, and then to be changed
+  open_both : (s : State S) (id : ℕ) (x a : Sub S) → id < length s.subs → x ≡ get_or s.subs id x → x.closed ≡ false → a ≡ get_or s.subs id a → IsOpen s id a
+  open_both s id x a within read opened found =
+      let one : x ≡ a = same_Some x a (sym (reads s id x within read) ∙ reads s id a within found) in
+      (reads s id a within found, ap (λ (z : Sub S). z.closed) (sym one) ∙ opened)
+
+  pub reissued : (o s : State S) (id : ℕ) (x a a' : Sub S) → s ≡ o → id < length s.subs → x ≡ get_or s.subs id x → x.closed ≡ false → a ≡ get_or s.subs id a
+      → a' ≡ record a { handed = a.cursor } → Reissues o id (Ok tt) (record s { subs = set s.subs id a' })
+  reissued o s id x a a' same within read opened found made =
+      subst (λ (y : State S). Reissues y id (Ok tt) (record s { subs = set s.subs id a' })) same
+      (a, open_both s id x a within read opened found, ap (λ (z : Sub S). record s { subs = set s.subs id z }) made)
+
+  pub closed_now : (o s : State S) (id : ℕ) (x a a' : Sub S) → s ≡ o → id < length s.subs → x ≡ get_or s.subs id x → x.closed ≡ false → a ≡ get_or s.subs id a
+      → a' ≡ record a { held = nothing_held; closed = true } → Closes o id (Ok tt) (record s { subs = set s.subs id a' })
+  closed_now o s id x a a' same within read opened found made =
+      subst (λ (y : State S). Closes y id (Ok tt) (record s { subs = set s.subs id a' })) same
+      (a, open_both s id x a within read opened found, ap (λ (z : Sub S). record s { subs = set s.subs id z }) made)
+
+  -- what was found of the subscriber that was read
+  found_here : (s : State S) (id latest : ℕ) (a : Sub S) (r : Option ℕ) → id < length s.subs → a ≡ get_or s.subs id a → a.closed ≡ false → latest ≡ length s.changes → Finds latest a r → FindsAt s id r
+  found_here s id latest a (Some n) within at opened is found = (a, (reads s id a within at, opened), subst (λ k. IsNext k a n) is found)
+  found_here s id latest a None within at opened is found = λ b is_open n due.
+      let one : b ≡ a = same_Some b a (sym is_open.0 ∙ reads s id a within at) in
+      found n (subst (λ (x : ℕ × Sub S). IsDue x.0 x.1 n) (λ i. (sym is i, one i)) due)
+
+  pub found_at : (o s : State S) (id latest : ℕ) (a : Sub S) (r : Option ℕ) → s ≡ o → id < length s.subs → a ≡ get_or s.subs id a → a.closed ≡ false → latest ≡ length s.changes → Finds latest a r → FindsAt o id r
+  found_at o s id latest a r same within at opened is found = subst (λ (y : State S). FindsAt y id r) same (found_here s id latest a r within at opened is found)
+
+  pub none_past : (s : State S) (id : ℕ) → length s.subs ≤ id → FindsAt s id None
+  none_past s id past = λ a is_open n due. none-some a (sym (slice_get_past s.subs id past) ∙ is_open.0)
+
+  job_here : (s : State S) (job : Slip) (id number : ℕ) (a a' : Sub S) (ts : List (Token Snapshot)) → FindsAt s id (Some number) → a ≡ get_or s.subs id a → a' ≡ record a { handed = number + 1 }
+      → (job.subscriber ≡ id) × (job.number ≡ number) × (job.program ≡ a.program) → slice_get ts number ≡ Some job.version → ts ≡ s.versions
+      → TakesJob s (Some job) (record s { subs = set s.subs id a' })
+  job_here s job id number a a' ts found at made of version versions =
+      let within = slice_get_within s.subs id found.0 found.1.0 in
+      let here = reads s id a within at in
+      let one : found.0 ≡ a = same_Some found.0 a (sym found.1.0 ∙ here) in
+      let new : a' ≡ record a { handed = job.number + 1 } = made ∙ ap (λ k. record a { handed = k + 1 }) (sym of.1) in (
+        a,
+        (subst (λ k. slice_get s.subs k ≡ Some a) (sym of.0) here, ap (λ (z : Sub S). z.closed) (sym one) ∙ found.1.1),
+        subst (λ (x : Sub S × ℕ). IsNext (length s.changes) x.0 x.1) (λ i. (one i, sym of.1 i)) found.2,
+        of.2,
+        subst (λ (x : List (Token Snapshot) × ℕ). slice_get x.0 x.1 ≡ Some job.version) (λ i. (versions i, sym of.1 i)) version,
+        (λ i. record s { subs = set s.subs (sym of.0 i) (new i) }),
+      )
+
+  pub job_taken : (o s : State S) (job : Slip) (id number : ℕ) (a a' : Sub S) (ts : List (Token Snapshot)) → s ≡ o → FindsAt o id (Some number) → a ≡ get_or s.subs id a → a' ≡ record a { handed = number + 1 }
+      → (job.subscriber ≡ id) × (job.number ≡ number) × (job.program ≡ a.program) → slice_get ts number ≡ Some job.version → ts ≡ s.versions
+      → TakesJob o (Some job) (record s { subs = set s.subs id a' })
+  job_taken o s job id number a a' ts same found at made of version versions =
+      subst (λ (y : State S). TakesJob y (Some job) (record s { subs = set s.subs id a' })) same
+      (job_here s job id number a a' ts (subst (λ (y : State S). FindsAt y id (Some number)) (sym same) found) at made of version versions)
+
+  -- the sink of the subscriber that was read
+  pub sink_there : (o s : State S) (id : ℕ) (a : Sub S) (sink : S) → s ≡ o → id < length s.subs → a ≡ get_or s.subs id a → sink ≡ a.sink → (x : Sub S) × (slice_get o.subs id ≡ Some x) × (sink ≡ x.sink)
+  sink_there o s id a sink same within at is = (a, subst (λ (y : State S). slice_get y.subs id ≡ Some a) same (reads s id a within at), is)

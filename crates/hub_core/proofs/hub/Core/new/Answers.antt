@@ -1,0 +1,10 @@
+use Rattle.std.proofs.Common.{[], ◌∷◌, ◌++◌, List, ap, ◌∙◌}
+use Rattle.span_flatten.specs.Version.{Snapshot}
+use Rattle.version_history.specs.Tokens.{Token}
+use Rattle.hub_core.proofs.Sound.{sound_start}
+use Rattle.hub_core.proofs.hub.Core.new.Goals as goal
+
+pub invariant_of-result : goal.invariant_of-result
+invariant_of-result g c =
+    sound_start g.S.Sink.sent g.S.Sink.full _ c.in_ok-token.token c.new.ensures
+    (c.in_ok-push.ensures.items ∙ ap (λ (l : List (Token Snapshot)). l ++ c.in_ok-token.token ∷ []) c.new-versions.ensures.items) c.new-2.ensures.items c.in_ok-token.ensures

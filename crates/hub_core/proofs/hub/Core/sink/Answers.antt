@@ -1,0 +1,15 @@
+use Rattle.std.proofs.Common.{◌<◌, length, arith}
+use Rattle.hub_core.proofs.Sound.{sink_there}
+use Rattle.hub_core.proofs.Streams.{begins}
+use Rattle.hub_core.proofs.hub.Core.sink.Goals as goal
+
+pub returns-then-id-len-clause-stream : goal.returns-then-id-len-clause-stream
+returns-then-id-len-clause-stream g c = begins g.S.Sink.sent g.S.Sink.full c.args.self.now _ c.self.view_is c.self.invariant c.args.id
+
+pub returns-clause-stream : goal.returns-clause-stream
+returns-clause-stream g c = begins g.S.Sink.sent g.S.Sink.full c.args.self.now _ c.self.view_is c.self.invariant c.args.id
+
+pub returns-clause-value : goal.returns-clause-value
+returns-clause-value g c =
+    let within : c.args.id < length c.self.inside.subs.items = omega arith in
+    sink_there c.args.self.now _ c.args.id c.index.result.now c.sink.result.now c.self.view_is within c.index.ensures c.sink.ensures

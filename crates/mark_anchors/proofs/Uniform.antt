@@ -1,0 +1,229 @@
+-- Between two cuts all characters have one format.
+use Rattle.std.proofs.Common.{◌≡◌, ◌↔◌, ℕ, ◌+◌, ◌<◌, ◌≤◌, List, [], ◌∷◌, ◌++◌, Some, inl, inr, ◌⊎◌, length, sym, ap, refl, ◌∙◌, subst, arith, ⊎_elim}
+use Rattle.std.specs.List.{slice_get, Contains}
+use Rattle.std.proofs.lemmas.Bool.{cases_lt}
+use Rattle.std.proofs.lemmas.List.{length_push}
+use Rattle.std.proofs.lemmas.Option.{same_Some, none-some, slice_get_within}
+use Rattle.change_ops.specs.Operations.{key_of, AnchorNames, Names}
+use Rattle.change_ops.specs.declared.id.OpId.{OpId}
+use Rattle.change_ops.specs.declared.attribute.Key.{Key}
+use Rattle.change_ops.specs.declared.attribute.Attribute.{Attribute}
+use Rattle.change_ops.specs.declared.attribute.Attribute.TheVariants.{Strong, Em, Link, Color, Comment}
+use Rattle.change_ops.specs.declared.operation.Anchor.{Anchor}
+use Rattle.change_ops.specs.declared.operation.Anchor.TheVariants.{TextStart, BeforeCharacter, AfterCharacter, TextEnd}
+use Rattle.change_ops.specs.declared.operation.Op.{Op}
+use Rattle.change_ops.specs.declared.operation.Op.TheVariants.{Insert, Remove, AddMark, RemoveMark}
+use Rattle.char_sequence.specs.declared.sequence.Element.{Element}
+use Rattle.char_sequence.specs.Order.{Shows}
+use Rattle.mark_anchors.specs.Format.{Touches, Decides, Bears, IsFormat}
+use Rattle.mark_anchors.specs.Formatting.{Formatting}
+use Rattle.mark_anchors.specs.Marks.{AreMarks}
+use Rattle.mark_anchors.specs.MarkRange.{IsRangeOf}
+use Rattle.mark_anchors.specs.Places.{IsBoundary, Lies}
+use Rattle.mark_anchors.specs.Ranges.{IsOfFormat, AreRanges, AreCuts, IsCut, IsUniform}
+use Rattle.mark_anchors.specs.declared.mark_range.MarkRange.{MarkRange}
+use Rattle.mark_anchors.specs.declared.ranges.FormattedRange.{FormattedRange}
+use Rattle.mark_anchors.proofs.Commenting.{rises}
+use Rattle.mark_anchors.proofs.Deciding.{touches_from_place, place_from_touches, of_key_from_touches, mark_from_key}
+use Rattle.mark_anchors.proofs.Lists.{contains_at, contains_from, pushed_at}
+
+-- ---- two characters that the same marks touch
+module _ (ops : List Op) (e f : OpId) (alike : (key : Key) (o : Op) → Contains ops o → Touches ops key e o ↔ Touches ops key f o) where
+  decides_along : (key : Key) (o : Op) → Decides ops key e o → Decides ops key f o
+  decides_along key o d = record {
+    held = d.held;
+    touches = (alike key o d.held).0 d.touches;
+    greatest = λ p held touches. d.greatest p held ((alike key p held).1 touches);
+  }
+
+  bears_along : (a : Attribute) → Bears ops e a → Bears ops f a
+  bears_along a b = (b.0, decides_along (key_of a) b.0 b.1, b.2)
+
+turned : (ops : List Op) (e f : OpId) → ((key : Key) (o : Op) → Contains ops o → Touches ops key e o ↔ Touches ops key f o) → (key : Key) (o : Op) → Contains ops o → Touches ops key f o ↔ Touches ops key e o
+turned ops e f alike key o held = ((alike key o held).1, (alike key o held).0)
+
+format_along : (ops : List Op) (e f : OpId) → ((key : Key) (o : Op) → Contains ops o → Touches ops key e o ↔ Touches ops key f o) → (g : Formatting) → IsFormat ops e g → IsFormat ops f g
+format_along ops e f alike g is =
+    let there : (a : Attribute) → Bears ops e a → Bears ops f a = bears_along ops e f alike in
+    let back : (a : Attribute) → Bears ops f a → Bears ops e a = bears_along ops f e (turned ops e f alike) in
+    record {
+      strong = (λ t. there Strong (is.strong.0 t), λ b. is.strong.1 (back Strong b));
+      em = (λ t. there Em (is.em.0 t), λ b. is.em.1 (back Em b));
+      link = λ target. (λ t. there (Link target) ((is.link target).0 t), λ b. (is.link target).1 (back (Link target) b));
+      color = λ rgb. (λ t. there (Color rgb) ((is.color rgb).0 t), λ b. (is.color rgb).1 (back (Color rgb) b));
+      comments = λ n. (λ t. there (Comment n) ((is.comments n).0 t), λ b. (is.comments n).1 (back (Comment n) b));
+      rising = is.rising;
+    }
+
+module _ (ops : List Op) (es : List Element) (marks : List Op) (from to place : ℕ) (e f : Element) (h : Shows es ops) (are : AreMarks ops marks) (uniform : IsUniform es marks from to)
+    (at : slice_get es from ≡ Some e) (here : slice_get es place ≡ Some f) (low : from ≤ place) (high : place < to) where
+  one_side : (o : Op) (key : Key) → Contains ops o → Touches ops key e.id o → Touches ops key f.id o
+  one_side o key held t =
+      let of_key = of_key_from_touches ops key e.id o t in
+      let u = uniform o (are.listed o held (mark_from_key key o of_key)) in
+      let first : ℕ = u.0 in
+      let last : ℕ = u.1.0 in
+      let covered = place_from_touches ops es h key o first last from e.id u.1.1 (e, at, refl) t in
+      let begun : first ≤ from = covered.0 in
+      let ongoing : from < last = covered.1 in
+      ⊎_elim
+      (λ (closed : last ≤ from). absurd (omega arith))
+      (λ (past : to ≤ last). touches_from_place ops es h key o first last place f.id of_key u.1.1 (f, here, refl) (omega arith) (omega arith))
+      u.1.3
+
+  other_side : (o : Op) (key : Key) → Contains ops o → Touches ops key f.id o → Touches ops key e.id o
+  other_side o key held t =
+      let of_key = of_key_from_touches ops key f.id o t in
+      let u = uniform o (are.listed o held (mark_from_key key o of_key)) in
+      let first : ℕ = u.0 in
+      let last : ℕ = u.1.0 in
+      let covered = place_from_touches ops es h key o first last place f.id u.1.1 (f, here, refl) t in
+      let begun : first ≤ place = covered.0 in
+      let ongoing : place < last = covered.1 in
+      ⊎_elim
+      (λ (early : first ≤ from). touches_from_place ops es h key o first last from e.id of_key u.1.1 (e, at, refl) early (omega arith))
+      (λ (late : to ≤ first). absurd (omega arith))
+      u.1.2
+
+  pub one_format_between : (g : Formatting) → IsFormat ops e.id g → IsFormat ops f.id g
+  one_format_between g is = format_along ops e.id f.id (λ key o held. (one_side o key held, other_side o key held)) g is
+
+-- ---- the places of a mark's anchors
+pub names_start : (o : Op) (r : MarkRange) → IsRangeOf o r → (x : OpId) → AnchorNames r.start x → Names o x
+names_start (Insert id parent character) r is x names = absurd is
+names_start (Remove id target) r is x names = absurd is
+names_start (AddMark id attribute start end) r is x names = inl (subst (λ a. AnchorNames a x) (sym is.1) names)
+names_start (RemoveMark id key start end) r is x names = inl (subst (λ a. AnchorNames a x) (sym is.1) names)
+
+pub names_end : (o : Op) (r : MarkRange) → IsRangeOf o r → (x : OpId) → AnchorNames r.end x → Names o x
+names_end (Insert id parent character) r is x names = absurd is
+names_end (Remove id target) r is x names = absurd is
+names_end (AddMark id attribute start end) r is x names = inr (subst (λ a. AnchorNames a x) (sym is.2) names)
+names_end (RemoveMark id key start end) r is x names = inr (subst (λ a. AnchorNames a x) (sym is.2) names)
+
+pub lies_from_range : (es : List Element) (o : Op) (r : MarkRange) (first last : ℕ) → IsRangeOf o r → IsBoundary es r.start first → IsBoundary es r.end last → Lies es o first last
+lies_from_range es (Insert id parent character) r first last is a b = absurd is
+lies_from_range es (Remove id target) r first last is a b = absurd is
+lies_from_range es (AddMark id attribute start end) r first last is a b = (subst (λ z. IsBoundary es z first) (sym is.1) a, subst (λ z. IsBoundary es z last) (sym is.2) b)
+lies_from_range es (RemoveMark id key start end) r first last is a b = (subst (λ z. IsBoundary es z first) (sym is.1) a, subst (λ z. IsBoundary es z last) (sym is.2) b)
+
+pub boundary_within : (es : List Element) (a : Anchor) (n : ℕ) → IsBoundary es a n → n ≤ length es
+boundary_within es TextStart n is = let at : n ≡ 0 = is in omega arith
+boundary_within es (BeforeCharacter x) n (e, at, id) = let within : n < length es = slice_get_within es n e at in omega arith
+boundary_within es (AfterCharacter x) n (k, (e, at, id), next) = let within : k < length es = slice_get_within es k e at in let eq : n ≡ k + 1 = next in omega arith
+boundary_within es TextEnd n is = let at : n ≡ length es = is in omega arith
+
+-- ---- cuts
+pub cut_kept : (es : List Element) (old new : List ℕ) (o : Op) → ((c : ℕ) → Contains old c → Contains new c) → IsCut es old o → IsCut es new o
+cut_kept es old new o more cut = (cut.0, (cut.1.0, cut.1.1, more cut.0 cut.1.2, more cut.1.0 cut.1.3))
+
+-- the last of the first so many cuts, or the start
+abbrev pub IsReached : List ℕ → ℕ → ℕ → Type 0
+IsReached cuts k from = ((k ≡ 0) × (from ≡ 0)) ⊎ ((j : ℕ) × (k ≡ j + 1) × (slice_get cuts j ≡ Some from))
+
+module _ (es : List Element) (marks : List Op) (cuts : List ℕ) (are : AreCuts es marks cuts) where
+  upto : (i j x y : ℕ) → slice_get cuts i ≡ Some x → slice_get cuts j ≡ Some y → i ≤ j → x ≤ y
+  upto i j x y g h le =
+      ⊎_elim
+      (λ (less : i < j). let lt : x < y = rises cuts are.rising i j x y less g h in omega arith)
+      (λ (ge : j ≤ i). let same : i ≡ j = omega arith in let one : x ≡ y = same_Some x y (sym g ∙ ap (slice_get cuts) same ∙ h) in omega arith)
+      (cases_lt i j)
+
+  before_or_after : (k from to : ℕ) → IsReached cuts k from → slice_get cuts k ≡ Some to → (c : ℕ) → Contains cuts c → (c ≤ from) ⊎ (to ≤ c)
+  before_or_after k from to reached at c held =
+      let i = contains_at cuts c held in
+      ⊎_elim
+      (λ (less : i.0 < k).
+      ⊎_elim
+      (λ (start : (k ≡ 0) × (from ≡ 0)). let zero : k ≡ 0 = start.0 in absurd (omega arith))
+      (λ (r : (j : ℕ) × (k ≡ j + 1) × (slice_get cuts j ≡ Some from)). let next : k ≡ r.0 + 1 = r.1 in inl (upto i.0 r.0 c from i.1 r.2 (omega arith)))
+      reached)
+      (λ (ge : k ≤ i.0). inr (upto k i.0 to c at i.1 ge))
+      (cases_lt i.0 k)
+
+  pub next_cut : (k from to : ℕ) → IsReached cuts k from → slice_get cuts k ≡ Some to → (from ≤ to) × (to ≤ length es) × IsUniform es marks from to
+  next_cut k from to reached at = (
+    ⊎_elim
+        (λ (start : (k ≡ 0) × (from ≡ 0)). let zero : from ≡ 0 = start.1 in omega arith)
+        (λ (r : (j : ℕ) × (k ≡ j + 1) × (slice_get cuts j ≡ Some from)). let next : k ≡ r.0 + 1 = r.1 in upto r.0 k from to r.2 at (omega arith))
+        reached,
+    are.within to (contains_from cuts k to at),
+    λ o held. let cut = are.every o held in (cut.0, (cut.1.0, cut.1.1, before_or_after k from to reached at cut.0 cut.1.2, before_or_after k from to reached at cut.1.0 cut.1.3)),
+  )
+
+  pub all_reached : (k from : ℕ) → k ≡ length cuts → IsReached cuts k from → from ≡ length es
+  all_reached k from whole reached =
+      let i = contains_at cuts (length es) are.end in
+      let within : i.0 < length cuts = slice_get_within cuts i.0 (length es) i.1 in
+      ⊎_elim
+      (λ (start : (k ≡ 0) × (from ≡ 0)). let zero : k ≡ 0 = start.0 in absurd (omega arith))
+      (λ (r : (j : ℕ) × (k ≡ j + 1) × (slice_get cuts j ≡ Some from)).
+      let next : k ≡ r.0 + 1 = r.1 in
+      let low : length es ≤ from = upto i.0 r.0 (length es) from i.1 r.2 (omega arith) in
+      let high : from ≤ length es = are.within from (contains_from cuts r.0 from r.2) in
+      omega arith)
+      reached
+
+-- ---- ranges
+pub ranges_none : (es : List Element) (marks : List Op) → AreRanges es marks 0 []
+ranges_none es marks = record {
+  none = λ e. refl;
+  first = λ r g. absurd (none-some r g);
+  next = λ i r s g h. absurd (none-some r g);
+  last = λ i r e g. absurd (none-some r g);
+  some = λ i r g. absurd (none-some r g);
+  within = λ i r g. absurd (none-some r g);
+  formatted = λ i r g. absurd (none-some r g);
+}
+
+pub ranges_more : (es : List Element) (marks : List Op) (from : ℕ) (ranges : List FormattedRange) (r : FormattedRange) → AreRanges es marks from ranges → r.from ≡ from → r.from < r.to → r.to ≤ length es → IsOfFormat es marks r → AreRanges es marks r.to (ranges ++ r ∷ [])
+ranges_more es marks from ranges r are begins some within formatted = record {
+  none = λ e. absurd (omega (arith, length_push ranges r));
+  first =
+      λ s g.
+      ⊎_elim
+      (λ (old : slice_get ranges 0 ≡ Some s). are.first s old)
+      (λ (new : (0 ≡ length ranges) × (r ≡ s)). ap (λ z. z.from) (sym new.1) ∙ begins ∙ are.none (sym new.0))
+      (pushed_at ranges r 0 s g);
+  next =
+      λ i s t g h.
+      ⊎_elim
+      (λ (old : slice_get ranges (i + 1) ≡ Some t).
+      let within : i + 1 < length ranges = slice_get_within ranges (i + 1) t old in
+      ⊎_elim
+      (λ (before : slice_get ranges i ≡ Some s). are.next i s t before old)
+      (λ (new : (i ≡ length ranges) × (r ≡ s)). let end : i ≡ length ranges = new.0 in absurd (omega arith))
+      (pushed_at ranges r i s g))
+      (λ (new : (i + 1 ≡ length ranges) × (r ≡ t)).
+      let end : i + 1 ≡ length ranges = new.0 in
+      ⊎_elim
+      (λ (before : slice_get ranges i ≡ Some s). ap (λ z. z.from) (sym new.1) ∙ begins ∙ sym (are.last i s end before))
+      (λ (too : (i ≡ length ranges) × (r ≡ s)). let also : i ≡ length ranges = too.0 in absurd (omega arith))
+      (pushed_at ranges r i s g))
+      (pushed_at ranges r (i + 1) t h);
+  last =
+      λ i s end g.
+      let size : i + 1 ≡ length ranges + 1 = end ∙ length_push ranges r in
+      ⊎_elim
+      (λ (old : slice_get ranges i ≡ Some s). let low : i < length ranges = slice_get_within ranges i s old in absurd (omega arith))
+      (λ (new : (i ≡ length ranges) × (r ≡ s)). ap (λ z. z.to) (sym new.1))
+      (pushed_at ranges r i s g);
+  some =
+      λ i s g.
+      ⊎_elim
+      (λ (old : slice_get ranges i ≡ Some s). are.some i s old)
+      (λ (new : (i ≡ length ranges) × (r ≡ s)). subst (λ z. z.from < z.to) new.1 some)
+      (pushed_at ranges r i s g);
+  within =
+      λ i s g.
+      ⊎_elim
+      (λ (old : slice_get ranges i ≡ Some s). are.within i s old)
+      (λ (new : (i ≡ length ranges) × (r ≡ s)). subst (λ z. z.to ≤ length es) new.1 within)
+      (pushed_at ranges r i s g);
+  formatted =
+      λ i s g.
+      ⊎_elim
+      (λ (old : slice_get ranges i ≡ Some s). are.formatted i s old)
+      (λ (new : (i ≡ length ranges) × (r ≡ s)). subst (IsOfFormat es marks) new.1 formatted)
+      (pushed_at ranges r i s g);
+}

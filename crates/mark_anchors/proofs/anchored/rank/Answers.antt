@@ -1,0 +1,23 @@
+use Rattle.std.proofs.Common.{◌≡◌, Some, sym, ◌∙◌, subst}
+use Rattle.std.specs.List.{slice_get}
+use Rattle.std.proofs.lemmas.Bool.{true≢false}
+use Rattle.std.proofs.lemmas.Option.{same_Some}
+use Rattle.change_ops.specs.Ids.{Less}
+use Rattle.mark_anchors.proofs.Lists.{read_at}
+use Rattle.mark_anchors.proofs.Rising.{upto_more}
+use Rattle.mark_anchors.proofs.anchored.rank.Goals as goal
+
+pub returns-then-is_below-clause-below : goal.returns-then-is_below-clause-below
+returns-then-is_below-clause-below c = c.loop-place.invariant
+
+pub returns-then-is_below-clause-above : goal.returns-then-is_below-clause-above
+returns-then-is_below-clause-above c =
+    λ x g.
+    let read : slice_get c.args.ids.now c.loop-place.place ≡ Some c.index-ids-place.result = read_at c.args.ids.now c.loop-place.place c.index-ids-place.result c.index-ids-place.is c.loop-place-test.true in
+    subst (λ z. Less c.args.id z) (same_Some c.index-ids-place.result x (sym read ∙ g)) (c.is_below.ensures.0 c.if-is_below.true)
+
+pub loop-place-preserved : goal.loop-place-preserved
+loop-place-preserved c =
+    let read : slice_get c.args.ids.now c.loop-place.place ≡ Some c.index-ids-place.result = read_at c.args.ids.now c.loop-place.place c.index-ids-place.result c.index-ids-place.is c.loop-place-test.true in
+    upto_more c.args.ids.now c.args.id c.index-ids-place.result c.loop-place.place c.loop-place.invariant read
+    (λ l. true≢false (sym (c.is_below.ensures.1 l) ∙ c.if-is_below.false))

@@ -1,0 +1,27 @@
+-- What of a text is laid out already.
+use Rattle.std.specs.Prelude.{◌≡◌, ◌≤◌, ◌*◌, ℕ, Bool, true, List, length, map, take, All}
+use Rattle.std.specs.List.{filter}
+use Rattle.change_ops.specs.declared.operation.Op.{Op}
+use Rattle.char_sequence.specs.declared.sequence.Element.{Element}
+use Rattle.char_sequence.specs.Order.{Shows}
+use Rattle.mark_anchors.specs.Format.{IsFormat}
+use Rattle.mark_anchors.specs.Marks.{AreMarks}
+use Rattle.span_flatten.specs.declared.version.Row.{Row}
+use Rattle.span_flatten.specs.Spans.{Shown}
+use Rattle.span_flatten.specs.Version.{IsDraft}
+
+-- the element that a shown character was
+abbrev pub element_of : Shown → Element
+element_of s = record { id = s.id; character = s.character; visible = true }
+
+abbrev pub is_visible : Element → Bool
+is_visible e = e.visible
+
+-- what of the first elements is visible is laid out
+pub record IsTaken (elements : List Element) (marks : List Op) (place : ℕ) (text : List ℕ) (rows : List Row) : Type 0 where
+  pub shown : List Shown
+  pub drawn : map element_of shown ≡ filter is_visible (take place elements)
+  pub formatted : (ops : List Op) → Shows elements ops → AreMarks ops marks → All (λ s. IsFormat ops s.id s.format) shown
+  pub draft : IsDraft shown text rows
+  pub short : length text ≤ 4 * place
+  pub few : length rows ≤ place

@@ -1,0 +1,58 @@
+use change_ops::refusal::ChangeError;
+use hub_core::refusal::{Refusal, SubmitError};
+use std::alloc::{AllocError, Global};
+use std::fmt::Display;
+use std::test::Fail;
+
+// Numbers and names as docs/REFUSALS.md has them.
+
+/// How an error is printed.
+fn printed<E: Display>(alloc: Global, error: &E) -> Result<String, AllocError> {
+    format!(in alloc; "{error}")
+}
+
+/// The first of the errors that is printed in another way.
+fn first_wrong<E: Display>(
+    alloc: Global,
+    rows: &[(E, &'static str)],
+) -> Result<Option<&'static str>, AllocError> {
+    for (error, want) in rows {
+        if printed(alloc, error)?.as_str() != *want {
+            return Ok(Some(*want));
+        }
+    }
+    Ok(None)
+}
+
+#[test]
+fn refusals_have_their_numbers(rt: HostRuntime) -> Result<(), Fail> {
+    let read = [
+        (ChangeError::BadLine(1), "40 BadLine line 1"),
+        (ChangeError::Truncated, "41 Truncated"),
+        (ChangeError::Limit(2), "42 Limit line 2"),
+        (ChangeError::CharRefused(3), "43 CharRefused line 3"),
+        (ChangeError::WrongPeer(257), "44 WrongPeer line 257"),
+        (ChangeError::OutOfMemory, "45 OutOfMemory"),
+    ];
+    assert_eq!(rt; first_wrong(rt.alloc(), &read)?, None);
+    Ok(())
+}
+
+/// The refusal of an operation.
+fn refused(refusal: Refusal) -> SubmitError {
+    SubmitError::Refused { index: 0, refusal }
+}
+
+#[test]
+fn refusals_of_acceptance_have_their_numbers(rt: HostRuntime) -> Result<(), Fail> {
+    let accepted = [
+        (SubmitError::OutOfMemory, "45 OutOfMemory"),
+        (refused(Refusal::StaleCounter), "46 StaleCounter"),
+        (refused(Refusal::UnknownRef), "47 UnknownRef"),
+        (refused(Refusal::DocumentFull), "48 DocumentFull"),
+        (refused(Refusal::MarksFull), "49 MarksFull"),
+        (SubmitError::HistoryFull, "50 HistoryFull"),
+    ];
+    assert_eq!(rt; first_wrong(rt.alloc(), &accepted)?, None);
+    Ok(())
+}

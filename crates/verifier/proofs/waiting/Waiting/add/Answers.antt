@@ -1,0 +1,25 @@
+use Rattle.std.proofs.Common.{◌<◌, length, sym, subst, rules}
+use Rattle.abstract_state.specs.State.{WithinState}
+use Rattle.verifier.specs.Waiting.{waiting_at}
+use Rattle.verifier.proofs.Waits.{keeps_added, added_there}
+use Rattle.verifier.proofs.waiting.Waiting.add.Goals as goal
+use Rattle.verifier.specs.Arises.{AllArise}
+use Rattle.verifier.proofs.PlainWalk.{arise_added, read_arises}
+
+pub returns-clause-kept : goal.returns-clause-kept
+returns-clause-kept c = λ slot lengths s waits.
+    let within : c.args.slot < length c.self.inside.states.items = search rules in
+    keeps_added c.self.inside.states.items c.args.slot c.index_mut.result.now c.take.result c.take.new.self c.in_ok-joined.joined within c.index_mut.ensures.value c.take.ensures.value (λ l t. c.in_ok-joined.ensures.kept l t) slot lengths s
+    (subst (λ v. WithinState (waiting_at v slot) lengths s) (sym c.self.view_is) waits)
+
+pub returns-clause-added : goal.returns-clause-added
+returns-clause-added c = λ lengths s contains.
+    let within : c.args.slot < length c.self.inside.states.items = search rules in
+    added_there c.self.inside.states.items c.args.slot c.take.new.self c.in_ok-joined.joined lengths s within (c.in_ok-joined.ensures.added lengths s contains)
+
+pub returns-clause-arises : goal.returns-clause-arises
+returns-clause-arises c = λ program all arises.
+    let within : c.args.slot < length c.self.inside.states.items = search rules in
+    let every = subst (λ v. AllArise program v) (sym c.self.view_is) all in
+    arise_added program c.self.inside.states.items c.args.slot c.take.new.self c.in_ok-joined.joined within every
+    (c.in_ok-joined.ensures.arises program c.args.slot (read_arises program c.self.inside.states.items c.args.slot c.index_mut.result.now c.take.result within c.index_mut.ensures.value c.take.ensures.value every) arises)

@@ -1,0 +1,41 @@
+use Rattle.std.proofs.Common.{None}
+use Rattle.abstract_state.specs.Steps.{after}
+use Rattle.verifier.proofs.Walking.{arrived, passed, skipped}
+use Rattle.verifier.proofs.walk.visit.Goals as goal
+use Rattle.std.proofs.Common.{refl}
+use Rattle.verifier.proofs.PlainRuns.{reads_numbers}
+use Rattle.verifier.proofs.PlainWalk.{falls_here, falls_next, dead_falls}
+
+pub returns-in_default-clause-follows : goal.returns-in_default-clause-follows
+returns-in_default-clause-follows c = λ program paired structured starts follows.
+    skipped program c.args.slot None c.arrive.new.self
+    (arrived program c.args.slot c.args.insn.now (after c.args.flow c.args.state.now) None c.args.waiting.now c.arrive.new.self starts
+    c.in_default.ensures.falls c.in_default.ensures.arrives c.in_default.ensures.others follows)
+
+pub returns-in-Ok-clause-follows : goal.returns-in-Ok-clause-follows
+returns-in-Ok-clause-follows c = λ program paired structured starts follows.
+    passed program c.args.slot c.args.insn.now c.arrive.new.state (after c.in-Ok.next c.pass.new.state) c.arrive.new.self c.pass.new.waiting paired structured starts
+    c.in-Ok.ensures.kept c.in-Ok.ensures.sound
+    (arrived program c.args.slot c.args.insn.now (after c.args.flow c.args.state.now) _ c.args.waiting.now c.arrive.new.self starts
+    c.in-Live.ensures.falls c.in-Live.ensures.arrives c.in-Live.ensures.others follows)
+
+pub returns-in_default-clause-plain : goal.returns-in_default-clause-plain
+returns-in_default-clause-plain c = λ program plain paired starts all falls.
+    let a = c.in_default.ensures.arises program all (falls_here program c.args.slot c.args.insn.now (after c.args.flow c.args.state.now) starts falls) in
+    (tt, (a.0, dead_falls program c.args.slot))
+
+pub returns-in-Ok-clause-plain : goal.returns-in-Ok-clause-plain
+returns-in-Ok-clause-plain c = λ program plain paired starts all falls.
+    let a = c.in-Live.ensures.arises program all (falls_here program c.args.slot c.args.insn.now (after c.args.flow c.args.state.now) starts falls) in
+    let here = a.1 c.arrive.new.state refl in
+    let r = reads_numbers program c.args.slot c.arrive.new.state c.args.insn.now plain here starts in
+    let p = c.in-Ok.ensures.arises program starts r here a.0 in
+    (tt, (p.0, falls_next program c.args.slot c.args.insn.now (after c.in-Ok.next c.pass.new.state) paired plain.structured starts p.1))
+
+pub returns-in-Err-Refused-clause-plain : goal.returns-in-Err-Refused-clause-plain
+returns-in-Err-Refused-clause-plain c = λ program plain paired starts all falls.
+    let a = c.in-Live.ensures.arises program all (falls_here program c.args.slot c.args.insn.now (after c.args.flow c.args.state.now) starts falls) in
+    let here = a.1 c.arrive.new.state refl in
+    let r = reads_numbers program c.args.slot c.arrive.new.state c.args.insn.now plain here starts in
+    let only = c.in-Err-Refused.ensures.floor r in
+    absurd (cc (only, c.in-Err-Refused.field-0-is))

@@ -1,0 +1,31 @@
+-- A program that reads one byte of the text behind a test that it is there.
+use Rattle.std.specs.Prelude.{◌≡◌, ℕ, pos, ◌<◌, ◌≤◌, [], ◌∷◌, Some}
+use Rattle.bpf_words.specs.declared.instruction.Size.TheVariants.{Byte, Double}
+use Rattle.bpf_words.specs.declared.instruction.Width.TheVariants.{Full}
+use Rattle.bpf_words.specs.declared.instruction.Arithmetic.TheVariants.{Mov, Add}
+use Rattle.bpf_words.specs.declared.instruction.Comparison.TheVariants.{Greater}
+use Rattle.bpf_words.specs.declared.instruction.Operand.TheVariants.{Immediate, Source}
+use Rattle.bpf_words.specs.declared.instruction.Insn.TheVariants.{Compute, Branch, Load, Exit}
+use Rattle.meaning.specs.Step.{Program}
+
+-- r2 and r3 are the text's begin and end; where n bytes are there, r0 is the byte at an offset, and else 0
+abbrev pub guard : ℕ → ℕ → Program
+guard n offset =
+    Some (Load Double 2 1 (pos 0))
+    ∷ Some (Load Double 3 1 (pos 8))
+    ∷ Some (Compute Full Mov 4 (Source 2))
+    ∷ Some (Compute Full Add 4 (Immediate (pos n)))
+    ∷ Some (Compute Full Mov 0 (Immediate (pos 0)))
+    ∷ Some (Branch Full Greater 4 (Source 3) (pos 1))
+    ∷ Some (Load Byte 0 2 (pos offset))
+    ∷ Some Exit
+    ∷ []
+
+pub record IsGuard (program : Program) : Type 0 where
+  pub count : ℕ
+  pub offset : ℕ
+  pub some : 1 ≤ count
+  pub short : count ≤ 131072
+  pub within : offset < count
+  pub fits : offset ≤ 32767
+  pub is : program ≡ guard count offset

@@ -1,0 +1,7 @@
+pub mod Accepted
+pub mod Structure
+pub mod Waiting
+pub mod Walk
+pub mod Plain
+pub mod Arises
+pub mod Guard

@@ -1,0 +1,9 @@
+//! Which programs are accepted: the places and targets of all instructions first, and then one walk over the slots with what is
+//! known of the machine before each.
+#![tactic(auto)]
+
+pub mod refusal;
+mod structure;
+pub mod verify;
+mod waiting;
+mod walk;

@@ -1,0 +1,62 @@
+//! The verifier, and the programs that it accepts.
+ghost use Rattle.std.specs.Prelude.{◌≡◌, ◌↔◌, ℕ, Err, IfOk, IfErr};
+ghost use Rattle.bpf_words.specs.Words.{program_of};
+ghost use Rattle.meaning.specs.Safe.{Safe};
+ghost use Rattle.verifier.specs.Plain.{IsPlain};
+ghost use Rattle.verifier.specs.Structure.{FirstFault};
+ghost use Rattle.verifier.specs.declared.refusal.StructureFault.{StructureFault};
+
+use crate::refusal::VerifyError;
+use crate::structure::check;
+use crate::walk::walk;
+use bpf_words::words::Words;
+use std::alloc::Global;
+use std::marker::Model;
+
+/// A program of which every run ends with a number: it meets no fault, and takes no more steps than the program has slots.
+#[derive(Drop)]
+pub struct Verified {
+    bytes: Vec<u8>,
+}
+
+impl Model for Verified {
+    ghost use Rattle.bpf_words.specs.Words.{program_of};
+    ghost use Rattle.meaning.specs.Step.{Program};
+    ghost use Rattle.verifier.specs.Accepted.{IsAccepted};
+
+    ghost Value = { Program };
+
+    ghost view = { λ v. program_of v.bytes.items };
+
+    ghost invariant = { λ v. IsAccepted v.bytes.items };
+}
+
+impl Verified {
+    /// The program's words, lent.
+    pub fn words(&self) -> Words<'_>
+        ensures program { program_of result ≡ self.now }
+        ensures safe { Safe self.now }
+    {
+        Words::of_program(self.bytes.as_slice())
+    }
+}
+
+/// Accepts a program of which every run ends with a number. The places and targets of all instructions are looked at first, and
+/// then what is known of the machine before each; the first slot at fault is named.
+pub fn verify(alloc: Global, words: &Words<'_>) -> Result<Verified, VerifyError>
+    ensures same { IfOk result (λ verified. verified ≡ program_of words.now) }
+    ensures safe { IfOk result (λ verified. Safe verified) }
+    ensures structure { (slot : ℕ) (fault : StructureFault) → (result ≡ Err (VerifyError.Structure slot fault)) ↔ FirstFault (program_of words.now) slot fault }
+    ensures plain { IfErr result (λ e. IsPlain (program_of words.now) → e ≡ VerifyError.OutOfMemory) }
+{
+    if let Err(wrong) = check(words) {
+        return Err(VerifyError::Structure {
+            slot: wrong.slot,
+            fault: wrong.fault,
+        });
+    }
+    walk(alloc, words)?;
+    Ok(Verified {
+        bytes: words.copy(alloc)?,
+    })
+}

@@ -1,0 +1,94 @@
+//! What is known before the slots to which jumps lead.
+ghost use Rattle.std.specs.Prelude.{◌≡◌, ◌≢◌, ℕ, ◌<◌, length, None, IfOk};
+ghost use Rattle.meaning.specs.State.{State};
+ghost use Rattle.abstract_state.specs.Lent.{Lengths};
+ghost use Rattle.abstract_state.specs.State.{Contains, WithinState};
+ghost use Rattle.abstract_state.specs.Steps.{after};
+ghost use Rattle.verifier.specs.Waiting.{unboxed, waiting_at};
+ghost use Rattle.verifier.specs.Walk.{Keeps};
+ghost use Rattle.verifier.specs.Arises.{Arises, ArisesAt, AllArise};
+ghost use Rattle.meaning.specs.Step.{Program};
+
+use abstract_state::state::AbsState;
+use abstract_state::step::Flow;
+use std::alloc::{AllocError, Global};
+use std::marker::Model;
+
+/// What is known before each slot to which a jump leads, from the jumps that were looked at.
+#[derive(Drop)]
+pub struct Waiting {
+    alloc: Global,
+    states: Vec<Option<Box<AbsState>>>,
+}
+
+impl Model for Waiting {
+    ghost use Rattle.verifier.specs.Waiting.{States};
+
+    ghost Value = { States };
+
+    ghost view = { λ w. w.states.items };
+}
+
+/// One more state beside what waits already.
+fn join(
+    alloc: Global,
+    waiting: Option<Box<AbsState>>,
+    state: &AbsState,
+) -> Result<Box<AbsState>, AllocError>
+    ensures kept { IfOk result (λ joined. (lengths : Lengths) (s : State) → WithinState (unboxed waiting) lengths s → Contains joined.value lengths s) }
+    ensures added { IfOk result (λ joined. (lengths : Lengths) (s : State) → Contains state.now lengths s → Contains joined.value lengths s) }
+    ensures arises { (program : Program) (slot : ℕ) → ArisesAt program slot (unboxed waiting) → Arises program slot state.now → IfOk result (λ joined. Arises program slot joined.value) }
+{
+    let Some(mut earlier) = waiting else {
+        return Ok(Box::new(alloc, *state)?);
+    };
+    earlier.join(state);
+    Ok(earlier)
+}
+
+impl Waiting {
+    /// Nothing waits at any of so many slots.
+    pub fn new(alloc: Global, slots: usize) -> Result<Waiting, AllocError>
+        ensures size { IfOk result (λ waiting. length waiting ≡ slots) }
+        ensures nothing { IfOk result (λ waiting. (slot : ℕ) → waiting_at waiting slot ≡ None) }
+    {
+        let mut states = Vec::with_capacity(alloc, slots)?;
+        for _slot in 0..slots {
+            states.push(None)?;
+        }
+        Ok(Waiting { alloc, states })
+    }
+
+    /// Joins what a jump to a slot leads there to what waits there.
+    pub fn add(&mut self, slot: usize, state: &AbsState) -> Result<(), AllocError>
+        requires { slot < length self.old }
+        ensures size { length self.new ≡ length self.old }
+        ensures kept { IfOk result (λ _. Keeps self.old self.new) }
+        ensures added { IfOk result (λ _. (lengths : Lengths) (s : State) → Contains state.now lengths s → WithinState (waiting_at self.new slot) lengths s) }
+        ensures arises { (program : Program) → AllArise program self.old → Arises program slot state.now → IfOk result (λ _. AllArise program self.new) }
+    {
+        let joined = join(self.alloc, self.states[slot].take(), state)?;
+        self.states[slot] = Some(joined);
+        Ok(())
+    }
+
+    /// Takes what waits at a slot, and joins it to what falls into the slot.
+    pub fn arrive(&mut self, slot: usize, flow: Flow, state: &mut AbsState) -> Flow
+        requires { slot < length self.old }
+        ensures size { length self.new ≡ length self.old }
+        ensures falls { (lengths : Lengths) (s : State) → WithinState (after flow state.old) lengths s → WithinState (after result state.new) lengths s }
+        ensures arrives { (lengths : Lengths) (s : State) → WithinState (waiting_at self.old slot) lengths s → WithinState (after result state.new) lengths s }
+        ensures others { (other : ℕ) → other ≢ slot → waiting_at self.new other ≡ waiting_at self.old other }
+        ensures arises { (program : Program) → AllArise program self.old → ArisesAt program slot (after flow state.old) → AllArise program self.new × ArisesAt program slot (after result state.new) }
+    {
+        let Some(waiting) = self.states[slot].take() else {
+            return flow;
+        };
+        let Flow::Live = flow else {
+            *state = Box::into_inner(waiting);
+            return Flow::Live;
+        };
+        state.join(&waiting);
+        Flow::Live
+    }
+}

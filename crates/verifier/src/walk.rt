@@ -1,0 +1,173 @@
+//! One walk over the slots, with what is known of the machine before each.
+ghost use Rattle.std.specs.Prelude.{◌≡◌, ◌≢◌, ℕ, ℤ, pos, ◌+◌, ◌<◌, ◌≤◌, length, Option, Some, IfOk, IfErr};
+ghost use Rattle.bpf_words.specs.Flow.{IsPaired, StartsAt, jump_of, written_by};
+ghost use Rattle.bpf_words.specs.Words.{program_of};
+ghost use Rattle.meaning.specs.Safe.{Safe};
+ghost use Rattle.meaning.specs.State.{State};
+ghost use Rattle.meaning.specs.Step.{Program};
+ghost use Rattle.abstract_state.specs.Lent.{Lengths};
+ghost use Rattle.abstract_state.specs.State.{Span, lengths_of, Contains, WithinState, does};
+ghost use Rattle.abstract_state.specs.Steps.{after};
+ghost use Rattle.verifier.specs.Structure.{IsOfState, IsStructured};
+ghost use Rattle.abstract_state.specs.Kinds.{ReadsNumbers};
+ghost use Rattle.verifier.specs.Arises.{Arises, ArisesAt, AllArise, FallsAs, FallsFrom};
+ghost use Rattle.verifier.specs.Plain.{IsPlain};
+ghost use Rattle.verifier.specs.Waiting.{waiting_at};
+ghost use Rattle.verifier.specs.Walk.{Advances, Follows, JumpsWithin, Keeps};
+
+use crate::refusal::VerifyError;
+use crate::waiting::Waiting;
+use abstract_state::refusal::Refusal;
+use abstract_state::state::AbsState;
+use abstract_state::step::Flow;
+use bpf_words::instruction::Insn;
+use bpf_words::words::Words;
+use std::alloc::{AllocError, Global};
+
+/// Why a walk doesn't go past an instruction.
+#[derive(Clone, Copy)]
+enum Stop {
+    Refused(Refusal),
+    OutOfMemory,
+}
+
+impl From<Refusal> for Stop {
+    ghost use Rattle.verifier.specs.declared.walk.Stop.TheVariants.{Refused};
+
+    ghost from_gives = { λ fault stop. stop ≡ Refused fault };
+
+    fn from(fault: Refusal) -> Stop {
+        Stop::Refused(fault)
+    }
+}
+
+impl From<AllocError> for Stop {
+    ghost use Rattle.verifier.specs.declared.walk.Stop.TheVariants.{OutOfMemory};
+
+    ghost from_gives = { λ _ stop. stop ≡ OutOfMemory };
+
+    fn from(_e: AllocError) -> Stop {
+        Stop::OutOfMemory
+    }
+}
+
+/// The slot to which an instruction jumps.
+fn target(slot: usize, insn: &Insn) -> usize
+    requires { slot < 4096 }
+    ensures { (n : ℕ) → jump_of insn.now ≡ Some (pos n) → result ≡ slot + 1 + n }
+{
+    match insn.distance() {
+        Some(distance) => slot + 1 + distance.unsigned_abs() as usize,
+        None => slot + 1,
+    }
+}
+
+/// Records the edge of a comparison that holds, where it is live.
+fn record(target: usize, edge: &Option<AbsState>, waiting: &mut Waiting) -> Result<(), AllocError>
+    requires { target < length waiting.old }
+    ensures size { length waiting.new ≡ length waiting.old }
+    ensures kept { IfOk result (λ _. Keeps waiting.old waiting.new) }
+    ensures added { IfOk result (λ _. (lengths : Lengths) (s : State) → WithinState edge.now lengths s → WithinState (waiting_at waiting.new target) lengths s) }
+    ensures arises { (program : Program) → AllArise program waiting.old → ArisesAt program target edge.now → IfOk result (λ _. AllArise program waiting.new) }
+{
+    let Some(state) = edge else {
+        return Ok(());
+    };
+    waiting.add(target, state)
+}
+
+/// Goes on with what is known, if a run can come there.
+fn go_on(state: &mut AbsState, next: &Option<AbsState>) -> Flow
+    ensures { after result state.new ≡ next.now }
+{
+    let Some(next) = next else {
+        return Flow::Dead;
+    };
+    *state = *next;
+    Flow::Live
+}
+
+/// Makes of what is known before an instruction what is known on its edges: of a jump at its target, else in the state.
+fn pass(slot: usize, insn: &Insn, state: &mut AbsState, waiting: &mut Waiting) -> Result<Flow, Stop>
+    requires few { slot < 4096 }
+    requires jumps { JumpsWithin (length waiting.old) slot insn.now }
+    requires spares { written_by insn.now ≢ Some 10 }
+    ensures size { length waiting.new ≡ length waiting.old }
+    ensures kept { IfOk result (λ _. Keeps waiting.old waiting.new) }
+    ensures sound { IfOk result (λ flow. (span : Span) (s : State) → Contains state.old (lengths_of span) s → Advances (lengths_of span) slot insn.now (after flow state.new) waiting.new (does span s insn.now)) }
+    ensures floor { ReadsNumbers state.old insn.now → IfErr result (λ stop. stop ≡ Stop.OutOfMemory) }
+    ensures arises { (program : Program) → StartsAt program slot insn.now → ReadsNumbers state.old insn.now → Arises program slot state.old → AllArise program waiting.old → IfOk result (λ flow. AllArise program waiting.new × FallsFrom program slot insn.now (after flow state.new)) }
+{
+    match *insn {
+        Insn::Jump { .. } => {
+            waiting.add(target(slot, insn), state)?;
+            Ok(Flow::Dead)
+        }
+        Insn::JumpLong { .. } => {
+            waiting.add(target(slot, insn), state)?;
+            Ok(Flow::Dead)
+        }
+        Insn::Branch {
+            width,
+            comparison,
+            left,
+            right,
+            ..
+        } => {
+            let edges = state.branch(width, comparison, left, &right)?;
+            record(target(slot, insn), &edges.taken, waiting)?;
+            Ok(go_on(state, &edges.untaken))
+        }
+        Insn::Exit => {
+            state.exit()?;
+            Ok(Flow::Dead)
+        }
+        _ => Ok(state.step(insn)?),
+    }
+}
+
+/// Joins all edges into a slot, and goes past its instruction, if a run can come there.
+fn visit(
+    slot: usize,
+    insn: &Insn,
+    flow: Flow,
+    state: &mut AbsState,
+    waiting: &mut Waiting,
+) -> Result<Flow, VerifyError>
+    requires slot { slot < length waiting.old }
+    requires few { slot < 4096 }
+    requires jumps { JumpsWithin (length waiting.old) slot insn.now }
+    requires spares { written_by insn.now ≢ Some 10 }
+    ensures size { length waiting.new ≡ length waiting.old }
+    ensures states { IfErr result IsOfState }
+    ensures follows { (program : Program) → IsPaired program → IsStructured program → StartsAt program slot insn.now → Follows program slot (after flow state.old) waiting.old → IfOk result (λ next. Follows program (slot + 1) (after next state.new) waiting.new) }
+    ensures plain { (program : Program) → IsPlain program → IsPaired program → StartsAt program slot insn.now → AllArise program waiting.old → FallsAs program slot (after flow state.old) → IfErr result (λ e. e ≡ VerifyError.OutOfMemory) × IfOk result (λ next. AllArise program waiting.new × FallsAs program (slot + 1) (after next state.new)) }
+{
+    let Flow::Live = waiting.arrive(slot, flow, state) else {
+        return Ok(Flow::Dead);
+    };
+    match pass(slot, insn, state, waiting) {
+        Ok(next) => Ok(next),
+        Err(Stop::Refused(fault)) => Err(VerifyError::State { slot, fault }),
+        Err(Stop::OutOfMemory) => Err(VerifyError::OutOfMemory),
+    }
+}
+
+/// Takes the instructions of a program in order, once.
+pub fn walk(alloc: Global, words: &Words<'_>) -> Result<(), VerifyError>
+    requires { IsStructured (program_of words.now) }
+    ensures safe { IfOk result (λ _. Safe (program_of words.now)) }
+    ensures states { IfErr result IsOfState }
+    ensures plain { IfErr result (λ e. IsPlain (program_of words.now) → e ≡ VerifyError.OutOfMemory) }
+{
+    let count = words.len();
+    let mut waiting = Waiting::new(alloc, count)?;
+    let mut state = AbsState::entry();
+    let mut flow = Flow::Live;
+    for slot in 0..count {
+        if let Some(insn) = words.insn(slot) {
+            flow = visit(slot, &insn, flow, &mut state, &mut waiting)?;
+        }
+    }
+    Ok(())
+}

@@ -1,0 +1,6 @@
+//! Published versions and programs, and the tokens that name them.
+#![tactic(auto)]
+
+pub mod published;
+#[cfg(test)]
+mod tests;

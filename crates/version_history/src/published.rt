@@ -1,0 +1,186 @@
+ghost use Rattle.std.specs.Prelude.{◌≡◌, ◌↔◌, IfOk, IfErr, IsTrue};
+
+use boxcar::Pushed;
+use span_flatten::version::Version;
+use std::marker::{Brand, Model, PhantomData};
+use std::sync::Wait;
+use verifier::verify::Verified;
+
+/// Which two lists a hub publishes in. A program picks them once for each hub.
+pub trait Naming {
+    ghost use Rattle.boxcar.specs.Table.{Shelves};
+
+    ghost versions: { Shelves };
+
+    ghost programs: { Shelves };
+}
+
+impl Naming for Brand {
+    ghost use Rattle.std.specs.Prelude.{[]};
+
+    ghost versions = { record { tag = []; buckets = [] } };
+
+    ghost programs = { record { tag = []; buckets = [] } };
+}
+
+/// Shows that a version stands in the list of the hub `N`, at its place, for good.
+#[derive(Drop)]
+pub struct VersionToken<N: Naming> {
+    at: Pushed<Version>,
+    of: PhantomData<N>,
+}
+
+impl<N: Naming> Model for VersionToken<N> {
+    ghost use Rattle.boxcar.specs.Table.{Shows};
+    ghost use Rattle.version_history.specs.Tokens.{Token};
+    ghost use Rattle.span_flatten.specs.Version.{Snapshot};
+
+    ghost Value = { Token Snapshot };
+
+    ghost view = { λ t. record { place = t.at.index; value = t.at.value } };
+
+    ghost invariant = { λ t. Shows N.versions t.at };
+}
+
+impl<N: Naming> VersionToken<N> {
+    /// A copy.
+    pub fn again(&self) -> VersionToken<N>
+        ensures { result ≡ self.now }
+    {
+        VersionToken {
+            at: self.at.again(),
+            of: PhantomData,
+        }
+    }
+}
+
+/// Shows that a program stands in the list of the hub `N`, at its place, for good.
+#[derive(Drop)]
+pub struct ProgramToken<N: Naming> {
+    at: Pushed<Verified>,
+    of: PhantomData<N>,
+}
+
+impl<N: Naming> Model for ProgramToken<N> {
+    ghost use Rattle.boxcar.specs.Table.{Shows};
+    ghost use Rattle.version_history.specs.Tokens.{Token};
+    ghost use Rattle.meaning.specs.Step.{Program};
+
+    ghost Value = { Token Program };
+
+    ghost view = { λ t. record { place = t.at.index; value = t.at.value } };
+
+    ghost invariant = { λ t. Shows N.programs t.at };
+}
+
+impl<N: Naming> ProgramToken<N> {
+    /// A copy.
+    pub fn again(&self) -> ProgramToken<N>
+        ensures { result ≡ self.now }
+    {
+        ProgramToken {
+            at: self.at.again(),
+            of: PhantomData,
+        }
+    }
+}
+
+/// The two lists of the hub `N`, which any thread reads and pushes to.
+#[derive(Drop)]
+pub struct Published<'p, N: Naming> {
+    versions: &'p boxcar::Vec<Version>,
+    programs: &'p boxcar::Vec<Verified>,
+    of: PhantomData<N>,
+    ghost named: { (versions.now ≡ N.versions) × (programs.now ≡ N.programs) },
+}
+
+impl<'p, N: Naming> Published<'p, N> {
+    /// Works on these two lists, which `N` names.
+    pub fn new(
+        versions: &'p boxcar::Vec<Version>,
+        programs: &'p boxcar::Vec<Verified>,
+    ) -> Published<'p, N>
+        requires { (versions.now ≡ N.versions) × (programs.now ≡ N.programs) }
+    {
+        Published {
+            versions,
+            programs,
+            of: PhantomData,
+        }
+    }
+
+    /// A copy.
+    pub fn again(&self) -> Published<'p, N> {
+        Published {
+            versions: self.versions,
+            programs: self.programs,
+            of: PhantomData,
+        }
+    }
+
+    /// Publishes a version. It comes back where there is no memory.
+    pub fn publish<R: Wait>(&self, rt: &R, version: Version) -> Result<VersionToken<N>, Version>
+        ensures ok { IfOk result (λ t. t.value ≡ version) }
+        ensures err { IfErr result (λ v. v ≡ version) }
+    {
+        let at = self.versions.push_shown(rt, version)?;
+        Ok(VersionToken {
+            at,
+            of: PhantomData,
+        })
+    }
+
+    /// The version of a token.
+    pub fn look(&self, token: &VersionToken<N>) -> &Version
+        ensures { result.now ≡ token.now.value }
+    {
+        self.versions.value(&token.at)
+    }
+
+    /// Whether two tokens are of one place, and so of one version.
+    pub fn is_same(&self, a: &VersionToken<N>, b: &VersionToken<N>) -> bool
+        ensures { IsTrue result ↔ (a.now ≡ b.now) }
+    {
+        if a.at.index() == b.at.index() {
+            self.versions.agrees(&a.at, &b.at);
+            true
+        } else {
+            false
+        }
+    }
+
+    /// Publishes a program. It comes back where there is no memory.
+    pub fn publish_program<R: Wait>(
+        &self,
+        rt: &R,
+        program: Verified,
+    ) -> Result<ProgramToken<N>, Verified>
+        ensures ok { IfOk result (λ t. t.value ≡ program) }
+        ensures err { IfErr result (λ p. p ≡ program) }
+    {
+        let at = self.programs.push_shown(rt, program)?;
+        Ok(ProgramToken {
+            at,
+            of: PhantomData,
+        })
+    }
+
+    /// The program of a token.
+    pub fn program(&self, token: &ProgramToken<N>) -> &Verified
+        ensures { result.now ≡ token.now.value }
+    {
+        self.programs.value(&token.at)
+    }
+
+    /// Whether two tokens are of one place, and so of one program.
+    pub fn is_same_program(&self, token: &ProgramToken<N>, other: &ProgramToken<N>) -> bool
+        ensures { IsTrue result ↔ (token.now ≡ other.now) }
+    {
+        if token.at.index() == other.at.index() {
+            self.programs.agrees(&token.at, &other.at);
+            true
+        } else {
+            false
+        }
+    }
+}
