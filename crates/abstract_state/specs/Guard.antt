@@ -14,6 +14,7 @@ use Rattle.abstract_state.specs.declared.step.Flow.{Flow}
 use Rattle.abstract_state.specs.State.{register_at}
 use Rattle.abstract_state.specs.Steps.{after}
 use Rattle.abstract_state.specs.Kinds.{IsContextAt}
+use Rattle.abstract_state.specs.Branch.{LeavesSides}
 use Rattle.abstract_state.specs.Exact.{Fact, Holds, tail_after}
 use Rattle.abstract_state.specs.Exact.Fact.{TextIn, NumberIn, AnyNumber}
 
@@ -30,7 +31,7 @@ pub data Yields (a : AbsState) : Insn → ℕ → Fact → Type 0 where
 abbrev pub SameBut : ℕ → AbsState → AbsState → Type 0
 SameBut d a b = (i : ℕ) → i ≢ d → register_at b.registers i ≡ register_at a.registers i
 
--- each register that the instruction doesn't write is as it was
+-- each register that the instruction doesn't write, or compare, is as it was
 abbrev pub LeavesOthers : AbsState → Insn → AbsState → Type 0
 LeavesOthers a (Compute w op d o) b = SameBut d a b
 LeavesOthers a (Negate w d) b = SameBut d a b
@@ -38,7 +39,7 @@ LeavesOthers a (Extend e d r) b = SameBut d a b
 LeavesOthers a (Convert c bits d) b = SameBut d a b
 LeavesOthers a (Jump distance) b = b ≡ a
 LeavesOthers a (JumpLong distance) b = b ≡ a
-LeavesOthers a (Branch w c l r distance) b = Unit {0}
+LeavesOthers a (Branch w c l r distance) b = LeavesSides l r a b
 LeavesOthers a (Load z d base o) b = SameBut d a b
 LeavesOthers a (LoadSigned z d base o) b = SameBut d a b
 LeavesOthers a (Store z base o v) b = b.registers ≡ a.registers

@@ -32,7 +32,7 @@ impl<N: Naming> Model for Batch<N> {
 
 /// The verdict of a program on a span.
 #[tactic(auto, using(crate::proofs::Hits::verdict_is))]
-fn verdict(program: &Verified, span: &SpanView<'_>) -> u64
+pub fn verdict(program: &Verified, span: &SpanView<'_>) -> u64
     ensures { result ≡ verdict_on program.now span.now }
 {
     run(program, &context(span), span.text.as_bytes())

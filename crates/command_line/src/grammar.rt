@@ -1,4 +1,5 @@
 use clap::{Arg, ArgAction, Command, value_parser};
+use hub_requests::{MOST_SESSIONS, MOST_WORKERS};
 use std::alloc::{AllocError, Global};
 
 /// What the exit status of each command says.
@@ -70,6 +71,19 @@ the program, a line of 16 hexadecimal digits for each slot.",
         .after_help(STATUSES)
 }
 
+fn check<'a>(alloc: Global) -> Command<'a> {
+    Command::new(alloc, "check")
+        .about("Says whether a program is accepted")
+        .long_about(
+            "Says whether a program is accepted, that is whether each run of it, on any span,
+is sure to end with a number and without a fault. Standard input is the program's
+bytes, as pairs of hexadecimal digits of either case; spaces, tabs and ends of
+lines are skipped. Printed is `accepted <slots>`, or the refusal of the first
+slot at fault.",
+        )
+        .after_help(STATUSES)
+}
+
 fn dis<'a>(alloc: Global) -> Command<'a> {
     Command::new(alloc, "dis")
         .about("Prints the text of a program")
@@ -94,6 +108,57 @@ empty input is no change. Printed are the spans of the last version, a line
         .after_help(STATUSES)
 }
 
+/// How many threads filter.
+fn workers<'a>(alloc: Global) -> Arg<'a> {
+    Arg::new(alloc, "workers")
+        .long("workers")
+        .value_name("NUMBER")
+        .action(ArgAction::Set)
+        .value_parser(value_parser!(u32).range(1..=i64::from(MOST_WORKERS)))
+        .default_value("1")
+        .help("How many threads run programs on the spans of versions, 1 to 16")
+}
+
+fn replay<'a>(alloc: Global) -> Result<Command<'a>, AllocError> {
+    Command::new(alloc, "replay")
+        .about("Answers a session")
+        .long_about(
+            "Answers a session. Standard input is the session's lines (docs/SESSIONS.md):
+changes, and subscriptions of programs. Printed are the replies. A line that is
+refused is answered `no <number> <Name>`, and the session goes on.",
+        )
+        .after_help(STATUSES)
+        .arg(workers(alloc))
+}
+
+fn serve<'a>(alloc: Global) -> Result<Command<'a>, AllocError> {
+    let port = Arg::new(alloc, "port")
+        .long("port")
+        .value_name("NUMBER")
+        .required(true)
+        .action(ArgAction::Set)
+        .value_parser(value_parser!(u16).range(0..))
+        .help("The port, 0 to 65535; at 0 the system chooses one");
+    let sessions = Arg::new(alloc, "sessions")
+        .long("sessions")
+        .value_name("NUMBER")
+        .required(true)
+        .action(ArgAction::Set)
+        .value_parser(value_parser!(u32).range(1..=i64::from(MOST_SESSIONS)))
+        .help("How many sessions are answered before the program ends, 1 to 64");
+    Command::new(alloc, "serve")
+        .about("Answers sessions over TCP")
+        .long_about(
+            "Answers sessions over TCP, on 127.0.0.1. Standard input isn't read. Printed is
+`port <number>`. A session is as that of `hub replay --help`; all of them share
+one text. The program ends when so many sessions have ended.",
+        )
+        .after_help(STATUSES)
+        .arg(port)?
+        .arg(sessions)?
+        .arg(workers(alloc))
+}
+
 /// The command line of the program.
 pub fn hub<'a>(alloc: Global) -> Result<Command<'a>, AllocError> {
     Command::new(alloc, "hub")
@@ -107,7 +172,10 @@ command reads standard input, in the form that its own help says (as in
         .after_help(STATUSES)
         .subcommand_required(true)
         .subcommand(asm(alloc))?
+        .subcommand(check(alloc))?
         .subcommand(dis(alloc))?
+        .subcommand(replay(alloc)?)?
         .subcommand(run(alloc)?)?
+        .subcommand(serve(alloc)?)?
         .subcommand(spans(alloc))
 }

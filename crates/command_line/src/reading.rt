@@ -1,7 +1,7 @@
 use crate::grammar::hub;
 use clap::error::ErrorKind;
 use clap::{ArgMatches, Error};
-use hub_requests::{Request, SpanOptions};
+use hub_requests::{Command, Request, Sessions, SpanOptions, Workers};
 use std::alloc::{AllocError, Global};
 use std::convert::AsStr;
 
@@ -44,18 +44,39 @@ fn span_options(matches: &ArgMatches<'_>) -> SpanOptions {
     }
 }
 
+/// The number of workers, which is one where none is given.
+fn workers(matches: &ArgMatches<'_>) -> Workers {
+    let count = matches.get_one::<u32>("workers").unwrap_or(1);
+    Workers::new(count).unwrap_or(Workers::one())
+}
+
+/// What the options of `serve` ask for; without its port and its number of sessions, nothing.
+fn serving(matches: &ArgMatches<'_>) -> Option<Request> {
+    Some(Request::Serve {
+        port: matches.get_one::<u16>("port")?,
+        sessions: Sessions::new(matches.get_one::<u32>("sessions")?)?,
+        workers: workers(matches),
+    })
+}
+
 fn request_of(alloc: Global, matches: &ArgMatches<'_>) -> Result<Request, Unread> {
-    match matches.subcommand() {
-        Some(("asm", _)) => Ok(Request::Asm),
-        Some(("dis", _)) => Ok(Request::Dis),
-        Some(("run", run)) => Ok(Request::Run {
+    let request = match matches.subcommand() {
+        Some(("asm", _)) => Some(Request::Perform(Command::Asm)),
+        Some(("check", _)) => Some(Request::Perform(Command::Check)),
+        Some(("dis", _)) => Some(Request::Perform(Command::Dis)),
+        Some(("replay", replay)) => Some(Request::Replay {
+            workers: workers(replay),
+        }),
+        Some(("run", run)) => Some(Request::Perform(Command::Run {
             digits: String::from_str(alloc, run.get_str("HEX").unwrap_or(""))?,
             options: span_options(run),
-        }),
-        Some(("spans", _)) => Ok(Request::Spans),
-        // The parser asks for a subcommand, and knows no other.
-        _ => Err(Unread::Usage(String::new(alloc))),
-    }
+        })),
+        Some(("serve", serve)) => serving(serve),
+        Some(("spans", _)) => Some(Request::Perform(Command::Spans)),
+        _ => None,
+    };
+    // The parser asks for a subcommand and for what it requires, and knows no other.
+    request.ok_or(Unread::Usage(String::new(alloc)))
 }
 
 /// What the command line's parser says: a help or the version, where it was asked for, or what is wrong.

@@ -21,7 +21,7 @@ fn main(rt: HostRuntime) -> ExitCode {
     let mut reader = rt.reader();
     let mut writer = io::writer(&rt);
     let status = match words(&rt) {
-        Ok(words) => command(rt.alloc(), &words, &mut reader, &mut writer),
+        Ok(words) => command(&rt, rt.alloc(), &words, &mut reader, &mut writer),
         Err(error) if error.kind() == io::ErrorKind::OutOfMemory => {
             match rt.println("refused 45 OutOfMemory") {
                 Ok(()) => 1,
@@ -33,11 +33,5 @@ fn main(rt: HostRuntime) -> ExitCode {
             2
         }
     };
-    if status == 3 {
-        complain(
-            &rt,
-            "standard input can't be read, or standard output can't be written",
-        );
-    }
     ExitCode::from(status)
 }

@@ -24,7 +24,10 @@ use anyhow::{Context, Result, bail};
 use hub_program::command;
 use std::alloc::Global;
 use std::io;
-use std::io::{Read, Write};
+use std::io::{Eprint, Read, Write};
+use std::net::{Net, TcpListener, TcpStream};
+use std::sync::Wait;
+use std::thread::Threads;
 
 #[derive(Drop)]
 struct Case<'a> {
@@ -128,10 +131,19 @@ impl<'a> Case<'a> {
     }
 
     /// Runs the command, and prints what it answers.
-    fn answer<W: Write>(&self, alloc: Global, writer: &mut W) -> Result<()> {
+    fn answer<
+        H: Threads
+            + Wait
+            + Net<Listener = TcpListener, Stream = TcpStream>
+            + Eprint
+            + Copy
+            + Send
+            + Sync,
+        W: Write,
+    >(&self, rt: &H, alloc: Global, writer: &mut W) -> Result<()> {
         let mut reader = self.input.as_slice();
         let mut printed = Vec::new(alloc);
-        let status = command(alloc, &self.words, &mut reader, &mut printed);
+        let status = command(rt, alloc, &self.words, &mut reader, &mut printed);
         writeln!(writer, "{}: {status}", self.name)?;
         if status == 2 {
             return Ok(());
@@ -152,7 +164,7 @@ fn main(rt: HostRuntime) -> Result<()> {
     let mut writer = io::BufWriter::new(alloc, io::writer(&rt))?;
     for text in cases.as_str().split("\n\n") {
         let case = Case::read(alloc, text)?;
-        case.answer(alloc, &mut writer)?;
+        case.answer(&rt, alloc, &mut writer)?;
     }
     writer.flush()?;
     Ok(())

@@ -11,10 +11,10 @@ use Rattle.change_ops.specs.Spelling.{change_text, Spells}
 use Rattle.change_ops.specs.Refusals.{IsRefused as BeginsWithNoChange}
 use Rattle.change_ops.specs.declared.refusal.ChangeError.{ChangeError}
 use Rattle.change_ops.specs.declared.refusal.ChangeError.TheVariants as reading
-use Rattle.hub_core.specs.Accepted.{IsRefused, AreAccepted}
-use Rattle.hub_core.specs.declared.refusal.SubmitError.{SubmitError}
-use Rattle.hub_core.specs.declared.refusal.SubmitError.TheVariants.{OutOfMemory}
-use Rattle.hub_core.proofs.Chronicle.{accepted_more}
+use Rattle.change_history.specs.Accepted.{IsRefused, AreAccepted}
+use Rattle.change_history.specs.declared.refusal.SubmitError.{SubmitError}
+use Rattle.change_history.specs.declared.refusal.SubmitError.TheVariants.{OutOfMemory}
+use Rattle.change_history.proofs.Chronicle.{accepted_more}
 use Rattle.hub_commands.specs.declared.reason.Reason.TheVariants.{Unread, Unaccepted}
 use Rattle.hub_commands.specs.declared.spans.Stop.{Stop}
 use Rattle.hub_commands.specs.declared.spans.Stop.TheVariants as stop

@@ -1,6 +1,7 @@
 -- Steps from what the calls of a command give to what the command answers.
-use Rattle.std.proofs.Common.{◌≡◌, ℕ, ◌<◌, ◌≤◌, List, length, take, Option, Some, None, Result, Ok, Err, IfOk, inl, inr, refl, ap, subst, ◌∙◌, arith}
-use Rattle.std.specs.Prelude.{IfSome}
+use Rattle.std.proofs.Common.{◌≡◌, ◌↔◌, ℕ, ◌<◌, ◌≤◌, List, length, take, Option, Some, None, Result, Ok, Err, IfOk, inl, inr, refl, sym, ap, subst, ◌∙◌, arith}
+use Rattle.std.specs.Prelude.{IfSome, IfErr, MatchOption}
+use Rattle.std.specs.Result.{result_err}
 use Rattle.std.specs.Str.{IsUtf8}
 use Rattle.std.proofs.lemmas.List.{take_all, length-take}
 use Rattle.std.proofs.lemmas.Bool.{cases_lt}
@@ -12,6 +13,14 @@ use Rattle.bpf_words.specs.Words.{IsProgram, IsRefused, program_of}
 use Rattle.bpf_words.specs.Context.{context_bytes}
 use Rattle.meaning.specs.declared.Outcome.{Outcome}
 use Rattle.meaning.specs.Outcomes.{outcome}
+use Rattle.meaning.specs.Step.{Program}
+use Rattle.meaning.specs.Safe.{Safe}
+use Rattle.verifier.specs.declared.refusal.StructureFault.{StructureFault}
+use Rattle.verifier.specs.declared.refusal.VerifyError.{VerifyError}
+use Rattle.verifier.specs.declared.refusal.VerifyError.TheVariants.{Structure, State, OutOfMemory}
+use Rattle.verifier.specs.Structure.{FirstFault}
+use Rattle.verifier.specs.Plain.{IsPlain}
+use Rattle.verifier.specs.Guard.{IsGuard}
 use Rattle.assembler.specs.declared.fault.AsmError.{AsmError}
 use Rattle.assembler.specs.Text.{AsmText, AsmFault}
 use Rattle.hub_requests.specs.declared.SpanOptions.{SpanOptions}
@@ -19,7 +28,7 @@ use Rattle.hub_commands.specs.declared.reason.Reason.TheVariants.{BadHex, Words,
 use Rattle.hub_commands.specs.Answers.{Reply, done}
 use Rattle.hub_commands.specs.Hexadecimal.{slot_lines}
 use Rattle.hub_commands.specs.Reasons.{refusal}
-use Rattle.hub_commands.specs.Programs.{IsAsmReply, no_source, assembled, IsProgramReply, no_hex, no_program, program, facts_of, outcome_reply, IsSpanReply, no_text, ran}
+use Rattle.hub_commands.specs.Programs.{IsAsmReply, no_source, assembled, IsProgramReply, no_hex, no_program, program, HasNoFault, Rejects, facts_of, outcome_reply, IsSpanReply, no_text, ran}
 
 -- what holds of an answer, by what it was said to be
 pub mapped : {A E : Type 0} (P Q : A → Type 0) (result : Result A E) → IfOk result P → ((x : A) → P x → Q x) → IfOk result Q
@@ -63,6 +72,25 @@ module _ (Replies : List ℕ → Reply → Type 0) (digits lent : List ℕ) (sam
       let P : List ℕ → Type 0 = λ d. decode_of d ≡ Ok bytes in
       let Q : List ℕ → Type 0 = λ b. Replies b reply in
       program bytes (subst P same decoded) (subst IsProgram is right) (subst Q is answered)
+
+-- what the verifier answers says of the faults in a program's structure
+abbrev Names : Program → Result Program VerifyError → Type 0
+Names code given = (slot : ℕ) (fault : StructureFault) → (given ≡ Err (Structure slot fault)) ↔ FirstFault code slot fault
+
+rejects : (code : Program) (error : VerifyError) → Names code (Err error) → (IsPlain code → error ≡ OutOfMemory) → (IsGuard code → error ≡ OutOfMemory) → Rejects code error
+rejects code (Structure slot fault) names plain guard = (names slot fault).0 refl
+rejects code (State slot fault) names plain guard =
+    let sound : HasNoFault code = λ other wrong first. (let bad : Err (State slot fault) ≡ Err (Structure other wrong) = (names other wrong).1 first in absurd cc) in
+    (sound, λ right. (let bad : State slot fault ≡ OutOfMemory = plain right in absurd cc), λ right. (let bad : State slot fault ≡ OutOfMemory = guard right in absurd cc))
+rejects code OutOfMemory names plain guard = λ other wrong first. (let bad : Err OutOfMemory ≡ Err (Structure other wrong) = (names other wrong).1 first in absurd cc)
+
+pub verified : (code : Program) (given : Result Program VerifyError) (left : Option VerifyError) → left ≡ result_err given → IfOk given (λ same. same ≡ code) → IfOk given Safe
+    → Names code given → IfErr given (λ error. IsPlain code → error ≡ OutOfMemory) → IfErr given (λ error. IsGuard code → error ≡ OutOfMemory) → MatchOption left (HasNoFault code × Safe code) (Rejects code)
+verified code (Ok same) left e is safe names plain guard =
+    let sound : HasNoFault code = λ slot fault first. (let bad : Ok same ≡ Err (Structure slot fault) = (names slot fault).1 first in absurd cc) in
+    subst (λ (o : Option VerifyError). MatchOption o (HasNoFault code × Safe code) (Rejects code)) (sym e) (sound, subst Safe is safe)
+verified code (Err error) left e is safe names plain guard =
+    subst (λ (o : Option VerifyError). MatchOption o (HasNoFault code × Safe code) (Rejects code)) (sym e) (rejects code error names plain guard)
 
 pub span_ran : {E : Type 0} (options : SpanOptions) (bytes input text lent context : List ℕ) (facts : Facts) (given : Outcome) (result : Result Reply E)
     → text ≡ input → IsUtf8 input → length text ≤ 131072 → facts ≡ facts_of options text → context ≡ context_bytes facts → lent ≡ text

@@ -1,4 +1,4 @@
--- What the commands on programs answer: `asm`, `dis` and `run`.
+-- What the commands on programs answer: `asm`, `check`, `dis` and `run`.
 use Rattle.std.specs.Prelude.{◌≡◌, ℕ, ◌≤◌, List, ◌++◌, length, codes, Ok, Err}
 use Rattle.std.specs.Fmt.{decimal}
 use Rattle.std.specs.Str.{IsUtf8, chars}
@@ -13,11 +13,19 @@ use Rattle.meaning.specs.declared.FaultKind.TheVariants.{UnsetRegister, BadAddre
 use Rattle.meaning.specs.declared.Outcome.{Outcome}
 use Rattle.meaning.specs.declared.Outcome.TheVariants.{Done, Fault, OutOfSteps}
 use Rattle.meaning.specs.Outcomes.{outcome}
+use Rattle.meaning.specs.Step.{Program}
+use Rattle.meaning.specs.Safe.{Safe}
+use Rattle.verifier.specs.declared.refusal.StructureFault.{StructureFault}
+use Rattle.verifier.specs.declared.refusal.VerifyError.{VerifyError}
+use Rattle.verifier.specs.declared.refusal.VerifyError.TheVariants.{Structure, State, OutOfMemory}
+use Rattle.verifier.specs.Structure.{FirstFault}
+use Rattle.verifier.specs.Plain.{IsPlain}
+use Rattle.verifier.specs.Guard.{IsGuard}
 use Rattle.assembler.specs.declared.fault.AsmError.{AsmError}
 use Rattle.assembler.specs.Text.{AsmText, AsmFault}
 use Rattle.disassembler.specs.Canonical.{canonical}
 use Rattle.hub_requests.specs.declared.SpanOptions.{SpanOptions}
-use Rattle.hub_commands.specs.declared.reason.Reason.TheVariants.{TextRefused, BadHex, Words, Source}
+use Rattle.hub_commands.specs.declared.reason.Reason.TheVariants.{TextRefused, BadHex, Words, Unverified, Source}
 use Rattle.hub_commands.specs.Answers.{Reply, line, done, failed}
 use Rattle.hub_commands.specs.Hexadecimal.{without_blanks, slot_lines}
 use Rattle.hub_commands.specs.Reasons.{refusal}
@@ -38,6 +46,27 @@ pub data IsProgramReply (Replies : List ℕ → Reply → Type 0) (digits : List
 -- `dis`: a program's canonical text
 unfoldable pub IsDisReply : List ℕ → Reply → Type 0
 IsDisReply input reply = IsProgramReply (λ bytes given. given ≡ done (canonical (program_of bytes))) (without_blanks input) reply
+
+-- no instruction's place or target is at fault
+abbrev pub HasNoFault : Program → Type 0
+HasNoFault code = (slot : ℕ) (fault : StructureFault) → ¬ (FirstFault code slot fault)
+
+-- what a refusal says of a program: the first fault in its structure; or that this has none, and no plain program and no guard
+-- program is refused but for want of memory
+abbrev pub Rejects : Program → VerifyError → Type 0
+Rejects code (Structure slot fault) = FirstFault code slot fault
+Rejects code (State slot fault) = HasNoFault code × ¬ (IsPlain code) × ¬ (IsGuard code)
+Rejects code OutOfMemory = HasNoFault code
+
+-- of a program: how many slots it has, where every run of it ends with a number; or why it isn't accepted
+pub data IsAcceptanceReply (bytes : List ℕ) (reply : Reply) : Type 0 where
+  accepted : HasNoFault (program_of bytes) → Safe (program_of bytes) → reply ≡ done (line (codes "accepted " ++ decimal (length (program_of bytes))))
+      → IsAcceptanceReply bytes reply
+  rejected : (error : VerifyError) → Rejects (program_of bytes) error → reply ≡ refusal (Unverified error) → IsAcceptanceReply bytes reply
+
+-- `check`: whether a program is accepted
+unfoldable pub IsCheckReply : List ℕ → Reply → Type 0
+IsCheckReply input reply = IsProgramReply IsAcceptanceReply (without_blanks input) reply
 
 -- a text that a span may have
 pub record IsSpanText (text : List ℕ) : Type 0 where

@@ -4,17 +4,23 @@ use Rattle.std.specs.Fmt.{decimal}
 use Rattle.bpf_words.specs.declared.refusal.SlotFault.{SlotFault}
 use Rattle.bpf_words.specs.declared.refusal.SlotFault.TheVariants.{UnknownOpcode, OutOfProfile, UnusedField, BadRegister, BadWidth, TruncatedWide}
 use Rattle.bpf_words.specs.declared.refusal.WordError.TheVariants.{Empty, TooLong, LengthNotEight, Slot}
+use Rattle.abstract_state.specs.declared.refusal.Refusal.{Refusal as StateFault}
+use Rattle.abstract_state.specs.declared.refusal.Refusal.TheVariants.{UnsetRegister, PointerArithmetic, PointerCompare, ContextField, StackBounds, StackUnset, TextBounds, TextOffset, ReadOnlyStore, NotAnAddress, PointerStore, ReturnPointer}
+use Rattle.verifier.specs.declared.refusal.StructureFault.{StructureFault}
+use Rattle.verifier.specs.declared.refusal.StructureFault.TheVariants.{BackwardJump, JumpOut, JumpIntoWide, FallOff, WriteR10}
+use Rattle.verifier.specs.declared.refusal.VerifyError.{VerifyError}
+use Rattle.verifier.specs.declared.refusal.VerifyError.TheVariants as verifying
 use Rattle.assembler.specs.declared.fault.LineFault.{LineFault}
 use Rattle.assembler.specs.declared.fault.LineFault.TheVariants.{Syntax, UnknownName, NumberRange, UnknownLabel, LabelTwice, JumpRange}
 use Rattle.assembler.specs.declared.fault.AsmError.TheVariants.{Line, OutOfMemory}
 use Rattle.change_ops.specs.declared.refusal.ChangeError.{ChangeError}
 use Rattle.change_ops.specs.declared.refusal.ChangeError.TheVariants as reading
-use Rattle.hub_core.specs.declared.refusal.Refusal.{Refusal}
-use Rattle.hub_core.specs.declared.refusal.Refusal.TheVariants.{StaleCounter, UnknownRef, DocumentFull, MarksFull}
-use Rattle.hub_core.specs.declared.refusal.SubmitError.{SubmitError}
-use Rattle.hub_core.specs.declared.refusal.SubmitError.TheVariants as submit
+use Rattle.change_history.specs.declared.refusal.Refusal.{Refusal}
+use Rattle.change_history.specs.declared.refusal.Refusal.TheVariants.{StaleCounter, UnknownRef, DocumentFull, MarksFull}
+use Rattle.change_history.specs.declared.refusal.SubmitError.{SubmitError}
+use Rattle.change_history.specs.declared.refusal.SubmitError.TheVariants as submit
 use Rattle.hub_commands.specs.declared.reason.Reason.{Reason}
-use Rattle.hub_commands.specs.declared.reason.Reason.TheVariants.{TextRefused, BadHex, Words, Source, Unread, Unaccepted}
+use Rattle.hub_commands.specs.declared.reason.Reason.TheVariants.{TextRefused, BadHex, Words, Unverified, Source, Unread, Unaccepted}
 use Rattle.hub_commands.specs.Answers.{Reply, refused}
 
 abbrev pub slot_fault : SlotFault → List ℕ
@@ -24,6 +30,37 @@ slot_fault UnusedField = codes "6 UnusedField"
 slot_fault BadRegister = codes "7 BadRegister"
 slot_fault BadWidth = codes "8 BadWidth"
 slot_fault TruncatedWide = codes "9 TruncatedWide"
+
+abbrev pub structure_fault : StructureFault → List ℕ
+structure_fault BackwardJump = codes "10 BackwardJump"
+structure_fault JumpOut = codes "11 JumpOut"
+structure_fault JumpIntoWide = codes "12 JumpIntoWide"
+structure_fault FallOff = codes "13 FallOff"
+structure_fault WriteR10 = codes "14 WriteR10"
+
+abbrev pub state_fault : StateFault → List ℕ
+state_fault UnsetRegister = codes "15 UnsetRegister"
+state_fault PointerArithmetic = codes "16 PointerArithmetic"
+state_fault PointerCompare = codes "17 PointerCompare"
+state_fault ContextField = codes "18 ContextField"
+state_fault StackBounds = codes "19 StackBounds"
+state_fault StackUnset = codes "20 StackUnset"
+state_fault TextBounds = codes "21 TextBounds"
+state_fault TextOffset = codes "22 TextOffset"
+state_fault ReadOnlyStore = codes "23 ReadOnlyStore"
+state_fault NotAnAddress = codes "24 NotAnAddress"
+state_fault PointerStore = codes "25 PointerStore"
+state_fault ReturnPointer = codes "26 ReturnPointer"
+
+-- a fault, and the slot where it stands
+abbrev pub at_slot : ℕ → List ℕ → List ℕ
+at_slot slot fault = fault ++ codes " slot " ++ decimal slot
+
+-- why a program isn't accepted
+abbrev pub unverified_text : VerifyError → List ℕ
+unverified_text (verifying.Structure slot fault) = at_slot slot (structure_fault fault)
+unverified_text (verifying.State slot fault) = at_slot slot (state_fault fault)
+unverified_text verifying.OutOfMemory = codes "27 OutOfMemory"
 
 abbrev pub line_fault : LineFault → List ℕ
 line_fault Syntax = codes "30 Syntax"
@@ -67,7 +104,8 @@ abbrev pub reason_text : Reason → List ℕ
 reason_text (Words Empty) = codes "1 Empty"
 reason_text (Words TooLong) = codes "2 TooLong"
 reason_text (Words LengthNotEight) = codes "3 LengthNotEight"
-reason_text (Words (Slot slot fault)) = slot_fault fault ++ codes " slot " ++ decimal slot
+reason_text (Words (Slot slot fault)) = at_slot slot (slot_fault fault)
+reason_text (Unverified error) = unverified_text error
 reason_text (Source (Line number fault)) = line_fault fault ++ codes " line " ++ decimal number
 reason_text (Source OutOfMemory) = codes "36 OutOfMemory"
 reason_text TextRefused = codes "62 TextRefused"

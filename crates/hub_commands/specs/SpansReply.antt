@@ -7,9 +7,9 @@ use Rattle.change_ops.specs.Spelling.{change_text, Spells}
 use Rattle.change_ops.specs.Refusals.{IsRefused as BeginsWithNoChange}
 use Rattle.change_ops.specs.declared.refusal.ChangeError.{ChangeError}
 use Rattle.span_flatten.specs.Spans.{Span, AreSpans}
-use Rattle.hub_core.specs.Accepted.{operations_of, AreAccepted, IsRefused}
-use Rattle.hub_core.specs.declared.refusal.SubmitError.{SubmitError}
-use Rattle.hub_core.specs.declared.refusal.SubmitError.TheVariants.{OutOfMemory}
+use Rattle.change_history.specs.Accepted.{operations_of, AreAccepted, IsRefused}
+use Rattle.change_history.specs.declared.refusal.SubmitError.{SubmitError}
+use Rattle.change_history.specs.declared.refusal.SubmitError.TheVariants.{OutOfMemory}
 use Rattle.hub_commands.specs.declared.reason.Reason.{Reason}
 use Rattle.hub_commands.specs.declared.reason.Reason.TheVariants.{TextRefused, Unread, Unaccepted}
 use Rattle.hub_commands.specs.Answers.{Reply, done}

@@ -2,7 +2,7 @@
 use Rattle.std.specs.Prelude.{◌≡◌, ℕ, List, [], ◌∷◌, ◌++◌}
 use Rattle.change_ops.specs.Changes.{Edit}
 use Rattle.change_ops.specs.Spelling.{Spells}
-use Rattle.hub_core.specs.Accepted.{IsAccepted}
+use Rattle.change_history.specs.Accepted.{IsAccepted}
 use Rattle.hub_commands.specs.SpansReply.{IsStopped, Stops}
 use Rattle.hub_commands.specs.declared.reason.Reason.{Reason}
 use Rattle.hub_commands.specs.declared.spans.Stop.{Stop}

@@ -3,6 +3,7 @@
 
 mod answer;
 mod asm;
+mod check;
 mod dis;
 pub mod failure;
 mod hexadecimal;

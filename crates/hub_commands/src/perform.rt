@@ -3,30 +3,32 @@ ghost use Rattle.hub_commands.specs.Answers.{IsAnswered};
 ghost use Rattle.hub_commands.specs.Requests.{IsReplyTo};
 
 use crate::asm::asm;
+use crate::check::check;
 use crate::dis::dis;
 use crate::failure::Failure;
 use crate::run::run;
 use crate::spans::spans;
-use hub_requests::Request;
+use hub_requests::Command;
 use std::alloc::Global;
 use std::io::{Read, Write};
 
 /// Does what is asked for with the input, prints the answer, and gives the exit status.
 pub fn perform<R: Read, W: Write>(
     alloc: Global,
-    request: &Request,
+    command: &Command,
     reader: &mut R,
     writer: &mut W,
 ) -> Result<u8, Failure>
-    ensures { IfOk result (λ status. IsAnswered (IsReplyTo request.now) (R.remaining reader.old)
+    ensures { IfOk result (λ status. IsAnswered (IsReplyTo command.now) (R.remaining reader.old)
         (W.contents writer.old) (W.contents writer.new) status) }
 {
-    match request {
-        Request::Asm => asm(alloc, reader, writer),
-        Request::Dis => dis(alloc, reader, writer),
-        Request::Run { digits, options } => {
+    match command {
+        Command::Asm => asm(alloc, reader, writer),
+        Command::Check => check(alloc, reader, writer),
+        Command::Dis => dis(alloc, reader, writer),
+        Command::Run { digits, options } => {
             run(alloc, digits.as_bytes(), options, reader, writer)
         }
-        Request::Spans => spans(alloc, reader, writer),
+        Command::Spans => spans(alloc, reader, writer),
     }
 }

@@ -1,18 +1,22 @@
 ghost use Rattle.std.specs.Prelude.{◌≡◌};
 ghost use Rattle.std.specs.declared.option.Option.TheVariants.{Some};
-ghost use Rattle.hub_commands.specs.Reasons.{slot_fault, line_fault, refusal_name, reason_text};
+ghost use Rattle.hub_commands.specs.Reasons.{slot_fault, structure_fault, state_fault, line_fault, refusal_name, reason_text};
 
+use abstract_state::refusal::Refusal as StateFault;
 use assembler::fault::{AsmError, LineFault};
 use bpf_words::refusal::{SlotFault, WordError};
+use change_history::refusal::{Refusal, SubmitError};
 use change_ops::refusal::ChangeError;
-use hub_core::refusal::{Refusal, SubmitError};
 use std::fmt;
+use verifier::refusal::{StructureFault, VerifyError};
 
 /// Why an input is refused.
 #[derive(Clone, Copy)]
 pub enum Reason {
     /// Its bytes aren't a program.
     Words(WordError),
+    /// The program that its bytes are isn't accepted.
+    Unverified(VerifyError),
     /// It isn't assembler text.
     Source(AsmError),
     /// It isn't UTF-8, or longer than a span's text may be.
@@ -35,6 +39,37 @@ fn slot_fault(fault: SlotFault) -> &'static str
         SlotFault::BadRegister => "7 BadRegister",
         SlotFault::BadWidth => "8 BadWidth",
         SlotFault::TruncatedWide => "9 TruncatedWide",
+    }
+}
+
+fn structure_fault(fault: StructureFault) -> &'static str
+    ensures { result.now ≡ structure_fault fault }
+{
+    match fault {
+        StructureFault::BackwardJump => "10 BackwardJump",
+        StructureFault::JumpOut => "11 JumpOut",
+        StructureFault::JumpIntoWide => "12 JumpIntoWide",
+        StructureFault::FallOff => "13 FallOff",
+        StructureFault::WriteR10 => "14 WriteR10",
+    }
+}
+
+fn state_fault(fault: StateFault) -> &'static str
+    ensures { result.now ≡ state_fault fault }
+{
+    match fault {
+        StateFault::UnsetRegister => "15 UnsetRegister",
+        StateFault::PointerArithmetic => "16 PointerArithmetic",
+        StateFault::PointerCompare => "17 PointerCompare",
+        StateFault::ContextField => "18 ContextField",
+        StateFault::StackBounds => "19 StackBounds",
+        StateFault::StackUnset => "20 StackUnset",
+        StateFault::TextBounds => "21 TextBounds",
+        StateFault::TextOffset => "22 TextOffset",
+        StateFault::ReadOnlyStore => "23 ReadOnlyStore",
+        StateFault::NotAnAddress => "24 NotAnAddress",
+        StateFault::PointerStore => "25 PointerStore",
+        StateFault::ReturnPointer => "26 ReturnPointer",
     }
 }
 
@@ -75,6 +110,13 @@ impl fmt::Display for Reason {
             Reason::Words(WordError::Slot { slot, fault }) => {
                 write!(f, "{} slot {slot}", slot_fault(fault))
             }
+            Reason::Unverified(VerifyError::Structure { slot, fault }) => {
+                write!(f, "{} slot {slot}", structure_fault(fault))
+            }
+            Reason::Unverified(VerifyError::State { slot, fault }) => {
+                write!(f, "{} slot {slot}", state_fault(fault))
+            }
+            Reason::Unverified(VerifyError::OutOfMemory) => write!(f, "27 OutOfMemory"),
             Reason::Source(AsmError::Line { line, fault }) => {
                 write!(f, "{} line {line}", line_fault(fault))
             }

@@ -3,8 +3,8 @@ ghost use Rattle.std.specs.Prelude.{◌≡◌, ◌≢◌, ◌<◌, List, [], len
 ghost use Rattle.std.specs.Str.{IsUtf8};
 ghost use Rattle.change_ops.specs.declared.refusal.ChangeError.TheVariants.{OutOfMemory as NoMemory};
 ghost use Rattle.span_flatten.specs.Spans.{Span, AreSpans};
-ghost use Rattle.hub_core.specs.Accepted.{operations_of};
-ghost use Rattle.hub_core.specs.declared.refusal.SubmitError.TheVariants.{OutOfMemory};
+ghost use Rattle.change_history.specs.Accepted.{operations_of};
+ghost use Rattle.change_history.specs.declared.refusal.SubmitError.TheVariants.{OutOfMemory};
 ghost use Rattle.hub_commands.specs.declared.reason.Reason.TheVariants.{Unread, Unaccepted};
 ghost use Rattle.hub_commands.specs.Answers.{done, IsAnswered};
 ghost use Rattle.hub_commands.specs.SpanLines.{span_lines};
@@ -17,10 +17,10 @@ use crate::input::read_input;
 use crate::output::write_answer;
 use crate::reason::Reason;
 use crate::span_lines::lines_of;
+use change_history::history::History;
+use change_history::refusal::SubmitError;
 use change_ops::change::read_change;
 use change_ops::refusal::ChangeError;
-use hub_core::history::History;
-use hub_core::refusal::SubmitError;
 use std::alloc::{AllocError, Global};
 use std::io::{Read, Write};
 

@@ -1,5 +1,5 @@
 -- What the core keeps when something is added or changed.
-use Rattle.std.proofs.Common.{◌≡◌, ℕ, zero, suc, ◌+◌, ◌<◌, ◌≤◌, Bool, true, false, true≢false, Ok, Err, List, [], ◌∷◌, ◌++◌, length, take, set, get_or, refl, sym, ap, ◌∙◌, subst, arith, rules, length-append, length-set, ⊎_elim}
+use Rattle.std.proofs.Common.{◌≡◌, ℕ, zero, suc, ◌+◌, ◌<◌, ◌≤◌, Bool, true, false, true≢false, Result, Ok, Err, List, [], ◌∷◌, ◌++◌, length, take, set, get_or, refl, sym, ap, ◌∙◌, subst, arith, rules, length-append, length-set, ⊎_elim}
 use Rattle.std.specs.Prelude.{slice_get, Option, Some, None, All}
 use Rattle.std.proofs.Math.Nat.{zero-add}
 use Rattle.std.proofs.lemmas.List.{take-append-le, take_all, get_or_default, set-get_or}
@@ -13,16 +13,21 @@ use Rattle.batches.specs.Batches.{Entry, Slip}
 use Rattle.batches.specs.Orderly.{RisesFrom}
 use Rattle.batches.specs.Feed.{Sub, IsFed, IsWanted, Keeps, Moved, Stops, IsDue, IsNext, Finds, fresh, nothing_held}
 use Rattle.batches.proofs.Feeding.{get_push, rises_are, fed_more, fresh_fed, fed_handed, fed_closed}
-use Rattle.hub_core.specs.Accepted.{operations_of}
+use Rattle.change_history.specs.Accepted.{operations_of}
 use Rattle.hub_core.specs.declared.error.CommitError.TheVariants.{Stale}
-use Rattle.hub_core.specs.VersionAt.{IsVersionAt}
-use Rattle.hub_core.specs.Machine.{State, IsOpen, Commits, Pumps, Reissues, Closes, TakesJob, FindsAt, IsSound}
+use Rattle.change_history.specs.VersionAt.{IsVersionAt}
+use Rattle.change_history.specs.declared.refusal.SubmitError.{SubmitError}
+use Rattle.hub_core.specs.Accepting.{Accepts}
+use Rattle.hub_core.specs.Machine.{State, IsOpen, Submits, Commits, Pumps, Reissues, Closes, TakesJob, FindsAt, IsSound}
 
 -- the version of all changes
 pub version_of_all : (changes : List Edit) (c : Edit) (v : Snapshot) → IsVersion (operations_of (changes ++ c ∷ [])) (length changes + 1) v → IsVersionAt (changes ++ c ∷ []) (length changes + 1) v
 version_of_all changes c v is =
     let all : take (length changes + 1) (changes ++ c ∷ []) ≡ changes ++ c ∷ [] = take_all (length changes + 1) (changes ++ c ∷ []) (omega (arith, length-append changes (c ∷ []))) in
     subst (λ l. IsVersion (operations_of l) (length changes + 1) v) (sym all) is
+
+pub version_along : (changes others : List Edit) (c : Edit) (v : Snapshot) → changes ≡ others → IsVersion (operations_of (changes ++ c ∷ [])) (length changes + 1) v → IsVersion (operations_of (others ++ c ∷ [])) (length others + 1) v
+version_along changes others c v same is = subst (λ (l : List Edit). IsVersion (operations_of (l ++ c ∷ [])) (length l + 1) v) same is
 
 module _ {S : Type 0} (sent : S → List Entry) (full : S → Type 0) where
   pub rises : (s : State S) → IsSound sent full s → RisesFrom 0 s.versions
@@ -61,13 +66,14 @@ module _ {S : Type 0} (sent : S → List Entry) (full : S → Type 0) where
         fed = no_subs;
       })
 
-  -- what the code has is the state with a change and a token more
-  pub sound_added : (s : State S) (c : Edit) (t : Token Snapshot) (changes : List Edit) (versions : List (Token Snapshot)) → IsSound sent full s → length s.changes < 4096
-      → IsVersion (operations_of (s.changes ++ c ∷ [])) (length s.changes + 1) t.value → changes ≡ s.changes ++ c ∷ [] → versions ≡ s.versions ++ t ∷ []
-      → IsSound sent full (record s { changes = changes; versions = versions })
-  sound_added s c t changes versions sound room is e f =
-      subst (λ (x : List Edit × List (Token Snapshot)). IsSound sent full (record s { changes = x.0; versions = x.1 })) (λ i. (sym e i, sym f i))
-      (sound_submit s c t sound room (version_of_all s.changes c t.value is))
+  -- both lists have one more, or stay as they were
+  pub sound_accepted : (s : State S) (c : Edit) (r : Result (Token Snapshot) SubmitError) (changes : List Edit) (versions : List (Token Snapshot)) → IsSound sent full s
+      → Accepts s.changes s.versions c r changes versions → IsSound sent full (record s { changes = changes; versions = versions })
+  sound_accepted s c (Ok t) changes versions sound h =
+      subst (λ (x : List Edit × List (Token Snapshot)). IsSound sent full (record s { changes = x.0; versions = x.1 })) (λ i. (sym h.2 i, sym h.3 i))
+      (sound_submit s c t sound h.0.room h.1)
+  sound_accepted s c (Err e) changes versions sound h =
+      subst (λ (x : List Edit × List (Token Snapshot)). IsSound sent full (record s { changes = x.0; versions = x.1 })) (λ i. (sym h.0 i, sym h.1 i)) sound
 
   pub sound_set : (s : State S) (id : ℕ) (b : Sub S) → IsSound sent full s → IsFed sent full s.versions b → IsSound sent full (record s { subs = set s.subs id b })
   sound_set s id b sound fed = record {
@@ -146,6 +152,15 @@ module _ {S : Type 0} (sent : S → List Entry) (full : S → Type 0) where
       sound_set sent full s id a' sound (subst (IsFed sent full s.versions) (sym made) (fed_closed sent full s.versions a (fed_at sent full s id a sound within at)))
 
 module _ {S : Type 0} where
+  pub submitted : (o s : State S) (c : Edit) (r : Result (Token Snapshot) SubmitError) (changes : List Edit) (versions : List (Token Snapshot)) → s ≡ o
+      → Accepts s.changes s.versions c r changes versions → Submits o c r (record s { changes = changes; versions = versions })
+  submitted o s c (Ok t) changes versions same h =
+      subst (λ (y : State S). Submits y c (Ok t) (record s { changes = changes; versions = versions })) same
+      (h.0, h.1, λ i. record s { changes = h.2 i; versions = h.3 i })
+  submitted o s c (Err e) changes versions same h =
+      subst (λ (y : State S). Submits y c (Err e) (record s { changes = changes; versions = versions })) same
+      (λ i. record s { changes = h.0 i; versions = h.1 i }, h.2)
+
   reads : (s : State S) (id : ℕ) (a : Sub S) → id < length s.subs → a ≡ get_or s.subs id a → slice_get s.subs id ≡ Some a
   reads s id a within at = slice_get_read s.subs (length s.subs) id a refl within at
 

@@ -15,7 +15,7 @@ use Rattle.batches.specs.Batches.{Entry, batch_of, entry, items_of}
 use Rattle.batches.specs.Orderly.{items_of_all}
 use Rattle.batches.specs.Feed.{Sub, items_at, IsFed}
 use Rattle.batches.proofs.Feeding.{All_get}
-use Rattle.hub_core.specs.VersionAt.{IsVersionAt}
+use Rattle.change_history.specs.VersionAt.{IsVersionAt}
 use Rattle.hub_core.specs.Stream.{AreVersionsFrom, BeginsStream}
 use Rattle.hub_core.specs.Machine.{State, IsSound}
 

@@ -1,6 +1,4 @@
-pub mod Accepted
-pub mod Kept
-pub mod VersionAt
 pub mod Stream
+pub mod Accepting
 pub mod Machine
 pub mod Runs

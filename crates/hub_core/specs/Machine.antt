@@ -6,9 +6,9 @@ use Rattle.span_flatten.specs.Version.{Snapshot}
 use Rattle.version_history.specs.Tokens.{Token}
 use Rattle.batches.specs.Batches.{Entry, Slip}
 use Rattle.batches.specs.Feed.{Sub, IsFed, IsWanted, IsDue, IsNext, Moved, Stops, fresh, holding, nothing_held}
-use Rattle.hub_core.specs.Accepted.{IsAccepted, IsRefused}
-use Rattle.hub_core.specs.VersionAt.{IsVersionAt}
-use Rattle.hub_core.specs.declared.refusal.SubmitError.{SubmitError}
+use Rattle.change_history.specs.Accepted.{IsAccepted, IsRefused}
+use Rattle.change_history.specs.VersionAt.{IsVersionAt}
+use Rattle.change_history.specs.declared.refusal.SubmitError.{SubmitError}
 use Rattle.hub_core.specs.declared.error.SubscribeError.{SubscribeError}
 use Rattle.hub_core.specs.declared.error.SubscribeError.TheVariants as subscribe
 use Rattle.hub_core.specs.declared.error.CommitError.{CommitError}

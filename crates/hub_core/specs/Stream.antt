@@ -6,7 +6,7 @@ use Rattle.meaning.specs.Step.{Program}
 use Rattle.span_flatten.specs.Version.{Snapshot}
 use Rattle.batches.specs.declared.item.Finding.{Finding}
 use Rattle.batches.specs.Batches.{batch_of}
-use Rattle.hub_core.specs.VersionAt.{IsVersionAt}
+use Rattle.change_history.specs.VersionAt.{IsVersionAt}
 
 -- the versions of the changes from this number on, one after another
 abbrev pub AreVersionsFrom : List Edit → ℕ → List Snapshot → Type 0

@@ -1,20 +1,22 @@
-ghost use Rattle.std.specs.Prelude.{◌≡◌, ◌+◌, ◌<◌, ◌≤◌, ◌++◌, ◌∷◌, [], Some, length, map, slice_get, IfOk, MatchResult, MatchOption};
+ghost use Rattle.std.specs.Prelude.{◌≡◌, ◌+◌, ◌<◌, ◌≤◌, ◌++◌, ◌∷◌, [], Some, length, map, slice_get, IfOk, OnOk, MatchOption, vec_len, vec_capacity};
+ghost use Rattle.change_ops.specs.Changes.{Edit};
 ghost use Rattle.span_flatten.specs.Version.{IsVersion};
 ghost use Rattle.batches.specs.Feed.{Sub};
-ghost use Rattle.hub_core.specs.Accepted.{AreAccepted, IsAccepted, IsRefused, operations_of};
-ghost use Rattle.hub_core.specs.Kept.{IsHistory};
-ghost use Rattle.hub_core.specs.VersionAt.{IsVersionAt};
+ghost use Rattle.change_history.specs.Accepted.{AreAccepted, operations_of};
+ghost use Rattle.change_history.specs.Kept.{IsDraft};
+ghost use Rattle.change_history.specs.VersionAt.{IsVersionAt};
 ghost use Rattle.hub_core.specs.Stream.{BeginsStream};
 ghost use Rattle.hub_core.specs.Runs.{CommitsJob};
+ghost use Rattle.hub_core.specs.Accepting.{Accepts};
 ghost use Rattle.hub_core.specs.Machine.{IsStart, Submits, Subscribes, Commits, Pumps, Reissues, Closes, TakesJob, FindsAt, FindsJob};
 
 use crate::error::{CommitError, NoSubscriber, SubscribeError};
-use crate::history::{Draft, History};
-use crate::refusal::SubmitError;
 use batches::batch::Batch;
 use batches::item::{Item, Job};
 use batches::sink::Sink;
 use batches::subscriber::Subscriber;
+use change_history::history::{Draft, History};
+use change_history::refusal::SubmitError;
 use change_ops::change::Change;
 use std::alloc::{AllocError, Global};
 use std::marker::Model;
@@ -25,13 +27,25 @@ use version_history::published::{Naming, ProgramToken, Published, VersionToken};
 pub const SUBSCRIBER_LIMIT: usize = 64;
 
 /// The core of a hub: the accepted changes, the tokens of their versions, and the subscribers.
-#[derive(Drop)]
 pub struct Core<'p, N: Naming, S: Sink<Item<N>>> {
     alloc: Global,
     published: Published<'p, N>,
     history: History,
     versions: Vec<VersionToken<N>>,
     subs: Vec<Subscriber<N, S>>,
+}
+
+// By hand, so that a proof of a function that lets a core go sees one call there.
+impl<'p, N: Naming, S: Sink<Item<N>>> Drop for Core<'p, N, S> {
+    fn drop(self) {
+        let Core {
+            alloc: _,
+            published: _,
+            history: _,
+            versions: _,
+            subs: _,
+        } = self;
+    }
 }
 
 impl<'p, N: Naming, S: Sink<Item<N>>> Model for Core<'p, N, S> {
@@ -47,39 +61,46 @@ impl<'p, N: Naming, S: Sink<Item<N>>> Model for Core<'p, N, S> {
     ghost invariant = { λ c. IsSound S.sent S.full (record { changes = c.history; versions = c.versions.items; subs = c.subs.items }) };
 }
 
-/// Publishes the version that the changes make with the one of a draft.
+/// Publishes the version that the changes make with the one of a draft, once there is room for one token more.
 fn publish_draft<N: Naming, R: Wait>(
     rt: &R,
     alloc: Global,
     published: &Published<'_, N>,
     history: &History,
     draft: &Draft,
+    versions: &mut Vec<VersionToken<N>>,
 ) -> Result<VersionToken<N>, AllocError>
-    requires { IsHistory (history.now ++ draft.now.change ∷ []) draft.now.parts }
-    ensures { IfOk result (λ token. IsVersion (operations_of (history.now ++ draft.now.change ∷ [])) (length history.now + 1) token.value) }
+    requires { (change : Edit) × IsDraft history.now change draft.now }
+    ensures token { IfOk result (λ token. (change : Edit) → IsDraft history.now change draft.now → IsVersion (operations_of (history.now ++ change ∷ [])) (length history.now + 1) token.value) }
+    ensures room { OnOk result (vec_len versions.new < vec_capacity versions.new) }
+    ensures same { versions.new.items ≡ versions.old.items }
 {
     let version = history.draft_version(alloc, draft)?;
+    versions.reserve(1)?;
     match published.publish(rt, version) {
         Ok(token) => Ok(token),
         Err(_) => Err(AllocError),
     }
 }
 
-/// Takes a change in after those before it, and publishes its version first; where either is refused the history stays as it was.
+/// Takes a change in after those before it, with its version's token. All that can fail comes before the version is published but that
+/// itself, so no version stands published without its change; where the change is refused both lists stay as they were.
 fn accept<N: Naming, R: Wait>(
     rt: &R,
     alloc: Global,
     published: &Published<'_, N>,
     history: &mut History,
+    versions: &mut Vec<VersionToken<N>>,
     change: Change,
 ) -> Result<VersionToken<N>, SubmitError>
-    ensures { MatchResult result (λ token. (history.new ≡ history.old ++ change ∷ []) × IsAccepted history.old change × IsVersion (operations_of (history.old ++ change ∷ [])) (length history.old + 1) token.value) (λ error. (history.new ≡ history.old) × IsRefused history.old change error) }
+    ensures { Accepts history.old versions.old.items change result history.new versions.new.items }
 {
     let draft = history.draft(change)?;
-    let Ok(token) = publish_draft(rt, alloc, published, history, &draft) else {
+    let Ok(token) = publish_draft(rt, alloc, published, history, &draft, versions) else {
         return Err(SubmitError::OutOfMemory);
     };
-    history.put(draft)?;
+    history.put(draft);
+    versions.push_reserved(token.again());
     Ok(token)
 }
 
@@ -96,6 +117,13 @@ fn publish_start<N: Naming, R: Wait>(
         Ok(token) => Ok(token),
         Err(_) => Err(AllocError),
     }
+}
+
+/// The number of the latest version of a history.
+fn latest(history: &History) -> u64
+    ensures { result ≡ length history.now }
+{
+    history.len() as u64
 }
 
 impl<'p, N: Naming, S: Sink<Item<N>>> Core<'p, N, S> {
@@ -127,12 +155,14 @@ impl<'p, N: Naming, S: Sink<Item<N>>> Core<'p, N, S> {
     ) -> Result<VersionToken<N>, SubmitError>
         ensures { Submits self.old change result self.new }
     {
-        if self.versions.reserve(1).is_err() {
-            return Err(SubmitError::OutOfMemory);
-        }
-        let token = accept(rt, self.alloc, &self.published, &mut self.history, change)?;
-        self.versions.push_reserved(token.again());
-        Ok(token)
+        accept(
+            rt,
+            self.alloc,
+            &self.published,
+            &mut self.history,
+            &mut self.versions,
+            change,
+        )
     }
 
     /// How many changes were accepted.
@@ -156,8 +186,8 @@ impl<'p, N: Naming, S: Sink<Item<N>>> Core<'p, N, S> {
         if self.subs.reserve(1).is_err() {
             return Err(SubscribeError::OutOfMemory);
         }
-        let latest = self.history.len() as u64;
-        let Ok(subscriber) = Subscriber::new(self.alloc, program, latest, sink) else {
+        let first = latest(&self.history);
+        let Ok(subscriber) = Subscriber::new(self.alloc, program, first, sink) else {
             return Err(SubscribeError::OutOfMemory);
         };
         self.subs.push_reserved(subscriber);
@@ -201,7 +231,8 @@ impl<'p, N: Naming, S: Sink<Item<N>>> Core<'p, N, S> {
 
     /// Holds a batch, if its subscriber waits for it.
     pub fn commit(&mut self, batch: Batch<N>) -> Result<(), CommitError>
-        ensures { Commits self.old batch result self.new }
+        ensures commits { Commits self.old batch result self.new }
+        ensures takes_no_memory { ¬ (result ≡ Err CommitError.OutOfMemory) }
     {
         let id = batch.job().subscriber;
         if id >= self.subs.len() || self.subs[id].is_closed() {
@@ -209,10 +240,10 @@ impl<'p, N: Naming, S: Sink<Item<N>>> Core<'p, N, S> {
         }
         let sub = &mut self.subs[id];
         let kept = sub.commit(&self.published, self.versions.as_slice(), batch);
-        if !kept {
-            return Err(CommitError::Stale);
+        if kept {
+            return Ok(());
         }
-        Ok(())
+        Err(CommitError::Stale)
     }
 
     /// Computes the batch of the job at a place of these, and commits it.

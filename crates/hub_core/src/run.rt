@@ -5,9 +5,9 @@ ghost use Rattle.hub_core.specs.Runs.{Happens, AppendsRun, handed_by, IsFreshEve
 
 use crate::error::{CommitError, NoSubscriber, SubscribeError};
 use crate::hub::Core;
-use crate::refusal::SubmitError;
 use batches::item::{Item, Job};
 use batches::sink::Sink;
+use change_history::refusal::SubmitError;
 use change_ops::change::Change;
 use std::alloc::{AllocError, Global};
 use std::sync::Wait;

@@ -4,21 +4,40 @@
 use command_line::reading::{Unread, request};
 use hub_commands::failure::Failure;
 use hub_commands::perform::perform;
+use hub_requests::{Request, Sessions, Workers};
+use hub_sessions::replaying::{ReplayError, replay};
+use hub_sessions::server::{ServeError, serve};
 use std::alloc::Global;
 use std::convert::AsStr;
-use std::io::{Read, Write};
+use std::io::{Eprint, Read, Write};
+use std::net::{Net, TcpListener, TcpStream};
+use std::sync::Wait;
+use std::thread::Threads;
 
 /// Runs the command that the words name (the program's own name is the first), and answers the exit
-/// status: 0 done, 1 refused or faulted, 2 usage, 3 where a read or a write failed.
-pub fn command<S: AsStr, R: Read, W: Write>(
-    alloc: Global,
-    words: &[S],
-    reader: &mut R,
-    writer: &mut W,
-) -> u8 {
-    match answered(alloc, words, reader, writer) {
+/// status: 0 done, 1 refused or faulted, 2 usage, 3 where a read, a write, a bind or an accept failed. Only `replay` and `serve`
+/// start threads or wait for them, and only `serve` opens sockets.
+pub fn command<
+    H: Threads
+        + Wait
+        + Net<Listener = TcpListener, Stream = TcpStream>
+        + Eprint
+        + Copy
+        + Send
+        + Sync,
+    S: AsStr,
+    R: Read,
+    W: Write,
+>(rt: &H, alloc: Global, words: &[S], reader: &mut R, writer: &mut W) -> u8 {
+    match answered(rt, alloc, words, reader, writer) {
         Ok(status) => status,
-        Err(Failure::Device) => 3,
+        Err(Failure::Device) => {
+            complain(
+                rt,
+                "standard input can't be read, or standard output can't be written",
+            );
+            3
+        }
         Err(Failure::Memory) => match writeln!(writer, "refused 45 OutOfMemory") {
             Ok(()) => 1,
             Err(_) => 3,
@@ -26,14 +45,25 @@ pub fn command<S: AsStr, R: Read, W: Write>(
     }
 }
 
-fn answered<S: AsStr, R: Read, W: Write>(
-    alloc: Global,
-    words: &[S],
-    reader: &mut R,
-    writer: &mut W,
-) -> Result<u8, Failure> {
+/// Says on standard error what went wrong; where that fails too, the exit status still tells it.
+fn complain<H: Eprint>(rt: &H, fault: &str) {
+    let _ = eprintln!(rt; "hub: {fault}");
+}
+
+fn answered<
+    H: Threads
+        + Wait
+        + Net<Listener = TcpListener, Stream = TcpStream>
+        + Eprint
+        + Copy
+        + Send
+        + Sync,
+    S: AsStr,
+    R: Read,
+    W: Write,
+>(rt: &H, alloc: Global, words: &[S], reader: &mut R, writer: &mut W) -> Result<u8, Failure> {
     match request(alloc, words) {
-        Ok(request) => perform(alloc, &request, reader, writer),
+        Ok(request) => asked(rt, alloc, &request, reader, writer),
         Err(Unread::Shown(text)) => {
             writer.write_all(text.as_bytes())?;
             Ok(0)
@@ -43,5 +73,75 @@ fn answered<S: AsStr, R: Read, W: Write>(
             Ok(2)
         }
         Err(Unread::Memory) => Err(Failure::Memory),
+    }
+}
+
+/// Does what is asked.
+fn asked<
+    H: Threads
+        + Wait
+        + Net<Listener = TcpListener, Stream = TcpStream>
+        + Eprint
+        + Copy
+        + Send
+        + Sync,
+    R: Read,
+    W: Write,
+>(rt: &H, alloc: Global, request: &Request, reader: &mut R, writer: &mut W) -> Result<u8, Failure> {
+    match request {
+        Request::Perform(command) => perform(alloc, command, reader, writer),
+        Request::Replay { workers } => replayed(rt, alloc, reader, writer, *workers),
+        Request::Serve {
+            port,
+            sessions,
+            workers,
+        } => served(rt, alloc, *port, *sessions, *workers, writer),
+    }
+}
+
+/// Runs the session that the input is.
+fn replayed<H: Threads + Wait + Copy + Send + Sync, R: Read, W: Write>(
+    rt: &H,
+    alloc: Global,
+    reader: &mut R,
+    writer: &mut W,
+    workers: Workers,
+) -> Result<u8, Failure> {
+    match replay(rt, alloc, reader, writer, workers.count()) {
+        Ok(()) => Ok(0),
+        Err(ReplayError::Session(_)) => Err(Failure::Device),
+        Err(ReplayError::OutOfMemory) => Err(Failure::Memory),
+    }
+}
+
+/// Serves sessions over TCP. Where the port can't be bound, a line on standard error says why.
+fn served<
+    H: Threads
+        + Wait
+        + Net<Listener = TcpListener, Stream = TcpStream>
+        + Eprint
+        + Copy
+        + Send
+        + Sync,
+    W: Write,
+>(
+    rt: &H,
+    alloc: Global,
+    port: u16,
+    sessions: Sessions,
+    workers: Workers,
+    writer: &mut W,
+) -> Result<u8, Failure> {
+    match serve(*rt, alloc, port, sessions.count(), workers.count(), writer) {
+        Ok(()) => Ok(0),
+        Err(ServeError::Port(error)) => {
+            let _ = eprintln!(rt; "hub: port {port} of 127.0.0.1: {error}");
+            Ok(3)
+        }
+        Err(ServeError::Connection) => {
+            complain(rt, "an accept failed, or a session's read or write");
+            Ok(3)
+        }
+        Err(ServeError::OutOfMemory) => Err(Failure::Memory),
     }
 }

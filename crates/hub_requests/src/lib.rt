@@ -2,6 +2,10 @@
 //! needs the other.
 #![tactic(auto)]
 
+ghost use Rattle.std.specs.Prelude.{◌≡◌, ◌≤◌, SomeIff};
+
+use std::marker::Model;
+
 /// What the options of `run` say of the span.
 #[derive(Drop)]
 pub struct SpanOptions {
@@ -14,11 +18,13 @@ pub struct SpanOptions {
     pub version: u64,
 }
 
-/// What the program is asked to do with its input.
+/// What the program is asked to do with its whole input.
 #[derive(Drop)]
-pub enum Request {
+pub enum Command {
     /// To assemble it.
     Asm,
+    /// To say whether the program that it is in hexadecimal is accepted.
+    Check,
     /// To print the text of the program that it is in hexadecimal.
     Dis,
     /// To run a program, in hexadecimal, on the span whose text it is.
@@ -28,4 +34,113 @@ pub enum Request {
     },
     /// To print the spans that its changes make.
     Spans,
+}
+
+/// The most threads that a session's filtering may have.
+pub const MOST_WORKERS: u32 = 16;
+
+/// The most sessions that are served before the program ends.
+pub const MOST_SESSIONS: u32 = 64;
+
+/// How many threads a session filters versions with, 1 to 16.
+#[derive(Clone, Copy)]
+pub struct Workers {
+    count: usize,
+}
+
+impl Model for Workers {
+    ghost use Rattle.std.specs.Prelude.{ℕ, ◌≤◌};
+
+    ghost Value = { ℕ };
+
+    ghost view = { λ w. w.count };
+
+    ghost invariant = { λ w. (1 ≤ w.count) × (w.count ≤ 16) };
+
+    ghost inverse = { λ n. record { count = n } };
+}
+
+impl Workers {
+    /// One.
+    pub fn one() -> Self
+        ensures { result ≡ 1 }
+    {
+        Workers { count: 1 }
+    }
+
+    /// So many, if that is within the limits.
+    pub fn new(count: u32) -> Option<Self>
+        ensures { SomeIff result ((1 ≤ count) × (count ≤ 16)) count }
+    {
+        if count >= 1 && count <= MOST_WORKERS {
+            Some(Workers {
+                count: count as usize,
+            })
+        } else {
+            None
+        }
+    }
+
+    pub fn count(self) -> usize
+        ensures value { result ≡ self }
+        ensures limits { (1 ≤ result) × (result ≤ 16) }
+    {
+        self.count
+    }
+}
+
+/// How many sessions are served before the program ends, 1 to 64.
+#[derive(Clone, Copy)]
+pub struct Sessions {
+    count: usize,
+}
+
+impl Model for Sessions {
+    ghost use Rattle.std.specs.Prelude.{ℕ, ◌≤◌};
+
+    ghost Value = { ℕ };
+
+    ghost view = { λ s. s.count };
+
+    ghost invariant = { λ s. (1 ≤ s.count) × (s.count ≤ 64) };
+
+    ghost inverse = { λ n. record { count = n } };
+}
+
+impl Sessions {
+    /// So many, if that is within the limits.
+    pub fn new(count: u32) -> Option<Self>
+        ensures { SomeIff result ((1 ≤ count) × (count ≤ 64)) count }
+    {
+        if count >= 1 && count <= MOST_SESSIONS {
+            Some(Sessions {
+                count: count as usize,
+            })
+        } else {
+            None
+        }
+    }
+
+    pub fn count(self) -> usize
+        ensures value { result ≡ self }
+        ensures limits { (1 ≤ result) × (result ≤ 64) }
+    {
+        self.count
+    }
+}
+
+/// What the program is asked to do.
+#[derive(Drop)]
+pub enum Request {
+    Perform(Command),
+    /// To answer the session that its input is, line by line.
+    Replay {
+        workers: Workers,
+    },
+    /// To answer so many sessions over TCP, and then to end. At port 0 the system chooses one.
+    Serve {
+        port: u16,
+        sessions: Sessions,
+        workers: Workers,
+    },
 }

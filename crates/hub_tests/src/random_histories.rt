@@ -2,7 +2,11 @@ use crate::answers::is_answered;
 use std::alloc::{AllocError, Global};
 use std::fmt;
 use std::fmt::Write;
+use std::io::Eprint;
+use std::net::{Net, TcpListener, TcpStream};
+use std::sync::Wait;
 use std::test::Fail;
+use std::thread::Threads;
 use test_inputs::random::Random;
 
 /// An operation's id; ordered by counter, then by node.
@@ -409,13 +413,23 @@ fn in_orders(alloc: Global, history: &History, first: usize) -> Result<String, A
 
 /// The changes of the first of the histories whose spans aren't those of the reference, in the first such order, if
 /// there are any.
-fn first_wrong(alloc: Global, seeds: u64) -> Result<Option<String>, Fail> {
+fn first_wrong<
+    H: AllocGlobal
+        + Threads
+        + Wait
+        + Net<Listener = TcpListener, Stream = TcpStream>
+        + Eprint
+        + Copy
+        + Send
+        + Sync,
+>(rt: &H, seeds: u64) -> Result<Option<String>, Fail> {
+    let alloc = rt.alloc();
     for seed in 1..=seeds {
         let history = made_history(alloc, seed)?;
         let want = spans_of(alloc, &history)?;
         for first in 0..ORDERS.len() {
             let input = in_orders(alloc, &history, first)?;
-            if !is_answered(alloc, "hub spans", &input, 0, &want)? {
+            if !is_answered(rt, "hub spans", &input, 0, &want)? {
                 return Ok(Some(input));
             }
         }
@@ -425,6 +439,6 @@ fn first_wrong(alloc: Global, seeds: u64) -> Result<Option<String>, Fail> {
 
 #[test]
 fn replicas_agree_with_a_plain_reference(rt: HostRuntime) -> Result<(), Fail> {
-    assert_eq!(rt; first_wrong(rt.alloc(), 8)?, None);
+    assert_eq!(rt; first_wrong(&rt, 8)?, None);
     Ok(())
 }

@@ -4,4 +4,5 @@
 mod arithmetic;
 mod machine;
 mod memory;
+mod rows;
 pub mod run;

@@ -42,7 +42,7 @@ best_keeps marks place k mark b at best not = record {
       (at_first marks k i mark p l at g);
 }
 
-best_new : (marks : List PlacedMark) (place k : ℕ) (mark : PlacedMark) → slice_get marks k ≡ Some mark → CoversPlace mark place → ((i : ℕ) (p : PlacedMark) → i < k → slice_get marks i ≡ Some p → CoversPlace p place → Less mark.id p.id → ⊥) → IsGreatest marks place (k + 1) mark
+pub best_new : (marks : List PlacedMark) (place k : ℕ) (mark : PlacedMark) → slice_get marks k ≡ Some mark → CoversPlace mark place → ((i : ℕ) (p : PlacedMark) → i < k → slice_get marks i ≡ Some p → CoversPlace p place → Less mark.id p.id → ⊥) → IsGreatest marks place (k + 1) mark
 best_new marks place k mark at covers below = record {
   at = (k, at);
   covers = covers;

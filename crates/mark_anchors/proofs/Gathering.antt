@@ -8,7 +8,12 @@ use Rattle.char_sequence.specs.declared.sequence.Element.{Element}
 use Rattle.mark_anchors.specs.Places.{IsOfKey}
 use Rattle.mark_anchors.specs.Placed.{IsPlaced, AreFirstPlaced}
 use Rattle.mark_anchors.specs.declared.placed.PlacedMark.{PlacedMark}
-use Rattle.mark_anchors.proofs.Lists.{pushed_cases, pushed_here, pushed_still, first_or_last}
+use Rattle.std.specs.Result.{IfOk}
+use Rattle.std.specs.declared.result.Result.{Result}
+use Rattle.std.specs.declared.result.Result.TheVariants.{Ok, Err}
+use Rattle.std.specs.List.Sorted.{IsPermutation}
+use Rattle.std.proofs.lemmas.List.Sorted.{Contains-permutation, IsPermutation-sym}
+use Rattle.mark_anchors.proofs.Lists.{contains_at, contains_from, pushed_cases, pushed_here, pushed_still, first_or_last}
 
 pub placed_more : (es : List Element) (operations : List Op) (key : Key) (k : ℕ) (o : Op) (marks : List PlacedMark) (p : PlacedMark) → slice_get operations k ≡ Some o → IsPlaced es key o p → p.index ≡ k → AreFirstPlaced es operations key k marks → AreFirstPlaced es operations key (k + 1) (marks ++ p ∷ [])
 placed_more es operations key k o marks p at is index first = record {
@@ -46,3 +51,21 @@ pub in_range : (es : List Element) (operations : List Op) (key : Key) (k : ℕ) 
 in_range es operations key k marks first i p g =
     let r = first.placed i p g in
     slice_get_within operations p.index r.0 r.1
+
+-- the order in which the marks stand doesn't matter
+pub placed_permuted : (es : List Element) (operations : List Op) (key : Key) (k : ℕ) (xs ys : List PlacedMark) → IsPermutation xs ys → AreFirstPlaced es operations key k xs → AreFirstPlaced es operations key k ys
+placed_permuted es operations key k xs ys permuted first = record {
+  placed =
+      λ i p g.
+      let j = contains_at xs p (Contains-permutation ys xs p (IsPermutation-sym xs ys permuted) (contains_from ys i p g)) in
+      first.placed j.0 p j.1;
+  listed =
+      λ j o less g of_key.
+      let r = first.listed j o less g of_key in
+      let i = contains_at ys r.1.0 (Contains-permutation xs ys r.1.0 permuted (contains_from xs r.0 r.1.0 r.1.1)) in
+      (i.0, (r.1.0, i.1, r.1.2));
+}
+
+pub placed_result : {E : Type 0} (es : List Element) (operations : List Op) (key : Key) (k : ℕ) (xs : List PlacedMark) (result : Result (List PlacedMark) E) → AreFirstPlaced es operations key k xs → IfOk result (λ ys. IsPermutation xs ys) → IfOk result (λ ys. AreFirstPlaced es operations key k ys)
+placed_result es operations key k xs (Ok ys) first permuted = placed_permuted es operations key k xs ys permuted first
+placed_result es operations key k xs (Err e) first permuted = tt

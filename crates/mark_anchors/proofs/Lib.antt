@@ -14,3 +14,4 @@ pub mod Commenting
 pub mod Uniform
 pub mod Cuts
 pub mod FormatLaws
+pub mod Painting

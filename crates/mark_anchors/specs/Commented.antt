@@ -13,6 +13,6 @@ numbers_of comments = map (λ c. c.number) comments
 
 -- the marks of each comment, by rising numbers
 pub record AreCommented (es : List Element) (operations : List Op) (comments : List CommentMarks) : Type 0 where
-  pub each : (i : ℕ) (c : CommentMarks) → slice_get comments i ≡ Some c → ArePlaced es operations (Comment c.number) c.marks.items
+  pub each : (i : ℕ) (c : CommentMarks) → slice_get comments i ≡ Some c → ArePlaced es operations (Comment c.number) c.marks
   pub rising : IsStrictlyIncreasing (numbers_of comments)
   pub every : (n : ℕ) (o : Op) → Contains operations o → IsOfKey (Comment n) o → Contains (numbers_of comments) n

@@ -8,5 +8,6 @@ pub mod Anchored
 pub mod Places
 pub mod Placed
 pub mod Commented
+pub mod KeyMarks
 pub mod Resolution
 pub mod Ranges

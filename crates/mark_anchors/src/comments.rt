@@ -9,7 +9,8 @@ ghost use Rattle.mark_anchors.specs.Marks.{AreMarks};
 ghost use Rattle.mark_anchors.specs.Places.{IsOfKey};
 ghost use Rattle.mark_anchors.specs.Commented.{AreCommented};
 
-use crate::placed::{PlacedMark, holds_at, placed_marks};
+use crate::key_marks::KeyMarks;
+use crate::placed::{holds_at, placed_marks};
 use change_ops::attribute::{CommentNumber, Key};
 use change_ops::id::OpId;
 use change_ops::operation::Op;
@@ -21,7 +22,7 @@ use std::alloc::{AllocError, Global};
 #[derive(Drop)]
 pub(crate) struct CommentMarks {
     number: CommentNumber,
-    marks: Vec<PlacedMark>,
+    marks: KeyMarks,
 }
 
 /// The number of the comment that the operation adds or removes.

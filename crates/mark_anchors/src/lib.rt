@@ -5,6 +5,7 @@ mod anchored;
 pub mod anchors;
 mod comments;
 pub mod format;
+mod key_marks;
 mod mark_index;
 mod mark_range;
 pub mod marks;

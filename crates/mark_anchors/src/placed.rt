@@ -11,6 +11,7 @@ ghost use Rattle.mark_anchors.specs.Marks.{AreMarks};
 ghost use Rattle.mark_anchors.specs.Places.{IsBoundary, IsOfKey};
 ghost use Rattle.mark_anchors.specs.Placed.{IsPlaced, ArePlaced, IsBest, IsValue};
 
+use crate::key_marks::KeyMarks;
 use change_ops::attribute::{Attribute, Color, Key, Link};
 use change_ops::id::OpId;
 use change_ops::operation::{Anchor, Op};
@@ -20,20 +21,10 @@ use std::alloc::{AllocError, Global};
 /// A mark operation, by its index, with the places that it covers: from `start` up to `end`, which is not one of them.
 #[derive(Clone, Copy)]
 pub(crate) struct PlacedMark {
-    index: usize,
-    id: OpId,
-    start: usize,
-    end: usize,
-}
-
-impl PlacedMark {
-    ghost use Rattle.mark_anchors.specs.Placed.{CoversPlace};
-
-    fn covers(&self, place: usize) -> bool
-        ensures { IsTrue result ↔ CoversPlace self.now place }
-    {
-        self.start <= place && place < self.end
-    }
+    pub(crate) index: usize,
+    pub(crate) id: OpId,
+    pub(crate) start: usize,
+    pub(crate) end: usize,
 }
 
 /// The place of a character that is there.
@@ -89,8 +80,8 @@ fn placed_mark(sequence: &Sequence, operation: &Op, index: usize, key: &Key) -> 
     })
 }
 
-/// The mark operations of the key.
-pub(crate) fn placed_marks(
+/// The mark operations of the key, each with its places.
+fn gathered(
     alloc: Global,
     sequence: &Sequence,
     operations: &[Op],
@@ -108,36 +99,26 @@ pub(crate) fn placed_marks(
     Ok(marks)
 }
 
-/// The mark with the greater id.
-fn greater(best: Option<PlacedMark>, mark: PlacedMark) -> PlacedMark
-    ensures { MatchOption best (result ≡ mark) (λ b. ((result ≡ b) × (Less b.id mark.id → ⊥)) ⊎ ((result ≡ mark) × Less b.id mark.id)) }
+/// The mark operations of the key, so that the one that decides at a place is found.
+pub(crate) fn placed_marks(
+    alloc: Global,
+    sequence: &Sequence,
+    operations: &[Op],
+    key: &Key,
+) -> Result<KeyMarks, AllocError>
+    requires { (ops : List Op) × Shows sequence.now.elements ops × ((o : Op) → Contains operations.now o → Contains ops o) }
+    ensures { IfOk result (λ marks. ArePlaced sequence.now.elements operations.now key.now marks) }
 {
-    match best {
-        Some(old) if !old.id.is_below(mark.id) => old,
-        _ => mark,
-    }
-}
-
-/// The mark with the greatest id among those that cover the place.
-fn deciding(marks: &[PlacedMark], place: usize) -> Option<PlacedMark>
-    ensures { IsBest marks.now place (length marks.now) result }
-{
-    let mut best = None;
-    for index in 0..marks.len() {
-        let mark = marks[index];
-        if mark.covers(place) {
-            best = Some(greater(best, mark));
-        }
-    }
-    best
+    let marks = gathered(alloc, sequence, operations, key)?;
+    KeyMarks::new(alloc, marks)
 }
 
 /// What the deciding mark adds at the place.
-fn added_at<'a>(operations: &'a [Op], marks: &[PlacedMark], place: usize) -> Option<&'a Attribute>
+fn added_at<'a>(operations: &'a [Op], marks: &KeyMarks, place: usize) -> Option<&'a Attribute>
     requires { (i : ℕ) (p : PlacedMark) → slice_get marks.now i ≡ Some p → p.index < length operations.now }
     ensures { (es : List Element) (ops : List Op) (key : Key) (e : OpId) → Shows es ops → AreMarks ops operations.now → ArePlaced es operations.now key marks.now → IsAt es e place → IsValue ops key e (option_copied result) }
 {
-    let mark = deciding(marks, place)?;
+    let mark = marks.deciding(place)?;
     match &operations[mark.index] {
         Op::AddMark { attribute, .. } => Some(attribute),
         _ => None,
@@ -145,7 +126,7 @@ fn added_at<'a>(operations: &'a [Op], marks: &[PlacedMark], place: usize) -> Opt
 }
 
 /// Whether the marks' key holds at the place.
-pub(crate) fn holds_at(operations: &[Op], marks: &[PlacedMark], place: usize) -> bool
+pub(crate) fn holds_at(operations: &[Op], marks: &KeyMarks, place: usize) -> bool
     requires { (i : ℕ) (p : PlacedMark) → slice_get marks.now i ≡ Some p → p.index < length operations.now }
     // The key has one attribute.
     ensures { (es : List Element) (ops : List Op) (a : Attribute) (e : OpId) → ((b : Attribute) → key_of b ≡ key_of a → b ≡ a) → Shows es ops → AreMarks ops operations.now → ArePlaced es operations.now (key_of a) marks.now → IsAt es e place → IsTrue result ↔ Bears ops e a }
@@ -154,11 +135,7 @@ pub(crate) fn holds_at(operations: &[Op], marks: &[PlacedMark], place: usize) ->
 }
 
 /// The link at the place.
-pub(crate) fn link_at<'a>(
-    operations: &'a [Op],
-    marks: &[PlacedMark],
-    place: usize,
-) -> Option<&'a Link>
+pub(crate) fn link_at<'a>(operations: &'a [Op], marks: &KeyMarks, place: usize) -> Option<&'a Link>
     requires { (i : ℕ) (p : PlacedMark) → slice_get marks.now i ≡ Some p → p.index < length operations.now }
     ensures { (es : List Element) (ops : List Op) (e : OpId) → Shows es ops → AreMarks ops operations.now → ArePlaced es operations.now Key.Link marks.now → IsAt es e place → (target : List ℕ) → (option_copied result ≡ Some target) ↔ Bears ops e (Attribute.Link target) }
 {
@@ -169,7 +146,7 @@ pub(crate) fn link_at<'a>(
 }
 
 /// The color at the place.
-pub(crate) fn color_at(operations: &[Op], marks: &[PlacedMark], place: usize) -> Option<Color>
+pub(crate) fn color_at(operations: &[Op], marks: &KeyMarks, place: usize) -> Option<Color>
     requires { (i : ℕ) (p : PlacedMark) → slice_get marks.now i ≡ Some p → p.index < length operations.now }
     ensures { (es : List Element) (ops : List Op) (e : OpId) → Shows es ops → AreMarks ops operations.now → ArePlaced es operations.now Key.Color marks.now → IsAt es e place → (rgb : ℕ) → (result ≡ Some rgb) ↔ Bears ops e (Attribute.Color rgb) }
 {

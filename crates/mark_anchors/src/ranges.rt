@@ -44,7 +44,7 @@ fn cut(cuts: &mut Vec<usize>, sequence: &Sequence, operation: &Op) -> Result<(),
 }
 
 /// The places, rising, each once.
-fn in_order(mut places: Vec<usize>) -> Vec<usize>
+pub(crate) fn in_order(mut places: Vec<usize>) -> Vec<usize>
     ensures rising { IsStrictlyIncreasing result.items }
     ensures members { (c : ℕ) → Contains result.items c ↔ Contains places.items c }
 {

@@ -7,8 +7,9 @@ ghost use Rattle.mark_anchors.specs.Marks.{AreMarks};
 
 use crate::comments::{CommentMarks, comment_marks, comments_at};
 use crate::format::Format;
+use crate::key_marks::KeyMarks;
 use crate::marks::Marks;
-use crate::placed::{PlacedMark, color_at, holds_at, link_at, placed_marks};
+use crate::placed::{color_at, holds_at, link_at, placed_marks};
 use change_ops::attribute::Key;
 use change_ops::id::OpId;
 use change_ops::operation::Op;
@@ -21,10 +22,10 @@ use std::marker::Model;
 pub struct ResolvedMarks<'a> {
     sequence: &'a Sequence,
     operations: &'a [Op],
-    strong: Vec<PlacedMark>,
-    em: Vec<PlacedMark>,
-    link: Vec<PlacedMark>,
-    color: Vec<PlacedMark>,
+    strong: KeyMarks,
+    em: KeyMarks,
+    link: KeyMarks,
+    color: KeyMarks,
     comments: Vec<CommentMarks>,
 }
 
@@ -35,7 +36,7 @@ impl<'a> Model for ResolvedMarks<'a> {
 
     ghost view = { λ r. record { elements = r.sequence.now.elements; marks = r.operations.now } };
 
-    ghost invariant = { λ r. AreResolved r.sequence.now.elements r.operations.now r.strong.items r.em.items r.link.items r.color.items r.comments.items };
+    ghost invariant = { λ r. AreResolved r.sequence.now.elements r.operations.now r.strong r.em r.link r.color r.comments.items };
 }
 
 impl Marks {

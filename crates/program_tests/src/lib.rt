@@ -2,8 +2,6 @@
 #![tactic(auto)]
 
 #[cfg(test)]
-mod assembler_text;
-#[cfg(test)]
 mod outcomes;
 #[cfg(test)]
 mod plain_assembler;

@@ -3,7 +3,6 @@ use crate::plain_table::Fields;
 use assembler::assembly::assemble;
 use assembler::fault::{AsmError, LineFault};
 use std::alloc::{AllocError, Global};
-use std::process::Abort;
 use std::test::Fail;
 
 /// The tokens that lines are made of.
@@ -137,13 +136,12 @@ fn wanted_alone(alloc: Global, tokens: &[&str]) -> Result<Wanted, AllocError> {
     }
 }
 
-fn is_wanted(source: &str, want: &Wanted, rt: &(impl Abort + AllocGlobal)) {
-    let same = match (assemble(rt.alloc(), source), want) {
+fn is_wanted(alloc: Global, source: &str, want: &Wanted) -> bool {
+    match (assemble(alloc, source), want) {
         (Ok(bytes), Ok(want)) => bytes.as_slice() == want.as_slice(),
         (Err(error), Err(want)) => error == *want,
         _ => false,
-    };
-    assert!(rt; same, "{source}");
+    }
 }
 
 fn token_at(index: usize) -> &'static str {
@@ -171,49 +169,91 @@ fn line_tokens(
     Ok(tokens)
 }
 
-/// Looks at the line between others, and alone.
-fn is_assembled(tokens: &[&str], blank: &str, rt: &(impl Abort + AllocGlobal)) -> Result<(), Fail> {
-    let alloc = rt.alloc();
+/// The tokens, each with a blank behind it.
+fn line_of(alloc: Global, tokens: &[&str], blank: &str) -> Result<String, AllocError> {
     let mut line = String::new(alloc);
     for token in tokens {
         line.push_str(token)?;
         line.push_str(blank)?;
     }
-    is_wanted(line.as_str(), &wanted_alone(alloc, tokens)?, rt);
-    let between = format!(in alloc; "x:\nexit\n{line}\nja x")?;
-    is_wanted(between.as_str(), &wanted_between(alloc, tokens)?, rt);
-    Ok(())
+    Ok(line)
 }
 
-/// Looks at the front with each choice of so many tokens behind it.
-fn are_assembled(front: &str, count: usize, rt: &(impl Abort + AllocGlobal)) -> Result<(), Fail> {
-    let blanks = [" ", "\t", " \r "];
+/// Whether the line is assembled as it should be, between others and alone.
+fn is_assembled(alloc: Global, tokens: &[&str], line: &str) -> Result<bool, AllocError> {
+    if !is_wanted(alloc, line, &wanted_alone(alloc, tokens)?) {
+        return Ok(false);
+    }
+    let between = format!(in alloc; "x:\nexit\n{line}\nja x")?;
+    Ok(is_wanted(alloc, between.as_str(), &wanted_between(alloc, tokens)?))
+}
+
+/// The line of this number that begins with the front, if it isn't assembled as it should be.
+fn wrong_line(
+    alloc: Global,
+    front: &str,
+    count: usize,
+    number: usize,
+) -> Result<Option<String>, AllocError> {
+    let blank = match number % 3 {
+        0 => " ",
+        1 => "\t",
+        _ => " \r ",
+    };
+    let tokens = line_tokens(alloc, front, count, number)?;
+    let line = line_of(alloc, &tokens, blank)?;
+    if is_assembled(alloc, &tokens, line.as_str())? {
+        Ok(None)
+    } else {
+        Ok(Some(line))
+    }
+}
+
+/// How many lines there are of a front and so many tokens behind it.
+fn lines_of(count: usize) -> usize {
     let mut lines: usize = 1;
     for _ in 0..count {
         lines = lines.saturating_mul(17);
     }
-    for number in 0..lines {
-        let tokens = line_tokens(rt.alloc(), front, count, number)?;
-        let blank = blanks.get(number % 3).copied().unwrap_or(" ");
-        is_assembled(&tokens, blank, rt)?;
+    lines
+}
+
+/// The first wrong line of the front with so many tokens behind it.
+fn first_wrong_behind(
+    alloc: Global,
+    front: &str,
+    count: usize,
+) -> Result<Option<String>, AllocError> {
+    for number in 0..lines_of(count) {
+        let wrong = wrong_line(alloc, front, count, number)?;
+        if wrong.is_some() {
+            return Ok(wrong);
+        }
     }
-    Ok(())
+    Ok(None)
+}
+
+/// The first wrong line of one of the fronts with up to so many tokens behind it.
+fn first_wrong(alloc: Global, fronts: &[&str], most: usize) -> Result<Option<String>, AllocError> {
+    for front in fronts {
+        for count in 0..=most {
+            let wrong = first_wrong_behind(alloc, front, count)?;
+            if wrong.is_some() {
+                return Ok(wrong);
+            }
+        }
+    }
+    Ok(None)
 }
 
 #[test]
 fn short_lines_agree_with_a_plain_reference(rt: HostRuntime) -> Result<(), Fail> {
-    for count in 0..=3 {
-        are_assembled("", count, &rt)?;
-    }
+    assert_eq!(rt; first_wrong(rt.alloc(), &[""], 3)?, None);
     Ok(())
 }
 
 #[test]
 fn long_lines_agree_with_a_plain_reference(rt: HostRuntime) -> Result<(), Fail> {
-    for front in FRONTS {
-        for count in 0..=2 {
-            are_assembled(front, count, &rt)?;
-        }
-    }
+    assert_eq!(rt; first_wrong(rt.alloc(), &FRONTS, 2)?, None);
     Ok(())
 }

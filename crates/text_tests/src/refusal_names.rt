@@ -1,5 +1,5 @@
+use change_history::refusal::{Refusal, SubmitError};
 use change_ops::refusal::ChangeError;
-use hub_core::refusal::{Refusal, SubmitError};
 use std::alloc::{AllocError, Global};
 use std::fmt::Display;
 use std::test::Fail;

@@ -1,7 +1,7 @@
+use change_history::history::History;
 use change_ops::change::read_change;
 use change_ops::id::OpId;
 use change_ops::writing::write_change;
-use hub_core::history::History;
 use span_flatten::version::Version;
 use span_view::context::context;
 use span_view::view::{SpanView, spans, view};

@@ -4,5 +4,7 @@ pub mod Runs
 pub mod Walking
 pub mod Passing
 pub mod Refusals
+pub mod Taking
+pub mod Arising
 pub mod PlainRuns
-pub mod PlainWalk
+pub mod GuardRuns

@@ -1,5 +1,5 @@
 -- In a plain program each register that is read is a number.
-use Rattle.std.proofs.Common.{◌≡◌, ℕ, ◌<◌, ◌⊎◌, inl, inr, ⊎_elim, Option, Some, None, List, [], ◌∷◌, refl, sym, ap, ◌∙◌, subst, arith}
+use Rattle.std.proofs.Common.{◌≡◌, ℕ, ◌<◌, ◌⊎◌, inl, inr, ⊎_elim, Option, Some, None, List, [], ◌∷◌, refl, sym, ap, subst, arith}
 use Rattle.std.specs.List.{Contains}
 use Rattle.std.proofs.lemmas.List.Elements.{Contains-append_cases, Contains-append_left, Contains-append_right, Contains-push_cases}
 use Rattle.std.proofs.lemmas.Bool.{cases_eq}
@@ -12,15 +12,13 @@ use Rattle.bpf_words.specs.declared.instruction.Insn.{Insn}
 use Rattle.bpf_words.specs.declared.instruction.Insn.TheVariants.{Compute, Negate, Extend, Convert, Jump, JumpLong, Branch, Load, LoadSigned, Store, LoadWide, Exit}
 use Rattle.bpf_words.specs.Flow.{StartsAt, read_by, read_first, read_operand, written_by}
 use Rattle.meaning.specs.Step.{Program}
-use Rattle.abstract_state.specs.declared.known.Known.TheVariants.{Number, Context, Stack, Lent}
-use Rattle.abstract_state.specs.declared.state.AbsReg.{AbsReg}
-use Rattle.abstract_state.specs.declared.state.AbsReg.TheVariants.{Unset, Set}
 use Rattle.abstract_state.specs.declared.state.AbsState.{AbsState}
 use Rattle.abstract_state.specs.State.{register_at}
-use Rattle.abstract_state.specs.Kinds.{HasNumberAt, HasNumberIn, IsNumberReg, IsContextAt, KeepsAll, KeepsKind, ReadsFirst, ReadsNumbers, WritesNumber, Carries}
-use Rattle.verifier.specs.Plain.{IsFree, IsFreeOperand, IsPlainInsn, IsPlain, Path, begins, goes, with_written}
-use Rattle.verifier.specs.Arises.{Takes, Arises, first, carried, joined}
-use Rattle.verifier.proofs.Passing.{IsStraight}
+use Rattle.abstract_state.specs.Kinds.{HasNumberAt, HasNumberIn, IsContextAt, ReadsFirst, ReadsNumbers}
+use Rattle.abstract_state.specs.Branch.{LeavesSides}
+use Rattle.abstract_state.specs.Guard.{LeavesOthers}
+use Rattle.verifier.specs.Plain.{IsFree, IsFreeOperand, IsPlainInsn, IsPlain, Leads, Path, begins, goes, with_written}
+use Rattle.verifier.specs.Arises.{Takes, Arises, first, fell, jumped, joined, MayRefuse, of_numbers}
 
 nothing_in : (i : ℕ) → Contains [] i → ⊥
 nothing_in i (k, h, e) = omega arith
@@ -39,45 +37,10 @@ not_in (Some r) done i spared missing c =
 abbrev Known : Program → ℕ → AbsState → ℕ → Type 0
 Known program slot a i = HasNumberAt a i ⊎ ((done : List ℕ) × Path program slot done × (Contains done i → ⊥))
 
-known : (program : Program) (slot : ℕ) (a : AbsState) → Arises program slot a → (i : ℕ) → i < 11 → Known program slot a i
-known program slot a (first context) i h = inr ([], begins, nothing_in i)
-known program slot a (carried {slot = before} {a = old} {insn = insn} from here leads takes) i h =
-    ⊎_elim
-    (λ (wrote : written_by insn ≡ Some i). inl (takes.written i wrote))
-    (λ (spared : written_by insn ≡ Some i → ⊥).
-    ⊎_elim
-    (λ (was : HasNumberAt old i). inl (takes.kept i was))
-    (λ (path : (done : List ℕ) × Path program before done × (Contains done i → ⊥)).
-    inr (with_written (written_by insn) path.0, goes path.1 here leads, not_in (written_by insn) path.0 i spared path.2))
-    (known program before old from i h))
-    (is_written (written_by insn) i)
-known program slot a (joined {a = left} {b = right} one two joins) i h =
-    ⊎_elim
-    (λ (x : HasNumberAt left i). ⊎_elim (λ (y : HasNumberAt right i). inl ((joins i h).numbers x y)) (λ p. inr p) (known program slot right two i h))
-    (λ p. inr p)
-    (known program slot left one i h)
-
--- ---- r1 stays the context's begin
-spares_r1 : (insn : Insn) → IsPlainInsn insn → written_by insn ≡ Some 1 → ⊥
-spares_r1 (Compute w op d o) ((small, free), fo) e = free (same_Some d 1 e)
-spares_r1 (Negate w d) (small, free) e = free (same_Some d 1 e)
-spares_r1 (Extend x d r) ((small, free), fr) e = free (same_Some d 1 e)
-spares_r1 (Convert c b d) (small, free) e = free (same_Some d 1 e)
-spares_r1 (Jump distance) p e = cc
-spares_r1 (JumpLong distance) p e = cc
-spares_r1 (Branch w c l r distance) p e = cc
-spares_r1 (Load z d b o) ((small, free), fb, ff) e = free (same_Some d 1 e)
-spares_r1 (LoadSigned z d b o) p e = p
-spares_r1 (Store z b o v) p e = cc
-spares_r1 (LoadWide d v) (small, free) e = free (same_Some d 1 e)
-spares_r1 Exit p e = cc
-
-pub r1_begins : (program : Program) (slot : ℕ) (a : AbsState) → IsPlain program → Arises program slot a → IsContextAt 0 (register_at a.registers 1)
-r1_begins program slot a plain (first context) = context
-r1_begins program slot a plain (carried {slot = before} {a = old} {insn = insn} from here leads takes) =
-    takes.context (r1_begins program before old plain from) (spares_r1 insn (plain.scalar before insn here))
-r1_begins program slot a plain (joined {a = left} {b = right} one two joins) =
-    (joins 1 (omega arith)).context 0 (r1_begins program slot left plain one) (r1_begins program slot right plain two)
+-- what is known before a slot of a plain program
+record PlainAt (program : Program) (slot : ℕ) (a : AbsState) : Type 0 where
+  context : IsContextAt 0 (register_at a.registers 1)
+  registers : (i : ℕ) → i < 11 → Known program slot a i
 
 -- ---- what is read
 first_number : (a : AbsState) (op : Arithmetic) (d : ℕ) → (Contains (read_first op d) d → HasNumberAt a d) → ReadsFirst a op d
@@ -118,66 +81,75 @@ reads a (Store z b o v) p context h = p
 reads a (LoadWide d v) p context h = tt
 reads a Exit p context h = h 0 (0, omega arith, refl) (omega arith, λ e. (omega arith))
 
-pub reads_numbers : (program : Program) (slot : ℕ) (a : AbsState) (insn : Insn) → IsPlain program → Arises program slot a → StartsAt program slot insn → ReadsNumbers a insn
-reads_numbers program slot a insn plain arises starts =
-    reads a insn (plain.scalar slot insn starts) (r1_begins program slot a plain arises)
+reads_at : (program : Program) (slot : ℕ) (a : AbsState) (insn : Insn) → IsPlain program → PlainAt program slot a → StartsAt program slot insn → ReadsNumbers a insn
+reads_at program slot a insn plain at starts =
+    reads a insn (plain.scalar slot insn starts) at.context
     (λ r read free.
     let below = free.0 in
     ⊎_elim
     (λ (number : HasNumberAt a r). number)
     (λ (path : (done : List ℕ) × Path program slot done × (Contains done r → ⊥)). absurd (path.2 (plain.set slot r path.0 insn path.1 starts read free.1)))
-    (known program slot a arises r (omega arith)))
+    (at.registers r (omega arith)))
 
 -- ---- what an instruction leaves
-pub writes_takes : (a b : AbsState) (insn : Insn) (d : ℕ) → written_by insn ≡ Some d → WritesNumber a d b → Takes a insn b
-writes_takes a b insn d is writes = record {
-  written = λ i e. subst (λ k. HasNumberAt b k) (same_Some d i (sym is ∙ e)) writes.written;
-  kept = λ i was.
-      ⊎_elim
-      (λ (same : i ≡ d). subst (λ k. HasNumberAt b k) (sym same) writes.written)
-      (λ (other : i ≡ d → ⊥). subst IsNumberReg (sym (writes.others i other)) was)
-      (cases_eq i d);
-  context = λ was spared. subst (IsContextAt 0) (sym (writes.others 1 (λ e. spared (is ∙ ap Some (sym e))))) was;
+is_no_side : (left : ℕ) (right : Operand) (a b : AbsState) → IsFree left → IsFreeOperand right → LeavesSides left right a b → register_at b.registers 1 ≡ register_at a.registers 1
+is_no_side left (Immediate value) a b free operand leaves = leaves 1 (λ e. free.1 (sym e)) (λ e. cc)
+is_no_side left (Source register) a b free operand leaves =
+    leaves 1 (λ e. free.1 (sym e)) (λ e. let same : register ≡ 1 = cc in operand.1 same)
+
+leaves_r1 : (a b : AbsState) (insn : Insn) → IsPlainInsn insn → LeavesOthers a insn b → register_at b.registers 1 ≡ register_at a.registers 1
+leaves_r1 a b (Compute w op d o) (free, fo) others = others 1 (λ e. free.1 (sym e))
+leaves_r1 a b (Negate w d) free others = others 1 (λ e. free.1 (sym e))
+leaves_r1 a b (Extend x d r) (free, fr) others = others 1 (λ e. free.1 (sym e))
+leaves_r1 a b (Convert c x d) free others = others 1 (λ e. free.1 (sym e))
+leaves_r1 a b (Jump distance) p others = ap (λ (s : AbsState). register_at s.registers 1) others
+leaves_r1 a b (JumpLong distance) p others = ap (λ (s : AbsState). register_at s.registers 1) others
+leaves_r1 a b (Branch w c l r distance) (fl, fr) others = is_no_side l r a b fl fr others
+leaves_r1 a b (Load z d base o) (free, fb, ff) others = others 1 (λ e. free.1 (sym e))
+leaves_r1 a b (LoadSigned z d base o) p others = absurd p
+leaves_r1 a b (Store z base o v) p others = absurd p
+leaves_r1 a b (LoadWide d v) free others = others 1 (λ e. free.1 (sym e))
+leaves_r1 a b Exit p others = ap (λ (s : AbsState). register_at s.registers 1) others
+
+carried_at : (program : Program) (slot to : ℕ) (a b : AbsState) (insn : Insn) → IsPlain program → PlainAt program slot a → StartsAt program slot insn → Leads insn slot to → Takes a insn b → PlainAt program to b
+carried_at program slot to a b insn plain at starts leads takes =
+    let taken = takes.numbers (reads_at program slot a insn plain at starts) in
+    record {
+      context = subst (IsContextAt 0) (sym (leaves_r1 a b insn (plain.scalar slot insn starts) takes.others)) at.context;
+      registers = λ i h.
+          ⊎_elim
+          (λ (wrote : written_by insn ≡ Some i). inl (taken.written i wrote))
+          (λ (spared : written_by insn ≡ Some i → ⊥).
+          ⊎_elim
+          (λ (was : HasNumberAt a i). inl (taken.kept i was))
+          (λ (path : (done : List ℕ) × Path program slot done × (Contains done i → ⊥)).
+          inr (with_written (written_by insn) path.0, goes path.1 starts leads, not_in (written_by insn) path.0 i spared path.2))
+          (at.registers i h))
+          (is_written (written_by insn) i);
+    }
+
+plain_at : (program : Program) (slot : ℕ) (a : AbsState) → IsPlain program → Arises program slot a → PlainAt program slot a
+plain_at program slot a plain (first context) = record {
+  context = context;
+  registers = λ i h. inr ([], begins, nothing_in i);
 }
+plain_at program slot a plain (fell {slot = before} {a = old} {insn = insn} from starts falls takes long) =
+    carried_at program before slot old a insn plain (plain_at program before old plain from) starts (inl (falls, refl)) takes
+plain_at program slot a plain (jumped {slot = before} {n = n} {a = old} {insn = insn} from starts jumps takes) =
+    carried_at program before slot old a insn plain (plain_at program before old plain from) starts (inr (n, jumps, refl)) takes
+plain_at program slot a plain (joined {a = left} {b = right} target one two joins) =
+    let at_left = plain_at program slot left plain one in
+    let at_right = plain_at program slot right plain two in
+    record {
+      context = (joins 1 (omega arith)).context 0 at_left.context at_right.context;
+      registers = λ i h.
+          ⊎_elim
+          (λ (x : HasNumberAt left i). ⊎_elim (λ (y : HasNumberAt right i). inl ((joins i h).numbers x y)) (λ p. inr p) (at_right.registers i h))
+          (λ p. inr p)
+          (at_left.registers i h);
+    }
 
-pub step_takes : (a b : AbsState) (insn : Insn) → IsStraight insn → ReadsNumbers a insn → Carries a insn b → Takes a insn b
-step_takes a b (Compute w op d o) is reads carries = writes_takes a b (Compute w op d o) d refl carries
-step_takes a b (Negate w d) is reads carries = writes_takes a b (Negate w d) d refl carries
-step_takes a b (Extend x d r) is reads carries = writes_takes a b (Extend x d r) d refl carries
-step_takes a b (Convert c x d) is reads carries = writes_takes a b (Convert c x d) d refl carries
-step_takes a b (Jump distance) is reads carries = absurd is
-step_takes a b (JumpLong distance) is reads carries = absurd is
-step_takes a b (Branch w c l r distance) is reads carries = absurd is
-step_takes a b (Load z d base o) is reads carries = writes_takes a b (Load z d base o) d refl carries
-step_takes a b (LoadSigned z d base o) is reads carries = absurd reads
-step_takes a b (Store z base o v) is reads carries = absurd reads
-step_takes a b (LoadWide d v) is reads carries = writes_takes a b (LoadWide d v) d refl carries
-step_takes a b Exit is reads carries = absurd is
-
-pub same_takes : (a : AbsState) (insn : Insn) → written_by insn ≡ None → Takes a insn a
-same_takes a insn none = record {
-  written = λ i e. let both : None ≡ Some i = sym none ∙ e in absurd (cc);
-  kept = λ i was. was;
-  context = λ was spared. was;
-}
-
-keeps_number : (x y : AbsReg) → KeepsKind x y → IsNumberReg x → IsNumberReg y
-keeps_number Unset y keeps number = absurd number
-keeps_number (Set (Number q)) y keeps number = keeps
-keeps_number (Set (Context p)) y keeps number = absurd number
-keeps_number (Set (Stack p)) y keeps number = absurd number
-keeps_number (Set (Lent p)) y keeps number = absurd number
-
-keeps_context : (x y : AbsReg) → KeepsKind x y → IsContextAt 0 x → IsContextAt 0 y
-keeps_context Unset y keeps context = absurd context
-keeps_context (Set (Number q)) y keeps context = absurd context
-keeps_context (Set (Context p)) y keeps context = subst (IsContextAt 0) (sym keeps) context
-keeps_context (Set (Stack p)) y keeps context = absurd context
-keeps_context (Set (Lent p)) y keeps context = absurd context
-
-pub keeps_takes : (a b : AbsState) (insn : Insn) → written_by insn ≡ None → KeepsAll a b → Takes a insn b
-keeps_takes a b insn none keeps = record {
-  written = λ i e. let both : None ≡ Some i = sym none ∙ e in absurd (cc);
-  kept = λ i was. keeps_number _ _ (keeps i) was;
-  context = λ was spared. keeps_context _ _ (keeps 1) was;
-}
+-- each instruction of a plain program reads numbers alone, so it is never refused
+pub plain_grants : (program : Program) → IsPlain program → MayRefuse program → ⊥
+plain_grants program plain may =
+    may.refused (of_numbers (reads_at program may.slot may.state may.insn plain (plain_at program may.slot may.state plain may.arises) may.starts))

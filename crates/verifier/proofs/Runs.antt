@@ -1,5 +1,5 @@
 -- One step of a run, from what its instruction does.
-use Rattle.std.proofs.Common.{◌≡◌, ℕ, zero, suc, ◌+◌, ◌-◌, ◌<◌, true, false, cond, if◌then◌else◌, List, length, Option, Some, Result, Ok, Err, refl, ap, ◌∙◌, subst, sub-one, arith, eqb, set}
+use Rattle.std.proofs.Common.{◌≡◌, ℕ, ◌+◌, ◌-◌, ◌<◌, true, false, cond, if◌then◌else◌, List, length, Option, Some, Result, Ok, Err, refl, ap, ◌∙◌, subst, arith, eqb, set}
 use Rattle.std.specs.Prelude.{ℤ, pos}
 use Rattle.std.proofs.lemmas.Bool.{lt-ltb}
 use Rattle.std.proofs.lemmas.Option.{slice_get_within}
@@ -13,6 +13,7 @@ use Rattle.meaning.specs.Value.{cut, value_of, negated, extended, converted, hol
 use Rattle.meaning.specs.Memory.{address_of, load, store, bytes_in, bytes_in_signed}
 use Rattle.meaning.specs.Step.{Program, Moved, On, Returns, Next, then_with, write_and_go, first_of, perform, land, step}
 use Rattle.meaning.specs.Outcomes.{after, outcome_from}
+use Rattle.meaning.proofs.Runs.{outcome_from-step}
 use Rattle.abstract_state.specs.declared.state.AbsState.{AbsState}
 use Rattle.abstract_state.specs.Lent.{Lengths}
 use Rattle.abstract_state.specs.State.{Span, WithinState, does}
@@ -72,11 +73,6 @@ contains_at o lengths s slot (a, is, c) =
     (a, is, record { eleven = c.eleven; long = c.long; bounds = c.bounds; registers = c.registers; stack = c.stack })
 
 -- ---- one step
-outcome_from-step : (program : Program) (context text : List ℕ) (steps : ℕ) (s : State) → 0 < steps → outcome_from program context text steps s ≡ after (step program context text s) s.slot (λ next. outcome_from program context text (steps - 1) next)
-unfolding outcome_from
-outcome_from-step program context text zero s h = absurd (omega arith)
-outcome_from-step program context text (suc steps) s h = rw sub-one refl
-
 -- there is a step left
 some_left : (program : Program) (span : Span) (s : State) (c : ComesTo program span s) → 0 < c.steps
 some_left program span s c =

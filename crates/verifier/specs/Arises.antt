@@ -1,34 +1,73 @@
--- How what is known before a slot came to be, for programs that are never refused.
-use Rattle.std.specs.Prelude.{◌≡◌, ℕ, ◌+◌, ◌<◌, ◌≤◌, Option, Some, true}
+-- How what is known before a slot came to be, and which instructions may be refused then.
+use Rattle.std.specs.Prelude.{◌≡◌, ◌≢◌, ℕ, ℤ, pos, ◌+◌, ◌<◌, ◌≤◌, ◌⊎◌, Option, Some, true}
+use Rattle.bpf_words.specs.declared.instruction.Width.TheVariants.{Full}
+use Rattle.bpf_words.specs.declared.instruction.Comparison.TheVariants.{Greater}
+use Rattle.bpf_words.specs.declared.instruction.Operand.TheVariants.{Source}
 use Rattle.bpf_words.specs.declared.instruction.Insn.{Insn}
-use Rattle.bpf_words.specs.Flow.{StartsAt, written_by, falls_through, slots_of}
+use Rattle.bpf_words.specs.declared.instruction.Insn.TheVariants.{Branch}
+use Rattle.bpf_words.specs.Flow.{StartsAt, jump_of, written_by, falls_through, slots_of}
 use Rattle.meaning.specs.Step.{Program}
 use Rattle.abstract_state.specs.declared.state.AbsState.{AbsState}
 use Rattle.abstract_state.specs.State.{register_at}
-use Rattle.abstract_state.specs.Kinds.{HasNumberAt, IsContextAt, JoinsReg}
-use Rattle.verifier.specs.Plain.{Leads}
+use Rattle.abstract_state.specs.Kinds.{HasNumberAt, IsContextAt, JoinsReg, ReadsNumbers}
+use Rattle.abstract_state.specs.Exact.{Fact, Holds}
+use Rattle.abstract_state.specs.Exact.Fact.{TextIn}
+use Rattle.abstract_state.specs.Guard.{Yields, LeavesOthers}
+use Rattle.verifier.specs.declared.refusal.VerifyError.{VerifyError}
+use Rattle.verifier.specs.declared.refusal.VerifyError.TheVariants.{OutOfMemory}
 use Rattle.verifier.specs.Waiting.{States, waiting_at}
 use Rattle.verifier.specs.Walk.{Between}
 
--- what an instruction writes is a number, a number stays one, and r1 stays the context's begin, unless it is written
-pub record Takes (a : AbsState) (insn : Insn) (b : AbsState) : Type 0 where
+-- a comparison with an address in the text up to its end: where it doesn't hold, so many bytes are there
+pub data Guards (a : AbsState) : Insn → ℕ → Type 0 where
+  behind : (left right n high low2 high2 t : ℕ) (tail : Option ℕ) (distance : ℤ) → left ≢ right → Holds (TextIn n high tail) (register_at a.registers left) → Holds (TextIn low2 high2 (Some t)) (register_at a.registers right) → Guards a (Branch Full Greater left (Source right) distance) n
+
+-- what is never refused: what reads numbers alone, and the rows of a guarded read of the text
+pub data IsGranted (a : AbsState) (insn : Insn) : Type 0 where
+  of_numbers : ReadsNumbers a insn → IsGranted a insn
+  of_row : (register : ℕ) (fact : Fact) → Yields a insn register fact → IsGranted a insn
+  of_guard : (n : ℕ) → Guards a insn n → IsGranted a insn
+
+-- what an instruction writes is a number, and a number stays one
+pub record TakesNumbers (a : AbsState) (insn : Insn) (b : AbsState) : Type 0 where
   pub written : (i : ℕ) → written_by insn ≡ Some i → HasNumberAt b i
   pub kept : (i : ℕ) → HasNumberAt a i → HasNumberAt b i
-  pub context : IsContextAt 0 (register_at a.registers 1) → (written_by insn ≡ Some 1 → ⊥) → IsContextAt 0 (register_at b.registers 1)
+
+-- what is known past an instruction, on each of its edges
+pub record Takes (a : AbsState) (insn : Insn) (b : AbsState) : Type 0 where
+  pub numbers : ReadsNumbers a insn → TakesNumbers a insn b
+  pub others : LeavesOthers a insn b
+  pub yields : (register : ℕ) (fact : Fact) → Yields a insn register fact → Holds fact (register_at b.registers register)
+
+-- how long the text is where a comparison doesn't hold
+abbrev pub IsLongBehind : AbsState → Insn → AbsState → Type 0
+IsLongBehind a insn b = (n : ℕ) → Guards a insn n → n ≤ b.bounds.text
 
 abbrev pub JoinsAll : AbsState → AbsState → AbsState → Type 0
 JoinsAll a b c = (i : ℕ) → i < 11 → JoinsReg (register_at a.registers i) (register_at b.registers i) (register_at c.registers i)
 
+-- a jump leads to a slot
+pub record IsTarget (program : Program) (slot : ℕ) : Type 0 where
+  pub from : ℕ
+  pub insn : Insn
+  pub distance : ℕ
+  pub starts : StartsAt program from insn
+  pub jumps : jump_of insn ≡ Some (pos distance)
+  pub there : slot ≡ from + 1 + distance
+
+-- known before the first slot; past an instruction, by its fall into the next one or by its jump; or joined, where a jump leads
 pub data Arises (program : Program) : ℕ → AbsState → Type 0 where
   first : {a : AbsState} → IsContextAt 0 (register_at a.registers 1) → Arises program 0 a
-  carried : {slot to : ℕ} {a b : AbsState} {insn : Insn} → Arises program slot a → StartsAt program slot insn → Leads insn slot to → Takes a insn b → Arises program to b
-  joined : {slot : ℕ} {a b c : AbsState} → Arises program slot a → Arises program slot b → JoinsAll a b c → Arises program slot c
+  fell : {slot : ℕ} {a b : AbsState} {insn : Insn} → Arises program slot a → StartsAt program slot insn → falls_through insn ≡ true → Takes a insn b → IsLongBehind a insn b → Arises program (slot + slots_of insn) b
+  jumped : {slot n : ℕ} {a b : AbsState} {insn : Insn} → Arises program slot a → StartsAt program slot insn → jump_of insn ≡ Some (pos n) → Takes a insn b → Arises program (slot + 1 + n) b
+  joined : {slot : ℕ} {a b c : AbsState} → IsTarget program slot → Arises program slot a → Arises program slot b → JoinsAll a b c → Arises program slot c
 
 abbrev pub ArisesAt : Program → ℕ → Option AbsState → Type 0
 ArisesAt program slot o = (a : AbsState) → o ≡ Some a → Arises program slot a
 
+-- something waits only where a jump leads, and arises there
 abbrev pub AllArise : Program → States → Type 0
-AllArise program waiting = (slot : ℕ) → ArisesAt program slot (waiting_at waiting slot)
+AllArise program waiting = (slot : ℕ) (a : AbsState) → waiting_at waiting slot ≡ Some a → IsTarget program slot × Arises program slot a
 
 -- what an instruction leaves for the next one
 abbrev pub FallsFrom : Program → ℕ → Insn → Option AbsState → Type 0
@@ -39,3 +78,16 @@ abbrev pub FallsAs : Program → ℕ → Option AbsState → Type 0
 FallsAs program slot falling =
     (a : AbsState) → falling ≡ Some a
     → (to : ℕ) × ((next : Insn) × (slot ≤ to) × Between program slot to × StartsAt program to next × Arises program to a)
+
+-- what arises before some instruction doesn't grant it
+pub record MayRefuse (program : Program) : Type 0 where
+  pub slot : ℕ
+  pub state : AbsState
+  pub insn : Insn
+  pub arises : Arises program slot state
+  pub starts : StartsAt program slot insn
+  pub refused : IsGranted state insn → ⊥
+
+-- the causes of a refusal of a structured program
+abbrev pub IsCause : Program → VerifyError → Type 0
+IsCause program e = (e ≡ OutOfMemory) ⊎ MayRefuse program

@@ -1,4 +1,3 @@
-pub mod Accepted
 pub mod Structure
 pub mod Waiting
 pub mod Walk

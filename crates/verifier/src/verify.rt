@@ -3,6 +3,7 @@ ghost use Rattle.std.specs.Prelude.{◌≡◌, ◌↔◌, ℕ, Err, IfOk, IfErr}
 ghost use Rattle.bpf_words.specs.Words.{program_of};
 ghost use Rattle.meaning.specs.Safe.{Safe};
 ghost use Rattle.verifier.specs.Plain.{IsPlain};
+ghost use Rattle.verifier.specs.Guard.{IsGuard};
 ghost use Rattle.verifier.specs.Structure.{FirstFault};
 ghost use Rattle.verifier.specs.declared.refusal.StructureFault.{StructureFault};
 
@@ -10,25 +11,25 @@ use crate::refusal::VerifyError;
 use crate::structure::check;
 use crate::walk::walk;
 use bpf_words::words::Words;
+use decoded_rows::rows::Rows;
 use std::alloc::Global;
 use std::marker::Model;
 
 /// A program of which every run ends with a number: it meets no fault, and takes no more steps than the program has slots.
 #[derive(Drop)]
 pub struct Verified {
-    bytes: Vec<u8>,
+    rows: Rows,
 }
 
 impl Model for Verified {
-    ghost use Rattle.bpf_words.specs.Words.{program_of};
+    ghost use Rattle.meaning.specs.Safe.{Safe};
     ghost use Rattle.meaning.specs.Step.{Program};
-    ghost use Rattle.verifier.specs.Accepted.{IsAccepted};
 
     ghost Value = { Program };
 
-    ghost view = { λ v. program_of v.bytes.items };
+    ghost view = { λ v. v.rows };
 
-    ghost invariant = { λ v. IsAccepted v.bytes.items };
+    ghost invariant = { λ v. Safe v.rows };
 }
 
 impl Verified {
@@ -37,7 +38,15 @@ impl Verified {
         ensures program { program_of result ≡ self.now }
         ensures safe { Safe self.now }
     {
-        Words::of_program(self.bytes.as_slice())
+        self.rows.words()
+    }
+
+    /// The decoded program, lent.
+    pub fn rows(&self) -> &Rows
+        ensures program { result.now ≡ self.now }
+        ensures safe { Safe self.now }
+    {
+        &self.rows
     }
 }
 
@@ -48,6 +57,7 @@ pub fn verify(alloc: Global, words: &Words<'_>) -> Result<Verified, VerifyError>
     ensures safe { IfOk result (λ verified. Safe verified) }
     ensures structure { (slot : ℕ) (fault : StructureFault) → (result ≡ Err (VerifyError.Structure slot fault)) ↔ FirstFault (program_of words.now) slot fault }
     ensures plain { IfErr result (λ e. IsPlain (program_of words.now) → e ≡ VerifyError.OutOfMemory) }
+    ensures guard { IfErr result (λ e. IsGuard (program_of words.now) → e ≡ VerifyError.OutOfMemory) }
 {
     if let Err(wrong) = check(words) {
         return Err(VerifyError::Structure {
@@ -57,6 +67,6 @@ pub fn verify(alloc: Global, words: &Words<'_>) -> Result<Verified, VerifyError>
     }
     walk(alloc, words)?;
     Ok(Verified {
-        bytes: words.copy(alloc)?,
+        rows: Rows::of(alloc, words)?,
     })
 }

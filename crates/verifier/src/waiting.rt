@@ -6,7 +6,7 @@ ghost use Rattle.abstract_state.specs.State.{Contains, WithinState};
 ghost use Rattle.abstract_state.specs.Steps.{after};
 ghost use Rattle.verifier.specs.Waiting.{unboxed, waiting_at};
 ghost use Rattle.verifier.specs.Walk.{Keeps};
-ghost use Rattle.verifier.specs.Arises.{Arises, ArisesAt, AllArise};
+ghost use Rattle.verifier.specs.Arises.{Arises, ArisesAt, AllArise, IsTarget};
 ghost use Rattle.meaning.specs.Step.{Program};
 
 use abstract_state::state::AbsState;
@@ -37,7 +37,7 @@ fn join(
 ) -> Result<Box<AbsState>, AllocError>
     ensures kept { IfOk result (λ joined. (lengths : Lengths) (s : State) → WithinState (unboxed waiting) lengths s → Contains joined.value lengths s) }
     ensures added { IfOk result (λ joined. (lengths : Lengths) (s : State) → Contains state.now lengths s → Contains joined.value lengths s) }
-    ensures arises { (program : Program) (slot : ℕ) → ArisesAt program slot (unboxed waiting) → Arises program slot state.now → IfOk result (λ joined. Arises program slot joined.value) }
+    ensures arises { (program : Program) (slot : ℕ) → IsTarget program slot → ArisesAt program slot (unboxed waiting) → Arises program slot state.now → IfOk result (λ joined. Arises program slot joined.value) }
 {
     let Some(mut earlier) = waiting else {
         return Ok(Box::new(alloc, *state)?);
@@ -65,7 +65,7 @@ impl Waiting {
         ensures size { length self.new ≡ length self.old }
         ensures kept { IfOk result (λ _. Keeps self.old self.new) }
         ensures added { IfOk result (λ _. (lengths : Lengths) (s : State) → Contains state.now lengths s → WithinState (waiting_at self.new slot) lengths s) }
-        ensures arises { (program : Program) → AllArise program self.old → Arises program slot state.now → IfOk result (λ _. AllArise program self.new) }
+        ensures arises { (program : Program) → AllArise program self.old → IsTarget program slot → Arises program slot state.now → IfOk result (λ _. AllArise program self.new) }
     {
         let joined = join(self.alloc, self.states[slot].take(), state)?;
         self.states[slot] = Some(joined);

@@ -9,9 +9,7 @@ ghost use Rattle.abstract_state.specs.Lent.{Lengths};
 ghost use Rattle.abstract_state.specs.State.{Span, lengths_of, Contains, WithinState, does};
 ghost use Rattle.abstract_state.specs.Steps.{after};
 ghost use Rattle.verifier.specs.Structure.{IsOfState, IsStructured};
-ghost use Rattle.abstract_state.specs.Kinds.{ReadsNumbers};
-ghost use Rattle.verifier.specs.Arises.{Arises, ArisesAt, AllArise, FallsAs, FallsFrom};
-ghost use Rattle.verifier.specs.Plain.{IsPlain};
+ghost use Rattle.verifier.specs.Arises.{Arises, ArisesAt, AllArise, IsTarget, IsGranted, IsCause, FallsAs, FallsFrom};
 ghost use Rattle.verifier.specs.Waiting.{waiting_at};
 ghost use Rattle.verifier.specs.Walk.{Advances, Follows, JumpsWithin, Keeps};
 
@@ -68,7 +66,7 @@ fn record(target: usize, edge: &Option<AbsState>, waiting: &mut Waiting) -> Resu
     ensures size { length waiting.new ≡ length waiting.old }
     ensures kept { IfOk result (λ _. Keeps waiting.old waiting.new) }
     ensures added { IfOk result (λ _. (lengths : Lengths) (s : State) → WithinState edge.now lengths s → WithinState (waiting_at waiting.new target) lengths s) }
-    ensures arises { (program : Program) → AllArise program waiting.old → ArisesAt program target edge.now → IfOk result (λ _. AllArise program waiting.new) }
+    ensures arises { (program : Program) → AllArise program waiting.old → IsTarget program target → ArisesAt program target edge.now → IfOk result (λ _. AllArise program waiting.new) }
 {
     let Some(state) = edge else {
         return Ok(());
@@ -95,8 +93,8 @@ fn pass(slot: usize, insn: &Insn, state: &mut AbsState, waiting: &mut Waiting) -
     ensures size { length waiting.new ≡ length waiting.old }
     ensures kept { IfOk result (λ _. Keeps waiting.old waiting.new) }
     ensures sound { IfOk result (λ flow. (span : Span) (s : State) → Contains state.old (lengths_of span) s → Advances (lengths_of span) slot insn.now (after flow state.new) waiting.new (does span s insn.now)) }
-    ensures floor { ReadsNumbers state.old insn.now → IfErr result (λ stop. stop ≡ Stop.OutOfMemory) }
-    ensures arises { (program : Program) → StartsAt program slot insn.now → ReadsNumbers state.old insn.now → Arises program slot state.old → AllArise program waiting.old → IfOk result (λ flow. AllArise program waiting.new × FallsFrom program slot insn.now (after flow state.new)) }
+    ensures floor { IsGranted state.old insn.now → IfErr result (λ stop. stop ≡ Stop.OutOfMemory) }
+    ensures arises { (program : Program) → StartsAt program slot insn.now → Arises program slot state.old → AllArise program waiting.old → IfOk result (λ flow. AllArise program waiting.new × FallsFrom program slot insn.now (after flow state.new)) }
 {
     match *insn {
         Insn::Jump { .. } => {
@@ -141,7 +139,7 @@ fn visit(
     ensures size { length waiting.new ≡ length waiting.old }
     ensures states { IfErr result IsOfState }
     ensures follows { (program : Program) → IsPaired program → IsStructured program → StartsAt program slot insn.now → Follows program slot (after flow state.old) waiting.old → IfOk result (λ next. Follows program (slot + 1) (after next state.new) waiting.new) }
-    ensures plain { (program : Program) → IsPlain program → IsPaired program → StartsAt program slot insn.now → AllArise program waiting.old → FallsAs program slot (after flow state.old) → IfErr result (λ e. e ≡ VerifyError.OutOfMemory) × IfOk result (λ next. AllArise program waiting.new × FallsAs program (slot + 1) (after next state.new)) }
+    ensures floor { (program : Program) → IsPaired program → IsStructured program → StartsAt program slot insn.now → AllArise program waiting.old → FallsAs program slot (after flow state.old) → IfErr result (IsCause program) × IfOk result (λ next. AllArise program waiting.new × FallsAs program (slot + 1) (after next state.new)) }
 {
     let Flow::Live = waiting.arrive(slot, flow, state) else {
         return Ok(Flow::Dead);
@@ -158,7 +156,7 @@ pub fn walk(alloc: Global, words: &Words<'_>) -> Result<(), VerifyError>
     requires { IsStructured (program_of words.now) }
     ensures safe { IfOk result (λ _. Safe (program_of words.now)) }
     ensures states { IfErr result IsOfState }
-    ensures plain { IfErr result (λ e. IsPlain (program_of words.now) → e ≡ VerifyError.OutOfMemory) }
+    ensures floor { IfErr result (IsCause (program_of words.now)) }
 {
     let count = words.len();
     let mut waiting = Waiting::new(alloc, count)?;

@@ -1,7 +1,11 @@
-//! Tests of the verifier's answers to worked programs, and of runs of those that it accepts.
+//! Tests of runs of accepted programs: that both interpreters end with the same number, and with which.
 #![tactic(auto)]
 
 #[cfg(test)]
-mod acceptance;
+mod random_programs;
+#[cfg(test)]
+mod replaced_bytes;
+#[cfg(test)]
+mod runs;
 #[cfg(test)]
 mod verdicts;

@@ -1,10 +1,5 @@
-ghost use Rattle.std.specs.Prelude.{IfSome};
-ghost use Rattle.bpf_words.specs.Context.{Fits};
-
-use bpf_words::context::{Context, Facts, TEXT_LIMIT};
+use crate::runs::{Span, agreed_verdict};
 use bpf_words::words::Words;
-use interpreter::run::{run, run_checked};
-use meaning::Outcome;
 use std::alloc::Global;
 use std::test::Fail;
 use verifier::verify::verify;
@@ -86,35 +81,16 @@ static ROWS: [Row; 11] = [
     },
 ];
 
-/// What a program may learn of a span of that text and color, unless the text is too long.
-fn context(text: &[u8], color: u32) -> Option<Context>
-    ensures { IfSome result (λ context. Fits context text.now) }
-{
-    if text.len() > TEXT_LIMIT {
-        return None;
-    }
-    Some(Context::new(&Facts {
-        text_len: text.len() as u32,
-        characters: text.len() as u32,
-        flags: 8,
-        color,
-        link_len: 0,
-        comments: 0,
-        index: 0,
-        count: 1,
-        version: 1,
-    }))
-}
-
 /// Whether a run of the accepted program, and a checked run of its words, end with the row's verdict.
 fn is_right(alloc: Global, row: &Row) -> Result<bool, Fail> {
     let bytes = hex::decode(alloc, row.digits)?;
     let words = Words::new(&bytes)?;
     let verified = verify(alloc, &words)?;
-    let text = row.text.as_bytes();
-    let context = context(text, row.color).ok_or("the text is too long")?;
-    let checked = run_checked(&words, &context, text) == Outcome::Done(row.verdict);
-    Ok(checked && run(&verified, &context, text) == row.verdict)
+    let span = Span {
+        text: row.text,
+        color: row.color,
+    };
+    Ok(agreed_verdict(&words, &verified, span) == Some(row.verdict))
 }
 
 /// The first row with another verdict.

@@ -23,7 +23,7 @@ loop-number-preserved c =
       λ i comment at.
           ⊎_elim
           (λ (old : slice_get c.loop-number.comments.items i ≡ Some comment). c.loop-number.invariant.1 i comment old)
-          (λ (new : more ≡ comment). subst (λ z. ArePlaced c.args.sequence.now.elements c.args.operations.now (Comment z.number) z.marks.items) new c.in_ok-marks.ensures)
+          (λ (new : more ≡ comment). subst (λ z. ArePlaced c.args.sequence.now.elements c.args.operations.now (Comment z.number) z.marks) new c.in_ok-marks.ensures)
           (pushed_cases c.loop-number.comments.items more i comment (subst (λ l. slice_get l i ≡ Some comment) items at)),
     )
 

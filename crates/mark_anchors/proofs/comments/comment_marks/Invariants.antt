@@ -9,4 +9,4 @@ use Rattle.mark_anchors.proofs.comments.comment_marks.Given as goal
 abbrev pub invariant-loop-number : goal.invariant-loop-number
 invariant-loop-number l =
     (numbers_of l.comments.items ≡ take l.number-index l.number-items)
-    × ((i : ℕ) (c : CommentMarks) → slice_get l.comments.items i ≡ Some c → ArePlaced l.sequence.elements l.operations (Comment c.number) c.marks.items)
+    × ((i : ℕ) (c : CommentMarks) → slice_get l.comments.items i ≡ Some c → ArePlaced l.sequence.elements l.operations (Comment c.number) c.marks)

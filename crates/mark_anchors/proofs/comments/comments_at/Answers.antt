@@ -17,7 +17,7 @@ holds_at-requires c =
     let comment = c.comment-item.result in
     let k = c.loop-comment.comment-index in
     let read : slice_get c.args.comments.now k ≡ Some comment = read_at c.args.comments.now k comment c.comment-item.is c.loop-comment-test.true in
-    rw c.deref.ensures.value (in_range c.requires.0 c.args.operations.now (key.Comment comment.number) (length c.args.operations.now) comment.marks.items (c.requires.1.each k comment read))
+    in_range c.requires.0 c.args.operations.now (key.Comment comment.number) (length c.args.operations.now) comment.marks (c.requires.1.each k comment read)
 
 pub loop-comment-preserved : goal.loop-comment-preserved
 loop-comment-preserved c =
@@ -32,7 +32,7 @@ loop-comment-preserved c =
           let items : c.if-holds_at.numbers.items ≡ xs ++ comment.number ∷ [] = ap (λ v. v.items) w.numbers-is ∙ w.in_ok-push.ensures.ok in (
             subst (AreAmong numbers (k + 1)) (sym items) (among_more numbers k comment.number xs c.requires.1.rising at c.loop-comment.invariant.0),
             λ es ops e h are commented stands.
-                let placed : ArePlaced es c.args.operations.now (key.Comment comment.number) c.deref.result.now = rw c.deref.ensures.value (commented.each k comment read) in
+                let placed : ArePlaced es c.args.operations.now (key.Comment comment.number) comment.marks = commented.each k comment read in
                 subst (AreBorne ops e numbers (k + 1)) (sym items)
                 (borne_more ops e numbers k comment.number xs at
                 ((c.holds_at.ensures es ops (Comment comment.number) e (one_comment comment.number) h are placed stands).0 w.if-holds_at.true)
@@ -42,7 +42,7 @@ loop-comment-preserved c =
           let items : c.if-holds_at.numbers.items ≡ xs = ap (λ v. v.items) w.numbers-is in (
             subst (AreAmong numbers (k + 1)) (sym items) (among_skipped numbers k xs c.loop-comment.invariant.0),
             λ es ops e h are commented stands.
-                let placed : ArePlaced es c.args.operations.now (key.Comment comment.number) c.deref.result.now = rw c.deref.ensures.value (commented.each k comment read) in
+                let placed : ArePlaced es c.args.operations.now (key.Comment comment.number) comment.marks = commented.each k comment read in
                 subst (AreBorne ops e numbers (k + 1)) (sym items)
                 (borne_skipped ops e numbers k comment.number xs at
                 (λ bears. false≢true (sym w.if-holds_at.false ∙ (c.holds_at.ensures es ops (Comment comment.number) e (one_comment comment.number) h are placed stands).1 bears))

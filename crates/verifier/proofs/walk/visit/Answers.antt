@@ -2,9 +2,8 @@ use Rattle.std.proofs.Common.{None}
 use Rattle.abstract_state.specs.Steps.{after}
 use Rattle.verifier.proofs.Walking.{arrived, passed, skipped}
 use Rattle.verifier.proofs.walk.visit.Goals as goal
-use Rattle.std.proofs.Common.{refl}
-use Rattle.verifier.proofs.PlainRuns.{reads_numbers}
-use Rattle.verifier.proofs.PlainWalk.{falls_here, falls_next, dead_falls}
+use Rattle.std.proofs.Common.{refl, inl, inr}
+use Rattle.verifier.proofs.Arising.{falls_here, falls_next, dead_falls}
 
 pub returns-in_default-clause-follows : goal.returns-in_default-clause-follows
 returns-in_default-clause-follows c = λ program paired structured starts follows.
@@ -19,23 +18,30 @@ returns-in-Ok-clause-follows c = λ program paired structured starts follows.
     (arrived program c.args.slot c.args.insn.now (after c.args.flow c.args.state.now) _ c.args.waiting.now c.arrive.new.self starts
     c.in-Live.ensures.falls c.in-Live.ensures.arrives c.in-Live.ensures.others follows)
 
-pub returns-in_default-clause-plain : goal.returns-in_default-clause-plain
-returns-in_default-clause-plain c = λ program plain paired starts all falls.
+pub returns-in_default-clause-floor : goal.returns-in_default-clause-floor
+returns-in_default-clause-floor c = λ program paired structured starts all falls.
     let a = c.in_default.ensures.arises program all (falls_here program c.args.slot c.args.insn.now (after c.args.flow c.args.state.now) starts falls) in
     (tt, (a.0, dead_falls program c.args.slot))
 
-pub returns-in-Ok-clause-plain : goal.returns-in-Ok-clause-plain
-returns-in-Ok-clause-plain c = λ program plain paired starts all falls.
+pub returns-in-Ok-clause-floor : goal.returns-in-Ok-clause-floor
+returns-in-Ok-clause-floor c = λ program paired structured starts all falls.
     let a = c.in-Live.ensures.arises program all (falls_here program c.args.slot c.args.insn.now (after c.args.flow c.args.state.now) starts falls) in
-    let here = a.1 c.arrive.new.state refl in
-    let r = reads_numbers program c.args.slot c.arrive.new.state c.args.insn.now plain here starts in
-    let p = c.in-Ok.ensures.arises program starts r here a.0 in
-    (tt, (p.0, falls_next program c.args.slot c.args.insn.now (after c.in-Ok.next c.pass.new.state) paired plain.structured starts p.1))
+    let p = c.in-Ok.ensures.arises program starts (a.1 c.arrive.new.state refl) a.0 in
+    (tt, (p.0, falls_next program c.args.slot c.args.insn.now (after c.in-Ok.next c.pass.new.state) paired structured starts p.1))
 
-pub returns-in-Err-Refused-clause-plain : goal.returns-in-Err-Refused-clause-plain
-returns-in-Err-Refused-clause-plain c = λ program plain paired starts all falls.
-    let a = c.in-Live.ensures.arises program all (falls_here program c.args.slot c.args.insn.now (after c.args.flow c.args.state.now) starts falls) in
-    let here = a.1 c.arrive.new.state refl in
-    let r = reads_numbers program c.args.slot c.arrive.new.state c.args.insn.now plain here starts in
-    let only = c.in-Err-Refused.ensures.floor r in
-    absurd (cc (only, c.in-Err-Refused.field-0-is))
+pub returns-in-Err-Refused-clause-floor : goal.returns-in-Err-Refused-clause-floor
+returns-in-Err-Refused-clause-floor c = λ program paired structured starts all falls.
+    let a = c.in-Live.ensures.arises program all (falls_here program c.args.slot c.args.insn.now (after c.args.flow c.args.state.now) starts falls) in (
+      inr (record {
+        slot = c.args.slot;
+        state = c.arrive.new.state;
+        insn = c.args.insn.now;
+        arises = a.1 c.arrive.new.state refl;
+        starts = starts;
+        refused = λ granted. let only = c.in-Err-Refused.ensures.floor granted in absurd (cc (only, c.in-Err-Refused.field-0-is));
+      }),
+      tt,
+    )
+
+pub returns-in-Err-OutOfMemory-clause-floor : goal.returns-in-Err-OutOfMemory-clause-floor
+returns-in-Err-OutOfMemory-clause-floor c = λ program paired structured starts all falls. (inl refl, tt)

@@ -2,7 +2,6 @@ use Rattle.std.proofs.Common.{◌≡◌, length}
 use Rattle.bpf_words.specs.Words.{program_of}
 use Rattle.abstract_state.specs.Steps.{after}
 use Rattle.verifier.specs.Arises.{AllArise, FallsAs}
-use Rattle.verifier.specs.Plain.{IsPlain}
 use Rattle.verifier.specs.Walk.{Follows}
 use Rattle.verifier.proofs.walk.walk.Given as goal
 
@@ -10,6 +9,6 @@ abbrev pub invariant-loop-slot : goal.invariant-loop-slot
 invariant-loop-slot l = record {
   size : length l.waiting ≡ length (program_of l.words);
   follows : Follows (program_of l.words) l.slot (after l.flow l.state) l.waiting;
-  waits : IsPlain (program_of l.words) → AllArise (program_of l.words) l.waiting;
-  falls : IsPlain (program_of l.words) → FallsAs (program_of l.words) l.slot (after l.flow l.state);
+  waits : AllArise (program_of l.words) l.waiting;
+  falls : FallsAs (program_of l.words) l.slot (after l.flow l.state);
 }

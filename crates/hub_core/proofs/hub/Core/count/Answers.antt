@@ -1,5 +1,5 @@
 use Rattle.std.proofs.Common.{ap, subst}
-use Rattle.hub_core.specs.Accepted.{AreAccepted}
+use Rattle.change_history.specs.Accepted.{AreAccepted}
 use Rattle.hub_core.specs.Machine.{State}
 use Rattle.hub_core.proofs.hub.Core.count.Goals as goal
 

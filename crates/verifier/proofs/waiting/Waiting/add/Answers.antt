@@ -4,7 +4,7 @@ use Rattle.verifier.specs.Waiting.{waiting_at}
 use Rattle.verifier.proofs.Waits.{keeps_added, added_there}
 use Rattle.verifier.proofs.waiting.Waiting.add.Goals as goal
 use Rattle.verifier.specs.Arises.{AllArise}
-use Rattle.verifier.proofs.PlainWalk.{arise_added, read_arises}
+use Rattle.verifier.proofs.Arising.{arise_added, read_arises}
 
 pub returns-clause-kept : goal.returns-clause-kept
 returns-clause-kept c = λ slot lengths s waits.
@@ -18,8 +18,8 @@ returns-clause-added c = λ lengths s contains.
     added_there c.self.inside.states.items c.args.slot c.take.new.self c.in_ok-joined.joined lengths s within (c.in_ok-joined.ensures.added lengths s contains)
 
 pub returns-clause-arises : goal.returns-clause-arises
-returns-clause-arises c = λ program all arises.
+returns-clause-arises c = λ program all target arises.
     let within : c.args.slot < length c.self.inside.states.items = search rules in
     let every = subst (λ v. AllArise program v) (sym c.self.view_is) all in
-    arise_added program c.self.inside.states.items c.args.slot c.take.new.self c.in_ok-joined.joined within every
-    (c.in_ok-joined.ensures.arises program c.args.slot (read_arises program c.self.inside.states.items c.args.slot c.index_mut.result.now c.take.result within c.index_mut.ensures.value c.take.ensures.value every) arises)
+    arise_added program c.self.inside.states.items c.args.slot c.take.new.self c.in_ok-joined.joined within every target
+    (c.in_ok-joined.ensures.arises program c.args.slot target (λ a e. (read_arises program c.self.inside.states.items c.args.slot c.index_mut.result.now c.take.result a within c.index_mut.ensures.value c.take.ensures.value every e).1) arises)

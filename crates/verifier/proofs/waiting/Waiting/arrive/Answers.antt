@@ -6,7 +6,7 @@ use Rattle.verifier.proofs.Waits.{within_some, waited}
 use Rattle.verifier.proofs.waiting.Waiting.arrive.Goals as goal
 use Rattle.verifier.specs.Arises.{Arises, AllArise, joined}
 use Rattle.verifier.specs.Waiting.{unboxed}
-use Rattle.verifier.proofs.PlainWalk.{arise_taken, read_arises, at_one}
+use Rattle.verifier.proofs.Arising.{arise_taken, read_arises, at_one}
 
 pub returns-clause-falls : goal.returns-clause-falls
 returns-clause-falls c = λ lengths s falls.
@@ -32,17 +32,23 @@ pub returns-clause-arises : goal.returns-clause-arises
 returns-clause-arises c = λ program all falls.
     let within : c.args.slot < length c.self.inside.states.items = search rules in
     let every = subst (λ v. AllArise program v) (sym c.self.view_is) all in
-    let waits = read_arises program c.self.inside.states.items c.args.slot c.index_mut.result.now c.take.result within c.index_mut.ensures.value c.take.ensures.value every c.in-Some.waiting.value (ap unboxed c.in-Some.is) in
+    let waits = read_arises program c.self.inside.states.items c.args.slot c.index_mut.result.now c.take.result c.in-Some.waiting.value within c.index_mut.ensures.value c.take.ensures.value every (ap unboxed c.in-Some.is) in
     let fell = falls c.args.state.now (ap (λ f. after f c.args.state.now) c.in-Live.is) in (
       arise_taken program c.self.inside.states.items c.args.slot c.take.new.self within c.take.ensures.after every,
-      at_one program c.args.slot c.join.new.self (joined fell (subst (λ a. Arises program c.args.slot a) (sym c.deref.ensures) waits) c.join.ensures.kinds),
+      at_one program c.args.slot c.join.new.self (joined waits.0 fell (subst (λ a. Arises program c.args.slot a) (sym c.deref.ensures) waits.1) c.join.ensures.kinds),
     )
 
 pub returns-in_default-flow-clause-arises : goal.returns-in_default-flow-clause-arises
 returns-in_default-flow-clause-arises c = λ program all falls.
     let within : c.args.slot < length c.self.inside.states.items = search rules in
     let every = subst (λ v. AllArise program v) (sym c.self.view_is) all in
-    let waits = read_arises program c.self.inside.states.items c.args.slot c.index_mut.result.now c.take.result within c.index_mut.ensures.value c.take.ensures.value every c.in-Some.waiting.value (ap unboxed c.in-Some.is) in (
+    let waits = read_arises program c.self.inside.states.items c.args.slot c.index_mut.result.now c.take.result c.in-Some.waiting.value within c.index_mut.ensures.value c.take.ensures.value every (ap unboxed c.in-Some.is) in (
       arise_taken program c.self.inside.states.items c.args.slot c.take.new.self within c.take.ensures.after every,
-      at_one program c.args.slot c.into_inner.result (subst (λ a. Arises program c.args.slot a) (sym c.into_inner.ensures) waits),
+      at_one program c.args.slot c.into_inner.result (subst (λ a. Arises program c.args.slot a) (sym c.into_inner.ensures) waits.1),
     )
+
+pub returns-in_default-clause-arises : goal.returns-in_default-clause-arises
+returns-in_default-clause-arises c = λ program all falls.
+    let within : c.args.slot < length c.self.inside.states.items = search rules in
+    let every = subst (λ v. AllArise program v) (sym c.self.view_is) all in
+    (arise_taken program c.self.inside.states.items c.args.slot c.take.new.self within c.take.ensures.after every, falls)

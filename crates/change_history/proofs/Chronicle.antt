@@ -1,0 +1,175 @@
+-- How a history goes on from one accepted change to the next.
+use Rattle.std.proofs.Common.{◌≡◌, ℕ, zero, suc, ◌+◌, ◌-◌, ◌<◌, ◌≤◌, List, [], ◌∷◌, ◌++◌, Option, Some, None, Result, Ok, Err, IfOk, IsOk, is_ok, OnOk, IsErrAnd, MatchResult, if◌then◌else◌, refl, sym, ap, ◌∙◌, subst, ◌⊎◌, inl, inr, ⊎_elim, arith, rules, length, get_or, take, append_assoc, add-one, length-take}
+use Rattle.std.specs.List.{slice_get}
+use Rattle.std.proofs.lemmas.List.{length_push, take_at}
+use Rattle.std.proofs.lemmas.Option.{none-some, same_Some, slice_get_within, slice_get_read, slice_get-get_or}
+use Rattle.std.proofs.Math.Seq.{take-length}
+use Rattle.change_ops.specs.declared.operation.Op.{Op}
+use Rattle.change_ops.specs.Changes.{Edit}
+use Rattle.change_history.specs.declared.parts.Parts.{Parts}
+use Rattle.change_history.specs.Accepted.{operations_of, MayFollow, AllFollow, FirstRefused, IsAccepted, IsRefused, AreAccepted}
+use Rattle.change_history.specs.declared.refusal.ApplyError.{ApplyError}
+use Rattle.change_history.specs.declared.refusal.SubmitError.{SubmitError}
+use Rattle.change_history.specs.declared.refusal.ApplyError.TheVariants as apply
+use Rattle.change_history.specs.declared.refusal.SubmitError.TheVariants as submit
+use Rattle.change_history.specs.declared.history.Draft.{Draft}
+use Rattle.change_history.specs.Kept.{Keeps, IsHistory, IsSpare, IsDraft, Applied, AreApplied, IsNotApplied, error_at}
+
+pub operations_of-push : (changes : List Edit) (change : Edit) → operations_of (changes ++ change ∷ []) ≡ operations_of changes ++ change.operations
+unfolding operations_of
+operations_of-push [] change = search rules
+operations_of-push (c ∷ changes) change = ap (λ ops. c.operations ++ ops) (operations_of-push changes change) ∙ sym (append_assoc c.operations (operations_of changes) change.operations)
+
+-- an element of a list with one more at its end is one of the list, after the same elements, or the last
+pub pushed_place : {X : Type 0} (xs : List X) (y : X) (n : ℕ) (x : X) → slice_get (xs ++ y ∷ []) n ≡ Some x → ((slice_get xs n ≡ Some x) × (take n (xs ++ y ∷ []) ≡ take n xs)) ⊎ ((y ≡ x) × (take n (xs ++ y ∷ []) ≡ xs))
+pushed_place [] y zero x g = inr (same_Some y x g, refl)
+pushed_place [] y (suc n) x g = absurd (none-some x g)
+pushed_place (z ∷ zs) y zero x g = inl (g, refl)
+pushed_place (z ∷ zs) y (suc n) x g =
+    ⊎_elim (λ (a : (slice_get zs n ≡ Some x) × (take n (zs ++ y ∷ []) ≡ take n zs)). inl (a.0, ap (λ ts. z ∷ ts) a.1))
+    (λ (b : (y ≡ x) × (take n (zs ++ y ∷ []) ≡ zs)). inr (b.0, ap (λ ts. z ∷ ts) b.1)) (pushed_place zs y n x g)
+
+pub accepted_more : (changes : List Edit) (change : Edit) → AreAccepted changes → IsAccepted changes change → AreAccepted (changes ++ change ∷ [])
+accepted_more changes change all last = λ n c g.
+    ⊎_elim
+    (λ (a : (slice_get changes n ≡ Some c) × (take n (changes ++ change ∷ []) ≡ take n changes)).
+    subst (λ (cs : List Edit). IsAccepted cs c) (sym a.1) (all n c a.0))
+    (λ (b : (change ≡ c) × (take n (changes ++ change ∷ []) ≡ changes)).
+    subst (λ (cs : List Edit). IsAccepted cs c) (sym b.1) (subst (λ (d : Edit). IsAccepted changes d) b.0 last))
+    (pushed_place changes change n c g)
+
+pub history_new : (changes : List Edit) (parts : Parts) → changes ≡ [] → Keeps [] parts → IsHistory changes parts
+unfolding operations_of
+history_new changes parts e k = subst (λ (cs : List Edit). IsHistory cs parts) (sym e) (record { accepted = λ n c g. absurd (none-some c g); kept = k })
+
+-- ---- one operation more of a change
+pub cases_below : (i n : ℕ) → i < n + 1 → (i < n) ⊎ (i ≡ n)
+cases_below i n h = grind arith
+
+take_suc_push : {X : Type 0} (xs : List X) (k : ℕ) (x : X) → slice_get xs k ≡ Some x → take (suc k) xs ≡ take k xs ++ x ∷ []
+take_suc_push [] k x g = absurd (none-some x g)
+take_suc_push (y ∷ ys) zero x g = ap (λ z. z ∷ []) (same_Some y x g)
+take_suc_push (y ∷ ys) (suc k) x g = ap (λ zs. y ∷ zs) (take_suc_push ys k x g)
+
+pub take_push : {X : Type 0} (xs : List X) (k : ℕ) (x : X) → slice_get xs k ≡ Some x → take (k + 1) xs ≡ take k xs ++ x ∷ []
+take_push xs k x g = rw add-one (take_suc_push xs k x g)
+
+pub follow_none : (ops added : List Op) → AllFollow ops added 0
+follow_none ops added = λ i op below g. absurd (omega arith)
+
+pub follow_more : (ops added : List Op) (count : ℕ) (o : Op) → slice_get added count ≡ Some o → AllFollow ops added count → MayFollow (ops ++ take count added) o → AllFollow ops added (count + 1)
+follow_more ops added count o here before m = λ i op below g.
+    ⊎_elim (λ (low : i < count). before i op low g)
+    (λ (same : i ≡ count).
+    let one : o ≡ op = same_Some o op (sym here ∙ ap (λ k. slice_get added k) (sym same) ∙ g) in
+    subst (λ (k : ℕ). MayFollow (ops ++ take k added) op) (sym same) (subst (λ (p : Op). MayFollow (ops ++ take count added) p) one m))
+    (cases_below i count below)
+
+pub kept_more : (ops added : List Op) (count : ℕ) (o : Op) (new : Parts) → slice_get added count ≡ Some o → Keeps ((ops ++ take count added) ++ o ∷ []) new → Keeps (ops ++ take (count + 1) added) new
+kept_more ops added count o new here k =
+    subst (λ (xs : List Op). Keeps xs new) (append_assoc ops (take count added) (o ∷ []) ∙ ap (λ (ts : List Op). ops ++ ts) (sym (take_push added count o here))) k
+
+-- ---- what the application of operations answers
+pub applied_more : (ops added : List Op) (index : ℕ) (o : Op) (new : Parts) → slice_get added index ≡ Some o → AllFollow ops added index → MayFollow (ops ++ take index added) o × Keeps ((ops ++ take index added) ++ o ∷ []) new → AllFollow ops added (index + 1) × Keeps (ops ++ take (index + 1) added) new
+applied_more ops added index o new here before m = (follow_more ops added index o here before m.0, kept_more ops added index o new here m.1)
+
+pub refused_at : (ops added : List Op) (index : ℕ) (o : Op) (new : Parts) (error : ApplyError) → slice_get added index ≡ Some o → AllFollow ops added index → Applied (ops ++ take index added) o new (Err error) → IsNotApplied ops added (error_at index error)
+refused_at ops added index o new (apply.Refused refusal) here before h = record { operation = o; here = here; refused = h; before = before }
+refused_at ops added index o new apply.OutOfMemory here before h = tt
+
+pub applied_all : (ops added : List Op) (count : ℕ) (new : Parts) → count ≡ length added → AllFollow ops added count × Keeps (ops ++ take count added) new → AreApplied ops added new
+applied_all ops added count new whole h = record {
+  follow = λ i op below g. h.0 i op (omega arith) g;
+  kept = subst (λ (ts : List Op). Keeps (ops ++ ts) new) (ap (λ k. take k added) whole ∙ take-length added) h.1;
+}
+
+pub applied_none : (ops added : List Op) (parts : Parts) → Keeps ops parts → AllFollow ops added 0 × Keeps (ops ++ []) parts
+applied_none ops added parts k = (follow_none ops added, subst (λ (xs : List Op). Keeps xs parts) (search rules) k)
+
+-- ---- a change more
+-- the operations of the change were all applied
+pub drafted : (changes xs : List Edit) (change : Edit) (added : List Op) (draft : Draft) → changes ≡ xs → draft.added ≡ change ∷ [] → added ≡ change.operations → length changes < 4096 → AreApplied (operations_of xs) added draft.parts → IsDraft xs change draft
+drafted changes xs change added draft same alone e few h = record {
+  added = alone;
+  accepted = record {
+    room = omega (arith, ap length same);
+    follow = subst (λ (ops : List Op). AllFollow (operations_of xs) ops (length ops)) e h.follow;
+  };
+  kept = subst (λ (ops : List Op). Keeps ops draft.parts) (ap (λ (ops : List Op). operations_of xs ++ ops) e ∙ sym (operations_of-push xs change)) h.kept;
+}
+
+-- one of them is refused
+pub refused_change : (changes xs : List Edit) (change : Edit) (added : List Op) (error : SubmitError) → changes ≡ xs → added ≡ change.operations → length changes < 4096 → IsNotApplied (operations_of xs) added error → IsRefused xs change error
+refused_change changes xs change added submit.HistoryFull same e few h = absurd h
+refused_change changes xs change added (submit.Refused index refusal) same e few h = (omega (arith, ap length same), subst (λ (ops : List Op). FirstRefused (operations_of xs) ops index refusal) e h)
+refused_change changes xs change added submit.OutOfMemory same e few h = tt
+
+-- a draft put in place
+pub put_in_place : {E : Type 0} (r : Result (Unit {0}) E) (done : Unit {0}) (changes xs added new : List Edit) (change : Edit) → changes ≡ xs → added ≡ change ∷ [] → r ≡ Ok done → new ≡ (if is_ok r then changes ++ added else changes) → new ≡ xs ++ change ∷ []
+put_in_place (Ok x) done changes xs added new change same alone ok is = is ∙ (λ i. same i ++ alone i)
+put_in_place (Err error) done changes xs added new change same alone ok is = absurd cc
+
+pub history_put : (changes new : List Edit) (change : Edit) (old after : Parts) (draft : Draft) → IsHistory changes old → IsDraft changes change draft → new ≡ changes ++ change ∷ [] → after ≡ draft.parts → IsHistory new after
+history_put changes new change old after draft h d is put = subst (λ (x : List Edit × Parts). IsHistory x.0 x.1) (λ i. (sym is i, sym put i)) (record {
+  accepted = accepted_more changes change h.accepted d.accepted;
+  kept = d.kept;
+})
+
+-- at most 4,096 changes are accepted
+pub few_accepted : (changes : List Edit) → AreAccepted changes → length changes ≤ 4096
+few_accepted [] all = omega arith
+few_accepted (first ∷ others) all =
+    let changes = first ∷ others in
+    let last = length others in
+    let here : slice_get changes last ≡ Some (get_or changes last first) = slice_get-get_or changes last first (omega arith) in
+    let room : length (take last changes) < 4096 = (all last (get_or changes last first) here).room in
+    omega (arith, length-take last changes)
+
+-- ---- parts without the last change
+last_change : (changes : List Edit) (change : Edit) → slice_get changes (length changes - 1) ≡ Some change → changes ≡ take (length changes - 1) changes ++ change ∷ []
+last_change changes change g =
+    let within : length changes - 1 < length changes = slice_get_within changes (length changes - 1) change g in
+    let all : (length changes - 1) + 1 ≡ length changes = omega arith in
+    sym (take-length changes) ∙ ap (λ n. take n changes) (sym all) ∙ take_push changes (length changes - 1) change g
+
+pub operations_of-last : (changes : List Edit) (change : Edit) → slice_get changes (length changes - 1) ≡ Some change → operations_of (take (length changes - 1) changes) ++ change.operations ≡ operations_of changes
+operations_of-last changes change g = sym (operations_of-push (take (length changes - 1) changes) change) ∙ ap operations_of (sym (last_change changes change g))
+
+pub caught_up_last : (changes : List Edit) (change : Edit) (added : List Op) (new : Parts) → slice_get changes (length changes - 1) ≡ Some change → added ≡ change.operations → Keeps (operations_of (take (length changes - 1) changes) ++ added) new → Keeps (operations_of changes) new
+caught_up_last changes change added new g e k =
+    subst (λ (ops : List Op). Keeps ops new) (ap (λ (xs : List Op). operations_of (take (length changes - 1) changes) ++ xs) e ∙ operations_of-last changes change g) k
+
+-- without a change there is nothing to catch up with
+pub caught_up_none : (changes : List Edit) (parts : Parts) → (0 < length changes → ⊥) → Keeps (operations_of (take (length changes - 1) changes)) parts → Keeps (operations_of changes) parts
+caught_up_none [] parts none k = k
+caught_up_none (c ∷ cs) parts none k = absurd (none (omega arith))
+
+-- one change more: the parts so far are spare now
+pub spare_after : (changes : List Edit) (change : Edit) (parts : Parts) (spare : Option Parts) → IsHistory changes parts → spare ≡ Some parts → IsSpare (changes ++ change ∷ []) spare
+spare_after changes change parts spare h is = λ p same.
+    let one : parts ≡ p = same_Some parts p (sym is ∙ same) in
+    let size : length (changes ++ change ∷ []) - 1 ≡ length changes = omega (arith, length_push changes change) in
+    let front : take (length (changes ++ change ∷ []) - 1) (changes ++ change ∷ []) ≡ changes = ap (λ n. take n (changes ++ change ∷ [])) size ∙ take_at changes (change ∷ []) (length changes) refl in
+    subst (λ (cs : List Edit). Keeps (operations_of cs) p) (sym front) (subst (λ (q : Parts). Keeps (operations_of changes) q) one h.kept)
+
+pub no_spare : (changes : List Edit) (spare : Option Parts) → spare ≡ None → IsSpare changes spare
+no_spare changes spare is = λ p same. absurd (none-some p (sym is ∙ same))
+
+pub caught_up_result : (changes : List Edit) (change : Edit) (added : List Op) (new : Parts) (r : Result (Unit {0}) SubmitError) → 0 < length changes → change ≡ get_or changes (length changes - 1) change → added ≡ change.operations → MatchResult r (λ _. AreApplied (operations_of (take (length changes - 1) changes)) added new) (IsNotApplied (operations_of (take (length changes - 1) changes)) added) → OnOk r (Keeps (operations_of changes) new)
+caught_up_result changes change added new (Ok done) some is e applied =
+    caught_up_last changes change added new (slice_get_read changes (length changes) (length changes - 1) change refl (omega arith) is) e applied.kept
+caught_up_result changes change added new (Err error) some is e applied = tt
+
+-- a copy of the parts
+pub kept_copy : {E : Type 0} (r : Result Parts E) (parts : Parts) (changes xs : List Edit) → changes ≡ xs → Keeps (operations_of changes) parts → IfOk r (λ p. p ≡ parts) → IfOk r (Keeps (operations_of xs))
+kept_copy (Ok p) parts changes xs same kept is = subst (λ (x : List Edit × Parts). Keeps (operations_of x.0) x.1) (λ i. (same i, sym is i)) kept
+kept_copy (Err e) parts changes xs same kept is = tt
+
+-- ---- an error handed on
+pub not_applied : (r : Result Parts SubmitError) (ops added : List Op) (error : SubmitError) → IsErrAnd r (λ e. e ≡ error) → IsNotApplied ops added error → MatchResult r (AreApplied ops added) (IsNotApplied ops added)
+not_applied (Ok p) ops added error same why = absurd same
+not_applied (Err e) ops added error same why = subst (IsNotApplied ops added) (sym same) why
+
+pub no_memory : (r : Result Draft SubmitError) (changes : List Edit) (change : Edit) → IsErrAnd r (λ e. e ≡ submit.OutOfMemory) → MatchResult r (IsDraft changes change) (IsRefused changes change)
+no_memory (Ok d) changes change same = absurd same
+no_memory (Err e) changes change same = subst (IsRefused changes change) (sym same) tt

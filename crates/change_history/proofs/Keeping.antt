@@ -1,0 +1,112 @@
+-- How the parts go on from one accepted operation to the next.
+use Rattle.std.proofs.Common.{◌≡◌, ℕ, ◌<◌, ◌≤◌, ◌&&◌, ◌↔◌, List, [], ◌∷◌, ◌++◌, Bool, true, false, Option, Some, MatchOption, Result, Ok, Err, IfOk, IsTrue, refl, sym, ap, ◌∙◌, subst, inl, arith, rules, length, nat_le, cond}
+use Rattle.std.proofs.lemmas.Bool.{false≢true}
+use Rattle.std.proofs.lemmas.Bool.Decides.{nat_tests}
+use Rattle.std.specs.List.{filter, count_by, Contains}
+use Rattle.std.proofs.lemmas.List.Elements.{filter-append}
+use Rattle.std.proofs.lemmas.List.Sums.{length-filter}
+use Rattle.change_ops.specs.declared.id.OpId.{OpId}
+use Rattle.change_ops.specs.declared.operation.Op.{Op}
+use Rattle.change_ops.specs.declared.operation.Op.TheVariants.{Insert, Remove}
+use Rattle.change_ops.specs.Operations.{id_of, is_edit, is_mark}
+use Rattle.char_sequence.specs.Acceptance.{Used, Accepts}
+use Rattle.char_sequence.specs.Newest.{IsNewest}
+use Rattle.char_sequence.specs.declared.sequence.Element.{Element}
+use Rattle.char_sequence.specs.Tree.{Present}
+use Rattle.char_sequence.specs.Order.{Shows, IsAt}
+use Rattle.char_sequence.specs.Held.{Holds}
+use Rattle.mark_anchors.specs.Marks.{AreMarks}
+use Rattle.span_flatten.specs.Version.{Snapshot, IsVersion}
+use Rattle.change_history.specs.declared.parts.Parts.{Parts}
+use Rattle.change_history.specs.Accepted.{IsMarkTooMany}
+use Rattle.change_history.specs.Kept.{Keeps}
+use Rattle.char_sequence.proofs.Holding.{shows_other}
+use Rattle.change_history.proofs.Edits.{kept_was, kept_passes, is_kept}
+
+-- one more operation, which passes or doesn't
+pub filter_push_yes : {X : Type 0} (p : X → Bool) (xs : List X) (y : X) → p y ≡ true → filter p (xs ++ y ∷ []) ≡ filter p xs ++ y ∷ []
+filter_push_yes p xs y passes = filter-append p xs (y ∷ []) ∙ ap (λ b. filter p xs ++ cond b (y ∷ []) []) passes
+
+pub filter_push_no : {X : Type 0} (p : X → Bool) (xs : List X) (y : X) → p y ≡ false → filter p (xs ++ y ∷ []) ≡ filter p xs
+filter_push_no p xs y fails = filter-append p xs (y ∷ []) ∙ ap (λ b. filter p xs ++ cond b (y ∷ []) []) fails ∙ search rules
+
+-- ---- what a check tells
+pub unused_by : (ops : List Op) (op : Op) (id : OpId) → id ≡ id_of op → IsTrue false ↔ Used ops id → Used ops (id_of op) → ⊥
+unused_by ops op id e iff used = absurd (false≢true (iff.1 (subst (λ (i : OpId). Used ops i) (sym e) used)))
+
+pub used_by : (ops : List Op) (op : Op) (id : OpId) → id ≡ id_of op → IsTrue true ↔ Used ops id → Used ops (id_of op)
+used_by ops op id e iff = subst (λ (i : OpId). Used ops i) e (iff.0 refl)
+
+pub too_many : (ops : List Op) (op : Op) (marks : List Op) → marks ≡ filter is_mark ops → (is_mark op && nat_le 4096 (length marks)) ≡ true → IsMarkTooMany ops op
+too_many ops op marks e h =
+    let both : (is_mark op ≡ true) × (4096 ≤ length marks) = grind (arith, nat_tests) in
+    (both.0, subst (λ (n : ℕ). 4096 ≤ n) (ap length e ∙ length-filter is_mark ops) both.1)
+
+pub not_too_many : (ops : List Op) (op : Op) (marks : List Op) → marks ≡ filter is_mark ops → (is_mark op && nat_le 4096 (length marks)) ≡ false → IsMarkTooMany ops op → ⊥
+not_too_many ops op marks e h t =
+    let mark : is_mark op ≡ true = t.0 in
+    let many : 4096 ≤ length marks = subst (λ (n : ℕ). 4096 ≤ n) (sym (ap length e ∙ length-filter is_mark ops)) t.1 in
+    grind (arith, nat_tests)
+
+-- ---- the parts after an operation
+pub keeps_edit : {A E : Type 0} (r : Result A E) (ops : List Op) (op : Op) (old new : Parts) → is_edit op ≡ true → is_mark op ≡ false → Keeps ops old → new.marks ≡ old.marks → IsNewest (ops ++ op ∷ []) new.newest → IfOk r (λ _. Shows new.sequence.elements (ops ++ op ∷ [])) → IfOk r (λ _. Holds new.sequence (filter is_edit ops ++ op ∷ [])) → IfOk r (λ _. Keeps (ops ++ op ∷ []) new)
+keeps_edit (Ok a) ops op old new edit fails k marks newest shows held = record {
+  shows = shows;
+  held = subst (λ (xs : List Op). Holds new.sequence xs) (sym (filter_push_yes is_edit ops op edit)) held;
+  marks = marks ∙ k.marks ∙ sym (filter_push_no is_mark ops op fails);
+  newest = newest;
+}
+keeps_edit (Err e) ops op old new edit fails k marks newest shows held = tt
+
+pub keeps_mark : {A E : Type 0} (r : Result A E) (ops : List Op) (op : Op) (old new : Parts) → is_edit op ≡ false → is_mark op ≡ true → Keeps ops old → new.sequence ≡ old.sequence → IsNewest (ops ++ op ∷ []) new.newest → Shows old.sequence.elements (ops ++ op ∷ []) → IfOk r (λ _. new.marks ≡ old.marks ++ op ∷ []) → IfOk r (λ _. Keeps (ops ++ op ∷ []) new)
+keeps_mark (Ok a) ops op old new fails mark k same newest shows marks = record {
+  shows = subst (λ s. Shows s.elements (ops ++ op ∷ [])) (sym same) shows;
+  held =
+      subst (λ (xs : List Op). Holds new.sequence xs) (sym (filter_push_no is_edit ops op fails))
+      (subst (λ s. Holds s (filter is_edit ops)) (sym same) k.held);
+  marks = marks ∙ ap (λ (xs : List Op). xs ++ op ∷ []) k.marks ∙ sym (filter_push_yes is_mark ops op mark);
+  newest = newest;
+}
+keeps_mark (Err e) ops op old new fails mark k same newest shows marks = tt
+
+-- the id of an accepted operation is new among the marks
+pub fresh_mark : (ops : List Op) (op : Op) (marks : List Op) → marks ≡ filter is_mark ops → Accepts ops op → (o : Op) → Contains marks o → id_of o ≡ id_of op → ⊥
+fresh_mark ops op marks e a o held same =
+    a.fresh (inl (o, kept_was is_mark ops o (subst (λ (xs : List Op). Contains xs o) e held), ap (λ (i : OpId). i.node) same, subst (λ (n : ℕ). n ≤ (id_of o).counter) (ap (λ (i : OpId). i.counter) same) search rules))
+
+pub mark_room : (ops : List Op) (op : Op) (marks : List Op) → marks ≡ filter is_mark ops → is_mark op ≡ true → (IsMarkTooMany ops op → ⊥) → length marks < 4096
+mark_room ops op marks e mark room =
+    let same : length marks ≡ count_by is_mark ops = ap length e ∙ length-filter is_mark ops in
+    let few : 4096 ≤ count_by is_mark ops → ⊥ = λ many. room (mark, many) in
+    grind arith
+
+pub unused_of : (ops : List Op) (op : Op) (id : OpId) → id ≡ id_of op → Accepts ops op → Used ops id → ⊥
+unused_of ops op id e a used = a.fresh (inl (subst (λ (i : OpId). Used ops i) e used))
+
+pub no_insert : (op : Op) → is_edit op ≡ false → (x : OpId) (p : Option OpId) (c : ℕ) → op ≡ Insert x p c → ⊥
+no_insert op fails x p c e = false≢true (sym fails ∙ ap is_edit e)
+
+pub no_remove : (op : Op) → is_edit op ≡ false → (r x : OpId) → op ≡ Remove r x → ⊥
+no_remove op fails r x e = false≢true (sym fails ∙ ap is_edit e)
+
+pub shows_mark : (ops : List Op) (op : Op) (old : Parts) → is_edit op ≡ false → Keeps ops old → Accepts ops op → Shows old.sequence.elements (ops ++ op ∷ [])
+shows_mark ops op old fails k a = shows_other ops old.sequence.elements op a (no_insert op fails) (no_remove op fails) k.shows
+
+-- the marks kept are the mark operations among all
+pub are_marks : (ops marks : List Op) → marks ≡ filter is_mark ops → AreMarks ops marks
+are_marks ops marks e = subst (λ (xs : List Op). AreMarks ops xs) (sym e) (record {
+  held = λ o h. kept_was is_mark ops o h;
+  marking = λ o h. kept_passes is_mark ops o h;
+  listed = λ o h m. is_kept is_mark ops o m h;
+})
+
+-- what has a place was inserted
+pub placed : (ops : List Op) (es : List Element) (id : OpId) (place : ℕ) (found : Option ℕ) → Shows es ops → found ≡ Some place → MatchOption found (Present ops id → ⊥) (λ k. IsAt es id k) → Present ops id
+placed ops es id place found shows here told =
+    let at : IsAt es id place = subst (λ (r : Option ℕ). MatchOption r (Present ops id → ⊥) (λ k. IsAt es id k)) here told in
+    let inserted = shows.text.inserted place at.0 at.1 in
+    (inserted.0, (at.0.character, subst (λ (x : OpId). Contains ops (Insert x inserted.0 at.0.character)) at.2 inserted.1))
+
+pub version_kept : {E : Type 0} (r : Result Snapshot E) (parts : Parts) (number : ℕ) → IfOk r (λ v. (ops : List Op) → Shows parts.sequence.elements ops → AreMarks ops parts.marks → IsVersion ops number v) → IfOk r (λ v. (ops : List Op) → Keeps ops parts → IsVersion ops number v)
+version_kept (Ok v) parts number h = λ ops k. h ops k.shows (are_marks ops parts.marks k.marks)
+version_kept (Err e) parts number h = tt

@@ -1,0 +1,3 @@
+pub mod Chronicle
+pub mod Edits
+pub mod Keeping

@@ -1,0 +1,11 @@
+use Rattle.std.proofs.Common.{◌≡◌, ◌∙◌, IfOk, rules, sym}
+use Rattle.change_history.proofs.Chronicle.{kept_copy}
+use Rattle.change_history.proofs.history.History.working_parts.Goals as goal
+
+pub catch_up-requires : goal.catch_up-requires
+catch_up-requires c = c.self.invariant.1 c.in-Some.spare (sym c.take.ensures.value ∙ c.in-Some.is)
+
+pub returns-clause-kept : goal.returns-clause-kept
+returns-clause-kept c =
+    let same : IfOk c.clone.result (λ p. p ≡ c.self.inside.parts) = search rules in
+    kept_copy c.clone.result c.self.inside.parts c.self.inside.changes c.args.self.now c.self.view_is c.self.invariant.0.kept same

@@ -1,0 +1,59 @@
+-- Which operations and changes are accepted after others, and the first refusal (Peritext, CSCW 2022: an operation
+-- is applied once those that it depends on are there).
+use Rattle.std.specs.Prelude.{◌≡◌, ℕ, ◌≤◌, ◌<◌, true, List, [], ◌∷◌, ◌++◌, length, take, slice_get, count_by, Some}
+use Rattle.change_ops.specs.declared.operation.Op.{Op}
+use Rattle.change_ops.specs.Operations.{is_mark}
+use Rattle.change_ops.specs.Changes.{Edit}
+use Rattle.char_sequence.specs.Acceptance.{Accepts, IsStale, IsUnknown, IsFull}
+use Rattle.change_history.specs.declared.refusal.Refusal.{Refusal}
+use Rattle.change_history.specs.declared.refusal.Refusal.TheVariants.{StaleCounter, UnknownRef, DocumentFull, MarksFull}
+use Rattle.change_history.specs.declared.refusal.SubmitError.{SubmitError}
+use Rattle.change_history.specs.declared.refusal.SubmitError.TheVariants.{HistoryFull, Refused, OutOfMemory}
+
+-- a mark operation after 4,096 of them
+abbrev pub IsMarkTooMany : List Op → Op → Type 0
+IsMarkTooMany ops op = (is_mark op ≡ true) × (4096 ≤ count_by is_mark ops)
+
+-- the operation is accepted after these
+pub record MayFollow (ops : List Op) (op : Op) : Type 0 where
+  pub accepted : Accepts ops op
+  pub room : IsMarkTooMany ops op → ⊥
+
+-- why it is not: the first that applies
+abbrev pub MayNotFollow : List Op → Op → Refusal → Type 0
+MayNotFollow ops op StaleCounter = IsStale ops op
+MayNotFollow ops op UnknownRef = (IsStale ops op → ⊥) × IsUnknown ops op
+MayNotFollow ops op DocumentFull = (IsStale ops op → ⊥) × (IsUnknown ops op → ⊥) × IsFull ops op
+MayNotFollow ops op MarksFull = (IsStale ops op → ⊥) × (IsUnknown ops op → ⊥) × (IsFull ops op → ⊥) × IsMarkTooMany ops op
+
+-- the operations of changes, one after the other
+unfoldable pub operations_of : List Edit → List Op
+operations_of [] = []
+operations_of (change ∷ changes) = change.operations ++ operations_of changes
+
+-- each of the first operations of a change is accepted after the ones before it
+abbrev pub AllFollow : List Op → List Op → ℕ → Type 0
+AllFollow ops added count = (i : ℕ) (op : Op) → i < count → slice_get added i ≡ Some op → MayFollow (ops ++ take i added) op
+
+-- the first operation that is refused, by its index
+pub record FirstRefused (ops added : List Op) (index : ℕ) (refusal : Refusal) : Type 0 where
+  pub operation : Op
+  pub here : slice_get added index ≡ Some operation
+  pub refused : MayNotFollow (ops ++ take index added) operation refusal
+  pub before : AllFollow ops added index
+
+-- the change is accepted after these, of which there may be 4,096 in all
+pub record IsAccepted (changes : List Edit) (change : Edit) : Type 0 where
+  pub room : length changes < 4096
+  pub follow : AllFollow (operations_of changes) change.operations (length change.operations)
+
+-- why a change is refused after these; want of memory is no fault of a change
+abbrev pub IsRefused : List Edit → Edit → SubmitError → Type 0
+IsRefused changes change HistoryFull = 4096 ≤ length changes
+IsRefused changes change (Refused index refusal) =
+    (length changes < 4096) × FirstRefused (operations_of changes) change.operations index refusal
+IsRefused changes change OutOfMemory = Unit {0}
+
+-- each of the changes was accepted after those before it
+abbrev pub AreAccepted : List Edit → Type 0
+AreAccepted changes = (n : ℕ) (change : Edit) → slice_get changes n ≡ Some change → IsAccepted (take n changes) change

@@ -1,0 +1,216 @@
+ghost use Rattle.std.specs.Prelude.{◌≡◌, ◌≤◌, ◌+◌, ◌-◌, List, [], ◌++◌, ◌∷◌, length, take, MatchResult, MatchOption, IfOk, OnOk};
+ghost use Rattle.change_ops.specs.Changes.{Edit};
+ghost use Rattle.change_ops.specs.declared.operation.Op.{Op};
+ghost use Rattle.char_sequence.specs.Order.{SameSet};
+ghost use Rattle.char_sequence.specs.Tree.{Present};
+ghost use Rattle.mark_anchors.specs.Format.{IsFormat};
+ghost use Rattle.span_flatten.specs.Spans.{Span, AreSpans};
+ghost use Rattle.span_flatten.specs.Version.{IsVersion};
+ghost use Rattle.change_history.specs.Accepted.{IsAccepted, IsRefused, AreAccepted, operations_of};
+ghost use Rattle.change_history.specs.Kept.{Keeps, AreApplied, IsNotApplied, IsDraft, error_at};
+
+use crate::parts::Parts;
+use crate::refusal::{ApplyError, SubmitError};
+use change_ops::change::Change;
+use change_ops::id::OpId;
+use change_ops::operation::Op;
+use mark_anchors::format::Format;
+use span_flatten::version::Version;
+use std::alloc::{AllocError, Global};
+use std::collections::LinkedList;
+use std::marker::Model;
+use std::mem::replace;
+
+/// The most changes that are accepted.
+pub const CHANGE_LIMIT: usize = 4096;
+
+/// The changes that were accepted, in their order, and the text that they make.
+pub struct History {
+    // A linked list, since a draft brings the node of its change: to put it in place takes no memory.
+    changes: LinkedList<Change>,
+    parts: Parts,
+    // The parts without the last change: the next one is applied to these, since one of its operations may be refused
+    // after others were applied. None where they were used up; a copy then takes their place.
+    spare: Option<Parts>,
+}
+
+// By hand, so that a proof of a function that lets a history go sees one call there.
+impl Drop for History {
+    fn drop(self) {
+        let History {
+            changes: _,
+            parts: _,
+            spare: _,
+        } = self;
+    }
+}
+
+impl Model for History {
+    ghost use Rattle.std.specs.Prelude.{List};
+    ghost use Rattle.change_ops.specs.Changes.{Edit};
+    ghost use Rattle.change_history.specs.Kept.{IsHistory, IsSpare};
+
+    ghost Value = { List Edit };
+
+    ghost view = { λ h. h.changes };
+
+    ghost invariant = { λ h. IsHistory h.changes h.parts × IsSpare h.changes h.spare };
+}
+
+fn at_index(index: usize, error: ApplyError) -> SubmitError
+    ensures { result ≡ error_at index error }
+{
+    match error {
+        ApplyError::Refused(refusal) => SubmitError::Refused { index, refusal },
+        ApplyError::OutOfMemory => SubmitError::OutOfMemory,
+    }
+}
+
+/// Applies operations in their order, up to the first that is refused; after an error the parts are of no use.
+fn apply_all(parts: &mut Parts, operations: &[Op]) -> Result<(), SubmitError>
+    requires { (ops : List Op) × Keeps ops parts.old }
+    ensures { (ops : List Op) → Keeps ops parts.old → MatchResult result (λ _. AreApplied ops operations.now parts.new) (IsNotApplied ops operations.now) }
+{
+    for index in 0..operations.len() {
+        if let Err(error) = parts.apply(&operations[index]) {
+            return Err(at_index(index, error));
+        }
+    }
+    Ok(())
+}
+
+/// Applies the last of the changes to the parts of those before it.
+fn catch_up(parts: &mut Parts, changes: &LinkedList<Change>) -> Result<(), SubmitError>
+    requires { Keeps (operations_of (take (length changes.now - 1) changes.now)) parts.old }
+    ensures { OnOk result (Keeps (operations_of changes.now) parts.new) }
+{
+    match changes.back() {
+        Some(change) => apply_all(parts, change.operations()),
+        None => Ok(()),
+    }
+}
+
+/// A change that is accepted next, with the parts that follow it.
+#[derive(Drop)]
+pub struct Draft {
+    // The change alone.
+    added: LinkedList<Change>,
+    parts: Parts,
+}
+
+/// A list of the change alone.
+fn alone(alloc: Global, change: Change) -> Result<LinkedList<Change>, AllocError>
+    ensures { IfOk result (λ list. list ≡ change ∷ []) }
+{
+    let mut list = LinkedList::new(alloc);
+    match list.push_back(change) {
+        Ok(()) => Ok(list),
+        Err(_) => Err(AllocError),
+    }
+}
+
+impl History {
+    /// No change.
+    pub fn new(alloc: Global) -> History
+        ensures { result ≡ [] }
+    {
+        History {
+            changes: LinkedList::new(alloc),
+            parts: Parts::new(alloc),
+            spare: None,
+        }
+    }
+
+    /// The number of changes that were accepted.
+    pub fn len(&self) -> usize
+        ensures value { result ≡ length self.now }
+        ensures most { result ≤ 4096 }
+        ensures accepted { AreAccepted self.now }
+    {
+        self.changes.len()
+    }
+
+    /// Parts of all operations that may be changed: the spare ones, brought up to date, or else a copy.
+    fn working_parts(&mut self) -> Result<Parts, AllocError>
+        ensures kept { IfOk result (Keeps (operations_of self.old)) }
+        ensures same { self.new ≡ self.old }
+    {
+        if let Some(mut spare) = self.spare.take() {
+            if let Ok(()) = catch_up(&mut spare, &self.changes) {
+                return Ok(spare);
+            }
+        }
+        self.parts.clone()
+    }
+
+    /// The parts that follow the operations, if these are accepted next.
+    fn parts_after(&mut self, operations: &[Op]) -> Result<Parts, SubmitError>
+        ensures applied { MatchResult result (AreApplied (operations_of self.old) operations.now) (IsNotApplied (operations_of self.old) operations.now) }
+        ensures same { self.new ≡ self.old }
+    {
+        let mut parts = self.working_parts()?;
+        apply_all(&mut parts, operations)?;
+        Ok(parts)
+    }
+
+    /// The change with all that it takes to put it in place, if it is accepted next; nothing is put in place yet.
+    pub fn draft(&mut self, change: Change) -> Result<Draft, SubmitError>
+        ensures drafted { MatchResult result (IsDraft self.old change) (IsRefused self.old change) }
+        ensures same { self.new ≡ self.old }
+    {
+        if self.changes.len() >= CHANGE_LIMIT {
+            return Err(SubmitError::HistoryFull);
+        }
+        let parts = self.parts_after(change.operations())?;
+        let added = alone(*self.changes.allocator(), change)?;
+        Ok(Draft { added, parts })
+    }
+
+    /// Puts a draft in place, which takes no memory.
+    pub fn put(&mut self, mut draft: Draft)
+        requires { (change : Edit) × IsDraft self.old change draft }
+        ensures { (change : Edit) → IsDraft self.old change draft → self.new ≡ self.old ++ change ∷ [] }
+    {
+        self.changes.append(&mut draft.added).unwrap();
+        self.spare = Some(replace(&mut self.parts, draft.parts));
+    }
+
+    /// Takes a change in after those before it, whole; where it is refused the history stays as it was.
+    pub fn accept(&mut self, change: Change) -> Result<(), SubmitError>
+        ensures { MatchResult result (λ _. (self.new ≡ self.old ++ change ∷ []) × IsAccepted self.old change) (λ error. (self.new ≡ self.old) × IsRefused self.old change error) }
+    {
+        let draft = self.draft(change)?;
+        self.put(draft);
+        Ok(())
+    }
+
+    /// The version that the changes make with the one of a draft.
+    pub fn draft_version(&self, alloc: Global, draft: &Draft) -> Result<Version, AllocError>
+        requires { (change : Edit) × IsDraft self.now change draft.now }
+        ensures { IfOk result (λ version. (change : Edit) → IsDraft self.now change draft.now → IsVersion (operations_of (self.now ++ change ∷ [])) (length self.now + 1) version) }
+    {
+        draft.parts.version(alloc, self.len() as u64 + 1)
+    }
+
+    /// The version that the changes make: its number is how many they are.
+    pub fn version(&self, alloc: Global) -> Result<Version, AllocError>
+        ensures { IfOk result (IsVersion (operations_of self.now) (length self.now)) }
+    {
+        self.parts.version(alloc, self.len() as u64)
+    }
+
+    /// The format of a character, a removed one too; None where no accepted operation inserted it.
+    pub fn format_at(&self, alloc: Global, id: OpId) -> Result<Option<Format>, AllocError>
+        ensures { IfOk result (λ format. MatchOption format (Present (operations_of self.now) id → ⊥) (IsFormat (operations_of self.now) id)) }
+    {
+        self.parts.format_at(alloc, id)
+    }
+
+    /// The law that replicas converge: histories of one set of operations have equal spans, in whatever
+    /// order and in however many changes the operations were accepted.
+    pub fn same_set_same_spans(&self, other: &History)
+        ensures { (spans others : List Span) → SameSet (operations_of self.now) (operations_of other.now) → AreSpans (operations_of self.now) spans → AreSpans (operations_of other.now) others → spans ≡ others }
+    {
+        self.parts.same_set_same_spans();
+    }
+}

@@ -1,0 +1,6 @@
+//! The changes that were accepted, in their order, and the text that they make.
+#![tactic(auto)]
+
+pub mod history;
+mod parts;
+pub mod refusal;

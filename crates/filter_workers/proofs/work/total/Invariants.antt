@@ -1,0 +1,6 @@
+use Rattle.std.proofs.Common.{◌*◌}
+use Rattle.filter_workers.specs.Turns.{AreCommitted}
+use Rattle.filter_workers.proofs.work.total.Given as goal
+
+abbrev pub invariant-loop-count : goal.invariant-loop-count
+invariant-loop-count l = AreCommitted (l.count-index * l.turns) l.sum

@@ -1,0 +1,34 @@
+-- What workers do to a hub.
+use Rattle.std.specs.Prelude.{◌≡◌, ◌≤◌, ℕ, Ok, Err, Option, Some, None, List, All, length}
+use Rattle.batches.specs.Batches.{Slip}
+use Rattle.hub_core.specs.Machine.{TakesJob, Commits}
+use Rattle.hub_core.specs.declared.error.CommitError.{CommitError}
+use Rattle.ingest_workers.specs.Holdings.{InOneHolding}
+use Rattle.filter_workers.specs.declared.work.TurnEnd.{TurnEnd}
+use Rattle.filter_workers.specs.declared.work.TurnEnd.TheVariants.{Committed, Refused}
+
+-- the job's batch was committed, or refused, in one holding of the lock
+abbrev pub Ends : Slip → TurnEnd → Type 0
+Ends job Committed = InOneHolding (λ old new. Commits old job (Ok tt) new)
+Ends job Refused = (e : CommitError) × InOneHolding (λ old new. Commits old job (Err e) new)
+
+-- a job was taken in one holding of the lock, and its batch committed or refused in another; or there was none to take
+abbrev pub Turns : Option TurnEnd → Type 0
+Turns (Some end) = (job : Slip) × InOneHolding (λ old new. TakesJob old (Some job) new) × Ends job end
+Turns None = InOneHolding (λ old new. TakesJob old None new)
+
+-- how many batches a turn committed
+abbrev pub batches_of : TurnEnd → ℕ
+batches_of Committed = 1
+batches_of Refused = 0
+
+-- a job was taken in one holding of the lock, and its batch committed in another
+abbrev pub IsCommitted : Slip → Type 0
+IsCommitted job = InOneHolding (λ old new. TakesJob old (Some job) new) × InOneHolding (λ old new. Commits old job (Ok tt) new)
+
+-- the batches of so many jobs were committed, in at most so many turns
+pub record AreCommitted (turns count : ℕ) : Type 0 where
+  pub jobs : List Slip
+  pub counted : length jobs ≡ count
+  pub few : count ≤ turns
+  pub each : All IsCommitted jobs

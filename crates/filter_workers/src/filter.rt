@@ -1,0 +1,77 @@
+ghost use Rattle.std.specs.Prelude.{◌≡◌, IfOk};
+ghost use Rattle.std.specs.Option.{option_map_or};
+ghost use Rattle.span_view.specs.Views.{view_at};
+ghost use Rattle.batches.specs.Verdicts.{verdict_on, verdicts_of};
+
+use batches::batch::{Batch, verdict};
+use batches::item::Job;
+use rayon::prelude::*;
+use span_flatten::version::Version;
+use span_view::view::view;
+use std::alloc::{AllocError, Global};
+use std::thread::Threads;
+use verifier::verify::Verified;
+use version_history::published::{Naming, Published};
+
+/// How few spans are worth a thread of their own.
+pub(crate) const SPANS_PER_THREAD: usize = 256;
+
+/// The verdict on the span at an index, or 0 past the last one.
+fn verdict_at(program: &Verified, version: &Version, index: usize) -> u64
+    ensures { result ≡ option_map_or (verdict_on program.now) (view_at version.now index) 0 }
+{
+    match view(version, index) {
+        Some(span) => verdict(program, &span),
+        None => 0,
+    }
+}
+
+/// The verdicts on all spans of a version, in order. Each thread has at least so many spans, where there are so many.
+fn verdicts<R: Threads + Sync>(
+    rt: &R,
+    alloc: Global,
+    program: &Verified,
+    version: &Version,
+    least: usize,
+) -> Result<Vec<u64>, AllocError>
+    ensures { IfOk result (λ found. found.items ≡ verdicts_of program.now version.now) }
+{
+    (0..version.rows().len())
+        .into_par_iter()
+        .with_min_len(least)
+        .map(
+            |index: usize| -> u64
+                ensures { result ≡ option_map_or (verdict_on program.entry.now) (view_at version.entry.now index) 0 }
+            { verdict_at(program, version, index) },
+        )
+        .collect(rt, alloc)
+}
+
+/// The batch of a job, by threads of which each has at least so many spans.
+pub(crate) fn filter_in_pieces<N: Naming, R: Threads + Sync>(
+    rt: &R,
+    alloc: Global,
+    published: &Published<'_, N>,
+    job: &Job<N>,
+    least: usize,
+) -> Result<Batch<N>, AllocError>
+    ensures { IfOk result (λ batch. batch ≡ job.now) }
+{
+    let program = published.program(&job.program);
+    let version = published.look(&job.version);
+    let verdicts = verdicts(rt, alloc, program, version, least)?;
+    Batch::from_verdicts(alloc, published, job, verdicts)
+}
+
+/// The batch of a job, as `Batch::compute` answers it. The spans of a long version are shared out among as many threads as there are
+/// processors to run them. It asks for no lock.
+pub fn filter<N: Naming, R: Threads + Sync>(
+    rt: &R,
+    alloc: Global,
+    published: &Published<'_, N>,
+    job: &Job<N>,
+) -> Result<Batch<N>, AllocError>
+    ensures { IfOk result (λ batch. batch ≡ job.now) }
+{
+    filter_in_pieces(rt, alloc, published, job, SPANS_PER_THREAD)
+}

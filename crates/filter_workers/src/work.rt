@@ -1,0 +1,145 @@
+ghost use Rattle.std.specs.Prelude.{◌≡◌, ◌≤◌, ◌<◌, ◌*◌, ◌^◌, Ok, All, IfOk, length};
+ghost use Rattle.filter_workers.specs.Turns.{Ends, Turns, AreCommitted, batches_of};
+
+use crate::filter::{SPANS_PER_THREAD, filter_in_pieces};
+use crate::gate::Gate;
+use batches::item::Job;
+use hub_core::error::CommitError;
+use ingest_workers::hub::Hub;
+use std::alloc::{AllocError, Global};
+use std::sync::Wait;
+use std::sync::ledger::Ledger;
+use std::thread::{Threads, map_indices};
+use version_history::published::{Naming, Published};
+
+/// What became of a job's batch.
+#[derive(Drop)]
+enum TurnEnd {
+    Committed,
+    Refused,
+}
+
+impl TurnEnd {
+    /// How many batches were committed.
+    fn batches(&self) -> u64
+        ensures count { result ≡ batches_of self.now }
+        ensures most { result ≤ 1 }
+    {
+        match self {
+            TurnEnd::Committed => 1,
+            TurnEnd::Refused => 0,
+        }
+    }
+}
+
+/// Computes the batch of a job outside the lock, and commits it.
+fn answer<N: Naming + Ledger, R: Threads + Wait + Copy + Sync>(
+    rt: &R,
+    alloc: Global,
+    hub: &Hub<'_, N, R>,
+    published: &Published<'_, N>,
+    job: &Job<N>,
+    least: usize,
+) -> Result<TurnEnd, AllocError>
+    ensures { IfOk result (Ends job.now) }
+{
+    let batch = filter_in_pieces(rt, alloc, published, job, least)?;
+    match hub.commit(rt, batch) {
+        Ok(()) => Ok(TurnEnd::Committed),
+        Err(CommitError::OutOfMemory) => Err(AllocError),
+        Err(CommitError::NoSubscriber | CommitError::Stale) => Ok(TurnEnd::Refused),
+    }
+}
+
+/// A turn of a worker. What a subscriber is owed is handed out again where no memory was found.
+fn turn<N: Naming + Ledger, R: Threads + Wait + Copy + Sync, G: Gate<N>>(
+    rt: &R,
+    alloc: Global,
+    hub: &Hub<'_, N, R>,
+    published: &Published<'_, N>,
+    gate: &G,
+    least: usize,
+) -> Result<Option<TurnEnd>, AllocError>
+    ensures { IfOk result Turns }
+{
+    let Some(job) = hub.take_job(rt) else {
+        return Ok(None);
+    };
+    gate.before(&job);
+    let end = answer(rt, alloc, hub, published, &job, least);
+    if end.is_ok() {
+        let _ = hub.pump(rt, job.subscriber);
+    } else {
+        let _ = hub.reissue(rt, job.subscriber);
+    }
+    gate.after(&job);
+    Ok(Some(end?))
+}
+
+/// A worker's turns, until there is no job or no memory was found. It answers how many batches it committed.
+#[tactic(auto, using(crate::proofs::Committed::none_yet, crate::proofs::Committed::wider))]
+fn work_alone<N: Naming + Ledger, R: Threads + Wait + Copy + Sync, G: Gate<N>>(
+    rt: &R,
+    alloc: Global,
+    hub: &Hub<'_, N, R>,
+    published: &Published<'_, N>,
+    gate: &G,
+    least: usize,
+    turns: u32,
+) -> Result<u64, AllocError>
+    ensures { IfOk result (AreCommitted turns) }
+{
+    let mut committed = 0;
+    for _turn in 0..turns {
+        let Some(end) = turn(rt, alloc, hub, published, gate, least)? else {
+            break;
+        };
+        committed += end.batches();
+    }
+    Ok(committed)
+}
+
+/// What all workers committed together, or want of memory where one met it.
+#[tactic(auto, using(crate::proofs::Committed::none_yet, crate::proofs::Committed::together))]
+fn total(counts: &[Result<u64, AllocError>], turns: u64) -> Result<u64, AllocError>
+    requires each { All (λ count. IfOk count (AreCommitted turns)) counts.now }
+    requires fits { length counts.now * turns < 2 ^ 64 }
+    ensures { IfOk result (AreCommitted (length counts.now * turns)) }
+{
+    let mut sum = 0;
+    for count in counts {
+        sum += (*count)?;
+    }
+    Ok(sum)
+}
+
+/// Has so many workers, of which one runs in this thread, take jobs, compute their batches and commit them, each until its turns are
+/// over or there is no job. The more they are, the fewer threads each may start to compute one. It answers how many batches were
+/// committed; where a worker found no memory it ends, what its subscriber is owed is handed out again, and the others go on to their end.
+pub fn work<N: Naming + Ledger + Send + Sync, R: Threads + Wait + Copy + Send + Sync, G: Gate<N>>(
+    rt: &R,
+    alloc: Global,
+    hub: &Hub<'_, N, R>,
+    published: &Published<'_, N>,
+    gate: &G,
+    workers: usize,
+    turns: u32,
+) -> Result<u64, AllocError>
+    requires { (1 ≤ workers) × (workers ≤ 16) }
+    ensures none { turns ≡ 0 → result ≡ Ok 0 }
+    ensures committed { IfOk result (AreCommitted (workers * turns)) }
+{
+    if turns == 0 {
+        return Ok(0);
+    }
+    let least = SPANS_PER_THREAD * workers;
+    let counts = map_indices(
+        rt,
+        alloc,
+        workers,
+        &|_| -> Result<u64, AllocError>
+            ensures { IfOk result (AreCommitted turns) }
+        { work_alone(rt, alloc, hub, published, gate, least, turns) },
+    )?;
+    total(counts.as_slice(), u64::from(turns))
+}

@@ -1,0 +1,64 @@
+ghost use Rattle.std.specs.Prelude.{IfOk, MatchOption};
+ghost use Rattle.bpf_words.specs.Words.{program_of};
+ghost use Rattle.meaning.specs.Safe.{Safe};
+ghost use Rattle.hub_commands.specs.Answers.{IsAnswered};
+ghost use Rattle.hub_commands.specs.Programs.{HasNoFault, Rejects, IsAcceptanceReply, IsCheckReply};
+
+use crate::answer::Answer;
+use crate::failure::Failure;
+use crate::hexadecimal::{decode_hex, without_blanks};
+use crate::input::read_input;
+use crate::output::write_answer;
+use crate::reason::Reason;
+use bpf_words::words::Words;
+use std::alloc::{AllocError, Global};
+use std::io::{Read, Write};
+use verifier::refusal::VerifyError;
+use verifier::verify::verify;
+
+/// Why a program isn't accepted, unless it is.
+fn rejection(alloc: Global, words: &Words<'_>) -> Option<VerifyError>
+    ensures { MatchOption result (HasNoFault (program_of words.now) × Safe (program_of words.now)) (Rejects (program_of words.now)) }
+{
+    verify(alloc, words).err()
+}
+
+/// What is answered to a program: the number of its slots where it is accepted.
+fn acceptance_answer(alloc: Global, words: &Words<'_>) -> Result<Answer, AllocError>
+    ensures { IfOk result (λ answer. IsAcceptanceReply words.now answer) }
+{
+    if let Some(error) = rejection(alloc, words) {
+        return Answer::refused(alloc, &Reason::Unverified(error));
+    }
+    let slots = words.len();
+    let text = format!(in alloc; "accepted {slots}\n")?;
+    Ok(Answer::done(text))
+}
+
+/// What `check` answers to a program in hexadecimal.
+fn check_answer(alloc: Global, input: &[u8]) -> Result<Answer, AllocError>
+    ensures { IfOk result (λ answer. IsCheckReply input.now answer) }
+{
+    let digits = without_blanks(alloc, input)?;
+    let Some(bytes) = decode_hex(alloc, &digits)? else {
+        return Answer::refused(alloc, &Reason::BadHex);
+    };
+    match Words::new(&bytes) {
+        Ok(words) => acceptance_answer(alloc, &words),
+        Err(error) => Answer::refused(alloc, &Reason::Words(error)),
+    }
+}
+
+/// The command `check`: whether a program in hexadecimal is accepted.
+pub fn check<R: Read, W: Write>(
+    alloc: Global,
+    reader: &mut R,
+    writer: &mut W,
+) -> Result<u8, Failure>
+    ensures { IfOk result (λ status. IsAnswered IsCheckReply (R.remaining reader.old)
+        (W.contents writer.old) (W.contents writer.new) status) }
+{
+    let input = read_input(alloc, reader)?;
+    let answer = check_answer(alloc, &input)?;
+    write_answer(writer, &answer)
+}

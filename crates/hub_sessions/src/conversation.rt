@@ -1,0 +1,219 @@
+ghost use Rattle.std.specs.Prelude.{◌≤◌};
+
+use crate::desk::{Desk, Held};
+use change_ops::change::Change;
+use ingest_workers::hub::Hub;
+use ingest_workers::ingest::ingest_change;
+use ingest_workers::share::Share;
+use refusals::reason::Reason;
+use session_lines::fault::ReadFault;
+use session_lines::reader::LineReader;
+use session_lines::reply::Reply;
+use session_lines::request::{Next, SessionRequest, next_request};
+use std::alloc::{AllocError, Global};
+use std::io::{Read, Write};
+use std::sync::Wait;
+use std::sync::ledger::Ledger;
+use std::thread::Threads;
+use version_history::published::{Naming, Published};
+
+/// The most bytes of the lines that answer one request.
+const REPLY_ROOM: usize = 72_000;
+
+/// Why a session ended before its end.
+#[derive(Clone, Copy, Debug, PartialEq, Eq)]
+pub enum SessionFault {
+    /// A read failed.
+    Read,
+    /// A write failed.
+    Write,
+}
+
+/// Whether a session goes on.
+#[derive(Clone, Copy)]
+enum Turn {
+    More,
+    Last,
+}
+
+/// Why a turn came to no reply, or to no whole one.
+#[derive(Clone, Copy)]
+enum TurnFault {
+    Read,
+    Memory,
+}
+
+impl From<AllocError> for TurnFault {
+    fn from(_error: AllocError) -> TurnFault {
+        TurnFault::Memory
+    }
+}
+
+impl From<ReadFault> for TurnFault {
+    fn from(fault: ReadFault) -> TurnFault {
+        match fault {
+            ReadFault::Device => TurnFault::Read,
+            ReadFault::Memory => TurnFault::Memory,
+        }
+    }
+}
+
+/// Writes what answers one request, whole.
+fn write_reply<W: Write>(writer: &mut W, out: &str) -> Result<(), SessionFault> {
+    if out.is_empty() {
+        return Ok(());
+    }
+    if writer.write_all(out.as_bytes()).is_err() || writer.flush().is_err() {
+        return Err(SessionFault::Write);
+    }
+    Ok(())
+}
+
+/// Writes that no memory was found. The session ends.
+fn write_no_memory<W: Write>(writer: &mut W) -> Result<(), SessionFault> {
+    write_reply(writer, "no 45 OutOfMemory\n")
+}
+
+/// Submits a change.
+fn change<N: Naming + Ledger, R: Wait + Copy>(
+    rt: &R,
+    hub: &Hub<'_, N, R>,
+    share: &mut Share<N>,
+    change: Change,
+) -> Reply
+    ensures { share.old ≤ share.new }
+{
+    match ingest_change(rt, hub, share, change) {
+        Ok(number) => Reply::Version(number),
+        Err(error) => Reply::Refused(Reason::Unaccepted(error)),
+    }
+}
+
+impl<N: Naming + Ledger + Send + Sync, R: Threads + Wait + Copy + Send + Sync> Desk<'_, '_, N, R> {
+    /// Does what is asked, appends the lines of items, and answers the line behind them.
+    fn answer(
+        &self,
+        share: &mut Share<N>,
+        held: &mut Vec<Held<N, R>>,
+        request: SessionRequest,
+        out: &mut String,
+    ) -> Result<Reply, AllocError>
+        ensures { share.old ≤ share.new }
+    {
+        match request {
+            SessionRequest::Change(asked) => Ok(change(&self.rt, self.hub, share, asked)),
+            SessionRequest::Subscribe { capacity, program } => {
+                Ok(self.subscribe(held, capacity, &program))
+            }
+            SessionRequest::Pull { subscriber, count } => self.pull(held, subscriber, count, out),
+            SessionRequest::Close { subscriber } => Ok(self.close(held, subscriber)),
+        }
+    }
+
+    /// Reads a request, does what it asks, and appends the lines of the reply.
+    fn turn<I: Read>(
+        &self,
+        share: &mut Share<N>,
+        held: &mut Vec<Held<N, R>>,
+        lines: &mut LineReader<I>,
+        out: &mut String,
+    ) -> Result<Turn, TurnFault>
+        ensures { share.old ≤ share.new }
+    {
+        match next_request(self.alloc, lines)? {
+            Next::Request(request) => {
+                self.answer(share, held, request, out)?.push_line(out)?;
+                Ok(Turn::More)
+            }
+            Next::Refused(refusal) => {
+                Reply::Refused(Reason::from(refusal)).push_line(out)?;
+                Ok(Turn::More)
+            }
+            Next::TooLong => {
+                Reply::Refused(Reason::LineTooLong).push_line(out)?;
+                Ok(Turn::Last)
+            }
+            Next::End => Ok(Turn::Last),
+        }
+    }
+
+    /// Answers one request after another.
+    fn converse<I: Read, O: Write>(
+        &self,
+        share: &mut Share<N>,
+        held: &mut Vec<Held<N, R>>,
+        lines: &mut LineReader<I>,
+        out: &mut String,
+        writer: &mut O,
+    ) -> Result<(), SessionFault>
+        ensures { share.old ≤ share.new }
+    {
+        for _ in self.rt.forever() {
+            out.clear();
+            let turn = self.turn(share, held, lines, out);
+            write_reply(writer, out.as_str())?;
+            match turn {
+                Ok(Turn::More) => {}
+                Ok(Turn::Last) => return Ok(()),
+                Err(TurnFault::Read) => return Err(SessionFault::Read),
+                Err(TurnFault::Memory) => return write_no_memory(writer),
+            }
+        }
+        unreachable!()
+    }
+
+    /// Makes the room for lines and replies, and answers one request after another.
+    fn begin<I: Read + Drop, O: Write>(
+        &self,
+        share: &mut Share<N>,
+        held: &mut Vec<Held<N, R>>,
+        reader: I,
+        writer: &mut O,
+    ) -> Result<(), SessionFault>
+        ensures { share.old ≤ share.new }
+    {
+        let Ok(mut lines) = LineReader::new(self.alloc, reader) else {
+            return write_no_memory(writer);
+        };
+        let Ok(mut out) = String::with_capacity(self.alloc, REPLY_ROOM) else {
+            return write_no_memory(writer);
+        };
+        self.converse(share, held, &mut lines, &mut out, writer)
+    }
+}
+
+/// Runs one session on a hub, by its own share, over any reader and writer: each request is answered whole, and then flushed, before
+/// the next is read. However it ends, its subscribers are closed.
+pub fn session<
+    'p,
+    N: Naming + Ledger + Send + Sync,
+    R: Threads + Wait + Copy + Send + Sync,
+    I: Read + Drop,
+    O: Write,
+>(
+    rt: &R,
+    alloc: Global,
+    hub: &Hub<'p, N, R>,
+    published: &Published<'p, N>,
+    share: &mut Share<N>,
+    reader: I,
+    writer: &mut O,
+    workers: usize,
+) -> Result<(), SessionFault>
+    requires workers { (1 ≤ workers) × (workers ≤ 16) }
+    ensures share { share.old ≤ share.new }
+{
+    let desk = Desk {
+        rt: *rt,
+        alloc,
+        hub,
+        published,
+        workers,
+    };
+    let mut held = Vec::new(alloc);
+    let ended = desk.begin(share, &mut held, reader, writer);
+    for one in held {
+        let _ = hub.close(rt, one.id);
+    }
+    ended
+}

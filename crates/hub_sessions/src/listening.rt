@@ -1,0 +1,13 @@
+use std::io;
+use std::io::Write;
+use std::net::{Ipv4Addr, Net, OpenListener, TcpListener};
+
+/// Listens on a port of 127.0.0.1, and writes the line `port <number>` before any connection is accepted. At port 0 the
+/// system chooses one.
+pub fn listen<R: Net, W: Write>(rt: &R, port: u16, writer: &mut W) -> io::Result<R::Listener> {
+    let listener = TcpListener::bind(rt, (Ipv4Addr::LOCALHOST, port))?;
+    let port = listener.local_addr()?.port();
+    writeln!(writer, "port {port}")?;
+    writer.flush()?;
+    Ok(listener)
+}

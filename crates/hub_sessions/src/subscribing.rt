@@ -1,0 +1,94 @@
+ghost use Rattle.std.specs.Prelude.{◌≡◌, [], IfOk};
+
+use crate::desk::{Desk, Held, place_of};
+use bpf_words::words::Words;
+use hub_core::error::SubscribeError;
+use refusals::reason::Reason;
+use session_lines::reply::Reply;
+use std::alloc::Global;
+use std::sync::Wait;
+use std::sync::ledger::Ledger;
+use subscriber_queues::ends::{QueueError, QueueSink, Subscription, queue};
+use verifier::verify::{Verified, verify};
+use version_history::published::{Naming, ProgramToken};
+
+/// The two ends of a queue.
+fn ends<N: Naming, R: Wait + Copy>(
+    rt: R,
+    alloc: Global,
+    capacity: usize,
+) -> Result<(QueueSink<N, R>, Subscription<N, R>), Reason>
+    ensures { IfOk result (λ q. (q.0.sent ≡ []) × (q.1 ≡ [])) }
+{
+    match queue(rt, alloc, capacity) {
+        Ok(ends) => Ok(ends),
+        Err(QueueError::BadCapacity) => Err(Reason::BadCapacity),
+        Err(QueueError::OutOfMemory) => Err(Reason::OutOfMemory),
+    }
+}
+
+/// The accepted program of these bytes.
+fn accepted(alloc: Global, bytes: &[u8]) -> Result<Verified, Reason> {
+    let words = match Words::new(bytes) {
+        Ok(words) => words,
+        Err(error) => return Err(Reason::Words(error)),
+    };
+    match verify(alloc, &words) {
+        Ok(program) => Ok(program),
+        Err(error) => Err(Reason::Unverified(error)),
+    }
+}
+
+impl<N: Naming + Ledger, R: Wait + Copy> Desk<'_, '_, N, R> {
+    /// The token of the accepted program of these bytes.
+    fn program(&self, bytes: &[u8]) -> Result<ProgramToken<N>, Reason> {
+        let program = accepted(self.alloc, bytes)?;
+        match self.published.publish_program(&self.rt, program) {
+            Ok(token) => Ok(token),
+            Err(_) => Err(Reason::OutOfMemory),
+        }
+    }
+
+    /// Adds a subscriber: its program, and how many items may wait for it.
+    fn added(&self, capacity: usize, bytes: &[u8]) -> Result<Held<N, R>, Reason> {
+        let (sink, items) = ends(self.rt, self.alloc, capacity)?;
+        let program = self.program(bytes)?;
+        match self.hub.subscribe(&self.rt, program, sink) {
+            Ok(id) => Ok(Held { id, items }),
+            Err(SubscribeError::SubscribersFull) => Err(Reason::SubscribersFull),
+            Err(SubscribeError::OutOfMemory) => Err(Reason::OutOfMemory),
+        }
+    }
+
+    /// Adds a subscriber and keeps it among those of the session.
+    pub(crate) fn subscribe(
+        &self,
+        held: &mut Vec<Held<N, R>>,
+        capacity: usize,
+        bytes: &[u8],
+    ) -> Reply {
+        if held.reserve(1).is_err() {
+            return Reply::Refused(Reason::OutOfMemory);
+        }
+        match self.added(capacity, bytes) {
+            Ok(one) => {
+                let id = one.id;
+                held.push_reserved(one);
+                Reply::Subscribed(id)
+            }
+            Err(reason) => Reply::Refused(reason),
+        }
+    }
+
+    /// Closes a subscriber of the session.
+    pub(crate) fn close(&self, held: &mut Vec<Held<N, R>>, id: usize) -> Reply {
+        let Some(place) = place_of(held.as_slice(), id) else {
+            return Reply::Refused(Reason::NoSubscriber);
+        };
+        let one = held.remove(place);
+        match self.hub.close(&self.rt, one.id) {
+            Ok(()) => Reply::Closed(id),
+            Err(_) => Reply::Refused(Reason::NoSubscriber),
+        }
+    }
+}

@@ -1,0 +1,18 @@
+-- What a hub's value under its lock is, and what one holding of the lock does.
+use Rattle.std.specs.Prelude.{◌≡◌, ℕ, ◌+◌, Result, Ok, Err, length}
+use Rattle.change_ops.specs.Changes.{Edit}
+use Rattle.span_flatten.specs.Version.{Snapshot}
+use Rattle.version_history.specs.Tokens.{Token}
+use Rattle.hub_core.specs.Machine.{State, Submits}
+use Rattle.change_history.specs.declared.refusal.SubmitError.{SubmitError}
+use Rattle.subscriber_queues.specs.Queue.{Sending}
+
+-- a core whose sinks are queues was found under the lock, and this event made another of it
+abbrev pub InOneHolding : (State Sending → State Sending → Type 0) → Type 0
+InOneHolding event = (old : State Sending) × (new : State Sending) × event old new
+
+-- a change is submitted, and the number of its version answered; or it is refused
+abbrev pub Ingests : State Sending → Edit → Result ℕ SubmitError → State Sending → Type 0
+Ingests old change (Ok number) new =
+    (number ≡ length old.changes + 1) × (token : Token Snapshot) × (token.value.number ≡ number) × Submits old change (Ok token) new
+Ingests old change (Err e) new = Submits old change (Err e) new

@@ -1,0 +1,144 @@
+ghost use Rattle.std.specs.Prelude.{◌≡◌, ◌+◌, ◌≤◌, [], Some, Err, length, map, slice_get, OnOk, OnErr, MatchOption};
+ghost use Rattle.batches.specs.Feed.{Sub};
+ghost use Rattle.change_history.specs.Accepted.{AreAccepted};
+ghost use Rattle.hub_core.specs.Machine.{Submits, Subscribes, TakesJob, Commits, Pumps, Reissues, Closes};
+ghost use Rattle.hub_core.specs.Stream.{BeginsStream};
+ghost use Rattle.subscriber_queues.specs.Queue.{Sending, was_sent, IsFull};
+
+use crate::share::Share;
+use batches::batch::Batch;
+use batches::item::Job;
+use change_history::refusal::SubmitError;
+use change_ops::change::Change;
+use hub_core::error::{CommitError, NoSubscriber, SubscribeError};
+use hub_core::hub::Core;
+use std::marker::Model;
+use std::sync::ledger::{Book, Ledger};
+use std::sync::{Wait, ledger};
+use subscriber_queues::ends::QueueSink;
+use version_history::published::{Naming, ProgramToken, VersionToken};
+
+/// What lies under a hub's lock: its core, and the book of its ledger, whose total is the number of accepted changes. Each call is
+/// one event of the core; contracts see the core.
+#[derive(Drop)]
+pub struct Books<'p, N: Naming + Ledger, R: Wait + Copy> {
+    core: Core<'p, N, QueueSink<N, R>>,
+    book: Book<N>,
+}
+
+impl<'p, N: Naming + Ledger, R: Wait + Copy> Model for Books<'p, N, R> {
+    ghost use Rattle.std.specs.Prelude.{◌≡◌, length};
+    ghost use Rattle.hub_core.specs.Machine.{State};
+    ghost use Rattle.subscriber_queues.specs.Queue.{Sending};
+
+    ghost Value = { State Sending };
+
+    ghost view = { λ b. b.core };
+
+    ghost invariant = { λ b. b.book.total ≡ length b.core.changes };
+}
+
+impl<'p, N: Naming + Ledger, R: Wait + Copy> Books<'p, N, R> {
+    pub(crate) fn new(core: Core<'p, N, QueueSink<N, R>>, book: Book<N>) -> Books<'p, N, R>
+        requires { book.total ≡ length core.changes }
+        ensures { result ≡ core.entry }
+    {
+        Books { core, book }
+    }
+
+    /// Accepts a change, publishes its version, and counts it in the book and the share; where it is refused all stay as they were.
+    pub fn submit(
+        &mut self,
+        rt: &R,
+        share: &mut Share<N>,
+        change: Change,
+    ) -> Result<VersionToken<N>, SubmitError>
+        ensures event { Submits self.old change result self.new }
+        ensures ok { OnOk result (share.new ≡ share.old + 1) }
+        ensures err { OnErr result (share.new ≡ share.old) }
+        ensures within { OnOk result (share.new ≤ length self.new.changes) }
+    {
+        let token = self.core.submit(rt, change)?;
+        let _most = self.core.count();
+        share.count_one(&mut self.book);
+        Ok(token)
+    }
+
+    /// Adds a subscriber, from the latest version on.
+    pub fn subscribe(
+        &mut self,
+        program: ProgramToken<N>,
+        sink: QueueSink<N, R>,
+    ) -> Result<usize, SubscribeError>
+        requires { sink.sent ≡ [] }
+        ensures { Subscribes self.old (length self.old.changes) program sink result self.new }
+    {
+        self.core.subscribe(program, sink)
+    }
+
+    /// Hands out a version that a subscriber's program is to be run on; None only where there is none.
+    pub fn take_job(&mut self) -> Option<Job<N>>
+        ensures { TakesJob self.old result self.new }
+    {
+        self.core.take_job()
+    }
+
+    /// Holds a batch, if its subscriber waits for it.
+    pub fn commit(&mut self, batch: Batch<N>) -> Result<(), CommitError>
+        ensures commits { Commits self.old batch result self.new }
+        ensures takes_no_memory { ¬ (result ≡ Err CommitError.OutOfMemory) }
+    {
+        self.core.commit(batch)
+    }
+
+    /// Sends what can be sent to a subscriber. It answers how many items.
+    pub fn pump(&mut self, id: usize) -> Result<usize, NoSubscriber>
+        ensures { Pumps was_sent IsFull self.old id result self.new }
+    {
+        self.core.pump(id)
+    }
+
+    /// What a subscriber doesn't hold may be handed out again.
+    pub fn reissue(&mut self, id: usize) -> Result<(), NoSubscriber>
+        ensures { Reissues self.old id result self.new }
+    {
+        self.core.reissue(id)
+    }
+
+    /// Closes a subscriber for good, and drops the batches that it holds.
+    pub fn close(&mut self, id: usize) -> Result<(), NoSubscriber>
+        ensures { Closes self.old id result self.new }
+    {
+        self.core.close(id)
+    }
+
+    /// How many changes were accepted.
+    pub fn count(&self) -> usize
+        ensures count { result ≡ length self.now.changes }
+        ensures most { result ≤ 4096 }
+        ensures accepted { AreAccepted self.now.changes }
+    {
+        self.core.count()
+    }
+
+    /// A subscriber's queue, also of a closed one; None for an unknown id. What it was sent is a beginning of the stream of its program
+    /// over the accepted changes, from the subscriber's first version to the last.
+    pub fn sink(&self, id: usize) -> Option<&QueueSink<N, R>>
+        ensures value { MatchOption result (length self.now.subs ≤ id) (λ sink. (a : Sub Sending) × (slice_get self.now.subs id ≡ Some a) × (sink.now ≡ a.sink)) }
+        ensures stream { (a : Sub Sending) → slice_get self.now.subs id ≡ Some a → BeginsStream a.program.value self.now.changes a.first (length self.now.changes) (map (λ item. item.what) a.sink.sent) }
+    {
+        self.core.sink(id)
+    }
+
+    /// The number of accepted changes, for whoever has every part of the ledger.
+    pub(crate) fn settle(&mut self, all: &mut ledger::Share<N>) -> u64
+        requires { all.old.parts ≡ N.parts }
+        ensures same { self.new ≡ self.old }
+        ensures count { result ≡ length self.new.changes }
+        ensures accepted { AreAccepted self.new.changes }
+        ensures sum { result ≡ all.old.amount }
+    {
+        self.book.audit(all);
+        self.core.count() as u64
+    }
+}

@@ -1,0 +1,109 @@
+ghost use Rattle.std.specs.Prelude.{◌≡◌, ◌≤◌, [], Err, length, All, IfOk, vec_len};
+ghost use Rattle.hub_core.specs.Machine.{Subscribes, TakesJob, Commits, Pumps, Reissues, Closes};
+ghost use Rattle.subscriber_queues.specs.Queue.{was_sent, IsFull};
+ghost use Rattle.ingest_workers.specs.Holdings.{InOneHolding};
+
+use crate::books::Books;
+use crate::share::{Share, cut};
+use batches::batch::Batch;
+use batches::item::Job;
+use hub_core::error::{CommitError, NoSubscriber, SubscribeError};
+use hub_core::hub::Core;
+use std::alloc::{AllocError, Global};
+use std::sync::ledger::{Blank, Book, Ledger};
+use std::sync::{Mutex, Wait};
+use subscriber_queues::ends::QueueSink;
+use version_history::published::{Naming, ProgramToken, Published};
+
+/// A hub that threads share. Each call holds its lock once, for one call of the books.
+#[derive(Drop)]
+pub struct Hub<'p, N: Naming + Ledger, R: Wait + Copy> {
+    pub(crate) published: Published<'p, N>,
+    pub(crate) books: Mutex<Books<'p, N, R>>,
+}
+
+/// A hub with no change, whose book is this.
+fn locked<'p, N: Naming + Ledger, R: Wait + Copy>(
+    rt: &R,
+    alloc: Global,
+    book: Book<N>,
+    published: &Published<'p, N>,
+) -> Result<Hub<'p, N, R>, AllocError>
+    requires { book.total ≡ 0 }
+{
+    let core = Core::new(rt, alloc, published)?;
+    Ok(Hub {
+        published: published.again(),
+        books: Mutex::new(Books::new(core, book)),
+    })
+}
+
+impl<'p, N: Naming + Ledger, R: Wait + Copy> Hub<'p, N, R> {
+    /// A hub with no change and no subscriber, which publishes version 0, and so many shares of its count, which are 0.
+    pub fn new(
+        rt: &R,
+        alloc: Global,
+        blank: Blank,
+        published: &Published<'p, N>,
+        shares: usize,
+    ) -> Result<(Hub<'p, N, R>, Vec<Share<N>>), AllocError>
+        requires name { blank.name ≡ N.name }
+        requires parts { (blank.parts ≡ N.parts) × (N.parts ≡ shares) }
+        requires range { (1 ≤ shares) × (shares ≤ 64) }
+        ensures { IfOk result (λ made. (vec_len made.1 ≡ shares) × All (λ s. s ≡ 0) made.1.items) }
+    {
+        let (book, all) = blank.open::<N>();
+        let shares = cut(alloc, all, shares)?;
+        let hub = locked(rt, alloc, book, published)?;
+        Ok((hub, shares))
+    }
+
+    /// Adds a subscriber, from the latest version on.
+    pub fn subscribe(
+        &self,
+        rt: &R,
+        program: ProgramToken<N>,
+        sink: QueueSink<N, R>,
+    ) -> Result<usize, SubscribeError>
+        requires { sink.sent ≡ [] }
+        ensures { InOneHolding (λ old new. Subscribes old (length old.changes) program sink result new) }
+    {
+        self.books.lock(rt).subscribe(program, sink)
+    }
+
+    /// Hands out a version that a subscriber's program is to be run on; None only where there was none.
+    pub fn take_job(&self, rt: &R) -> Option<Job<N>>
+        ensures { InOneHolding (λ old new. TakesJob old result new) }
+    {
+        self.books.lock(rt).take_job()
+    }
+
+    /// Holds a batch, if its subscriber waits for it.
+    pub fn commit(&self, rt: &R, batch: Batch<N>) -> Result<(), CommitError>
+        ensures commits { InOneHolding (λ old new. Commits old batch result new) }
+        ensures takes_no_memory { ¬ (result ≡ Err CommitError.OutOfMemory) }
+    {
+        self.books.lock(rt).commit(batch)
+    }
+
+    /// Sends what can be sent to a subscriber. It answers how many items.
+    pub fn pump(&self, rt: &R, id: usize) -> Result<usize, NoSubscriber>
+        ensures { InOneHolding (λ old new. Pumps was_sent IsFull old id result new) }
+    {
+        self.books.lock(rt).pump(id)
+    }
+
+    /// What a subscriber doesn't hold may be handed out again.
+    pub fn reissue(&self, rt: &R, id: usize) -> Result<(), NoSubscriber>
+        ensures { InOneHolding (λ old new. Reissues old id result new) }
+    {
+        self.books.lock(rt).reissue(id)
+    }
+
+    /// Closes a subscriber for good, and drops the batches that it holds.
+    pub fn close(&self, rt: &R, id: usize) -> Result<(), NoSubscriber>
+        ensures { InOneHolding (λ old new. Closes old id result new) }
+    {
+        self.books.lock(rt).close(id)
+    }
+}

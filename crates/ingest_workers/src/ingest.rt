@@ -1,0 +1,111 @@
+ghost use Rattle.std.specs.Prelude.{◌≡◌, ◌+◌, ◌≤◌, List, length, sum, IfOk, IfErr, OnOk, OnErr, vec_len};
+ghost use Rattle.change_ops.specs.Changes.{Edit};
+ghost use Rattle.change_history.specs.Accepted.{AreAccepted};
+ghost use Rattle.ingest_workers.specs.Holdings.{InOneHolding, Ingests};
+ghost use Rattle.ingest_workers.specs.Texts.{IsOneChange, IsNotOne, IngestsText};
+ghost use Rattle.ingest_workers.specs.declared.ingest.HubError.TheVariants as hub_error;
+
+use crate::hub::Hub;
+use crate::share::Share;
+use change_history::refusal::SubmitError;
+use change_ops::change::{Change, read_change};
+use change_ops::refusal::ChangeError;
+use std::alloc::Global;
+use std::sync::Wait;
+use std::sync::ledger::Ledger;
+use thiserror::Error;
+use version_history::published::Naming;
+
+/// Why a text was not ingested.
+#[derive(Clone, Copy, Debug, PartialEq, Eq, Error)]
+pub enum HubError {
+    /// The text isn't that of one change.
+    #[error("{0}")]
+    Change(ChangeError),
+    /// The change was not accepted.
+    #[error("{0}")]
+    Submit(SubmitError),
+}
+
+impl From<ChangeError> for HubError {
+    ghost from_gives = { λ error e. e ≡ hub_error.Change error };
+
+    fn from(error: ChangeError) -> HubError {
+        HubError::Change(error)
+    }
+}
+
+impl From<SubmitError> for HubError {
+    ghost from_gives = { λ error e. e ≡ hub_error.Submit error };
+
+    fn from(error: SubmitError) -> HubError {
+        HubError::Submit(error)
+    }
+}
+
+/// The change that a whole text is of. Text after it is a bad line, the one after the change's last.
+fn one_change(alloc: Global, text: &str) -> Result<Change, ChangeError>
+    ensures ok { IfOk result (λ change. IsOneChange text.now change) }
+    ensures err { IfErr result (IsNotOne text.now) }
+{
+    let (change, rest) = read_change(alloc, text)?;
+    if !rest.is_empty() {
+        return Err(ChangeError::BadLine(change.operations().len() + 2));
+    }
+    Ok(change)
+}
+
+/// Submits a change by a share, and answers its version's number.
+pub fn ingest_change<N: Naming + Ledger, R: Wait + Copy>(
+    rt: &R,
+    hub: &Hub<'_, N, R>,
+    share: &mut Share<N>,
+    change: Change,
+) -> Result<u64, SubmitError>
+    ensures event { InOneHolding (λ old new. Ingests old change result new) }
+    ensures ok { OnOk result (share.new ≡ share.old + 1) }
+    ensures err { OnErr result (share.new ≡ share.old) }
+    ensures numbered { IfOk result (λ number. (share.new ≤ number) × (number ≤ 4096)) }
+{
+    let token = hub.books.lock(rt).submit(rt, share, change)?;
+    Ok(hub.published.look(&token).number())
+}
+
+/// Reads the change that a text is of, without the lock, and submits it by a share. It answers the number of the change's version.
+pub fn ingest<N: Naming + Ledger, R: Wait + Copy>(
+    rt: &R,
+    alloc: Global,
+    hub: &Hub<'_, N, R>,
+    share: &mut Share<N>,
+    text: &str,
+) -> Result<u64, HubError>
+    ensures text { IngestsText text.now result }
+    ensures ok { OnOk result (share.new ≡ share.old + 1) }
+    ensures err { OnErr result (share.new ≡ share.old) }
+    ensures numbered { IfOk result (λ number. (share.new ≤ number) × (number ≤ 4096)) }
+{
+    let change = one_change(alloc, text)?;
+    let number = ingest_change(rt, hub, share, change)?;
+    Ok(number)
+}
+
+/// The number of accepted changes, which all shares of a hub counted together.
+pub fn settle<N: Naming + Ledger, R: Wait + Copy>(
+    rt: &R,
+    hub: &Hub<'_, N, R>,
+    shares: Vec<Share<N>>,
+) -> u64
+    requires { vec_len shares ≡ N.parts }
+    ensures sum { result ≡ sum shares.items }
+    ensures accepted { (changes : List Edit) × AreAccepted changes × (result ≡ length changes) }
+{
+    let mut shares = shares;
+    let Some(first) = shares.pop() else {
+        return 0;
+    };
+    let mut all = first.into_part();
+    while let Some(share) = shares.pop() {
+        all.merge(share.into_part());
+    }
+    hub.books.lock(rt).settle(&mut all)
+}

@@ -1,0 +1,7 @@
+//! A hub that threads share: its core under a lock, and the shares of its count.
+#![tactic(auto)]
+
+pub mod books;
+pub mod hub;
+pub mod ingest;
+pub mod share;

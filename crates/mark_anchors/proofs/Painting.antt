@@ -1,0 +1,264 @@
+-- Marks painted over places, one after another.
+use Rattle.std.proofs.Common.{◌≡◌, ℕ, ◌+◌, ◌<◌, ◌≤◌, ◌↔◌, List, [], ◌∷◌, ◌++◌, Option, Some, None, length, get_or, sym, ap, refl, ◌∙◌, subst, ⊎_elim, arith, rules, Bor}
+use Rattle.std.specs.List.{slice_get, Contains}
+use Rattle.std.proofs.Math.ListN.{set}
+use Rattle.std.proofs.lemmas.List.{length-set}
+use Rattle.std.specs.List.Sorted.{IsStrictlyIncreasing, IsBinarySearchResult, IsSortedByKey, IsNonDecreasingBy}
+use Rattle.std.specs.Cmp.{IsTotalOrder}
+use Rattle.std.specs.Cmp.Rules.{comparing}
+use Rattle.std.specs.Ordering.{nat_cmp, ordering_index}
+use Rattle.std.specs.declared.result.Result.TheVariants.{Ok, Err}
+use Rattle.std.specs.Option.{option_copied}
+use Rattle.std.specs.Slice.{IsItemAt}
+use Rattle.std.proofs.lemmas.Bool.{cases_lt, false≢true, ltb-true, lt-ltb}
+use Rattle.std.proofs.lemmas.List.Elements.{Contains-append_left, Contains-push}
+use Rattle.std.proofs.lemmas.List.Kept.{AllPairs-from_increasing}
+use Rattle.std.proofs.lemmas.List.Sorted.{searched, searchable_from_sorted}
+use Rattle.std.proofs.lemmas.Option.{same_Some, slice_get_within, slice_get_past, slice_get_read, get_or_from_slice_get}
+use Rattle.change_ops.specs.Ids.{Less, id_cmp}
+use Rattle.change_ops.specs.declared.id.OpId.{OpId}
+use Rattle.change_ops.proofs.IdLaws.{compares_ids}
+use Rattle.char_sequence.proofs.Lists.{slice_get_set_same, slice_get_set_other}
+use Rattle.mark_anchors.specs.Placed.{CoversPlace, IsBest}
+use Rattle.mark_anchors.specs.KeyMarks.{AreById, IsCountBelow, IsCountUpTo, ArePainted, AreOver, numbered}
+use Rattle.mark_anchors.specs.declared.placed.PlacedMark.{PlacedMark}
+use Rattle.mark_anchors.proofs.Deciding.{best_new, more_skipped}
+use Rattle.mark_anchors.proofs.Lists.{contains_at, contains_from}
+
+-- ---- how many places are before one
+ascending : (xs : List ℕ) → IsStrictlyIncreasing xs → (i j : ℕ) → i ≤ j → j < length xs → get_or xs i 0 ≤ get_or xs j 0
+ascending xs rising i j le within =
+    ⊎_elim
+    (λ (less : i < j). let low : get_or xs i 0 < get_or xs j 0 = AllPairs-from_increasing xs rising i j 0 less within in omega arith)
+    (λ (ge : j ≤ i). let same : i ≡ j = omega arith in let eq : get_or xs i 0 ≡ get_or xs j 0 = ap (λ k. get_or xs k 0) same in omega arith)
+    (cases_lt i j)
+
+pub below_found : (xs : List ℕ) → IsStrictlyIncreasing xs → (x n : ℕ) → n < length xs → get_or xs n 0 ≡ x → IsCountBelow xs x n
+below_found xs rising x n within is j y at =
+    let here : get_or xs j 0 ≡ y = get_or_from_slice_get xs j y 0 at in
+    let inside : j < length xs = slice_get_within xs j y at in (
+      λ less. let low : get_or xs j 0 < get_or xs n 0 = AllPairs-from_increasing xs rising j n 0 less within in omega arith,
+      λ less.
+          ⊎_elim
+          (λ (l : j < n). l)
+          (λ (ge : n ≤ j). let high : get_or xs n 0 ≤ get_or xs j 0 = ascending xs rising n j ge inside in absurd (omega arith))
+          (cases_lt j n),
+    )
+
+pub below_gap : (xs : List ℕ) (x n : ℕ) → ((k : ℕ) → k < n → get_or xs k 0 < x) → ((k : ℕ) → n ≤ k → k < length xs → x < get_or xs k 0) → IsCountBelow xs x n
+below_gap xs x n low high j y at =
+    let here : get_or xs j 0 ≡ y = get_or_from_slice_get xs j y 0 at in
+    let inside : j < length xs = slice_get_within xs j y at in (
+      λ less. let l : get_or xs j 0 < x = low j less in omega arith,
+      λ less.
+          ⊎_elim
+          (λ (l : j < n). l)
+          (λ (ge : n ≤ j). let h : x < get_or xs j 0 = high j ge inside in absurd (omega arith))
+          (cases_lt j n),
+    )
+
+pub found : (xs : List ℕ) → IsStrictlyIncreasing xs → (x : ℕ) → (n : ℕ) → IsBinarySearchResult (λ y. nat_cmp y x) xs (Ok n) → IsCountBelow xs x n
+found xs rising x n is = let r = searched xs x (Ok n) is (ascending xs rising) in below_found xs rising x n r.0 r.1
+
+pub gap : (xs : List ℕ) → IsStrictlyIncreasing xs → (x : ℕ) → (n : ℕ) → IsBinarySearchResult (λ y. nat_cmp y x) xs (Err n) → IsCountBelow xs x n
+gap xs rising x n is = let r = searched xs x (Err n) is (ascending xs rising) in below_gap xs x n r.1 r.2
+
+-- ---- marks by their ids
+id_total : IsTotalOrder id_cmp
+id_total = search (comparing, rules)
+
+greater_index : (a b : OpId) → Less b a → ordering_index (id_cmp a b) ≡ 2
+greater_index a b less = ap ordering_index ((compares_ids a b).greater.1 less)
+
+equal_index : (a : OpId) → ordering_index (id_cmp a a) ≡ 1
+equal_index a = ap ordering_index ((compares_ids a a).equal.1 refl)
+
+non_decreasing : {X : Type 0} (n : X → ℕ) (xs : List X) → IsNonDecreasingBy n xs → (i j : ℕ) (x y : X) → i < j → slice_get xs i ≡ Some x → slice_get xs j ≡ Some y → n x ≤ n y
+non_decreasing n xs h i j x y less at next =
+    let here : get_or xs i x ≡ x = get_or_from_slice_get xs i x x at in
+    let there : get_or xs j x ≡ y = get_or_from_slice_get xs j y x next in
+    let le : n (get_or xs i x) ≤ n (get_or xs j x) = h i j x (omega arith) (slice_get_within xs j y next) in
+    let one : n (get_or xs i x) ≡ n x = ap n here in
+    let two : n (get_or xs j x) ≡ n y = ap n there in
+    omega arith
+
+pub by_id_from_sort : (marks : List PlacedMark) → IsSortedByKey (λ (p : PlacedMark). p.id) id_cmp marks → AreById marks
+by_id_from_sort marks sorted i j p q less at next below =
+    let rise = searchable_from_sorted id_total (λ (m : PlacedMark). m.id) marks q.id sorted in
+    let le = non_decreasing (λ (m : PlacedMark). ordering_index (id_cmp m.id q.id)) marks rise i j p q less at next in
+    let one : ordering_index (id_cmp q.id q.id) ≡ 1 = equal_index q.id in
+    let two : ordering_index (id_cmp p.id q.id) ≡ 2 = greater_index p.id q.id below in
+    absurd (omega arith)
+
+-- ---- one mark more
+-- the numbers from one index up to another are this one, and the others are as they were
+pub record IsFilled (old new : List (Option ℕ)) (from upto to number : ℕ) : Type 0 where
+  pub sized : length new ≡ length old
+  pub within : (j : ℕ) → from ≤ j → j < upto → j < to
+  pub inside : (j : ℕ) → from ≤ j → j < upto → slice_get new j ≡ Some (Some number)
+  pub before : (j : ℕ) → j < from → slice_get new j ≡ slice_get old j
+  pub behind : (j : ℕ) → upto ≤ j → slice_get new j ≡ slice_get old j
+
+pub filled_none : (old : List (Option ℕ)) (from to number : ℕ) → IsFilled old old from from to number
+filled_none old from to number = record {
+  sized = refl;
+  within = λ j low high. absurd (omega arith);
+  inside = λ j low high. absurd (omega arith);
+  before = λ j less. refl;
+  behind = λ j ge. refl;
+}
+
+pub filled_more : (old new : List (Option ℕ)) (from upto to number : ℕ) → upto < to → from ≤ upto → upto < length new → IsFilled old new from upto to number → IsFilled old (set new upto (Some number)) from (upto + 1) to number
+filled_more old new from upto to number next low within f = record {
+  sized = length-set new upto (Some number) ∙ f.sized;
+  within = λ j a b. omega arith;
+  inside =
+      λ j a b.
+      ⊎_elim
+      (λ (less : j < upto). slice_get_set_other new upto j (Some number) (λ same. absurd (omega arith)) ∙ f.inside j a less)
+      (λ (ge : upto ≤ j). let same : j ≡ upto = omega arith in ap (slice_get (set new upto (Some number))) same ∙ slice_get_set_same new upto (Some number) within)
+      (cases_lt j upto);
+  before = λ j less. slice_get_set_other new upto j (Some number) (λ same. absurd (omega arith)) ∙ f.before j less;
+  behind = λ j ge. slice_get_set_other new upto j (Some number) (λ same. absurd (omega arith)) ∙ f.behind j (omega arith);
+}
+
+module _ (places : List ℕ) (marks : List PlacedMark) (old new : List (Option ℕ)) (from upto to k : ℕ) (mark : PlacedMark)
+    (ids : AreById marks) (at : slice_get marks k ≡ Some mark) (starts : IsCountBelow places mark.start from) (ends : IsCountBelow places mark.end to)
+    (filled : IsFilled old new from upto to k) (whole : to ≤ upto) (painted : ArePainted places marks k old) where
+  on_top : (j place : ℕ) → slice_get places j ≡ Some place → from ≤ j → j < upto → IsBest marks place (k + 1) (Some mark)
+  on_top j place there low high =
+      let begun : mark.start ≤ place =
+      ⊎_elim
+      (λ (less : place < mark.start). let early : j < from = (starts j place there).1 less in absurd (omega arith))
+      (λ (ge : mark.start ≤ place). ge)
+      (cases_lt place mark.start) in
+      let ongoing : place < mark.end = (ends j place there).0 (filled.within j low high) in
+      best_new marks place k mark at (begun, ongoing) (λ i p less g covers. ids i k p mark less g at)
+
+  under : (j place : ℕ) (number : Option ℕ) → slice_get places j ≡ Some place → (from ≤ j → j < upto → ⊥) → slice_get old j ≡ Some number → IsBest marks place (k + 1) (numbered marks number)
+  under j place number there not stood =
+      more_skipped marks place k mark (numbered marks number) at
+      (λ covers.
+      ⊎_elim
+      (λ (less : j < from). let early : place < mark.start = (starts j place there).0 less in let begun : mark.start ≤ place = covers.0 in absurd (omega arith))
+      (λ (ge : from ≤ j). let late : j < to = (ends j place there).1 covers.1 in not ge (omega arith))
+      (cases_lt j from))
+      (painted.best j place number there stood)
+
+  pub painted_more : ArePainted places marks (k + 1) new
+  painted_more = record {
+    sized = filled.sized ∙ painted.sized;
+    best =
+        λ j place number there stands.
+        ⊎_elim
+        (λ (less : j < from). under j place number there (λ low high. absurd (omega arith)) (sym (filled.before j less) ∙ stands))
+        (λ (ge : from ≤ j).
+        ⊎_elim
+        (λ (less : j < upto).
+        let is : number ≡ Some k = same_Some number (Some k) (sym stands ∙ filled.inside j ge less) in
+        subst (λ n. IsBest marks place (k + 1) (numbered marks n)) (sym is) (subst (IsBest marks place (k + 1)) (sym at) (on_top j place there ge less)))
+        (λ (past : upto ≤ j). under j place number there (λ low high. absurd (omega arith)) (sym (filled.behind j past) ∙ stands))
+        (cases_lt j upto))
+        (cases_lt j from);
+  }
+
+-- ---- reading
+pub copied_from_get : {X : Type 0} (xs : List X) (i : ℕ) (r : Option (Bor X)) → IsItemAt xs i r → option_copied r ≡ slice_get xs i
+copied_from_get xs i None is =
+    ⊎_elim
+    (λ (less : i < length xs). absurd (false≢true (is.0 ∙ lt-ltb i (length xs) less)))
+    (λ (ge : length xs ≤ i). sym (slice_get_past xs i ge))
+    (cases_lt i (length xs))
+copied_from_get xs i (Some r) is = sym (slice_get_read xs (length xs) i r.now refl (ltb-true i (length xs) (sym is.0)) is.1)
+
+pub found_up_to : (xs : List ℕ) → IsStrictlyIncreasing xs → (x n : ℕ) → IsBinarySearchResult (λ y. nat_cmp y x) xs (Ok n) → IsCountUpTo xs x (n + 1)
+found_up_to xs rising x n is j y at =
+    let r = searched xs x (Ok n) is (ascending xs rising) in
+    let within : n < length xs = r.0 in
+    let there : get_or xs n 0 ≡ x = r.1 in
+    let here : get_or xs j 0 ≡ y = get_or_from_slice_get xs j y 0 at in
+    let inside : j < length xs = slice_get_within xs j y at in (
+      λ less. let low : get_or xs j 0 ≤ get_or xs n 0 = ascending xs rising j n (omega arith) within in omega arith,
+      λ le.
+          ⊎_elim
+          (λ (late : n < j). let high : get_or xs n 0 < get_or xs j 0 = AllPairs-from_increasing xs rising n j 0 late inside in absurd (omega arith))
+          (λ (early : j ≤ n). omega arith)
+          (cases_lt n j),
+    )
+
+pub gap_up_to : (xs : List ℕ) → IsStrictlyIncreasing xs → (x n : ℕ) → IsBinarySearchResult (λ y. nat_cmp y x) xs (Err n) → IsCountUpTo xs x n
+gap_up_to xs rising x n is j y at =
+    let r = searched xs x (Err n) is (ascending xs rising) in
+    let here : get_or xs j 0 ≡ y = get_or_from_slice_get xs j y 0 at in
+    let inside : j < length xs = slice_get_within xs j y at in (
+      λ less. let low : get_or xs j 0 < x = r.1 j less in omega arith,
+      λ le.
+          ⊎_elim
+          (λ (l : j < n). l)
+          (λ (ge : n ≤ j). let high : x < get_or xs j 0 = r.2 j ge inside in absurd (omega arith))
+          (cases_lt j n),
+    )
+
+-- ---- from the places at which marks begin and end to all places
+best_moves : (marks : List PlacedMark) (x place n : ℕ) (best : Option PlacedMark) → ((m : PlacedMark) → Contains marks m → CoversPlace m x ↔ CoversPlace m place) → IsBest marks x n best → IsBest marks place n best
+best_moves marks x place n None same none = λ i p l g covers. none i p l g ((same p (contains_from marks i p g)).1 covers)
+best_moves marks x place n (Some b) same best = record {
+  at = best.at;
+  covers = (same b (contains_from marks best.at.0 b best.at.1)).0 best.covers;
+  greatest = λ i p l g covers. best.greatest i p l g ((same p (contains_from marks i p g)).1 covers);
+}
+
+module _ (marks : List PlacedMark) (places : List ℕ) (numbers : List (Option ℕ)) (over : AreOver marks places numbers) (place : ℕ) where
+  pub none_before : IsCountUpTo places place 0 → IsBest marks place (length marks) None
+  none_before up_to =
+      λ i p l g covers.
+      let j = contains_at places p.start (over.begins p (contains_from marks i p g)) in
+      let early : j.0 < 0 = (up_to j.0 p.start j.1).1 covers.0 in
+      absurd (omega arith)
+
+  module _ (j x : ℕ) (up_to : IsCountUpTo places place (j + 1)) (at : slice_get places j ≡ Some x) where
+    reached : x ≤ place
+    reached = (up_to j x at).0 (omega arith)
+
+    no_later : (v : ℕ) → Contains places v → v ≤ place → v ≤ x
+    no_later v held le =
+        let i = contains_at places v held in
+        let early : i.0 < j + 1 = (up_to i.0 v i.1).1 le in
+        let here : get_or places i.0 0 ≡ v = get_or_from_slice_get places i.0 v 0 i.1 in
+        let there : get_or places j 0 ≡ x = get_or_from_slice_get places j x 0 at in
+        let low : get_or places i.0 0 ≤ get_or places j 0 = ascending places over.rising i.0 j (omega arith) (slice_get_within places j x at) in
+        omega arith
+
+    same_cover : (m : PlacedMark) → Contains marks m → CoversPlace m x ↔ CoversPlace m place
+    same_cover m held =
+        let low : x ≤ place = reached in (
+          λ covers.
+              let begun : m.start ≤ x = covers.0 in
+              let ongoing : x < m.end = covers.1 in (
+                omega arith,
+                ⊎_elim
+                    (λ (less : place < m.end). less)
+                    (λ (ge : m.end ≤ place). let over_by : m.end ≤ x = no_later m.end (over.ends m held) ge in absurd (omega arith))
+                    (cases_lt place m.end),
+              ),
+          λ covers. let ongoing : place < m.end = covers.1 in (no_later m.start (over.begins m held) covers.0, omega arith),
+        )
+
+    pub best_from : (number : Option ℕ) → slice_get numbers j ≡ Some number → IsBest marks place (length marks) (numbered marks number)
+    best_from number stands = best_moves marks x place (length marks) (numbered marks number) same_cover (over.painted.best j x number at stands)
+
+pub decided : (marks : List PlacedMark) (place : ℕ) (number : Option ℕ) (n : ℕ) (r : Option (Bor PlacedMark)) (result : Option PlacedMark) → number ≡ Some n → IsItemAt marks n r → result ≡ option_copied r → IsBest marks place (length marks) (numbered marks number) → IsBest marks place (length marks) result
+decided marks place number n r result is got copied best =
+    subst (IsBest marks place (length marks)) (sym (copied ∙ copied_from_get marks n r got))
+    (subst (λ (z : Option ℕ). IsBest marks place (length marks) (numbered marks z)) is best)
+
+pub undecided : (marks : List PlacedMark) (place : ℕ) (number : Option ℕ) → number ≡ None → IsBest marks place (length marks) (numbered marks number) → IsBest marks place (length marks) None
+undecided marks place number is best = subst (λ (z : Option ℕ). IsBest marks place (length marks) (numbered marks z)) is best
+
+-- ---- gathering the places
+pub places_more : (old mid new : List ℕ) (a b : ℕ) → mid ≡ old ++ a ∷ [] → new ≡ mid ++ b ∷ [] → ((v : ℕ) → Contains old v → Contains new v) × Contains new a × Contains new b
+places_more old mid new a b first second = (
+  λ v held. subst (λ (l : List ℕ). Contains l v) (sym second) (Contains-append_left mid (b ∷ []) v (subst (λ (l : List ℕ). Contains l v) (sym first) (Contains-append_left old (a ∷ []) v held))),
+  subst (λ (l : List ℕ). Contains l a) (sym second) (Contains-append_left mid (b ∷ []) a (subst (λ (l : List ℕ). Contains l a) (sym first) (Contains-push old a))),
+  subst (λ (l : List ℕ). Contains l b) (sym second) (Contains-push mid b),
+)

@@ -1,0 +1,35 @@
+-- The marks of a key by rising ids, painted over the places at which they begin and end.
+use Rattle.std.specs.Prelude.{◌≡◌, ℕ, ◌<◌, ◌≤◌, ◌↔◌, List, Option, Some, None, Contains, length, slice_get}
+use Rattle.std.specs.List.Sorted.{IsStrictlyIncreasing}
+use Rattle.change_ops.specs.Ids.{Less}
+use Rattle.mark_anchors.specs.Placed.{IsBest}
+use Rattle.mark_anchors.specs.declared.placed.PlacedMark.{PlacedMark}
+
+-- no mark has a greater id than one behind it
+abbrev pub AreById : List PlacedMark → Type 0
+AreById marks = (i j : ℕ) (p q : PlacedMark) → i < j → slice_get marks i ≡ Some p → slice_get marks j ≡ Some q → Less q.id p.id → ⊥
+
+-- so many of the places are before this one
+abbrev pub IsCountBelow : List ℕ → ℕ → ℕ → Type 0
+IsCountBelow places place n = (j x : ℕ) → slice_get places j ≡ Some x → (j < n) ↔ (x < place)
+
+-- so many of the places are at this one or before it
+abbrev pub IsCountUpTo : List ℕ → ℕ → ℕ → Type 0
+IsCountUpTo places place n = (j x : ℕ) → slice_get places j ≡ Some x → (j < n) ↔ (x ≤ place)
+
+-- the mark with this number
+abbrev pub numbered : List PlacedMark → Option ℕ → Option PlacedMark
+numbered marks None = None
+numbered marks (Some number) = slice_get marks number
+
+-- at each place the mark of this number is the greatest, among the first so many, of those that cover it
+pub record ArePainted (places : List ℕ) (marks : List PlacedMark) (count : ℕ) (numbers : List (Option ℕ)) : Type 0 where
+  pub sized : length numbers ≡ length places
+  pub best : (j place : ℕ) (number : Option ℕ) → slice_get places j ≡ Some place → slice_get numbers j ≡ Some number → IsBest marks place count (numbered marks number)
+
+-- the places at which the marks begin and end, and which mark decides from each of them on
+pub record AreOver (marks : List PlacedMark) (places : List ℕ) (numbers : List (Option ℕ)) : Type 0 where
+  pub rising : IsStrictlyIncreasing places
+  pub begins : (m : PlacedMark) → Contains marks m → Contains places m.start
+  pub ends : (m : PlacedMark) → Contains marks m → Contains places m.end
+  pub painted : ArePainted places marks (length marks) numbers

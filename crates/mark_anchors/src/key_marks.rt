@@ -1,0 +1,139 @@
+//! The marks of one key, painted in the order of their ids over the places at which they begin and end, so that the one with the
+//! greatest id is on top.
+ghost use Rattle.std.specs.Prelude.{◌≡◌, ◌<◌, ◌≤◌, ◌+◌, ℕ, List, Some, Contains, IfOk, length, slice_get};
+ghost use Rattle.std.specs.List.Sorted.{IsStrictlyIncreasing, IsPermutation};
+ghost use Rattle.mark_anchors.specs.Placed.{IsBest};
+ghost use Rattle.mark_anchors.specs.KeyMarks.{AreById, IsCountBelow, IsCountUpTo, ArePainted};
+ghost use Rattle.mark_anchors.specs.declared.placed.PlacedMark.{PlacedMark};
+
+use crate::placed::PlacedMark;
+use crate::ranges::in_order;
+use std::alloc::{AllocError, Global};
+use std::marker::Model;
+
+/// The marks of a key, by rising ids; the places at which they begin and end; and for each of these the number of the mark that
+/// decides from there on.
+#[derive(Drop)]
+pub(crate) struct KeyMarks {
+    marks: Vec<PlacedMark>,
+    places: Vec<usize>,
+    numbers: Vec<Option<usize>>,
+}
+
+impl Model for KeyMarks {
+    ghost use Rattle.std.specs.Prelude.{List};
+    ghost use Rattle.mark_anchors.specs.KeyMarks.{AreOver};
+    ghost use Rattle.mark_anchors.specs.declared.placed.PlacedMark.{PlacedMark};
+
+    ghost Value = { List PlacedMark };
+
+    ghost view = { λ k. k.marks.items };
+
+    ghost invariant = { λ k. AreOver k.marks.items k.places.items k.numbers.items };
+}
+
+/// The marks by rising ids.
+fn by_id(mut marks: Vec<PlacedMark>) -> Vec<PlacedMark>
+    ensures rising { AreById result.items }
+    ensures same { IsPermutation marks.items result.items }
+{
+    marks.sort_unstable_by_key(|mark| mark.id);
+    marks
+}
+
+/// How many of the places are before this one.
+fn count_below(places: &[usize], place: usize) -> usize
+    requires { IsStrictlyIncreasing places.now }
+    ensures below { IsCountBelow places.now place result }
+    ensures within { result ≤ length places.now }
+{
+    match places.binary_search(&place) {
+        Ok(count) => count,
+        Err(count) => count,
+    }
+}
+
+/// Puts the mark of this number over the places that it covers.
+fn paint(places: &[usize], numbers: &mut Vec<Option<usize>>, mark: &PlacedMark, number: usize)
+    requires rising { IsStrictlyIncreasing places.now }
+    requires sized { length numbers.old.items ≡ length places.now }
+    ensures sized { length numbers.new.items ≡ length places.now }
+    ensures painted { (marks : List PlacedMark) → AreById marks → slice_get marks number ≡ Some mark.now → ArePainted places.now marks number numbers.old.items → ArePainted places.now marks (number + 1) numbers.new.items }
+{
+    let from = count_below(places, mark.start);
+    let to = count_below(places, mark.end);
+    for index in from..to {
+        numbers[index] = Some(number);
+    }
+}
+
+/// How many of the places are at this one or before it.
+fn count_up_to(places: &[usize], place: usize) -> usize
+    requires { IsStrictlyIncreasing places.now }
+    ensures up_to { IsCountUpTo places.now place result }
+    ensures within { result ≤ length places.now }
+{
+    match places.binary_search(&place) {
+        Ok(last) => last + 1,
+        Err(count) => count,
+    }
+}
+
+/// The places at which the marks begin and end, rising.
+fn places_of(alloc: Global, marks: &[PlacedMark]) -> Result<Vec<usize>, AllocError>
+    ensures rising { IfOk result (λ places. IsStrictlyIncreasing places.items) }
+    ensures begins { IfOk result (λ places. (m : PlacedMark) → Contains marks.now m → Contains places.items m.start) }
+    ensures ends { IfOk result (λ places. (m : PlacedMark) → Contains marks.now m → Contains places.items m.end) }
+{
+    let mut places = Vec::new(alloc);
+    for mark in marks {
+        places.push(mark.start)?;
+        places.push(mark.end)?;
+    }
+    Ok(in_order(places))
+}
+
+/// For each of the places the number of the mark that decides there.
+fn painted(
+    alloc: Global,
+    places: &[usize],
+    marks: &[PlacedMark],
+) -> Result<Vec<Option<usize>>, AllocError>
+    requires rising { IsStrictlyIncreasing places.now }
+    requires sorted { AreById marks.now }
+    ensures { IfOk result (λ numbers. ArePainted places.now marks.now (length marks.now) numbers.items) }
+{
+    let mut numbers = vec![in alloc; None; places.len()]?;
+    for number in 0..marks.len() {
+        paint(places, &mut numbers, &marks[number], number);
+    }
+    Ok(numbers)
+}
+
+impl KeyMarks {
+    /// The marks, in whatever order they come.
+    pub(crate) fn new(alloc: Global, marks: Vec<PlacedMark>) -> Result<KeyMarks, AllocError>
+        ensures { IfOk result (λ key_marks. IsPermutation marks.items key_marks) }
+    {
+        let marks = by_id(marks);
+        let places = places_of(alloc, &marks)?;
+        let numbers = painted(alloc, &places, &marks)?;
+        Ok(KeyMarks {
+            marks,
+            places,
+            numbers,
+        })
+    }
+
+    /// The mark with the greatest id among those that cover the place.
+    pub(crate) fn deciding(&self, place: usize) -> Option<PlacedMark>
+        ensures { IsBest self.now place (length self.now) result }
+    {
+        let count = count_up_to(&self.places, place);
+        if count == 0 {
+            return None;
+        }
+        let number = self.numbers[count - 1]?;
+        self.marks.get(number).copied()
+    }
+}

@@ -1,0 +1,119 @@
+-- What is printed of each reason to refuse an input or a line: its number and name, and where the fault stands.
+use Rattle.std.specs.Prelude.{ℕ, ◌+◌, List, [], ◌++◌, codes}
+use Rattle.std.specs.Fmt.{decimal}
+use Rattle.bpf_words.specs.declared.refusal.WordError.{WordError}
+use Rattle.bpf_words.specs.declared.refusal.WordError.TheVariants as words
+use Rattle.verifier.specs.declared.refusal.VerifyError.{VerifyError}
+use Rattle.verifier.specs.declared.refusal.VerifyError.TheVariants as verifying
+use Rattle.assembler.specs.declared.fault.AsmError.{AsmError}
+use Rattle.assembler.specs.declared.fault.AsmError.TheVariants as source
+use Rattle.change_ops.specs.declared.refusal.ChangeError.{ChangeError}
+use Rattle.change_ops.specs.declared.refusal.ChangeError.TheVariants as reading
+use Rattle.change_history.specs.declared.refusal.SubmitError.{SubmitError}
+use Rattle.change_history.specs.declared.refusal.SubmitError.TheVariants as submit
+use Rattle.refusals.specs.declared.reason.Place.{Place}
+use Rattle.refusals.specs.declared.reason.Place.TheVariants.{Whole, Slot, Line}
+use Rattle.refusals.specs.declared.reason.Reason.{Reason}
+use Rattle.refusals.specs.declared.reason.Reason.TheVariants as reason
+use Rattle.refusals.specs.Names.{slot_fault, structure_fault, state_fault, line_fault, refusal_name}
+
+-- slots are counted from 0, lines from 1
+abbrev pub place_text : Place → List ℕ
+place_text Whole = []
+place_text (Slot slot) = codes " slot " ++ decimal slot
+place_text (Line line) = codes " line " ++ decimal line
+
+abbrev pub word_title : WordError → List ℕ
+word_title words.Empty = codes "1 Empty"
+word_title words.TooLong = codes "2 TooLong"
+word_title words.LengthNotEight = codes "3 LengthNotEight"
+word_title (words.Slot slot fault) = slot_fault fault
+
+abbrev pub word_place : WordError → Place
+word_place words.Empty = Whole
+word_place words.TooLong = Whole
+word_place words.LengthNotEight = Whole
+word_place (words.Slot slot fault) = Slot slot
+
+abbrev pub verdict_title : VerifyError → List ℕ
+verdict_title (verifying.Structure slot fault) = structure_fault fault
+verdict_title (verifying.State slot fault) = state_fault fault
+verdict_title verifying.OutOfMemory = codes "27 OutOfMemory"
+
+abbrev pub verdict_place : VerifyError → Place
+verdict_place (verifying.Structure slot fault) = Slot slot
+verdict_place (verifying.State slot fault) = Slot slot
+verdict_place verifying.OutOfMemory = Whole
+
+abbrev pub source_title : AsmError → List ℕ
+source_title (source.Line line fault) = line_fault fault
+source_title source.OutOfMemory = codes "36 OutOfMemory"
+
+abbrev pub source_place : AsmError → Place
+source_place (source.Line line fault) = Line line
+source_place source.OutOfMemory = Whole
+
+-- why a change can't be read
+abbrev pub unread_title : ChangeError → List ℕ
+unread_title (reading.BadLine line) = codes "40 BadLine"
+unread_title reading.Truncated = codes "41 Truncated"
+unread_title (reading.Limit line) = codes "42 Limit"
+unread_title (reading.CharRefused line) = codes "43 CharRefused"
+unread_title (reading.WrongPeer line) = codes "44 WrongPeer"
+unread_title reading.OutOfMemory = codes "45 OutOfMemory"
+
+abbrev pub unread_place : ChangeError → Place
+unread_place (reading.BadLine line) = Line line
+unread_place reading.Truncated = Whole
+unread_place (reading.Limit line) = Line line
+unread_place (reading.CharRefused line) = Line line
+unread_place (reading.WrongPeer line) = Line line
+unread_place reading.OutOfMemory = Whole
+
+-- why a change isn't accepted; its operations stand behind the first line, from line 2 on
+abbrev pub unaccepted_title : SubmitError → List ℕ
+unaccepted_title submit.HistoryFull = codes "50 HistoryFull"
+unaccepted_title (submit.Refused index refusal) = refusal_name refusal
+unaccepted_title submit.OutOfMemory = codes "45 OutOfMemory"
+
+abbrev pub unaccepted_place : SubmitError → Place
+unaccepted_place submit.HistoryFull = Whole
+unaccepted_place (submit.Refused index refusal) = Line (index + 2)
+unaccepted_place submit.OutOfMemory = Whole
+
+abbrev pub reason_title : Reason → List ℕ
+reason_title (reason.Words error) = word_title error
+reason_title (reason.Unverified error) = verdict_title error
+reason_title (reason.Source error) = source_title error
+reason_title (reason.Unread error) = unread_title error
+reason_title (reason.Unaccepted error) = unaccepted_title error
+reason_title reason.OutOfMemory = codes "45 OutOfMemory"
+reason_title reason.SubscribersFull = codes "51 SubscribersFull"
+reason_title reason.NoSubscriber = codes "52 NoSubscriber"
+reason_title reason.BadCapacity = codes "54 BadCapacity"
+reason_title reason.BadCommand = codes "60 BadCommand"
+reason_title reason.LineTooLong = codes "61 LineTooLong"
+reason_title reason.TextRefused = codes "62 TextRefused"
+reason_title reason.BadHex = codes "63 BadHex"
+
+abbrev pub reason_place : Reason → Place
+reason_place (reason.Words error) = word_place error
+reason_place (reason.Unverified error) = verdict_place error
+reason_place (reason.Source error) = source_place error
+reason_place (reason.Unread error) = unread_place error
+reason_place (reason.Unaccepted error) = unaccepted_place error
+reason_place reason.OutOfMemory = Whole
+reason_place reason.SubscribersFull = Whole
+reason_place reason.NoSubscriber = Whole
+reason_place reason.BadCapacity = Whole
+reason_place reason.BadCommand = Whole
+reason_place reason.LineTooLong = Whole
+reason_place reason.TextRefused = Whole
+reason_place reason.BadHex = Whole
+
+abbrev pub reason_text : Reason → List ℕ
+reason_text reason = reason_title reason ++ place_text (reason_place reason)
+
+-- of the change of this number, from 1, in an input of many
+abbrev pub change_text : ℕ → Reason → List ℕ
+change_text number reason = reason_title reason ++ codes " change " ++ decimal number ++ place_text (reason_place reason)

@@ -1,0 +1,5 @@
+//! The number and name of each refusal that is printed, and where the fault stands.
+#![tactic(auto)]
+
+mod names;
+pub mod reason;

@@ -1,0 +1,162 @@
+-- A line is read as what it says just where it has that form.
+use Rattle.std.proofs.Common.{◌≡◌, ◌≢◌, ℕ, ◌^◌, ◌<◌, ◌≤◌, Bool, true, false, cond, ltb, leb, eqb, List, [], ◌∷◌, ◌++◌, length, Option, Some, None, Result, Ok, Err, refl, sym, ap, subst, ◌∙◌, arith, lit≤}
+use Rattle.std.specs.Prelude.{◌&&◌, not, codes, if◌then◌else◌}
+use Rattle.std.specs.Str.{bytes_eq}
+use Rattle.std.specs.List.{list_all, AllByRecursion}
+use Rattle.std.proofs.lemmas.Bool.{and_parts, and_from, leb-true, le-leb, ltb-true, lt-ltb, eq-eqb, ne_eqb}
+use Rattle.change_ops.specs.Ids.{checked}
+use Rattle.change_ops.specs.Words.{split, number_in}
+use Rattle.change_ops.specs.Reading.{◌>>=◌}
+use Rattle.change_ops.specs.Spelling.{◌␣◌}
+use Rattle.change_ops.specs.Forms.{Joined, Word}
+use Rattle.change_ops.proofs.Grammar.{Lacks, bind_some, split_again, split_takes, number_lacks}
+use Rattle.change_ops.proofs.Phrases.{same_bytes}
+use Rattle.change_ops.proofs.Keys.{lacks_all}
+use Rattle.change_ops.proofs.NumeralForms.{number_takes, number_again}
+use Rattle.session_lines.specs.Commands.{Command, subscribe, pull, close, Number, IsCount, Count, OneWord, CommandForm, Grants, IsAsked}
+use Rattle.session_lines.specs.Reading.{small, small_number, is_count, is_one_word, subscribe_at, pull_at, close_at, command_at}
+use Rattle.session_lines.specs.declared.request.SessionRequest.{SessionRequest}
+use Rattle.session_lines.specs.declared.fault.LineRefusal.{LineRefusal}
+use Rattle.session_lines.specs.declared.fault.LineRefusal.TheVariants.{BadCommand, BadCapacity, BadHex, BadChange, OutOfMemory}
+
+guard_some : {A : Type 0} (b : Bool) (x y : A) → cond b (Some x) None ≡ Some y → (b ≡ true) × (x ≡ y)
+guard_some true x y e = (refl, cc)
+guard_some false x y e = absurd cc
+
+joined_again : (word : List ℕ) {First Second : List ℕ → Type 0} (j : Joined 32 First Second word) → Lacks 32 j.first → split 32 word ≡ Some (j.first, j.second)
+joined_again word j lacks = ap (split 32) j.whole ∙ split_again 32 j.first j.second lacks
+
+-- ---- numbers
+number_form : (word : List ℕ) (n : ℕ) → small (number_in 10 word) ≡ Some n → Number n word
+number_form word n e =
+    let a = bind_some (number_in 10 word) small_number n e in
+    let b = guard_some (ltb a.0 (2 ^ 64)) a.0 n a.2 in
+    let few : a.0 < 2 ^ 64 = ltb-true a.0 (2 ^ 64) b.0 in
+    record { numeral = number_takes 10 n word (omega arith) (a.1 ∙ ap Some b.1); small = subst (λ (m : ℕ). m < 2 ^ 64) b.1 few }
+
+number_read : (word : List ℕ) (n : ℕ) → Number n word → small (number_in 10 word) ≡ Some n
+number_read word n h = rw (number_again 10 n word (omega arith) h.numeral, lt-ltb n (2 ^ 64) h.small) refl
+
+no_space : (word : List ℕ) (n : ℕ) → Number n word → Lacks 32 word
+no_space word n h = number_lacks 10 32 word n (lit≤ tt) (number_again 10 n word (omega arith) h.numeral)
+
+pub count_form : (n : ℕ) → is_count n ≡ true → IsCount n
+count_form n e = let p = and_parts (leb 1 n) (leb n 1024) e in record { some = leb-true 1 n p.0; few = leb-true n 1024 p.1 }
+
+count_read : (n : ℕ) → IsCount n → is_count n ≡ true
+count_read n h = and_from (leb 1 n) (leb n 1024) (le-leb 1 n h.some) (le-leb n 1024 h.few)
+
+pub no_count : (n : ℕ) → is_count n ≡ false → ¬ (IsCount n)
+no_count n e h = let f = count_read n h in cc
+
+-- ---- one word
+spaceless : (word : List ℕ) → list_all (λ b. not (eqb b 32)) word ≡ true → AllByRecursion (λ b. b ≢ 32) word
+spaceless [] h = tt
+spaceless (b ∷ bs) h =
+    let p = and_parts (not (eqb b 32)) (list_all (λ c. not (eqb c 32)) bs) h in
+    (λ e. let f : eqb b 32 ≡ true = eq-eqb b 32 e in let g = rw f at p.0 in cc, spaceless bs p.1)
+
+all_spaceless : (word : List ℕ) → AllByRecursion (λ b. b ≢ 32) word → list_all (λ b. not (eqb b 32)) word ≡ true
+all_spaceless [] h = refl
+all_spaceless (b ∷ bs) h =
+    and_from (not (eqb b 32)) (list_all (λ c. not (eqb c 32)) bs) (let f : eqb b 32 ≡ false = ne_eqb b 32 h.0 in rw f refl) (all_spaceless bs h.1)
+
+one_word_form : (word : List ℕ) → is_one_word word ≡ true → OneWord word word
+one_word_form word e =
+    let p = and_parts (leb 1 (length word)) (list_all (λ b. not (eqb b 32)) word) e in
+    record { whole = refl; some = leb-true 1 (length word) p.0; one = spaceless word p.1 }
+
+one_word_read : (word digits : List ℕ) → OneWord digits word → is_one_word word ≡ true
+one_word_read word digits h =
+    subst (λ (w : List ℕ). is_one_word w ≡ true) (sym h.whole) (and_from (leb 1 (length digits)) (list_all (λ b. not (eqb b 32)) digits) (le-leb 1 (length digits) h.some) (all_spaceless digits h.one))
+
+-- ---- the three forms
+subscribe_form : (line fields : List ℕ) (c : Command) → line ≡ codes "sub" ␣ fields → subscribe_at fields ≡ Some c → CommandForm c line
+unfolding subscribe_at
+subscribe_form line fields c text e =
+    let a = bind_some (split 32 fields) (λ parts. small (number_in 10 parts.0) >>= λ capacity. if is_one_word parts.1 then Some (subscribe capacity parts.1) else None) c e in
+    let b = bind_some (small (number_in 10 a.0.0)) (λ capacity. if is_one_word a.0.1 then Some (subscribe capacity a.0.1) else None) c a.2 in
+    let g = guard_some (is_one_word a.0.1) (subscribe b.0 a.0.1) c b.2 in
+    let behind : Joined 32 (Number b.0) (OneWord a.0.1) fields = record { first = a.0.0; second = a.0.1; whole = (split_takes 32 fields a.0.0 a.0.1 a.1).0; before = number_form a.0.0 b.0 b.1; after = one_word_form a.0.1 g.0 } in
+    let form : CommandForm (subscribe b.0 a.0.1) line = record { first = codes "sub"; second = fields; whole = text; before = refl; after = behind } in
+    subst (λ (x : Command). CommandForm x line) g.1 form
+
+subscribe_read : (fields : List ℕ) (capacity : ℕ) (digits : List ℕ) → Joined 32 (Number capacity) (OneWord digits) fields → subscribe_at fields ≡ Some (subscribe capacity digits)
+unfolding subscribe_at
+subscribe_read fields capacity digits j =
+    rw (joined_again fields j (no_space j.first capacity j.before), number_read j.first capacity j.before, one_word_read j.second digits j.after)
+    (ap (λ (w : List ℕ). Some (subscribe capacity w)) j.after.whole)
+
+pull_form : (line fields : List ℕ) (c : Command) → line ≡ codes "pull" ␣ fields → pull_at fields ≡ Some c → CommandForm c line
+unfolding pull_at
+pull_form line fields c text e =
+    let a = bind_some (split 32 fields) (λ parts. small (number_in 10 parts.0) >>= λ subscriber. small (number_in 10 parts.1) >>= λ count. if is_count count then Some (pull subscriber count) else None) c e in
+    let b = bind_some (small (number_in 10 a.0.0)) (λ subscriber. small (number_in 10 a.0.1) >>= λ count. if is_count count then Some (pull subscriber count) else None) c a.2 in
+    let d = bind_some (small (number_in 10 a.0.1)) (λ count. if is_count count then Some (pull b.0 count) else None) c b.2 in
+    let g = guard_some (is_count d.0) (pull b.0 d.0) c d.2 in
+    let counted : Count d.0 a.0.1 = record { number = number_form a.0.1 d.0 d.1; limits = count_form d.0 g.0 } in
+    let behind : Joined 32 (Number b.0) (Count d.0) fields = record { first = a.0.0; second = a.0.1; whole = (split_takes 32 fields a.0.0 a.0.1 a.1).0; before = number_form a.0.0 b.0 b.1; after = counted } in
+    let form : CommandForm (pull b.0 d.0) line = record { first = codes "pull"; second = fields; whole = text; before = refl; after = behind } in
+    subst (λ (x : Command). CommandForm x line) g.1 form
+
+pull_read : (fields : List ℕ) (subscriber count : ℕ) → Joined 32 (Number subscriber) (Count count) fields → pull_at fields ≡ Some (pull subscriber count)
+unfolding pull_at
+pull_read fields subscriber count j =
+    rw (joined_again fields j (no_space j.first subscriber j.before), number_read j.first subscriber j.before, number_read j.second count j.after.number, count_read count j.after.limits) refl
+
+close_form : (line fields : List ℕ) (c : Command) → line ≡ codes "close" ␣ fields → close_at fields ≡ Some c → CommandForm c line
+unfolding close_at
+close_form line fields c text e =
+    let a = bind_some (small (number_in 10 fields)) (λ subscriber. Some (close subscriber)) c e in
+    let same : close a.0 ≡ c = cc (a.2) in
+    let form : CommandForm (close a.0) line = record { first = codes "close"; second = fields; whole = text; before = refl; after = number_form fields a.0 a.1 } in
+    subst (λ (x : Command). CommandForm x line) same form
+
+close_read : (fields : List ℕ) (subscriber : ℕ) → Number subscriber fields → close_at fields ≡ Some (close subscriber)
+unfolding close_at
+close_read fields subscriber h = rw (number_read fields subscriber h) refl
+
+-- ---- whole lines
+pub command_form : (line : List ℕ) (c : Command) → command_at line ≡ Some c → CommandForm c line
+unfolding command_at
+command_form line c e =
+    let a = bind_some (split 32 line) (λ parts. if bytes_eq parts.0 (codes "sub") then subscribe_at parts.1 else if bytes_eq parts.0 (codes "pull") then pull_at parts.1 else if bytes_eq parts.0 (codes "close") then close_at parts.1 else None) c e in
+    kinds a.0.0 a.0.1 (split_takes 32 line a.0.0 a.0.1 a.1).0 a.2
+  where
+    kinds : (name fields : List ℕ) → line ≡ name ␣ fields → (if bytes_eq name (codes "sub") then subscribe_at fields else if bytes_eq name (codes "pull") then pull_at fields else if bytes_eq name (codes "close") then close_at fields else None) ≡ Some c → CommandForm c line
+    kinds name fields whole e = go (bytes_eq name (codes "sub")) (bytes_eq name (codes "pull")) (bytes_eq name (codes "close")) refl refl refl e where
+      named : (word : List ℕ) → bytes_eq name word ≡ true → line ≡ word ␣ fields
+      named word f = whole ∙ ap (λ (x : List ℕ). x ␣ fields) (same_bytes name word f)
+
+      go : (s p q : Bool) → bytes_eq name (codes "sub") ≡ s → bytes_eq name (codes "pull") ≡ p → bytes_eq name (codes "close") ≡ q
+          → cond s (subscribe_at fields) (cond p (pull_at fields) (cond q (close_at fields) None)) ≡ Some c → CommandForm c line
+      go true p q f1 f2 f3 e = subscribe_form line fields c (named (codes "sub") f1) e
+      go false true q f1 f2 f3 e = pull_form line fields c (named (codes "pull") f2) e
+      go false false true f1 f2 f3 e = close_form line fields c (named (codes "close") f3) e
+      go false false false f1 f2 f3 e = absurd cc
+
+named_line : (name line : List ℕ) {Rest : List ℕ → Type 0} (j : Joined 32 (Word name) Rest line) → Lacks 32 name → split 32 line ≡ Some (name, j.second)
+named_line name line j lacks = ap (split 32) (j.whole ∙ ap (λ (x : List ℕ). x ++ 32 ∷ j.second) j.before) ∙ split_again 32 name j.second lacks
+
+pub command_read : (line : List ℕ) (c : Command) → CommandForm c line → command_at line ≡ Some c
+unfolding command_at
+command_read line (subscribe capacity digits) j = rw (named_line (codes "sub") line j (lacks_all 32 (codes "sub") refl), subscribe_read j.second capacity digits j.after) refl
+command_read line (pull subscriber count) j = rw (named_line (codes "pull") line j (lacks_all 32 (codes "pull") refl), pull_read j.second subscriber count j.after) refl
+command_read line (close subscriber) j = rw (named_line (codes "close") line j (lacks_all 32 (codes "close") refl), close_read j.second subscriber j.after) refl
+
+-- ---- what is answered to a line
+never : (c : Command) → Grants c (Err BadCommand) → ⊥
+never (subscribe capacity digits) g = g
+never (pull subscriber count) g = g
+never (close subscriber) g = g
+
+pub asked_some : (line : List ℕ) (c : Command) (answer : Result SessionRequest LineRefusal) → command_at line ≡ Some c → Grants c answer → IsAsked line answer
+asked_some line c (Ok request) e g = (c, command_form line c e, g)
+asked_some line c (Err BadCommand) e g = absurd (never c g)
+asked_some line c (Err BadCapacity) e g = (c, command_form line c e, g)
+asked_some line c (Err BadHex) e g = (c, command_form line c e, g)
+asked_some line c (Err (BadChange error)) e g = (c, command_form line c e, g)
+asked_some line c (Err OutOfMemory) e g = (c, command_form line c e, g)
+
+pub asked_none : (line : List ℕ) → command_at line ≡ None → IsAsked line (Err BadCommand)
+asked_none line e = λ c form. let f = command_read line c form in cc

@@ -1,0 +1,136 @@
+-- How the lines of a change are gathered, and what comes of them.
+use Rattle.std.proofs.Common.{◌≡◌, ℕ, ◌+◌, ◌<◌, ◌≤◌, true, false, List, [], ◌∷◌, ◌++◌, length, map, Option, Some, None, Result, Ok, Err, All, refl, sym, ap, subst, ◌∙◌, arith, length-append, append_assoc}
+use Rattle.std.specs.Prelude.{IsTrue, flat_map}
+use Rattle.std.specs.Io.KnownBytes.{Consumes}
+use Rattle.std.proofs.KnownBytes.{Consumes-nil, Consumes-trans}
+use Rattle.std.proofs.lemmas.List.{append-nil, map-append}
+use Rattle.std.proofs.lemmas.List.Concat.{flat_map-append}
+use Rattle.std.proofs.lemmas.List.Elements.{All-push, All-cons}
+use Rattle.change_ops.specs.Changes.{Edit}
+use Rattle.change_ops.specs.declared.refusal.ChangeError.{ChangeError}
+use Rattle.session_lines.specs.Lines.{Input, IsLine, IsRemainder, IsTooLong, Arrives, joined}
+use Rattle.session_lines.specs.Changes.{is_header, right_header, followers, legible, text_of}
+use Rattle.session_lines.specs.Gathering.{Gathers, Ends}
+use Rattle.session_lines.specs.Requests.{changed, IsRead, ChangeLines, IsNext, change, cut, long_within, GoesOn}
+use Rattle.session_lines.proofs.Lining.{over_since}
+use Rattle.session_lines.specs.declared.reader.Arrival.TheVariants as arrival
+use Rattle.session_lines.specs.declared.request.Gathered.TheVariants.{AllThere, Cut, TooLong}
+use Rattle.session_lines.specs.declared.request.Next.{Next}
+use Rattle.session_lines.specs.declared.request.Next.TheVariants as next
+
+-- so many lines were gathered
+pub record GatheredSoFar (count : ℕ) (old : Option (List ℕ)) (had : List ℕ) (now : Option (List ℕ)) (text : List ℕ) : Type 0 where
+  pub lines : List (List ℕ)
+  pub are_lines : All IsLine lines
+  pub many : length lines ≡ count
+  pub front : Consumes old now (joined lines)
+  pub read : text ≡ had ++ text_of lines
+
+pub gathered_none : (old : Option (List ℕ)) (had : List ℕ) → GatheredSoFar 0 old had old had
+gathered_none old had = record { lines = []; are_lines = λ k d lt. absurd (omega arith); many = refl; front = Consumes-nil old; read = sym (append-nil had) }
+
+one_joined : (lines : List (List ℕ)) (line : List ℕ) → joined (lines ++ line ∷ []) ≡ joined lines ++ (line ++ 10 ∷ [])
+one_joined lines line =
+    flat_map-append (λ (l : List ℕ). l ++ 10 ∷ []) lines (line ∷ []) ∙ ap (λ (t : List ℕ). joined lines ++ t) (append-nil (line ++ 10 ∷ []))
+
+pub gathered_more : (count : ℕ) (old now : Option (List ℕ)) (new : Input) (had text longer : List ℕ) → GatheredSoFar count old had now text → Arrives now arrival.Whole new
+    → longer ≡ text ++ (legible new.line ++ 10 ∷ []) → GatheredSoFar (count + 1) old had new.left longer
+gathered_more count old now new had text longer g a e = record {
+  lines = g.lines ++ new.line ∷ [];
+  are_lines = All-push IsLine g.lines new.line g.are_lines a.shape.0;
+  many = length-append g.lines (new.line ∷ []) ∙ ap (λ (n : ℕ). n + 1) g.many;
+  front = subst (Consumes old new.left) (sym (one_joined g.lines new.line)) (Consumes-trans old now new.left (joined g.lines) (new.line ++ 10 ∷ []) g.front (subst (Consumes now new.left) a.shape.1 a.front));
+  read =
+      let mapped : map legible (g.lines ++ new.line ∷ []) ≡ map legible g.lines ++ legible new.line ∷ [] = map-append legible g.lines (new.line ∷ []) in
+      let all : text_of (g.lines ++ new.line ∷ []) ≡ text_of g.lines ++ (legible new.line ++ 10 ∷ []) = ap joined mapped ∙ one_joined (map legible g.lines) (legible new.line) in
+      e ∙ ap (λ (t : List ℕ). t ++ (legible new.line ++ 10 ∷ [])) g.read ∙ append_assoc had (text_of g.lines) (legible new.line ++ 10 ∷ []) ∙ ap (λ (t : List ℕ). had ++ t) (sym all);
+}
+
+pub gathered_all : (count i : ℕ) (old now : Option (List ℕ)) (had text : List ℕ) → GatheredSoFar i old had now text → i ≡ count → Gathers count old had AllThere now text
+gathered_all count i old now had text g e = record {
+  lines = g.lines;
+  last = [];
+  are_lines = g.are_lines;
+  front = subst (Consumes old now) (sym (append-nil (joined g.lines))) g.front;
+  read = g.read;
+  ends = (g.many ∙ e, refl);
+}
+
+pub gathered_cut : (count i : ℕ) (old now : Option (List ℕ)) (new : Input) (had text : List ℕ) → GatheredSoFar i old had now text → i < count → Arrives now arrival.Unended new
+    → Gathers count old had Cut new.left text
+gathered_cut count i old now new had text g lt a = record {
+  lines = g.lines;
+  last = new.line;
+  are_lines = g.are_lines;
+  front = Consumes-trans old now new.left (joined g.lines) new.line g.front (subst (Consumes now new.left) a.shape.2 a.front);
+  read = g.read;
+  ends = (subst (λ (n : ℕ). n < count) (sym g.many) lt, a.shape.0, over_since old now new.left (joined g.lines) g.front a.shape.3);
+}
+
+pub gathered_end : (count i : ℕ) (old now : Option (List ℕ)) (new : Input) (had text : List ℕ) → GatheredSoFar i old had now text → i < count → Arrives now arrival.End new
+    → Gathers count old had Cut new.left text
+gathered_end count i old now new had text g lt a = record {
+  lines = g.lines;
+  last = [];
+  are_lines = g.are_lines;
+  front = Consumes-trans old now new.left (joined g.lines) [] g.front (subst (Consumes now new.left) a.shape.0 a.front);
+  read = g.read;
+  ends = (subst (λ (n : ℕ). n < count) (sym g.many) lt, record { one = tt; short = omega arith }, over_since old now new.left (joined g.lines) g.front a.shape.1);
+}
+
+pub gathered_long : (count i : ℕ) (old now : Option (List ℕ)) (new : Input) (had text : List ℕ) → GatheredSoFar i old had now text → i < count → Arrives now arrival.TooLong new
+    → Gathers count old had TooLong new.left text
+gathered_long count i old now new had text g lt a = record {
+  lines = g.lines;
+  last = a.taken;
+  are_lines = g.are_lines;
+  front = Consumes-trans old now new.left (joined g.lines) a.taken g.front a.front;
+  read = g.read;
+  ends = (subst (λ (n : ℕ). n < count) (sym g.many) lt, a.shape);
+}
+
+-- ---- a change whose first line was read
+change_front : (old left new : Option (List ℕ)) (line last : List ℕ) (lines : List (List ℕ)) → Consumes old left (line ++ 10 ∷ []) → Consumes left new (joined lines ++ last)
+    → Consumes old new (joined (line ∷ lines) ++ last)
+change_front old left new line last lines f g =
+    subst (Consumes old new) (sym (append_assoc (line ++ 10 ∷ []) (joined lines) last)) (Consumes-trans old left new (line ++ 10 ∷ []) (joined lines ++ last) f g)
+
+lines_of : (line : List ℕ) (lines : List (List ℕ)) → IsLine line → All IsLine lines → IsTrue (is_header line) → ChangeLines line lines
+lines_of line lines h all first = record { first = first; are_lines = All-cons IsLine line lines h all }
+
+pub goes_on_all : (count : ℕ) (left new : Option (List ℕ)) (line text : List ℕ) (what : Next) (read : Result Edit ChangeError) → count ≡ followers (right_header line)
+    → Gathers count left (legible line ++ 10 ∷ []) AllThere new text → IsRead text read → what ≡ changed read → GoesOn line left what new
+goes_on_all count left new line text what read e g r is = λ old h first front.
+    change line g.lines read (lines_of line g.lines h g.are_lines first) (g.ends.0 ∙ e)
+    (subst (Consumes old new) (append-nil (joined (line ∷ g.lines))) (change_front old left new line [] g.lines front (subst (λ (l : List ℕ). Consumes left new (joined g.lines ++ l)) g.ends.1 g.front)))
+    (subst (λ (t : List ℕ). IsRead t read) g.read r) is
+
+pub goes_on_cut : (count : ℕ) (left new : Option (List ℕ)) (line text : List ℕ) (what : Next) (read : Result Edit ChangeError) → count ≡ followers (right_header line)
+    → Gathers count left (legible line ++ 10 ∷ []) Cut new text → IsRead text read → what ≡ changed read → GoesOn line left what new
+goes_on_cut count left new line text what read e g r is = λ old h first front.
+    cut line g.lines g.last read (lines_of line g.lines h g.are_lines first) (subst (λ (n : ℕ). length g.lines < n) e g.ends.0) g.ends.1
+    (change_front old left new line g.last g.lines front g.front) (over_since old left new (line ++ 10 ∷ []) front g.ends.2)
+    (subst (λ (t : List ℕ). IsRead t read) g.read r) is
+
+pub goes_on_long : (count : ℕ) (left new : Option (List ℕ)) (line text : List ℕ) → count ≡ followers (right_header line)
+    → Gathers count left (legible line ++ 10 ∷ []) TooLong new text → GoesOn line left next.TooLong new
+goes_on_long count left new line text e g = λ old h first front.
+    long_within line g.lines g.last (lines_of line g.lines h g.are_lines first) (subst (λ (n : ℕ). length g.lines < n) e g.ends.0) g.ends.1
+    (change_front old left new line g.last g.lines front g.front) refl
+
+-- ---- the same, as the parts are lent
+module _ (count : ℕ) (left new : Option (List ℕ)) (line lent had text : List ℕ) (is : lent ≡ line) (begun : had ≡ [] ++ (legible lent ++ 10 ∷ [])) (wanted : count ≡ followers (right_header lent)) where
+  first_count : count ≡ followers (right_header line)
+  first_count = wanted ∙ ap (λ (l : List ℕ). followers (right_header l)) is
+
+  first_text : had ≡ legible line ++ 10 ∷ []
+  first_text = begun ∙ ap (λ (l : List ℕ). legible l ++ 10 ∷ []) is
+
+  pub lent_all : (what : Next) (read : Result Edit ChangeError) → Gathers count left had AllThere new text → IsRead text read → what ≡ changed read → GoesOn line left what new
+  lent_all what read g r e = goes_on_all count left new line text what read first_count (subst (λ (t : List ℕ). Gathers count left t AllThere new text) first_text g) r e
+
+  pub lent_cut : (what : Next) (read : Result Edit ChangeError) → Gathers count left had Cut new text → IsRead text read → what ≡ changed read → GoesOn line left what new
+  lent_cut what read g r e = goes_on_cut count left new line text what read first_count (subst (λ (t : List ℕ). Gathers count left t Cut new text) first_text g) r e
+
+  pub lent_long : Gathers count left had TooLong new text → GoesOn line left next.TooLong new
+  lent_long g = goes_on_long count left new line text first_count (subst (λ (t : List ℕ). Gathers count left t TooLong new text) first_text g)

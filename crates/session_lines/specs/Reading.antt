@@ -1,0 +1,59 @@
+-- Reading a line from left to right.
+use Rattle.std.specs.Prelude.{ℕ, ◌+◌, ◌*◌, ◌^◌, nat_lt, nat_le, ◌==◌, ◌&&◌, not, Bool, if◌then◌else◌, List, length, codes, Option, Some, None}
+use Rattle.std.specs.List.{list_all}
+use Rattle.std.specs.Str.{bytes_eq}
+use Rattle.change_ops.specs.Ids.{checked}
+use Rattle.change_ops.specs.Words.{split, digit_of, number_in}
+use Rattle.change_ops.specs.Reading.{◌>>=◌}
+use Rattle.session_lines.specs.Commands.{Command, subscribe, pull, close}
+use Rattle.session_lines.specs.declared.commands.LentCommand.{LentCommand}
+use Rattle.session_lines.specs.declared.commands.LentCommand.TheVariants.{Subscribe, Pull, Close}
+
+-- a number, where it has 64 bits
+abbrev pub small_number : ℕ → Option ℕ
+small_number n = checked (λ m. nat_lt m (2 ^ 64)) n
+
+abbrev pub small : Option ℕ → Option ℕ
+small number = number >>= small_number
+
+-- a number with one more decimal digit
+abbrev pub with_digit : ℕ → ℕ → Option ℕ
+with_digit n byte = if nat_lt (digit_of byte) 10 then small_number (n * 10 + digit_of byte) else None
+
+abbrev pub is_count : ℕ → Bool
+is_count n = nat_le 1 n && nat_le n 1024
+
+abbrev pub is_one_word : List ℕ → Bool
+is_one_word word = nat_le 1 (length word) && list_all (λ b. not (b == 32)) word
+
+-- what a line says, as it is read
+abbrev pub said : LentCommand → Command
+said (Subscribe capacity digits) = subscribe capacity digits.now
+said (Pull subscriber count) = pull subscriber count
+said (Close subscriber) = close subscriber
+
+unfoldable pub subscribe_at : List ℕ → Option Command
+subscribe_at fields = do
+  parts ← split 32 fields
+  capacity ← small (number_in 10 parts.0)
+  if is_one_word parts.1 then Some (subscribe capacity parts.1) else None
+
+unfoldable pub pull_at : List ℕ → Option Command
+pull_at fields = do
+  parts ← split 32 fields
+  subscriber ← small (number_in 10 parts.0)
+  count ← small (number_in 10 parts.1)
+  if is_count count then Some (pull subscriber count) else None
+
+unfoldable pub close_at : List ℕ → Option Command
+close_at fields = do
+  subscriber ← small (number_in 10 fields)
+  Some (close subscriber)
+
+-- what a line says, if it has a form
+unfoldable pub command_at : List ℕ → Option Command
+command_at line = do
+  parts ← split 32 line
+  if bytes_eq parts.0 (codes "sub") then subscribe_at parts.1 else
+      if bytes_eq parts.0 (codes "pull") then pull_at parts.1 else
+      if bytes_eq parts.0 (codes "close") then close_at parts.1 else None

@@ -1,0 +1,27 @@
+-- The lines that a session prints, without their LF.
+use Rattle.std.specs.Prelude.{ℕ, List, ◌++◌, codes}
+use Rattle.std.specs.Fmt.{decimal}
+use Rattle.refusals.specs.Reasons.{reason_text}
+use Rattle.refusals.specs.declared.reason.Reason.{Reason}
+use Rattle.refusals.specs.declared.reason.Reason.TheVariants as reason
+use Rattle.session_lines.specs.declared.fault.LineRefusal.{LineRefusal}
+use Rattle.session_lines.specs.declared.fault.LineRefusal.TheVariants as line
+use Rattle.session_lines.specs.declared.reply.Reply.{Reply}
+use Rattle.session_lines.specs.declared.reply.Reply.TheVariants.{Version, Subscribed, Hit, End, Items, Closed, Refused}
+
+abbrev pub reply_text : Reply → List ℕ
+reply_text (Version number) = codes "ok version " ++ decimal number
+reply_text (Subscribed id) = codes "ok sub " ++ decimal id
+reply_text (Hit version span verdict) = codes "hit " ++ decimal version ++ codes " " ++ decimal span ++ codes " " ++ decimal verdict
+reply_text (End version spans) = codes "end " ++ decimal version ++ codes " " ++ decimal spans
+reply_text (Items count) = codes "ok items " ++ decimal count
+reply_text (Closed id) = codes "ok closed " ++ decimal id
+reply_text (Refused reason) = codes "no " ++ reason_text reason
+
+-- what is printed of a refused line
+abbrev pub reason_of : LineRefusal → Reason
+reason_of line.BadCommand = reason.BadCommand
+reason_of line.BadCapacity = reason.BadCapacity
+reason_of line.BadHex = reason.BadHex
+reason_of (line.BadChange error) = reason.Unread error
+reason_of line.OutOfMemory = reason.OutOfMemory

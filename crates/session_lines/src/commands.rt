@@ -1,0 +1,139 @@
+//! Lines that ask for something other than a change.
+ghost use Rattle.std.specs.Prelude.{◌≡◌, ◌⊎◌, Ok, Err, IfOk, IfErr};
+ghost use Rattle.std.specs.Option.{option_map};
+ghost use Rattle.hex.specs.Hex.{decode_of};
+ghost use Rattle.hex.specs.declared.error.FromHexError.{FromHexError};
+ghost use Rattle.session_lines.specs.Commands.{subscribe, Grants, IsAsked};
+ghost use Rattle.session_lines.specs.Reading.{said, subscribe_at, pull_at, close_at, command_at, is_count};
+ghost use Rattle.session_lines.specs.declared.fault.LineRefusal.TheVariants as why;
+
+use crate::fault::LineRefusal;
+use crate::request::SessionRequest;
+use crate::words::{is_one_word, number, word_of};
+use std::alloc::Global;
+
+const SUBSCRIBE: &[u8] = b"sub";
+
+const PULL: &[u8] = b"pull";
+
+const CLOSE: &[u8] = b"close";
+
+/// What a line says.
+#[derive(Clone, Copy)]
+enum LentCommand<'a> {
+    Subscribe { capacity: u64, digits: &'a [u8] },
+    Pull { subscriber: u64, count: u64 },
+    Close { subscriber: u64 },
+}
+
+/// Whether a number is 1 to 1,024.
+fn is_count(number: u64) -> bool
+    ensures { result ≡ is_count number }
+{
+    number >= 1 && number <= 1024
+}
+
+/// What follows `sub`.
+#[tactic(auto, unfolding(crate::specs::Reading::subscribe_at))]
+fn subscribe_in(fields: &[u8]) -> Option<LentCommand<'_>>
+    ensures { option_map said result ≡ subscribe_at fields.now }
+{
+    let (capacity, digits) = word_of(fields)?;
+    let capacity = number(capacity)?;
+    if !is_one_word(digits) {
+        return None;
+    }
+    Some(LentCommand::Subscribe { capacity, digits })
+}
+
+/// What follows `pull`.
+#[tactic(auto, unfolding(crate::specs::Reading::pull_at))]
+fn pull_in(fields: &[u8]) -> Option<LentCommand<'_>>
+    ensures { option_map said result ≡ pull_at fields.now }
+{
+    let (subscriber, count) = word_of(fields)?;
+    let subscriber = number(subscriber)?;
+    let count = number(count)?;
+    if !is_count(count) {
+        return None;
+    }
+    Some(LentCommand::Pull { subscriber, count })
+}
+
+/// What follows `close`.
+#[tactic(auto, unfolding(crate::specs::Reading::close_at))]
+fn close_in(fields: &[u8]) -> Option<LentCommand<'_>>
+    ensures { option_map said result ≡ close_at fields.now }
+{
+    let subscriber = number(fields)?;
+    Some(LentCommand::Close { subscriber })
+}
+
+/// What a line says, if it has a form.
+#[tactic(auto, unfolding(crate::specs::Reading::command_at))]
+fn command_in(line: &[u8]) -> Option<LentCommand<'_>>
+    ensures { option_map said result ≡ command_at line.now }
+{
+    let (name, fields) = word_of(line)?;
+    if name == SUBSCRIBE {
+        subscribe_in(fields)
+    } else if name == PULL {
+        pull_in(fields)
+    } else if name == CLOSE {
+        close_in(fields)
+    } else {
+        None
+    }
+}
+
+/// The program that pairs of hexadecimal digits stand for.
+fn program_of(alloc: Global, digits: &[u8]) -> Result<Vec<u8>, LineRefusal>
+    ensures ok { IfOk result (λ program. decode_of digits.now ≡ Ok program.items) }
+    ensures err { IfErr result (λ e. (e ≡ why.OutOfMemory) ⊎ ((e ≡ why.BadHex) × ((error : FromHexError) × (decode_of digits.now ≡ Err error)))) }
+{
+    match hex::decode(alloc, digits) {
+        Ok(program) => Ok(program),
+        Err(hex::FromHexError::OutOfMemory) => Err(LineRefusal::OutOfMemory),
+        Err(_) => Err(LineRefusal::BadHex),
+    }
+}
+
+/// A subscription to a program; the capacity is looked at before the digits.
+fn subscription(alloc: Global, capacity: u64, digits: &[u8]) -> Result<SessionRequest, LineRefusal>
+    ensures { Grants (subscribe capacity digits.now) result }
+{
+    if !is_count(capacity) {
+        return Err(LineRefusal::BadCapacity);
+    }
+    let program = program_of(alloc, digits)?;
+    Ok(SessionRequest::Subscribe {
+        capacity: capacity as usize,
+        program,
+    })
+}
+
+/// What a session is asked for by what a line says.
+fn request_of(alloc: Global, command: LentCommand<'_>) -> Result<SessionRequest, LineRefusal>
+    ensures { Grants (said command.entry) result }
+{
+    match command {
+        LentCommand::Subscribe { capacity, digits } => subscription(alloc, capacity, digits),
+        LentCommand::Pull { subscriber, count } => Ok(SessionRequest::Pull {
+            subscriber: subscriber as usize,
+            count: count as usize,
+        }),
+        LentCommand::Close { subscriber } => Ok(SessionRequest::Close {
+            subscriber: subscriber as usize,
+        }),
+    }
+}
+
+/// What a line asks for that begins no change.
+pub fn command_of(alloc: Global, line: &[u8]) -> Result<SessionRequest, LineRefusal>
+    ensures { IsAsked line.now result }
+{
+    match command_in(line) {
+        Some(command) => request_of(alloc, command),
+        None => Err(LineRefusal::BadCommand),
+    }
+}

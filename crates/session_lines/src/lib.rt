@@ -1,0 +1,10 @@
+//! The lines of a session: reading them, what they ask for, and what is printed in reply.
+#![tactic(auto)]
+
+mod changes;
+mod commands;
+pub mod fault;
+pub mod reader;
+pub mod reply;
+pub mod request;
+mod words;

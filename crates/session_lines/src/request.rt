@@ -1,0 +1,144 @@
+//! The requests of a session.
+ghost use Rattle.std.specs.Prelude.{◌≡◌, Result, IfOk, if◌then◌else◌, string_bytes};
+ghost use Rattle.change_ops.specs.Changes.{Edit};
+ghost use Rattle.change_ops.specs.declared.refusal.ChangeError.{ChangeError};
+ghost use Rattle.change_ops.specs.declared.refusal.ChangeError.TheVariants as reading;
+ghost use Rattle.session_lines.specs.declared.fault.LineRefusal.TheVariants as why;
+ghost use Rattle.session_lines.specs.Changes.{is_header as begins_change};
+ghost use Rattle.session_lines.specs.Gathering.{Gathers};
+ghost use Rattle.session_lines.specs.Requests.{changed, IsRead, IsNext, GoesOn};
+
+use crate::changes::{followers, is_header, push_line};
+use crate::commands::command_of;
+use crate::fault::{LineRefusal, ReadFault};
+use crate::reader::{Arrival, LineReader};
+use change_ops::change::{Change, read_change};
+use change_ops::refusal::ChangeError;
+use std::alloc::Global;
+use std::io::Read;
+
+/// What a session is asked for.
+#[derive(Drop)]
+pub enum SessionRequest {
+    /// To accept a change.
+    Change(Change),
+    /// To add a subscriber: with room for 1 to 1,024 items, and with bytes that are yet to be looked at as a program's.
+    Subscribe { capacity: usize, program: Vec<u8> },
+    /// To take 1 to 1,024 items of a subscriber.
+    Pull { subscriber: usize, count: usize },
+    /// To close a subscriber.
+    Close { subscriber: usize },
+}
+
+/// What comes next of a session's input.
+#[derive(Drop)]
+pub enum Next {
+    /// A request.
+    Request(SessionRequest),
+    /// A line, or the lines of a change, that are refused; the session goes on behind them.
+    Refused(LineRefusal),
+    /// A line of more than 70,000 bytes: the session ends.
+    TooLong,
+    /// Nothing: the session ends.
+    End,
+}
+
+/// How the lines behind a change's first line stand.
+#[derive(Clone, Copy)]
+enum Gathered {
+    /// All are there.
+    AllThere,
+    /// The input ends before the last of them.
+    Cut,
+    /// One of them has more than 70,000 bytes.
+    TooLong,
+}
+
+impl From<Result<SessionRequest, LineRefusal>> for Next {
+    ghost use Rattle.session_lines.specs.Requests.{answered};
+    ghost use Rattle.std.specs.Prelude.{◌≡◌};
+
+    ghost from_gives = { λ answer next. next ≡ answered answer };
+
+    fn from(answer: Result<SessionRequest, LineRefusal>) -> Next {
+        match answer {
+            Ok(request) => Next::Request(request),
+            Err(refusal) => Next::Refused(refusal),
+        }
+    }
+}
+
+#[tactic(auto, using(crate::proofs::Gatherings::gathered_none, crate::proofs::Gatherings::gathered_more, crate::proofs::Gatherings::gathered_all, crate::proofs::Gatherings::gathered_cut, crate::proofs::Gatherings::gathered_end, crate::proofs::Gatherings::gathered_long))]
+/// Reads so many lines, and appends them to the text of a change.
+fn gather<R: Read>(
+    reader: &mut LineReader<R>,
+    count: usize,
+    text: &mut String,
+) -> Result<Gathered, ReadFault>
+    ensures { IfOk result (λ gathered. Gathers count reader.old.left (string_bytes text.old) gathered reader.new.left (string_bytes text.new)) }
+{
+    for _ in 0..count {
+        match reader.advance()? {
+            Arrival::Whole => push_line(text, reader.line())?,
+            Arrival::Unended | Arrival::End => return Ok(Gathered::Cut),
+            Arrival::TooLong => return Ok(Gathered::TooLong),
+        }
+    }
+    Ok(Gathered::AllThere)
+}
+
+/// What the text of a change's lines is read as.
+fn change_of(alloc: Global, text: &str) -> Next
+    ensures { (read : Result Edit ChangeError) × IsRead text.now read × (result ≡ changed read) }
+{
+    match read_change(alloc, text) {
+        Ok((change, _)) => Next::Request(SessionRequest::Change(change)),
+        Err(error) => Next::Refused(LineRefusal::BadChange(error)),
+    }
+}
+
+/// What comes of the change whose first line was read.
+fn next_change<R: Read>(alloc: Global, reader: &mut LineReader<R>) -> Result<Next, ReadFault>
+    ensures { IfOk result (λ next. GoesOn reader.old.line reader.old.left next reader.new.left) }
+{
+    let mut text = String::new(alloc);
+    let line = reader.line();
+    push_line(&mut text, line)?;
+    let count = followers(line);
+    match gather(reader, count, &mut text)? {
+        Gathered::AllThere => Ok(change_of(alloc, &text)),
+        Gathered::Cut => Ok(change_of(alloc, &text)),
+        Gathered::TooLong => Ok(Next::TooLong),
+    }
+}
+
+/// What a last line without LF is refused as.
+fn unended(line: &[u8]) -> LineRefusal
+    ensures { result ≡ (if begins_change line.now then why.BadChange reading.Truncated else why.BadCommand) }
+{
+    if is_header(line) {
+        LineRefusal::BadChange(ChangeError::Truncated)
+    } else {
+        LineRefusal::BadCommand
+    }
+}
+
+#[tactic(auto, using(crate::proofs::Nexts::next_end))]
+/// Reads the next request of a session, a change with all its lines. A failure ends the session: what is left of the input
+/// may then begin within a request.
+pub fn next_request<R: Read>(alloc: Global, reader: &mut LineReader<R>) -> Result<Next, ReadFault>
+    ensures { IfOk result (λ next. IsNext reader.old.left next reader.new.left) }
+{
+    match reader.advance()? {
+        Arrival::Whole => {
+            if is_header(reader.line()) {
+                next_change(alloc, reader)
+            } else {
+                Ok(Next::from(command_of(alloc, reader.line())))
+            }
+        }
+        Arrival::Unended => Ok(Next::Refused(unended(reader.line()))),
+        Arrival::TooLong => Ok(Next::TooLong),
+        Arrival::End => Ok(Next::End),
+    }
+}

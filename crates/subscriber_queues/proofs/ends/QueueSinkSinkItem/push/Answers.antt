@@ -1,0 +1,13 @@
+use Rattle.std.proofs.Common.{◌++◌, ◌∷◌, [], subst, sym, ap, ◌∙◌}
+use Rattle.crossbeam_queue.specs.Passes.{ruled_capacity}
+use Rattle.batches.specs.Orderly.{IsOrderly}
+use Rattle.subscriber_queues.specs.Queue.{Sending}
+use Rattle.subscriber_queues.proofs.Moves.{sends, sent_waits}
+use Rattle.subscriber_queues.proofs.ends.QueueSinkSinkItem.push.Goals as goal
+
+pub push_as-requires-clause-rule : goal.push_as-requires-clause-rule
+push_as-requires-clause-rule g c = (
+  sends _ _ _ _ c.self.invariant.1 (c.self.invariant.2 ∙ ap ruled_capacity (sym c.deref.ensures))
+      (subst (λ (s : Sending). IsOrderly (s.sent ++ c.args.item ∷ [])) (sym c.self.view_is) c.requires),
+  sent_waits _ _ c.self.invariant.1,
+)

@@ -1,0 +1,38 @@
+-- The rule of a subscriber's queue: what was sent is what was taken and then what waits.
+use Rattle.std.specs.Prelude.{◌≡◌, ℕ, ◌≤◌, Bool, true, List, ◌++◌, length}
+use mathlib.Core.Option.{some}
+use lib.ListN.{get_elem?}
+use Rattle.batches.specs.Batches.{Entry}
+use Rattle.batches.specs.Orderly.{IsOrderly}
+
+-- what a seat knows: whether it may send or take, how many items may wait, and what it sent and took
+pub record Seat : Type 0 where
+  pub sends : Bool
+  pub takes : Bool
+  pub capacity : ℕ
+  pub sent : List Entry
+  pub taken : List Entry
+
+abbrev pub seat : Bool → Bool → ℕ → List Entry → List Entry → Seat
+seat sends takes capacity sent taken = record { sends = sends; takes = takes; capacity = capacity; sent = sent; taken = taken }
+
+-- what is so of a queue: the numbers of its two seats, how many items may wait, and what was sent and taken
+pub record Facts : Type 0 where
+  pub sender : ℕ
+  pub taker : ℕ
+  pub capacity : ℕ
+  pub sent : List Entry
+  pub taken : List Entry
+
+-- only the sender's seat may send, and it knows what was sent; only the taker's may take, and it knows what was taken
+pub record Fits (f : Facts) (number : ℕ) (v : Seat) : Type 0 where
+  pub sends : v.sends ≡ true → (number ≡ f.sender) × (v.capacity ≡ f.capacity) × (v.sent ≡ f.sent)
+  pub takes : v.takes ≡ true → (number ≡ f.taker) × (v.capacity ≡ f.capacity) × (v.taken ≡ f.taken)
+
+-- the rule, over the items that wait, the oldest first, and over what the seats know
+pub record IsKept (waiting : List Entry) (seats : List Seat) : Type 0 where
+  pub facts : Facts
+  pub in_order : facts.sent ≡ facts.taken ++ waiting
+  pub few : length waiting ≤ facts.capacity
+  pub orderly : IsOrderly facts.sent
+  pub fit : (number : ℕ) (v : Seat) → get_elem? seats number ≡ some v → Fits facts number v

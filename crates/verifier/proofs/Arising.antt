@@ -1,0 +1,165 @@
+-- How what is known arises through the walk.
+use Rattle.std.proofs.Common.{◌≡◌, ℕ, ◌+◌, ◌<◌, ◌≤◌, inl, inr, ⊎_elim, true, Option, Some, None, Result, Ok, Err, length, set, get_or, Box, refl, sym, ap, ◌∙◌, subst, arith}
+use Rattle.std.specs.Prelude.{ℤ, pos}
+use Rattle.std.specs.List.{slice_get}
+use Rattle.std.specs.Result.{IfErr, IsErrAnd}
+use Rattle.verifier.specs.declared.refusal.VerifyError.{VerifyError}
+use Rattle.verifier.specs.declared.refusal.VerifyError.TheVariants.{OutOfMemory}
+use Rattle.std.specs.declared.alloc.Global.{Global}
+use Rattle.std.proofs.lemmas.Bool.{cases_eq}
+use Rattle.std.proofs.lemmas.Option.{same_Some}
+use Rattle.bpf_words.specs.declared.instruction.Insn.{Insn}
+use Rattle.bpf_words.specs.declared.instruction.Insn.TheVariants.{Compute, Negate, Extend, Convert, Jump, JumpLong, Branch, Load, LoadSigned, Store, LoadWide, Exit}
+use Rattle.bpf_words.specs.Flow.{StartsAt, IsPaired, jump_of, slots_of, falls_through}
+use Rattle.meaning.specs.Step.{Program}
+use Rattle.abstract_state.specs.declared.state.AbsState.{AbsState}
+use Rattle.abstract_state.specs.State.{register_at}
+use Rattle.abstract_state.specs.Kinds.{IsContextAt}
+use Rattle.verifier.specs.Structure.{IsStructured}
+use Rattle.verifier.specs.Arises.{Takes, IsLongBehind, IsTarget, Arises, ArisesAt, AllArise, FallsFrom, FallsAs, MayRefuse, IsCause, first, fell, jumped}
+use Rattle.verifier.specs.Waiting.{States, unboxed, waiting_at}
+use Rattle.verifier.specs.Walk.{Between}
+use Rattle.verifier.proofs.Waits.{waiting-set_same, waiting-set_other, set_twice, read_waiting}
+use Rattle.verifier.proofs.Passing.{IsStraight}
+use Rattle.verifier.proofs.Taking.{straight_long}
+use Rattle.verifier.proofs.Walking.{fall_starts, starts_at}
+
+pub at_none : (program : Program) (slot : ℕ) → ArisesAt program slot None
+at_none program slot a e = absurd (cc)
+
+pub at_one : (program : Program) (slot : ℕ) (a : AbsState) → Arises program slot a → ArisesAt program slot (Some a)
+at_one program slot a arises b e = subst (λ x. Arises program slot x) (same_Some a b e) arises
+
+-- ---- what waits, where one slot's entry is written
+pub arise_added : (program : Program) (states : States) (slot : ℕ) (empty : Option (Box AbsState Global)) (boxed : Box AbsState Global) → slot < length states → AllArise program states → IsTarget program slot → Arises program slot boxed.value → AllArise program (set (set states slot empty) slot (Some boxed))
+arise_added program states slot empty boxed within all target arises other a e =
+    ⊎_elim
+    (λ (here : other ≡ slot).
+    let there = set_twice states slot empty boxed within in
+    let is : Some boxed.value ≡ Some a = sym there ∙ ap (waiting_at (set (set states slot empty) slot (Some boxed))) (sym here) ∙ e in
+    subst (λ k. IsTarget program k × Arises program k a) (sym here) (target, subst (λ x. Arises program slot x) (same_Some boxed.value a is) arises))
+    (λ (apart : other ≡ slot → ⊥).
+    let stays = waiting-set_other (set states slot empty) slot other (Some boxed) apart ∙ waiting-set_other states slot other empty apart in
+    all other a (sym stays ∙ e))
+    (cases_eq other slot)
+
+pub arise_taken : (program : Program) (states : States) (slot : ℕ) (empty : Option (Box AbsState Global)) → slot < length states → empty ≡ None → AllArise program states → AllArise program (set states slot empty)
+arise_taken program states slot empty within none all other a e =
+    ⊎_elim
+    (λ (here : other ≡ slot).
+    let there = waiting-set_same states slot empty within ∙ ap unboxed none in
+    let is : None ≡ Some a = sym there ∙ ap (waiting_at (set states slot empty)) (sym here) ∙ e in
+    absurd (cc))
+    (λ (apart : other ≡ slot → ⊥). all other a (sym (waiting-set_other states slot other empty apart) ∙ e))
+    (cases_eq other slot)
+
+pub read_arises : (program : Program) (states : States) (slot : ℕ) (read taken : Option (Box AbsState Global)) (a : AbsState) → slot < length states → read ≡ get_or states slot read → taken ≡ read → AllArise program states → unboxed taken ≡ Some a → IsTarget program slot × Arises program slot a
+read_arises program states slot read taken a within is same all e = all slot a (read_waiting states slot read taken within is same ∙ e)
+
+-- ---- an instruction's edges
+straight_falls : (insn : Insn) → IsStraight insn → falls_through insn ≡ true
+straight_falls (Compute w op d o) is = refl
+straight_falls (Negate w d) is = refl
+straight_falls (Extend x d r) is = refl
+straight_falls (Convert c b d) is = refl
+straight_falls (Jump distance) is = absurd is
+straight_falls (JumpLong distance) is = absurd is
+straight_falls (Branch w c l r distance) is = absurd is
+straight_falls (Load z d b o) is = refl
+straight_falls (LoadSigned z d b o) is = refl
+straight_falls (Store z b o v) is = refl
+straight_falls (LoadWide d v) is = refl
+straight_falls Exit is = absurd is
+
+pub step_falls : (program : Program) (slot : ℕ) (insn : Insn) (a : AbsState) (o : Option AbsState) → IsStraight insn → StartsAt program slot insn → Arises program slot a → ((b : AbsState) → o ≡ Some b → Takes a insn b) → FallsFrom program slot insn o
+step_falls program slot insn a o straight starts from takes b e =
+    let falls = straight_falls insn straight in
+    (falls, fell from starts falls (takes b e) (straight_long a b insn straight))
+
+pub no_falls : (program : Program) (slot : ℕ) (insn : Insn) → FallsFrom program slot insn None
+no_falls program slot insn a e = absurd (cc)
+
+pub edge_falls : (program : Program) (slot : ℕ) (insn : Insn) (a : AbsState) (o : Option AbsState) → StartsAt program slot insn → Arises program slot a → falls_through insn ≡ true → ((b : AbsState) → o ≡ Some b → Takes a insn b × IsLongBehind a insn b) → FallsFrom program slot insn o
+edge_falls program slot insn a o starts from falls takes b e = (falls, fell from starts falls (takes b e).0 (takes b e).1)
+
+-- the slot to which an instruction jumps
+pub jump_target : (program : Program) (slot n to : ℕ) (insn : Insn) (distance : ℤ) → StartsAt program slot insn → jump_of insn ≡ Some distance → distance ≡ pos n → to ≡ slot + 1 + n → IsTarget program to
+jump_target program slot n to insn distance starts jumps is at = record {
+  from = slot;
+  insn = insn;
+  distance = n;
+  starts = starts;
+  jumps = jumps ∙ ap Some is;
+  there = at;
+}
+
+pub jump_arises : (program : Program) (slot n to : ℕ) (insn : Insn) (distance : ℤ) (a b : AbsState) → StartsAt program slot insn → Arises program slot a → jump_of insn ≡ Some distance → distance ≡ pos n → to ≡ slot + 1 + n → Takes a insn b → Arises program to b
+jump_arises program slot n to insn distance a b starts from jumps is at takes =
+    subst (λ k. Arises program k b) (sym at) (jumped from starts (jumps ∙ ap Some is) takes)
+
+-- ---- what falls into an instruction
+one_at_least : (slot : ℕ) (insn : Insn) → slot + 1 ≤ slot + slots_of insn
+one_at_least slot (Compute w op d o) = omega arith
+one_at_least slot (Negate w d) = omega arith
+one_at_least slot (Extend x d r) = omega arith
+one_at_least slot (Convert c b d) = omega arith
+one_at_least slot (Jump distance) = omega arith
+one_at_least slot (JumpLong distance) = omega arith
+one_at_least slot (Branch w c l r distance) = omega arith
+one_at_least slot (Load z d b o) = omega arith
+one_at_least slot (LoadSigned z d b o) = omega arith
+one_at_least slot (Store z b o v) = omega arith
+one_at_least slot (LoadWide d v) = omega arith
+one_at_least slot Exit = omega arith
+
+pub falls_here : (program : Program) (slot : ℕ) (insn : Insn) (falling : Option AbsState) → StartsAt program slot insn → FallsAs program slot falling → ArisesAt program slot falling
+falls_here program slot insn falling starts falls a e =
+    let f = falls a e in
+    let to = f.0 in
+    let low = f.1.1 in
+    ⊎_elim
+    (λ (same : to ≡ slot). subst (λ k. Arises program k a) same f.1.4)
+    (λ (other : to ≡ slot → ⊥).
+    let none = f.1.2 slot (omega arith) (omega arith) in
+    let both : Some (Some insn) ≡ Some None = sym starts ∙ none in
+    absurd (cc))
+    (cases_eq to slot)
+
+pub falls_next : (program : Program) (slot : ℕ) (insn : Insn) (falling : Option AbsState) → IsPaired program → IsStructured program → StartsAt program slot insn → FallsFrom program slot insn falling → FallsAs program (slot + 1) falling
+falls_next program slot insn falling paired structured starts falls a e =
+    let f = falls a e in
+    let n = fall_starts program slot (slot + slots_of insn) insn paired structured starts f.0 refl in
+    (slot + slots_of insn, (n.next, one_at_least slot insn, n.between, n.starts, f.1))
+
+pub dead_falls : (program : Program) (slot : ℕ) → FallsAs program (slot + 1) None
+dead_falls program slot a e = absurd (cc)
+
+pub second_falls : (program : Program) (slot : ℕ) (falling : Option AbsState) → slice_get program slot ≡ Some None → FallsAs program slot falling → FallsAs program (slot + 1) falling
+second_falls program slot falling second falls a e =
+    let f = falls a e in
+    let to = f.0 in
+    let low = f.1.1 in
+    let between : Between program (slot + 1) to = λ k above below. f.1.2 k (omega arith) below in
+    ⊎_elim
+    (λ (same : to ≡ slot).
+    let both : Some (Some f.1.0) ≡ Some None = sym f.1.3 ∙ ap (slice_get program) same ∙ second in
+    absurd (cc))
+    (λ (other : to ≡ slot → ⊥). (to, (f.1.0, (omega arith), between, f.1.3, f.1.4)))
+    (cases_eq to slot)
+
+pub entry_falls : (program : Program) (entry : AbsState) → 0 < length program → IsPaired program → IsContextAt 0 (register_at entry.registers 1) → FallsAs program 0 (Some entry)
+entry_falls program entry some paired context a e =
+    let start = starts_at program 0 some paired.begins in
+    let is : entry ≡ a = same_Some entry a e in
+    let none : Between program 0 0 = λ k low high. absurd (omega arith) in
+    (0, (start.0, (omega arith), none, start.1, subst (λ x. Arises program 0 x) is (first context)))
+
+-- ---- a refusal that is passed on
+pub passed_on : {T : Type 0} (r : Result T VerifyError) (e : VerifyError) (P : VerifyError → Type 0) → IsErrAnd r (λ y. y ≡ e) → P e → IfErr r P
+passed_on (Ok t) e P is p = tt
+passed_on (Err y) e P is p = subst P (sym is) p
+
+-- a program of which each instruction is granted is refused for want of memory alone
+pub only_memory : (program : Program) (e : VerifyError) (P : Type 0) → (P → MayRefuse program → ⊥) → IsCause program e → P → e ≡ OutOfMemory
+only_memory program e P grants (inl none) p = none
+only_memory program e P grants (inr may) p = absurd (grants p may)

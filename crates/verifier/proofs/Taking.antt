@@ -1,0 +1,147 @@
+-- What is promised past an instruction, on each of its edges.
+use Rattle.std.proofs.Common.{◌≡◌, ◌≢◌, ℕ, ⊎_elim, Option, Some, None, refl, sym, ap, ◌∙◌, subst}
+use Rattle.std.specs.Prelude.{ℤ}
+use Rattle.std.specs.Option.{IfSome}
+use Rattle.std.proofs.lemmas.Bool.{cases_eq}
+use Rattle.std.proofs.lemmas.Option.{same_Some}
+use Rattle.bpf_words.specs.declared.instruction.Width.{Width}
+use Rattle.bpf_words.specs.declared.instruction.Width.TheVariants.{Full}
+use Rattle.bpf_words.specs.declared.instruction.Comparison.{Comparison}
+use Rattle.bpf_words.specs.declared.instruction.Comparison.TheVariants.{Greater}
+use Rattle.bpf_words.specs.declared.instruction.Operand.{Operand}
+use Rattle.bpf_words.specs.declared.instruction.Operand.TheVariants.{Source}
+use Rattle.bpf_words.specs.declared.instruction.Insn.{Insn}
+use Rattle.bpf_words.specs.declared.instruction.Insn.TheVariants.{Compute, Negate, Extend, Convert, Jump, JumpLong, Branch, Load, LoadSigned, Store, LoadWide, Exit}
+use Rattle.bpf_words.specs.Flow.{written_by}
+use Rattle.abstract_state.specs.declared.known.Known.TheVariants.{Number, Context, Stack, Lent}
+use Rattle.abstract_state.specs.declared.state.AbsReg.{AbsReg}
+use Rattle.abstract_state.specs.declared.state.AbsReg.TheVariants.{Unset, Set}
+use Rattle.abstract_state.specs.declared.state.AbsState.{AbsState}
+use Rattle.abstract_state.specs.State.{register_at}
+use Rattle.abstract_state.specs.Branch.{LeavesSides}
+use Rattle.abstract_state.specs.Kinds.{HasNumberAt, HasNumberIn, IsNumberReg, KeepsAll, KeepsKind, ReadsNumbers, WritesNumber, Carries}
+use Rattle.abstract_state.specs.Exact.{Fact, TextIn, Holds}
+use Rattle.abstract_state.specs.Guard.{Yields, text_begin, text_end, text_moved, text_added, constant, text_read, LeavesOthers}
+use Rattle.verifier.specs.Arises.{Guards, behind, IsGranted, of_numbers, of_row, of_guard, TakesNumbers, Takes, IsLongBehind}
+use Rattle.verifier.proofs.Passing.{IsStraight}
+
+pub at_some : {T : Type 0} (o : Option T) (P : T → Type 0) (t : T) → IfSome o P → o ≡ Some t → P t
+at_some None P t h e = absurd (cc)
+at_some (Some x) P t h e = subst P (same_Some x t e) h
+
+-- ---- what is granted
+yields_writes : (a : AbsState) (insn : Insn) (d : ℕ) (fact : Fact) → Yields a insn d fact → written_by insn ≡ Some d
+yields_writes a insn d fact (text_begin d' base h) = refl
+yields_writes a insn d fact (text_end d' base h) = refl
+yields_writes a insn d fact (text_moved d' r n t h) = refl
+yields_writes a insn d fact (text_added d' k n t h near) = refl
+yields_writes a insn d fact (constant d' k small) = refl
+yields_writes a insn d fact (text_read size d' r o low high t h short within) = refl
+
+no_row : (a : AbsState) (insn : Insn) (d : ℕ) (fact : Fact) → written_by insn ≡ None → Yields a insn d fact → ⊥
+no_row a insn d fact none row = let both : None ≡ Some d = sym none ∙ yields_writes a insn d fact row in absurd (cc)
+
+no_guard : (a : AbsState) (insn : Insn) (n : ℕ) → IsStraight insn → Guards a insn n → ⊥
+no_guard a insn n straight (behind l r n' high low2 high2 t tail distance apart h g) = straight
+
+-- what is promised of a step in each of these cases
+pub step_granted : (a : AbsState) (insn : Insn) (P : Type 0) → IsStraight insn → (ReadsNumbers a insn → P) → ((d : ℕ) (fact : Fact) → Yields a insn d fact → P) → IsGranted a insn → P
+step_granted a insn P straight numbers row (of_numbers reads) = numbers reads
+step_granted a insn P straight numbers row (of_row d fact yields) = row d fact yields
+step_granted a insn P straight numbers row (of_guard n guard) = absurd (no_guard a insn n straight guard)
+
+-- an exit that is granted reads a number
+pub exit_granted : (a : AbsState) (insn : Insn) → insn ≡ Exit → IsGranted a insn → HasNumberAt a 0
+exit_granted a insn is (of_numbers reads) = subst (ReadsNumbers a) is reads
+exit_granted a insn is (of_row d fact row) = absurd (no_row a insn d fact (ap written_by is) row)
+exit_granted a insn is (of_guard n (behind l r n' high low2 high2 t tail distance apart h g)) = absurd (cc)
+
+-- what is promised of a comparison of two addresses in the text, of its answer
+abbrev pub IfGuards : AbsState → Width → Comparison → ℕ → Operand → (ℕ → Type 0) → Type 0
+IfGuards a width comparison left right P =
+    (r n high low2 high2 t : ℕ) (tail : Option ℕ) → right ≡ Source r → left ≢ r → width ≡ Full → comparison ≡ Greater → Holds (TextIn n high tail) (register_at a.registers left) → Holds (TextIn low2 high2 (Some t)) (register_at a.registers r) → P n
+
+pub guard_is : (a : AbsState) (insn : Insn) (width : Width) (comparison : Comparison) (left : ℕ) (right : Operand) (distance : ℤ) (P : ℕ → Type 0) (n : ℕ) → insn ≡ Branch width comparison left right distance → IfGuards a width comparison left right P → Guards a insn n → P n
+guard_is a insn width comparison left right distance P n is f (behind l r n' high low2 high2 t tail d apart h g) =
+    let wide : width ≡ Full = cc in
+    let greater : comparison ≡ Greater = cc in
+    let at : l ≡ left = cc in
+    let other : right ≡ Source r = cc in
+    f r n' high low2 high2 t tail other (λ e. apart (at ∙ e)) wide greater (subst (λ (i : ℕ). Holds (TextIn n' high tail) (register_at a.registers i)) at h) g
+
+-- what is promised of a comparison in each of these cases
+pub branch_granted : (a : AbsState) (insn : Insn) (width : Width) (comparison : Comparison) (left : ℕ) (right : Operand) (distance : ℤ) (P : Type 0) → insn ≡ Branch width comparison left right distance → (HasNumberAt a left → HasNumberIn a right → P) → IfGuards a width comparison left right (λ n. P) → IsGranted a insn → P
+branch_granted a insn width comparison left right distance P is floor texts (of_numbers reads) =
+    let both = subst (ReadsNumbers a) is reads in floor both.0 both.1
+branch_granted a insn width comparison left right distance P is floor texts (of_row d fact row) = absurd (no_row a insn d fact (ap written_by is) row)
+branch_granted a insn width comparison left right distance P is floor texts (of_guard n guard) =
+    guard_is a insn width comparison left right distance (λ k. P) n is texts guard
+
+-- ---- what is known past an instruction
+writes_takes : (a b : AbsState) (insn : Insn) (d : ℕ) → written_by insn ≡ Some d → WritesNumber a d b → TakesNumbers a insn b
+writes_takes a b insn d is writes = record {
+  written = λ i e. subst (λ k. HasNumberAt b k) (same_Some d i (sym is ∙ e)) writes.written;
+  kept = λ i was.
+      ⊎_elim
+      (λ (same : i ≡ d). subst (λ k. HasNumberAt b k) (sym same) writes.written)
+      (λ (other : i ≡ d → ⊥). subst IsNumberReg (sym (writes.others i other)) was)
+      (cases_eq i d);
+}
+
+carries_takes : (a b : AbsState) (insn : Insn) → IsStraight insn → ReadsNumbers a insn → Carries a insn b → TakesNumbers a insn b
+carries_takes a b (Compute w op d o) is reads carries = writes_takes a b (Compute w op d o) d refl carries
+carries_takes a b (Negate w d) is reads carries = writes_takes a b (Negate w d) d refl carries
+carries_takes a b (Extend x d r) is reads carries = writes_takes a b (Extend x d r) d refl carries
+carries_takes a b (Convert c x d) is reads carries = writes_takes a b (Convert c x d) d refl carries
+carries_takes a b (Jump distance) is reads carries = absurd is
+carries_takes a b (JumpLong distance) is reads carries = absurd is
+carries_takes a b (Branch w c l r distance) is reads carries = absurd is
+carries_takes a b (Load z d base o) is reads carries = writes_takes a b (Load z d base o) d refl carries
+carries_takes a b (LoadSigned z d base o) is reads carries = absurd reads
+carries_takes a b (Store z base o v) is reads carries = absurd reads
+carries_takes a b (LoadWide d v) is reads carries = writes_takes a b (LoadWide d v) d refl carries
+carries_takes a b Exit is reads carries = absurd is
+
+pub step_takes : (a b : AbsState) (insn : Insn) (o : Option AbsState) → IsStraight insn → o ≡ Some b → (ReadsNumbers a insn → IfSome o (λ x. Carries a insn x)) → IfSome o (λ x. LeavesOthers a insn x) → ((d : ℕ) (fact : Fact) → Yields a insn d fact → IfSome o (λ x. Holds fact (register_at x.registers d))) → Takes a insn b
+step_takes a b insn o straight live carries others rows = record {
+  numbers = λ reads. carries_takes a b insn straight reads (at_some o (λ x. Carries a insn x) b (carries reads) live);
+  others = at_some o (λ x. LeavesOthers a insn x) b others live;
+  yields = λ d fact row. at_some o (λ x. Holds fact (register_at x.registers d)) b (rows d fact row) live;
+}
+
+pub straight_long : (a b : AbsState) (insn : Insn) → IsStraight insn → IsLongBehind a insn b
+straight_long a b insn straight n guard = absurd (no_guard a insn n straight guard)
+
+-- a jump leaves all as it is
+none_taken : (a : AbsState) (insn : Insn) → written_by insn ≡ None → TakesNumbers a insn a
+none_taken a insn none = record {
+  written = λ i e. let both : None ≡ Some i = sym none ∙ e in absurd (cc);
+  kept = λ i was. was;
+}
+
+pub jump_takes : (a : AbsState) (insn : Insn) → written_by insn ≡ None → LeavesOthers a insn a → Takes a insn a
+jump_takes a insn none others = record {
+  numbers = λ reads. none_taken a insn none;
+  others = others;
+  yields = λ d fact row. absurd (no_row a insn d fact none row);
+}
+
+keeps_number : (x y : AbsReg) → KeepsKind x y → IsNumberReg x → IsNumberReg y
+keeps_number Unset y keeps number = absurd number
+keeps_number (Set (Number q)) y keeps number = keeps
+keeps_number (Set (Context p)) y keeps number = absurd number
+keeps_number (Set (Stack p)) y keeps number = absurd number
+keeps_number (Set (Lent p)) y keeps number = absurd number
+
+pub edge_takes : (a b : AbsState) (insn : Insn) (width : Width) (comparison : Comparison) (left : ℕ) (right : Operand) (distance : ℤ) (edge : Option AbsState) → insn ≡ Branch width comparison left right distance → edge ≡ Some b → IfSome edge (λ x. LeavesSides left right a x) → (HasNumberAt a left → HasNumberIn a right → IfSome edge (λ x. KeepsAll a x)) → Takes a insn b
+edge_takes a b insn width comparison left right distance edge is live leaves kinds = record {
+  numbers = λ reads.
+      let both = subst (ReadsNumbers a) is reads in
+      let keeps = at_some edge (λ x. KeepsAll a x) b (kinds both.0 both.1) live in
+      record {
+        written = λ i e. let both : None ≡ Some i = sym (ap written_by is) ∙ e in absurd (cc);
+        kept = λ i was. keeps_number _ _ (keeps i) was;
+      };
+  others = subst (λ (i : Insn). LeavesOthers a i b) (sym is) (at_some edge (λ x. LeavesSides left right a x) b leaves live);
+  yields = λ d fact row. absurd (no_row a insn d fact (ap written_by is) row);
+}
