@@ -1,11 +1,11 @@
 -- What a subscriber keeps when the hub has a version more, when it is made, and when a batch is held.
-use Rattle.std.proofs.Common.{◌≡◌, ℕ, zero, suc, ◌+◌, ◌-◌, ◌<◌, ◌≤◌, Bool, true, false, true≢false, Option, None, Some, List, [], ◌∷◌, ◌++◌, length, take, drop, set, get_or, replicate, refl, sym, ap, ◌∙◌, subst, arith, length-append, length-set, length-take, ⊎_elim, inl, inr}
-use Rattle.std.specs.Prelude.{slice_get, All, ◌⊎◌, is_some, IsTrue, ◌↔◌, MatchBool}
+use Rattle.std.proofs.Common.{◌≡◌, ℕ, zero, suc, ◌+◌, ◌-◌, ◌<◌, ◌≤◌, true, false, true≢false, Option, None, Some, List, [], ◌∷◌, ◌++◌, length, take, drop, set, get_or, replicate, refl, sym, ap, ◌∙◌, subst, arith, length-append, length-set, length-take, ⊎_elim, inl, inr}
+use Rattle.std.specs.Prelude.{slice_get, All, ◌⊎◌, is_some}
 use Rattle.std.proofs.Math.Nat.{add-zero}
 use Rattle.std.proofs.lemmas.List.{append-nil, take-append-le, drop_all}
 use Rattle.std.proofs.lemmas.Bool.{cases_lt}
 use Rattle.std.proofs.lemmas.List.Elements.{All-get_or}
-use Rattle.std.proofs.lemmas.Option.{get_or_from_slice_get, slice_get_within, slice_get_past, slice_get_read, same_Some, none-some}
+use Rattle.std.proofs.lemmas.Option.{get_or_from_slice_get, slice_get_within, slice_get_read, same_Some, none-some}
 use Rattle.meaning.specs.Step.{Program}
 use Rattle.span_flatten.specs.Version.{Snapshot}
 use Rattle.version_history.specs.Tokens.{Token}
@@ -120,31 +120,8 @@ module _ {S : Type 0} (sent : S → List Entry) (full : S → Type 0) where
             (get_set a.held (b.number - a.cursor) i (Some b) (Some c) e);
       }
 
-module _ {S : Type 0} (ts : List (Token Snapshot)) (a : Sub S) (b : Slip) where
-  pub not_missing : (x : Option Slip) (f : Bool) → length a.held ≡ 8 → b.number - a.cursor ≤ 7 → x ≡ get_or a.held (b.number - a.cursor) x → f ≡ true → f ≡ is_some x → ¬ IsWanted ts a b
-  not_missing None f wide near read t e w = absurd (true≢false (sym t ∙ e))
-  not_missing (Some c) f wide near read t e w = w.missing (c, slice_get_read a.held 8 (b.number - a.cursor) (Some c) (sym wide) (omega arith) read)
-
-  pub not_there : length ts ≤ b.number → ¬ IsWanted ts a b
-  not_there past w = none-some b.version (sym (slice_get_past ts b.number past) ∙ w.version)
-
-  missing : (x : Option Slip) (f : Bool) → length a.held ≡ 8 → b.number - a.cursor ≤ 7 → x ≡ get_or a.held (b.number - a.cursor) x → f ≡ false → f ≡ is_some x → ¬ IsHeldAt a.held (b.number - a.cursor)
-  missing (Some c) f wide near read t e h = true≢false (sym e ∙ t)
-  missing None f wide near read t e h =
-      none-some h.0 (same_Some None (Some h.0) (sym (slice_get_read a.held 8 (b.number - a.cursor) None (sym wide) (omega arith) read) ∙ h.1))
-
-  pub decides : (x : Option Slip) (f g : Bool) (t : Token Snapshot) → length a.held ≡ 8 → a.cursor ≤ b.number → b.number - a.cursor ≤ 7
-      → x ≡ get_or a.held (b.number - a.cursor) x → f ≡ false → f ≡ is_some x → b.program ≡ a.program → b.number < length ts → t ≡ get_or ts b.number t
-      → (IsTrue g ↔ (t ≡ b.version)) → MatchBool g (IsWanted ts a b) (¬ IsWanted ts a b)
-  decides x f true t wide low near read none e program within at same = record {
-    low = low;
-    high = omega arith;
-    missing = missing x f wide near read none e;
-    program = program;
-    version = slice_get_read ts (length ts) b.number t refl within at ∙ ap Some (same.0 refl);
-  }
-  decides x f false t wide low near read none e program within at same =
-      λ w. true≢false (sym (same.1 (same_Some t b.version (sym (slice_get_read ts (length ts) b.number t refl within at) ∙ w.version))))
+pub wanted_near : {S : Type 0} (ts : List (Token Snapshot)) (a : Sub S) (b : Slip) → IsWanted ts a b → (a.cursor ≤ b.number) × (b.number ≤ a.cursor + 7)
+wanted_near ts a b w = (w.low, w.high)
 
 module _ {S : Type 0} (sent : S → List Entry) (full : S → Type 0) where
   pub kept_fed : (ts : List (Token Snapshot)) (o s : Sub S) (b : Slip) (n : ℕ) → s ≡ o → n ≡ b.number → IsFed sent full ts o → IsWanted ts o b

@@ -1,12 +1,12 @@
 -- How far a subscriber got, and what it was sent.
-use Rattle.std.proofs.Common.{◌≡◌, ℕ, zero, suc, ◌+◌, ◌-◌, ◌<◌, ◌≤◌, Option, None, Some, List, [], ◌∷◌, ◌++◌, length, take, drop, get_or, refl, sym, ap, ◌∙◌, subst, arith, append_assoc, length-append, length-drop, length-take, take-append-drop, set, ⊎_elim}
+use Rattle.std.proofs.Common.{◌≡◌, ℕ, zero, suc, ◌+◌, ◌-◌, ◌<◌, ◌≤◌, None, Some, List, [], ◌∷◌, ◌++◌, length, take, drop, refl, sym, ap, ◌∙◌, subst, arith, append_assoc, length-append, length-drop, length-take, take-append-drop, set, ⊎_elim}
 use Rattle.std.specs.Prelude.{slice_get}
 use Rattle.std.proofs.Math.Nat.{add-suc, add-zero, zero-add, add_assoc}
 use Rattle.std.proofs.Math.Seq.{take-add}
 use Rattle.std.proofs.lemmas.Bool.{cases_lt}
 use Rattle.std.proofs.lemmas.List.{append-nil, take_more, take_all, drop-append-le}
 use Rattle.std.proofs.lemmas.List.Concat.{flat_map-append}
-use Rattle.std.proofs.lemmas.Option.{slice_get_read, slice_get_within, get_or_from_slice_get, same_Some, none-some}
+use Rattle.std.proofs.lemmas.Option.{slice_get_within, get_or_from_slice_get, same_Some, none-some}
 use Rattle.meaning.specs.Step.{Program}
 use Rattle.span_flatten.specs.Version.{Snapshot}
 use Rattle.version_history.specs.Tokens.{Token}
@@ -220,13 +220,6 @@ module _ {S : Type 0} (sent : S → List Entry) (full : S → Type 0) where
       (λ (h : 9 ≤ x.steps). let t = x.held 8 (omega arith) in absurd (omega (arith, slice_get_within a.held 8 (Some t.0) t.1, fed.wide)))
       (cases_lt x.steps 9)
 
--- what a read of the first place finds
-pub window_at : (w : Held) (x : Option Slip) (b : Slip) → length w ≡ 8 → x ≡ get_or w 0 x → x ≡ Some b → slice_get w 0 ≡ Some (Some b)
-window_at w x b wide read is = slice_get_read w 8 0 x (sym wide) (omega arith) read ∙ ap Some is
-
-pub window_not : (w : Held) (x : Option Slip) → length w ≡ 8 → x ≡ get_or w 0 x → x ≡ None → ¬ IsHeldAt w 0
-window_not w x wide read is h = none-some h.0 (same_Some None (Some h.0) (sym (slice_get_read w 8 0 x (sym wide) (omega arith) read ∙ ap Some is) ∙ h.1))
-
 -- the first place is emptied, and then goes to the end
 pub slide_is : (w : Held) → length w ≡ 8 → drop 1 (set w 0 None) ++ take 1 (set w 0 None) ≡ slide w
 slide_is [] none = absurd (omega arith)
@@ -237,28 +230,26 @@ module _ {S : Type 0} (sent : S → List Entry) (full : S → Type 0) where
   sent_many s items reached r = omega (arith, length-take (reached - s.count) (drop s.count items), length-drop s.count items)
 
   -- the code sent a part of the batch at the cursor: o is the subscriber before, seen by its fields as s
-  pub sent_part : (ts : List (Token Snapshot)) (o s : Sub S) (b : Slip) (x : Option Slip) (reached : ℕ) (sink : S) → s ≡ o → IsFed sent full ts o
-      → x ≡ get_or s.held 0 x → x ≡ Some b → (s.count ≤ reached) × (reached ≤ length (items_of b.program b.version)) → reached < length (items_of b.program b.version)
+  pub sent_part : (ts : List (Token Snapshot)) (o s : Sub S) (b : Slip) (reached : ℕ) (sink : S) → s ≡ o → IsFed sent full ts o
+      → slice_get s.held 0 ≡ Some (Some b) → (s.count ≤ reached) × (reached ≤ length (items_of b.program b.version)) → reached < length (items_of b.program b.version)
       → sent sink ≡ sent s.sink ++ take (reached - s.count) (drop s.count (items_of b.program b.version))
       → IsFed sent full ts (record s { count = reached; sink = sink }) × Moved sent full o (reached - s.count) (record s { count = reached; sink = sink })
-  sent_part ts o s b x reached sink same fed' read some r high is =
+  sent_part ts o s b reached sink same fed' at r high is =
       let fed = subst (IsFed sent full ts) (sym same) fed' in
-      let at = window_at s.held x b fed.wide read some in
       let items = items_of b.program b.version in (
         fed_part sent full ts s b reached sink fed at r.0 high is,
         subst (λ z. Moved sent full z (reached - s.count) (record s { count = reached; sink = sink })) same
             (moved_part sent full s reached (reached - s.count) sink (take (reached - s.count) (drop s.count items)) (sent_many s items reached r) is),
       )
 
-  pub sent_whole : (ts : List (Token Snapshot)) (o s : Sub S) (b : Slip) (x : Option Slip) (reached : ℕ) (w : Held) (sink : S) → s ≡ o → IsFed sent full ts o
-      → x ≡ get_or s.held 0 x → x ≡ Some b → (s.count ≤ reached) × (reached ≤ length (items_of b.program b.version)) → length (items_of b.program b.version) ≤ reached
+  pub sent_whole : (ts : List (Token Snapshot)) (o s : Sub S) (b : Slip) (reached : ℕ) (w : Held) (sink : S) → s ≡ o → IsFed sent full ts o
+      → slice_get s.held 0 ≡ Some (Some b) → (s.count ≤ reached) × (reached ≤ length (items_of b.program b.version)) → length (items_of b.program b.version) ≤ reached
       → w ≡ drop 1 (set s.held 0 None) ++ take 1 (set s.held 0 None)
       → sent sink ≡ sent s.sink ++ take (reached - s.count) (drop s.count (items_of b.program b.version))
       → IsFed sent full ts (record s { cursor = s.cursor + 1; held = w; count = 0; sink = sink })
       × Moved sent full o (reached - s.count) (record s { cursor = s.cursor + 1; held = w; count = 0; sink = sink })
-  sent_whole ts o s b x reached w sink same fed' read some r high turned is =
+  sent_whole ts o s b reached w sink same fed' at r high turned is =
       let fed = subst (IsFed sent full ts) (sym same) fed' in
-      let at = window_at s.held x b fed.wide read some in
       let items = items_of b.program b.version in
       let held : slide s.held ≡ w = sym (turned ∙ slide_is s.held fed.wide) in
       let all : take (reached - s.count) (drop s.count items) ≡ drop s.count items = take_all (reached - s.count) (drop s.count items) (omega (arith, length-drop s.count items)) in

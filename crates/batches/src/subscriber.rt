@@ -1,7 +1,7 @@
-ghost use Rattle.std.specs.Prelude.{◌≡◌, ◌≤◌, ◌<◌, ◌-◌, ◌+◌, ◌++◌, ◌⊎◌, true, false, None, Some, [], length, take, drop, replicate, slice_get, MatchBool, IfOk};
+ghost use Rattle.std.specs.Prelude.{◌≡◌, ◌≤◌, ◌<◌, ◌-◌, ◌+◌, ◌++◌, ◌⊎◌, true, false, None, Some, [], length, take, drop, replicate, slice_get, MatchBool, MatchOption, IsTrue, ◌↔◌, IfOk};
 ghost use Rattle.batches.specs.Batches.{items_of};
 ghost use Rattle.batches.specs.Orderly.{IsOrderly, RisesFrom};
-ghost use Rattle.batches.specs.Feed.{IsFed, IsWanted, Keeps, Moved, Stops, Finds, fresh, nothing_held};
+ghost use Rattle.batches.specs.Feed.{IsHeldAt, IsFed, IsWanted, Keeps, Moved, Stops, Finds, fresh, nothing_held};
 
 use crate::batch::Batch;
 use crate::item::{Item, Job};
@@ -44,13 +44,44 @@ fn send_batch<N: Naming, S: Sink<Item<N>>>(sink: &mut S, batch: &Batch<N>, from:
 {
     let items = batch.items();
     let mut at = from;
-    while at < items.len() {
+    'sending: while at < items.len() {
         match sink.push(items[at].again()) {
             Ok(()) => at += 1,
             Err(_) => return at,
         }
     }
     at
+}
+
+/// The batch at the first place, if one is held there.
+fn front<N: Naming>(held: &[Option<Batch<N>>]) -> Option<&Batch<N>>
+    requires { length held.now ≡ 8 }
+    ensures { MatchOption result (¬ IsHeldAt held.now 0) (λ batch. slice_get held.now 0 ≡ Some (Some batch.now)) }
+{
+    held[0].as_ref()
+}
+
+/// Whether a batch is held at a place.
+fn is_held_at<N: Naming>(held: &[Option<Batch<N>>], place: usize) -> bool
+    requires { place < length held.now }
+    ensures { IsTrue result ↔ IsHeldAt held.now place }
+{
+    held[place].is_some()
+}
+
+/// Whether a batch is of the version with its number.
+fn is_of_version<N: Naming>(
+    published: &Published<'_, N>,
+    versions: &[VersionToken<N>],
+    batch: &Batch<N>,
+) -> bool
+    ensures { IsTrue result ↔ (slice_get versions.now batch.now.number ≡ Some batch.now.version) }
+{
+    let job = batch.job();
+    match versions.get(job.number as usize) {
+        Some(version) => published.is_same(version, &job.version),
+        None => false,
+    }
 }
 
 /// Eight places, all empty.
@@ -85,7 +116,7 @@ impl<N: Naming, S: Sink<Item<N>>> Subscriber<N, S> {
         ensures stop { result.1 ≡ false → Stops S.sent S.full self.new }
     {
         let _ = versions;
-        let Some(batch) = &self.held[0] else {
+        let Some(batch) = front(self.held.as_slice()) else {
             return (0, false);
         };
         let reached = send_batch(&mut self.sink, batch, self.count);
@@ -119,7 +150,34 @@ impl<N: Naming, S: Sink<Item<N>>> Subscriber<N, S> {
         }
     }
 
+    /// Whether a batch is of none of the versions below the cursor, and at most seven above it.
+    fn is_near(&self, batch: &Batch<N>) -> bool
+        ensures { IsTrue result ↔ ((self.now.cursor ≤ batch.now.number) × (batch.now.number ≤ self.now.cursor + 7)) }
+    {
+        let number = batch.job().number;
+        number >= self.cursor && number - self.cursor <= 7
+    }
+
+    /// Whether the batch of that version is held.
+    fn holds(&self, batch: &Batch<N>) -> bool
+        requires wide { length self.now.held ≡ 8 }
+        requires low { self.now.cursor ≤ batch.now.number }
+        requires high { batch.now.number ≤ self.now.cursor + 7 }
+        ensures { IsTrue result ↔ IsHeldAt self.now.held (batch.now.number - self.now.cursor) }
+    {
+        let place = batch.job().number - self.cursor;
+        is_held_at(self.held.as_slice(), place as usize)
+    }
+
+    /// Whether a batch is of its program.
+    fn has_program(&self, published: &Published<'_, N>, batch: &Batch<N>) -> bool
+        ensures { IsTrue result ↔ (batch.now.program ≡ self.now.program) }
+    {
+        published.is_same_program(&batch.job().program, &self.program)
+    }
+
     /// Whether it waits for this batch.
+    #[tactic(auto, using(crate::proofs::Feeding::wanted_near))]
     pub fn wants(
         &self,
         published: &Published<'_, N>,
@@ -131,20 +189,10 @@ impl<N: Naming, S: Sink<Item<N>>> Subscriber<N, S> {
         ensures high { result ≡ true → batch.now.number ≤ self.now.cursor + 7 }
         ensures wanted { MatchBool result (IsWanted versions.now self.now batch.now) (¬ IsWanted versions.now self.now batch.now) }
     {
-        let job = batch.job();
-        if job.number < self.cursor || job.number - self.cursor > 7 {
+        if !self.is_near(batch) || self.holds(batch) {
             return false;
         }
-        if self.held[(job.number - self.cursor) as usize].is_some() {
-            return false;
-        }
-        if !published.is_same_program(&job.program, &self.program) {
-            return false;
-        }
-        if job.number as usize >= versions.len() {
-            return false;
-        }
-        published.is_same(&versions[job.number as usize], &job.version)
+        self.has_program(published, batch) && is_of_version(published, versions, batch)
     }
 
     /// Keeps a batch, if it waits for it.

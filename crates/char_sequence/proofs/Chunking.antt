@@ -35,6 +35,12 @@ not_indexed_id cs names index ok id e (p, (x, g, is)) =
     let r = joined_found cs p x g in
     ok.listed r.0 r.1.0 r.1.1.1 r.1.1.0 x r.1.1.2 (ap (λ z. lookup (same_id z) index) is ∙ e)
 
+-- what stands behind a place stands among all
+pub dropped : {X : Type 0} (xs : List X) (n k : ℕ) (x : X) → slice_get (drop n xs) k ≡ Some x → (i : ℕ) × (slice_get xs i ≡ Some x)
+dropped xs zero k x g = (k, g)
+dropped [] (suc n) k x g = absurd (none-some x g)
+dropped (y ∷ ys) (suc n) k x g = let r = dropped ys n k x g in (suc r.0, r.1)
+
 -- ---- an element put into a chunk
 pub indexed_put : (cs : List (List Element)) (names : List ℕ) (index more : List (OpId × ℕ)) (i : ℕ) (c : List Element) (n k : ℕ) (e : Element) → IsIndexed cs names index → slice_get cs i ≡ Some c → slice_get names i ≡ Some n → k ≤ length c → lookup (same_id e.id) more ≡ Some n → ((q : OpId) → same_id e.id q ≡ false → lookup (same_id q) more ≡ lookup (same_id q) index) → IsIndexed (set cs i (insert c k e)) names more
 indexed_put cs names index more i c n k e ok here name h new other =

@@ -1,5 +1,5 @@
 -- Ids are equal by their numbers, and are in a strict total order.
-use Rattle.std.proofs.Common.{◌≡◌, ℕ, ◌<◌, ◌≤◌, Bool, true, false, inl, inr, ◌⊎◌, sym, ap, refl, ◌∙◌, arith, ⊎_elim, ◌&&◌}
+use Rattle.std.proofs.Common.{◌≡◌, ℕ, ◌<◌, ◌≤◌, Bool, true, false, inl, inr, ◌⊎◌, sym, ap, subst, refl, ◌∙◌, arith, ⊎_elim, ◌&&◌}
 use Rattle.std.specs.Prelude.{nat_eq}
 use Rattle.std.proofs.lemmas.Bool.{cases_lt, false≢true, eqb-true, eq-eqb}
 use Rattle.change_ops.specs.Ids.{Less}
@@ -59,3 +59,27 @@ less_cases a b =
 pub less_by_counter : (a b : OpId) → a.counter < b.counter → Less a b
 unfolding Less
 less_by_counter a b h = inl h
+
+-- what is not below a floor is above what is below it
+pub less_floor : (a floor x : OpId) → Less a floor → (Less x floor → ⊥) → Less a x
+less_floor a floor x low not_low =
+    ⊎_elim
+    (λ (h : Less a x). h)
+    (λ (h : (a ≡ x) ⊎ Less x a).
+    ⊎_elim
+    (λ (same : a ≡ x). absurd (not_low (subst (λ z. Less z floor) same low)))
+    (λ (less : Less x a). absurd (not_low (less_trans x a floor less low)))
+    h)
+    (less_cases a x)
+
+-- a lower floor is one too
+pub lower_floor : (x floor low : OpId) → (Less x floor → ⊥) → (Less floor low → ⊥) → Less x low → ⊥
+lower_floor x floor low above not_low less =
+    ⊎_elim
+    (λ (h : Less x floor). above h)
+    (λ (h : (x ≡ floor) ⊎ Less floor x).
+    ⊎_elim
+    (λ (same : x ≡ floor). not_low (subst (λ z. Less z low) same less))
+    (λ (more : Less floor x). not_low (less_trans floor x low more less))
+    h)
+    (less_cases x floor)

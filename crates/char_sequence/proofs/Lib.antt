@@ -1,4 +1,5 @@
 pub mod Ids
+pub mod Floors
 pub mod TreeLaws
 pub mod Lists
 pub mod Counters

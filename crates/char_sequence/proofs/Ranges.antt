@@ -2,6 +2,7 @@
 use Rattle.std.proofs.Common.{◌≡◌, ℕ, zero, suc, ◌+◌, ◌-◌, ◌≤◌, List, [], ◌∷◌, ◌++◌, Some, length, take, drop, slice_range, sym, ap, refl, ◌∙◌, arith, append_assoc, append-nil, length-append}
 use Rattle.std.specs.List.{slice_get}
 use Rattle.std.proofs.lemmas.Option.{same_Some, none-some}
+use Rattle.std.proofs.lemmas.List.{take_all}
 use Rattle.std.proofs.lemmas.Grind.{common_steps}
 use Rattle.char_sequence.specs.declared.sequence.Element.{Element}
 use Rattle.char_sequence.specs.Chunks.{joined, start_of}
@@ -44,6 +45,18 @@ range_append xs ys from to order =
     ap (take (to - from)) (drop_append from xs ys)
     ∙ take_append (to - from) (drop from xs) (drop (from - length xs) ys)
     ∙ ap (λ n. take (to - from) (drop from xs) ++ take n (drop (from - length xs) ys)) left
+
+-- a range as long as the list is the list
+pub range_whole : (xs : List Element) (from to : ℕ) → length (slice_range xs from to) ≡ length xs → slice_range xs from to ≡ xs
+range_whole [] from to size = ap (λ es. take (to - from) es) (drop_nil from) ∙ take_nil (to - from)
+range_whole (x ∷ xs) from to size =
+    let cut : length (drop from (x ∷ xs)) ≡ length (x ∷ xs) - from = grind (arith, common_steps) in
+    let most : length (take (to - from) (drop from (x ∷ xs))) ≤ length (drop from (x ∷ xs)) = grind (arith, common_steps) in
+    let first : from ≡ 0 = omega (arith, cut, most, size) in
+    let start : slice_range (x ∷ xs) from to ≡ take (to - from) (x ∷ xs) = ap (λ n. take (to - from) (drop n (x ∷ xs))) first in
+    let less : length (take (to - from) (x ∷ xs)) ≤ to - from = grind (arith, common_steps) in
+    let same = ap length start in
+    start ∙ take_all (to - from) (x ∷ xs) (omega (arith, less, same, size))
 
 pub joined_more : (cs : List (List Element)) (i : ℕ) (c : List Element) → slice_get cs i ≡ Some c → joined (take (i + 1) cs) ≡ joined (take i cs) ++ c
 joined_more [] i c here = absurd (none-some c here)

@@ -1,10 +1,12 @@
 -- Elements in chunks, and the index from ids to the chunks' names.
 use Rattle.std.specs.Prelude.{◌≡◌, ℕ, ◌+◌, ◌<◌, ◌≤◌, List, [], ◌∷◌, ◌++◌, Some, None, length, take, slice_get}
 use Rattle.std.specs.Map.{lookup}
+use Rattle.change_ops.specs.Ids.{Less}
 use Rattle.change_ops.specs.declared.id.OpId.{OpId}
 use Rattle.char_sequence.specs.declared.sequence.Element.{Element}
 use Rattle.char_sequence.specs.Order.{IsAt}
 use Rattle.char_sequence.specs.Index.{same_id, HasId}
+use Rattle.char_sequence.specs.Visible.{visible_text}
 
 -- the chunks' elements, chunk after chunk
 abbrev pub joined : List (List Element) → List Element
@@ -20,6 +22,15 @@ pub record IsChunk (items : List Element) (capacity : ℕ) : Type 0 where
   pub some : 0 < length items
   pub few : length items ≤ 64
   pub room : 64 ≤ capacity
+
+-- the text of the elements, with memory for 256 bytes
+pub record IsTextOf (items : List Element) (text : List ℕ) (capacity : ℕ) : Type 0 where
+  pub shown : text ≡ visible_text items
+  pub room : 256 ≤ capacity
+
+-- no element has a lesser id
+abbrev pub IsFloor : List Element → OpId → Type 0
+IsFloor items floor = (k : ℕ) (e : Element) → slice_get items k ≡ Some e → Less e.id floor → ⊥
 
 -- the place among all elements that has so many of the chunk's before it
 pub record IsSpot (chunks : List (List Element)) (position at place : ℕ) : Type 0 where

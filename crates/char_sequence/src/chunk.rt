@@ -1,11 +1,15 @@
-ghost use Rattle.std.specs.Prelude.{vec_capacity, false, ◌≡◌, ℕ, ◌<◌, ◌≤◌, ◌∷◌, [], Some, length, take, drop, set, insert, slice_get, MatchOption, IfSome};
+ghost use Rattle.std.specs.Prelude.{vec_capacity, string_bytes, false, ◌≡◌, ℕ, ◌<◌, ◌≤◌, ◌∷◌, [], Some, length, take, drop, set, insert, slice_get, MatchOption, IfSome};
+ghost use Rattle.std.specs.String.{string_capacity};
 ghost use Rattle.change_ops.specs.Ids.{Less};
 ghost use Rattle.char_sequence.specs.declared.sequence.Element.{Element};
 ghost use Rattle.char_sequence.specs.Order.{IsAt};
 ghost use Rattle.char_sequence.specs.Index.{HasId};
 ghost use Rattle.char_sequence.specs.Places.{IsNext};
+ghost use Rattle.char_sequence.specs.Chunks.{IsFloor};
+ghost use Rattle.char_sequence.specs.Visible.{visible_text};
 
 use crate::sequence::Element;
+use crate::visible::{push_with_room, write_text};
 use change_ops::id::OpId;
 use std::alloc::{AllocError, Global};
 use std::marker::Model;
@@ -13,36 +17,66 @@ use std::marker::Model;
 /// The most elements that a chunk has.
 pub(crate) const CHUNK_LIMIT: usize = 64;
 
+/// The most bytes that their text has.
+const TEXT_LIMIT: usize = 256;
+
 /// Memory for a chunk.
 #[derive(Drop)]
 pub(crate) struct Blank {
     items: Vec<Element>,
-    ghost ready: { (items.items ≡ []) × (64 ≤ vec_capacity items) },
+    text: String,
+    ghost ready: { (items.items ≡ []) × (64 ≤ vec_capacity items) × (string_bytes text ≡ []) × (256 ≤ string_capacity text) },
 }
 
 impl Blank {
     pub(crate) fn new(alloc: Global) -> Result<Blank, AllocError> {
         let items = Vec::with_capacity(alloc, CHUNK_LIMIT)?;
-        Ok(Blank { items })
+        let text = String::with_capacity(alloc, TEXT_LIMIT)?;
+        Ok(Blank { items, text })
     }
+}
+
+/// The lesser of two ids.
+fn lesser(a: OpId, b: OpId) -> OpId
+    ensures first { Less a result → ⊥ }
+    ensures second { Less b result → ⊥ }
+{
+    if a.is_below(b) { a } else { b }
+}
+
+/// The least id.
+fn floor_of(elements: &[Element]) -> OpId
+    requires { 0 < length elements.now }
+    ensures { IsFloor elements.now result }
+{
+    let mut floor = elements[0].id;
+    for element in elements {
+        floor = lesser(floor, element.id);
+    }
+    floor
 }
 
 /// From 1 to 64 elements in a row, of which none is taken out, with memory for 64.
 #[derive(Drop)]
 pub(crate) struct Chunk {
     items: Vec<Element>,
+    // Their visible text, so that the text of many chunks is copied chunk by chunk.
+    text: String,
+    // No id is less, so that a walk past greater ids takes one look at a chunk.
+    floor: OpId,
 }
 
 impl Model for Chunk {
-    ghost use Rattle.std.specs.Prelude.{List, vec_capacity};
+    ghost use Rattle.std.specs.Prelude.{List, vec_capacity, string_bytes};
+    ghost use Rattle.std.specs.String.{string_capacity};
     ghost use Rattle.char_sequence.specs.declared.sequence.Element.{Element};
-    ghost use Rattle.char_sequence.specs.Chunks.{IsChunk};
+    ghost use Rattle.char_sequence.specs.Chunks.{IsChunk, IsFloor, IsTextOf};
 
     ghost Value = { List Element };
 
     ghost view = { λ c. c.items.items };
 
-    ghost invariant = { λ c. IsChunk c.items.items (vec_capacity c.items) };
+    ghost invariant = { λ c. IsChunk c.items.items (vec_capacity c.items) × IsTextOf c.items.items (string_bytes c.text) (string_capacity c.text) × IsFloor c.items.items c.floor };
 }
 
 impl Chunk {
@@ -50,9 +84,14 @@ impl Chunk {
     pub(crate) fn one(blank: Blank, element: Element) -> Chunk
         ensures { result ≡ element ∷ [] }
     {
-        let Blank { mut items } = blank;
+        let Blank {
+            mut items,
+            mut text,
+        } = blank;
+        let floor = element.id;
         items.push_reserved(element);
-        Chunk { items }
+        write_text(&items, &mut text);
+        Chunk { items, text, floor }
     }
 
     pub(crate) fn as_slice(&self) -> &[Element]
@@ -69,6 +108,13 @@ impl Chunk {
         ensures few { length self.now ≤ 64 }
     {
         self.items.len()
+    }
+
+    /// The visible text.
+    pub(crate) fn text(&self) -> &str
+        ensures { result.now ≡ visible_text self.now }
+    {
+        self.text.as_str()
     }
 
     /// The place of an element of this id.
@@ -88,6 +134,15 @@ impl Chunk {
     pub(crate) fn past_greater(&self, start: usize, id: OpId) -> Option<usize>
         ensures { MatchOption result ((i : ℕ) (x : Element) → start ≤ i → slice_get self.now i ≡ Some x → Less id x.id) (IsNext self.now id start) }
     {
+        if id.is_below(self.floor) {
+            return None;
+        }
+        self.first_not_greater(start, id)
+    }
+
+    fn first_not_greater(&self, start: usize, id: OpId) -> Option<usize>
+        ensures { MatchOption result ((i : ℕ) (x : Element) → start ≤ i → slice_get self.now i ≡ Some x → Less id x.id) (IsNext self.now id start) }
+    {
         for place in start..self.items.len() {
             if !id.is_below(self.items[place].id) {
                 return Some(place);
@@ -102,7 +157,14 @@ impl Chunk {
         requires room { length self.old < 64 }
         ensures { self.new ≡ insert self.old place element }
     {
+        self.floor = lesser(self.floor, element.id);
+        let is_last = place == self.items.len();
         self.items.insert(place, element).unwrap();
+        if is_last {
+            push_with_room(&self.items[place..], &mut self.text);
+        } else {
+            write_text(&self.items, &mut self.text);
+        }
     }
 
     /// Makes the element at a place a tombstone.
@@ -111,6 +173,7 @@ impl Chunk {
         ensures { (x : Element) → slice_get self.old place ≡ Some x → self.new ≡ set self.old place (record { id = x.id; character = x.character; visible = false }) }
     {
         self.items[place].visible = false;
+        write_text(&self.items, &mut self.text);
     }
 
     /// Moves the elements from a place on into a chunk of their own.
@@ -119,10 +182,17 @@ impl Chunk {
         ensures left { self.new ≡ take at self.old }
         ensures right { result ≡ drop at self.old }
     {
-        let Blank { mut items } = blank;
+        let Blank {
+            mut items,
+            mut text,
+        } = blank;
         items.extend_from_slice(&self.items[at..]).unwrap();
         self.items.truncate(at);
-        Chunk { items }
+        write_text(&self.items, &mut self.text);
+        self.floor = floor_of(&self.items);
+        write_text(&items, &mut text);
+        let floor = floor_of(&items);
+        Chunk { items, text, floor }
     }
 }
 
@@ -132,6 +202,12 @@ impl Clone for Chunk {
     fn clone(&self) -> Result<Chunk, AllocError> {
         let mut items = Vec::with_capacity(*self.items.allocator(), CHUNK_LIMIT)?;
         items.extend_from_slice(&self.items)?;
-        Ok(Chunk { items })
+        let mut text = String::with_capacity(*self.items.allocator(), TEXT_LIMIT)?;
+        text.push_str(&self.text)?;
+        Ok(Chunk {
+            items,
+            text,
+            floor: self.floor,
+        })
     }
 }

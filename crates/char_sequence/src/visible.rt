@@ -1,5 +1,5 @@
 //! The visible text of elements in a row, and of a range of places.
-ghost use Rattle.std.specs.Prelude.{◌≡◌, ◌≤◌, ◌+◌, ◌-◌, ◌*◌, ◌++◌, length, slice_range, string_bytes, OnOk, OnErr};
+ghost use Rattle.std.specs.Prelude.{◌≡◌, ◌≤◌, ◌+◌, ◌-◌, ◌*◌, ◌++◌, true, length, slice_range, string_bytes, OnOk, OnErr};
 ghost use Rattle.std.specs.String.{string_len, string_capacity};
 ghost use Rattle.char_sequence.specs.Chunks.{joined};
 ghost use Rattle.char_sequence.specs.Visible.{visible_text};
@@ -23,8 +23,18 @@ fn visible_len(elements: &[Element]) -> usize
     count
 }
 
+/// Writes the visible text in place of what was there, for which there is room.
+pub(crate) fn write_text(elements: &[Element], text: &mut String)
+    requires { 4 * length elements.now ≤ string_capacity text.old }
+    ensures bytes { string_bytes text.new ≡ visible_text elements.now }
+    ensures capacity { string_capacity text.old ≤ string_capacity text.new }
+{
+    text.clear();
+    push_with_room(elements, text);
+}
+
 /// Appends the visible text, for which there is room.
-fn push_with_room(elements: &[Element], text: &mut String)
+pub(crate) fn push_with_room(elements: &[Element], text: &mut String)
     requires { string_len text.old + length (visible_text elements.now) ≤ string_capacity text.old }
     ensures bytes { string_bytes text.new ≡ string_bytes text.old ++ visible_text elements.now }
     ensures capacity { string_capacity text.old ≤ string_capacity text.new }
@@ -47,6 +57,44 @@ fn part(items: &[Element], start: usize, from: usize, to: usize) -> &[Element]
     &items[low..high]
 }
 
+/// Whether a part of elements is all of them.
+fn is_whole(part: &[Element], items: &[Element]) -> bool
+    ensures { result ≡ true → length part.now ≡ length items.now }
+{
+    part.len() == items.len()
+}
+
+/// How many bytes of a chunk's visible text stand in a range of places, where the chunk starts at `start`.
+fn visible_len_within(chunk: &Chunk, start: usize, from: usize, to: usize) -> usize
+    requires { from ≤ to }
+    ensures value { result ≡ length (visible_text (slice_range chunk.now (from - start) (to - start))) }
+    ensures limit { result ≤ 4 * length chunk.now }
+{
+    let items = chunk.as_slice();
+    let piece = part(items, start, from, to);
+    if is_whole(piece, items) {
+        chunk.text().len()
+    } else {
+        visible_len(piece)
+    }
+}
+
+/// Appends what of a chunk's visible text stands in a range of places, for which there is room.
+fn push_within(chunk: &Chunk, start: usize, from: usize, to: usize, text: &mut String)
+    requires order { from ≤ to }
+    requires room { string_len text.old + length (visible_text (slice_range chunk.now (from - start) (to - start))) ≤ string_capacity text.old }
+    ensures bytes { string_bytes text.new ≡ string_bytes text.old ++ visible_text (slice_range chunk.now (from - start) (to - start)) }
+    ensures capacity { string_capacity text.old ≤ string_capacity text.new }
+{
+    let items = chunk.as_slice();
+    let piece = part(items, start, from, to);
+    if is_whole(piece, items) {
+        text.push_str(chunk.text()).unwrap();
+    } else {
+        push_with_room(piece, text);
+    }
+}
+
 /// How many bytes the visible text of a range of places has.
 fn visible_len_of_range(chunks: &[Chunk], from: usize, to: usize) -> usize
     requires order { from ≤ to }
@@ -55,10 +103,9 @@ fn visible_len_of_range(chunks: &[Chunk], from: usize, to: usize) -> usize
 {
     let mut start = 0;
     let mut count = 0;
-    for position in 0..chunks.len() {
-        let items = chunks[position].as_slice();
-        count += visible_len(part(items, start, from, to));
-        start += items.len();
+    for chunk in chunks {
+        count += visible_len_within(chunk, start, from, to);
+        start += chunk.len();
     }
     count
 }
@@ -71,10 +118,9 @@ fn push_range_with_room(chunks: &[Chunk], from: usize, to: usize, text: &mut Str
     ensures { string_bytes text.new ≡ string_bytes text.old ++ visible_text (slice_range (joined chunks.now) from to) }
 {
     let mut start = 0;
-    for position in 0..chunks.len() {
-        let items = chunks[position].as_slice();
-        push_with_room(part(items, start, from, to), text);
-        start += items.len();
+    for chunk in chunks {
+        push_within(chunk, start, from, to, text);
+        start += chunk.len();
     }
 }
 

@@ -2,10 +2,10 @@ ghost use Rattle.std.specs.Prelude.{◌≡◌, ◌++◌, ◌∷◌, [], All, IfO
 ghost use Rattle.batches.specs.Orderly.{Listed};
 ghost use Rattle.hub_core.specs.Runs.{IsFreshEvent};
 
+use crate::answers::{Answer, Told, answer_of, was_sent};
 use crate::inputs::{CONSTANT_ONE, STRONG_FLAG, change, program};
-use batches::item::{Finding, Item, Job};
+use batches::item::Job;
 use batches::sink::ListSink;
-use hub_core::error::{CommitError, NoSubscriber};
 use hub_core::hub::Core;
 use hub_core::run::{Event, Reply, run_events};
 use span_flatten::version::Version;
@@ -28,27 +28,6 @@ enum Step {
     Close(usize),
 }
 
-/// What it answers: a version and a job by the version's number.
-#[derive(Clone, Copy, PartialEq)]
-enum Answer {
-    Version(u64),
-    Subscriber(usize),
-    Job(u64),
-    NoJob,
-    Done,
-    Sent(usize),
-    Stale,
-    NoSubscriber,
-    Other,
-}
-
-/// What a subscriber is told.
-#[derive(Clone, Copy, PartialEq)]
-enum Told {
-    Hit(u64, usize, u64),
-    End(u64, usize),
-}
-
 const A: &str = "change 1 1 / i 1@1 - 61";
 
 const B: &str = "change 1 1 / i 2@1 1@1 62";
@@ -60,7 +39,7 @@ const ABC: &str =
 static ONCE: [(Step, Answer); 8] = [
     (Step::Submit(ABC), Answer::Version(1)),
     (Step::Subscribe, Answer::Subscriber(0)),
-    (Step::TakeJob, Answer::Job(1)),
+    (Step::TakeJob, Answer::Job(0, 1)),
     (Step::TakeJob, Answer::NoJob),
     (Step::Commit(0), Answer::Done),
     (Step::Commit(0), Answer::Stale),
@@ -73,9 +52,9 @@ static IN_ORDER: [(Step, Answer); 12] = [
     (Step::Subscribe, Answer::Subscriber(0)),
     (Step::Submit(A), Answer::Version(1)),
     (Step::Submit(B), Answer::Version(2)),
-    (Step::TakeJob, Answer::Job(0)),
-    (Step::TakeJob, Answer::Job(1)),
-    (Step::TakeJob, Answer::Job(2)),
+    (Step::TakeJob, Answer::Job(0, 0)),
+    (Step::TakeJob, Answer::Job(0, 1)),
+    (Step::TakeJob, Answer::Job(0, 2)),
     (Step::Commit(2), Answer::Done),
     (Step::Pump(0), Answer::Sent(0)),
     (Step::Commit(0), Answer::Done),
@@ -96,14 +75,14 @@ static SEVEN_AHEAD: [(Step, Answer); 19] = [
     (Step::Submit("change 1 1 / i 7@1 - 61"), Answer::Version(7)),
     (Step::Submit("change 1 1 / i 8@1 - 61"), Answer::Version(8)),
     (Step::Submit("change 1 1 / i 9@1 - 61"), Answer::Version(9)),
-    (Step::TakeJob, Answer::Job(0)),
-    (Step::TakeJob, Answer::Job(1)),
-    (Step::TakeJob, Answer::Job(2)),
-    (Step::TakeJob, Answer::Job(3)),
-    (Step::TakeJob, Answer::Job(4)),
-    (Step::TakeJob, Answer::Job(5)),
-    (Step::TakeJob, Answer::Job(6)),
-    (Step::TakeJob, Answer::Job(7)),
+    (Step::TakeJob, Answer::Job(0, 0)),
+    (Step::TakeJob, Answer::Job(0, 1)),
+    (Step::TakeJob, Answer::Job(0, 2)),
+    (Step::TakeJob, Answer::Job(0, 3)),
+    (Step::TakeJob, Answer::Job(0, 4)),
+    (Step::TakeJob, Answer::Job(0, 5)),
+    (Step::TakeJob, Answer::Job(0, 6)),
+    (Step::TakeJob, Answer::Job(0, 7)),
     (Step::TakeJob, Answer::NoJob),
 ];
 
@@ -111,14 +90,14 @@ static SEVEN_AHEAD: [(Step, Answer); 19] = [
 static REISSUED_AND_CLOSED: [(Step, Answer); 14] = [
     (Step::Subscribe, Answer::Subscriber(0)),
     (Step::Submit(A), Answer::Version(1)),
-    (Step::TakeJob, Answer::Job(0)),
-    (Step::TakeJob, Answer::Job(1)),
+    (Step::TakeJob, Answer::Job(0, 0)),
+    (Step::TakeJob, Answer::Job(0, 1)),
     (Step::Reissue(0), Answer::Done),
-    (Step::TakeJob, Answer::Job(0)),
+    (Step::TakeJob, Answer::Job(0, 0)),
     (Step::Commit(0), Answer::Done),
     (Step::Commit(2), Answer::Stale),
     (Step::Pump(0), Answer::Sent(1)),
-    (Step::TakeJob, Answer::Job(1)),
+    (Step::TakeJob, Answer::Job(0, 1)),
     (Step::Close(0), Answer::Done),
     (Step::Commit(1), Answer::NoSubscriber),
     (Step::Pump(0), Answer::NoSubscriber),
@@ -179,34 +158,6 @@ fn events<N: Naming>(
     Ok(events)
 }
 
-/// What a commit, a reissue or a close answers.
-fn done(outcome: &Result<(), NoSubscriber>) -> Answer {
-    match outcome {
-        Ok(()) => Answer::Done,
-        Err(NoSubscriber) => Answer::NoSubscriber,
-    }
-}
-
-fn answer_of<N: Naming>(
-    published: &Published<'_, N>,
-    reply: &Reply<VersionToken<N>, Job<N>>,
-) -> Answer {
-    match reply {
-        Reply::Submitted(Ok(token)) => Answer::Version(published.look(token).number()),
-        Reply::Subscribed(Ok(id)) => Answer::Subscriber(*id),
-        Reply::Handed(Some(job)) => Answer::Job(job.number),
-        Reply::Handed(None) => Answer::NoJob,
-        Reply::Committed(Ok(())) => Answer::Done,
-        Reply::Committed(Err(CommitError::Stale)) => Answer::Stale,
-        Reply::Committed(Err(CommitError::NoSubscriber)) => Answer::NoSubscriber,
-        Reply::Pumped(Ok(count)) => Answer::Sent(*count),
-        Reply::Pumped(Err(NoSubscriber)) => Answer::NoSubscriber,
-        Reply::Reissued(outcome) => done(outcome),
-        Reply::Closed(outcome) => done(outcome),
-        _ => Answer::Other,
-    }
-}
-
 /// The place of the first reply that is another one.
 fn wrong_reply<N: Naming>(
     published: &Published<'_, N>,
@@ -222,31 +173,6 @@ fn wrong_reply<N: Naming>(
         }
     }
     None
-}
-
-fn told_of(finding: Finding) -> Told {
-    match finding {
-        Finding::Hit {
-            version,
-            span,
-            verdict,
-        } => Told::Hit(version, span, verdict),
-        Finding::End { version, spans } => Told::End(version, spans),
-    }
-}
-
-/// Whether a sink was sent these.
-fn was_sent<N: Naming>(sent: &[Item<N>], want: &[Told]) -> bool {
-    if sent.len() != want.len() {
-        return false;
-    }
-    for place in 0..want.len() {
-        let item = &sent[place];
-        if told_of(item.what) != want[place] {
-            return false;
-        }
-    }
-    true
 }
 
 /// Whether the first subscriber's sink was sent these, also where it is closed, and there is no second.

@@ -9,6 +9,7 @@ pub trait Gate<N: Naming>: Sync {
 }
 
 /// A gate that does nothing.
+#[derive(Drop)]
 pub struct Open;
 
 impl<N: Naming> Gate<N> for Open {

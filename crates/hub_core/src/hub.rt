@@ -1,4 +1,4 @@
-ghost use Rattle.std.specs.Prelude.{◌≡◌, ◌+◌, ◌<◌, ◌≤◌, ◌++◌, ◌∷◌, [], Some, length, map, slice_get, IfOk, OnOk, MatchOption, vec_len, vec_capacity};
+ghost use Rattle.std.specs.Prelude.{◌≡◌, ◌+◌, ◌<◌, ◌≤◌, ◌↔◌, ◌++◌, ◌∷◌, [], Some, length, map, slice_get, IsTrue, IfOk, OnOk, MatchOption, vec_len, vec_capacity};
 ghost use Rattle.change_ops.specs.Changes.{Edit};
 ghost use Rattle.span_flatten.specs.Version.{IsVersion};
 ghost use Rattle.batches.specs.Feed.{Sub};
@@ -172,6 +172,13 @@ impl<'p, N: Naming, S: Sink<Item<N>>> Core<'p, N, S> {
         ensures accepted { AreAccepted self.now.changes }
     {
         self.history.len()
+    }
+
+    /// Whether as many subscribers were added as ever are. A closed one keeps its place, so that this stays so for good.
+    pub fn is_full(&self) -> bool
+        ensures { IsTrue result ↔ (length self.now.subs ≡ 64) }
+    {
+        self.subs.len() == SUBSCRIBER_LIMIT
     }
 
     /// Adds a subscriber, from the latest version on, to a sink that was sent nothing. Ids rise from 0.

@@ -1,4 +1,5 @@
 ghost use Rattle.std.specs.Prelude.{◌≡◌, ◌≤◌, ◌+◌, IfOk};
+ghost use Rattle.hub_sessions.specs.Items.{item_reply};
 
 use crate::desk::{Desk, Held, place_of};
 use batches::item::{Finding, Item};
@@ -14,7 +15,9 @@ use subscriber_queues::ends::Subscription;
 use version_history::published::Naming;
 
 /// What is printed of an item.
-fn reply_of(what: Finding) -> Reply {
+fn reply_of(what: Finding) -> Reply
+    ensures { result ≡ item_reply what }
+{
     match what {
         Finding::Hit {
             version,

@@ -40,42 +40,52 @@ fn accepted(alloc: Global, bytes: &[u8]) -> Result<Verified, Reason> {
 }
 
 impl<N: Naming + Ledger, R: Wait + Copy> Desk<'_, '_, N, R> {
-    /// The token of the accepted program of these bytes.
-    fn program(&self, bytes: &[u8]) -> Result<ProgramToken<N>, Reason> {
-        let program = accepted(self.alloc, bytes)?;
+    /// The token of a program, which is published.
+    fn publish(&self, program: Verified) -> Result<ProgramToken<N>, Reason> {
         match self.published.publish_program(&self.rt, program) {
             Ok(token) => Ok(token),
             Err(_) => Err(Reason::OutOfMemory),
         }
     }
 
-    /// Adds a subscriber: its program, and how many items may wait for it.
-    fn added(&self, capacity: usize, bytes: &[u8]) -> Result<Held<N, R>, Reason> {
+    /// Adds a subscriber, and keeps it among those of the session.
+    ///
+    /// What is published stays for good, so the program is published last, and not at all once the hub is full, which it then
+    /// remains. Only where sessions race for the last place may each of them leave one program that no subscriber has.
+    fn add(
+        &self,
+        held: &mut Vec<Held<N, R>>,
+        capacity: usize,
+        bytes: &[u8],
+    ) -> Result<usize, Reason> {
+        let program = accepted(self.alloc, bytes)?;
+        if self.hub.is_full(&self.rt) {
+            return Err(Reason::SubscribersFull);
+        }
+        if held.reserve(1).is_err() {
+            return Err(Reason::OutOfMemory);
+        }
         let (sink, items) = ends(self.rt, self.alloc, capacity)?;
-        let program = self.program(bytes)?;
-        match self.hub.subscribe(&self.rt, program, sink) {
-            Ok(id) => Ok(Held { id, items }),
+        let token = self.publish(program)?;
+        match self.hub.subscribe(&self.rt, token, sink) {
+            Ok(id) => {
+                held.push_reserved(Held { id, items });
+                Ok(id)
+            }
             Err(SubscribeError::SubscribersFull) => Err(Reason::SubscribersFull),
             Err(SubscribeError::OutOfMemory) => Err(Reason::OutOfMemory),
         }
     }
 
-    /// Adds a subscriber and keeps it among those of the session.
+    /// Adds a subscriber: its program, and how many items may wait for it.
     pub(crate) fn subscribe(
         &self,
         held: &mut Vec<Held<N, R>>,
         capacity: usize,
         bytes: &[u8],
     ) -> Reply {
-        if held.reserve(1).is_err() {
-            return Reply::Refused(Reason::OutOfMemory);
-        }
-        match self.added(capacity, bytes) {
-            Ok(one) => {
-                let id = one.id;
-                held.push_reserved(one);
-                Reply::Subscribed(id)
-            }
+        match self.add(held, capacity, bytes) {
+            Ok(id) => Reply::Subscribed(id),
             Err(reason) => Reply::Refused(reason),
         }
     }

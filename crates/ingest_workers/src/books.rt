@@ -1,4 +1,4 @@
-ghost use Rattle.std.specs.Prelude.{◌≡◌, ◌+◌, ◌≤◌, [], Some, Err, length, map, slice_get, OnOk, OnErr, MatchOption};
+ghost use Rattle.std.specs.Prelude.{◌≡◌, ◌+◌, ◌≤◌, ◌↔◌, [], Some, Err, length, map, slice_get, IsTrue, OnOk, OnErr, MatchOption};
 ghost use Rattle.batches.specs.Feed.{Sub};
 ghost use Rattle.change_history.specs.Accepted.{AreAccepted};
 ghost use Rattle.hub_core.specs.Machine.{Submits, Subscribes, TakesJob, Commits, Pumps, Reissues, Closes};
@@ -62,6 +62,13 @@ impl<'p, N: Naming + Ledger, R: Wait + Copy> Books<'p, N, R> {
         let _most = self.core.count();
         share.count_one(&mut self.book);
         Ok(token)
+    }
+
+    /// Whether as many subscribers were added as ever are, closed ones counted.
+    pub fn is_full(&self) -> bool
+        ensures { IsTrue result ↔ (length self.now.subs ≡ 64) }
+    {
+        self.core.is_full()
     }
 
     /// Adds a subscriber, from the latest version on.

@@ -1,4 +1,4 @@
-ghost use Rattle.std.specs.Prelude.{◌≡◌, ◌≤◌, [], Err, length, All, IfOk, vec_len};
+ghost use Rattle.std.specs.Prelude.{◌≡◌, ◌≤◌, ◌↔◌, [], Err, length, All, IsTrue, IfOk, vec_len};
 ghost use Rattle.hub_core.specs.Machine.{Subscribes, TakesJob, Commits, Pumps, Reissues, Closes};
 ghost use Rattle.subscriber_queues.specs.Queue.{was_sent, IsFull};
 ghost use Rattle.ingest_workers.specs.Holdings.{InOneHolding};
@@ -56,6 +56,14 @@ impl<'p, N: Naming + Ledger, R: Wait + Copy> Hub<'p, N, R> {
         let shares = cut(alloc, all, shares)?;
         let hub = locked(rt, alloc, book, published)?;
         Ok((hub, shares))
+    }
+
+    /// Whether as many subscribers were added as ever are, closed ones counted. It stays so for good, so one that asks first
+    /// need not publish a program that no subscriber will have.
+    pub fn is_full(&self, rt: &R) -> bool
+        ensures { InOneHolding (λ old new. (new ≡ old) × (IsTrue result ↔ (length old.subs ≡ 64))) }
+    {
+        self.books.lock(rt).is_full()
     }
 
     /// Adds a subscriber, from the latest version on.

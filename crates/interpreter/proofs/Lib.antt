@@ -5,3 +5,4 @@ pub mod Registers
 pub mod Covers
 pub mod Following
 pub mod Turning
+pub mod Regions

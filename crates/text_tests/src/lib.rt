@@ -4,6 +4,10 @@
 #[cfg(test)]
 mod change_lines;
 #[cfg(test)]
+mod full_text;
+#[cfg(test)]
+mod marks_calls;
+#[cfg(test)]
 mod refusal_names;
 #[cfg(test)]
 mod sequence_calls;

@@ -7,7 +7,7 @@ use std::test::Fail;
 use test_inputs::lines::lines;
 
 /// Takes an insert or a removal, if it is accepted.
-fn deliver(sequence: &mut Sequence, op: &Op) -> Result<bool, AllocError> {
+pub(crate) fn deliver(sequence: &mut Sequence, op: &Op) -> Result<bool, AllocError> {
     if sequence.check(op).is_err() {
         return Ok(false);
     }

@@ -3,6 +3,6 @@ use Rattle.char_sequence.specs.Chunks.{joined, start_of}
 use Rattle.char_sequence.specs.Visible.{visible_text}
 use Rattle.char_sequence.proofs.visible.visible_len_of_range.Given as goal
 
-abbrev pub invariant-loop-position : goal.invariant-loop-position
-invariant-loop-position l =
-    (l.start ≡ start_of l.chunks l.position) × (l.count ≡ length (visible_text (slice_range (joined (take l.position l.chunks)) l.from l.to))) × (l.count ≤ 4 * l.start)
+abbrev pub invariant-loop-chunk : goal.invariant-loop-chunk
+invariant-loop-chunk l =
+    (l.start ≡ start_of l.chunks l.chunk-index) × (l.count ≡ length (visible_text (slice_range (joined (take l.chunk-index l.chunks)) l.from l.to))) × (l.count ≤ 4 * l.start)

@@ -1,7 +1,8 @@
-use Rattle.std.proofs.Common.{◌<◌, ◌≤◌, List, length, subst, sym}
+use Rattle.std.proofs.Common.{◌≡◌, ◌<◌, ◌≤◌, Some, List, length, subst, sym}
+use Rattle.std.specs.Prelude.{slice_get}
 use Rattle.batches.specs.Batches.{Entry}
-use Rattle.batches.specs.Feed.{Sub, IsFed}
-use Rattle.batches.proofs.Feeds.{window_at, may_send, count_fits, sent_part, sent_whole, moved_none}
+use Rattle.batches.specs.Feed.{Sub, Held, IsFed}
+use Rattle.batches.proofs.Feeds.{may_send, count_fits, sent_part, sent_whole, moved_none}
 use Rattle.batches.proofs.subscriber.Subscriber.send_next.Goals as goal
 
 pub returns-in_default-clause-moved : goal.returns-in_default-clause-moved
@@ -10,33 +11,33 @@ returns-in_default-clause-moved g c = moved_none _ _ _
 pub send_batch-reached-requires-clause-from : goal.send_batch-reached-requires-clause-from
 send_batch-reached-requires-clause-from g c =
     let fed = subst (λ (s : Sub g.row.S.Denot). IsFed g.S.Sink.sent g.S.Sink.full c.args.versions.now s) (sym c.self.view_is) c.requires.fed in
-    count_fits _ _ _ _ c.in-Some.batch fed (window_at _ c.index.result.now _ fed.wide c.index.ensures c.in-Some.is)
+    count_fits _ _ _ _ c.in-Some.batch.now fed (subst (λ (h : Held). slice_get h 0 ≡ Some (Some c.in-Some.batch.now)) c.as_slice.ensures.value c.in-Some.ensures)
 
 pub send_batch-reached-requires-clause-orderly : goal.send_batch-reached-requires-clause-orderly
 send_batch-reached-requires-clause-orderly g c =
     let fed = subst (λ (s : Sub g.row.S.Denot). IsFed g.S.Sink.sent g.S.Sink.full c.args.versions.now s) (sym c.self.view_is) c.requires.fed in
-    may_send _ _ _ _ c.in-Some.batch c.requires.rises fed (window_at _ c.index.result.now _ fed.wide c.index.ensures c.in-Some.is)
+    may_send _ _ _ _ c.in-Some.batch.now c.requires.rises fed (subst (λ (h : Held). slice_get h 0 ≡ Some (Some c.in-Some.batch.now)) c.as_slice.ensures.value c.in-Some.ensures)
 
 pub returns-then-reached-items-clause-fed : goal.returns-then-reached-items-clause-fed
 returns-then-reached-items-clause-fed g c =
-    (sent_part g.S.Sink.sent g.S.Sink.full c.args.versions.now c.args.self.now _ c.in-Some.batch c.index.result.now c.send_batch-reached.result c.send_batch-reached.new.sink c.self.view_is c.requires.fed
-    c.index.ensures c.in-Some.is c.send_batch-reached.ensures.reached
+    (sent_part g.S.Sink.sent g.S.Sink.full c.args.versions.now c.args.self.now _ c.in-Some.batch.now c.send_batch-reached.result c.send_batch-reached.new.sink c.self.view_is c.requires.fed
+    (subst (λ (h : Held). slice_get h 0 ≡ Some (Some c.in-Some.batch.now)) c.as_slice.ensures.value c.in-Some.ensures) c.send_batch-reached.ensures.reached
     (subst (λ (l : List Entry). c.send_batch-reached.result < length l) c.items.ensures.items c.if-reached-items.true) c.send_batch-reached.ensures.sent).0
 
 pub returns-then-reached-items-clause-moved : goal.returns-then-reached-items-clause-moved
 returns-then-reached-items-clause-moved g c =
-    (sent_part g.S.Sink.sent g.S.Sink.full c.args.versions.now c.args.self.now _ c.in-Some.batch c.index.result.now c.send_batch-reached.result c.send_batch-reached.new.sink c.self.view_is c.requires.fed
-    c.index.ensures c.in-Some.is c.send_batch-reached.ensures.reached
+    (sent_part g.S.Sink.sent g.S.Sink.full c.args.versions.now c.args.self.now _ c.in-Some.batch.now c.send_batch-reached.result c.send_batch-reached.new.sink c.self.view_is c.requires.fed
+    (subst (λ (h : Held). slice_get h 0 ≡ Some (Some c.in-Some.batch.now)) c.as_slice.ensures.value c.in-Some.ensures) c.send_batch-reached.ensures.reached
     (subst (λ (l : List Entry). c.send_batch-reached.result < length l) c.items.ensures.items c.if-reached-items.true) c.send_batch-reached.ensures.sent).1
 
 pub returns-clause-fed : goal.returns-clause-fed
 returns-clause-fed g c =
-    (sent_whole g.S.Sink.sent g.S.Sink.full c.args.versions.now c.args.self.now _ c.in-Some.batch c.index.result.now c.send_batch-reached.result c.rotate_left.new.self.items c.send_batch-reached.new.sink c.self.view_is c.requires.fed
-    c.index.ensures c.in-Some.is c.send_batch-reached.ensures.reached
+    (sent_whole g.S.Sink.sent g.S.Sink.full c.args.versions.now c.args.self.now _ c.in-Some.batch.now c.send_batch-reached.result c.rotate_left.new.self.items c.send_batch-reached.new.sink c.self.view_is c.requires.fed
+    (subst (λ (h : Held). slice_get h 0 ≡ Some (Some c.in-Some.batch.now)) c.as_slice.ensures.value c.in-Some.ensures) c.send_batch-reached.ensures.reached
     (subst (λ (l : List Entry). length l ≤ c.send_batch-reached.result) c.items.ensures.items c.if-reached-items.false) c.rotate_left.ensures.items c.send_batch-reached.ensures.sent).0
 
 pub returns-clause-moved : goal.returns-clause-moved
 returns-clause-moved g c =
-    (sent_whole g.S.Sink.sent g.S.Sink.full c.args.versions.now c.args.self.now _ c.in-Some.batch c.index.result.now c.send_batch-reached.result c.rotate_left.new.self.items c.send_batch-reached.new.sink c.self.view_is c.requires.fed
-    c.index.ensures c.in-Some.is c.send_batch-reached.ensures.reached
+    (sent_whole g.S.Sink.sent g.S.Sink.full c.args.versions.now c.args.self.now _ c.in-Some.batch.now c.send_batch-reached.result c.rotate_left.new.self.items c.send_batch-reached.new.sink c.self.view_is c.requires.fed
+    (subst (λ (h : Held). slice_get h 0 ≡ Some (Some c.in-Some.batch.now)) c.as_slice.ensures.value c.in-Some.ensures) c.send_batch-reached.ensures.reached
     (subst (λ (l : List Entry). length l ≤ c.send_batch-reached.result) c.items.ensures.items c.if-reached-items.false) c.rotate_left.ensures.items c.send_batch-reached.ensures.sent).1

@@ -1,9 +1,64 @@
-use Rattle.std.proofs.Common.{◌≡◌, ◌+◌, Some, length, set, take, drop, sym, ap, ◌∙◌, rules, subst}
+use Rattle.std.proofs.Common.{◌≡◌, ◌+◌, arith, Some, length, set, take, drop, sym, ap, ◌∙◌, rules, subst, vec_len}
 use Rattle.std.specs.List.{slice_get, insert}
 use Rattle.std.proofs.lemmas.Option.{same_Some, slice_get_within}
 use Rattle.char_sequence.specs.Index.{HasId}
-use Rattle.char_sequence.proofs.Chunking.{kept_split, here_at}
+use Rattle.char_sequence.proofs.Chunking.{kept_split, here_at, dropped}
 use Rattle.char_sequence.proofs.chunk_list.ChunkList.split_chunk.Goals as goal
+
+pub rename-requires : goal.rename-requires
+rename-requires c =
+    λ k e g none.
+    let cs = c.self.inside.chunks.items in
+    let p = c.args.position in
+    let same = ap (λ v. v.chunks) c.self.view_is in
+    let old : slice_get cs p ≡ Some c.requires.0 = ap (λ z. slice_get z p) same ∙ c.requires.1 in
+    let grown : slice_get c.reserve.new.self.items p ≡ Some c.requires.0 = ap (λ z. slice_get z p) c.in_ok-reserve.ensures.items ∙ old in
+    let here = here_at c.reserve.new.self.items p c.index_mut.result.now (slice_get_within c.reserve.new.self.items p _ grown) c.index_mut.ensures.value in
+    let one = same_Some c.index_mut.result.now _ (sym here ∙ grown) in
+    let right : c.as_slice.result.now ≡ drop c.args.at c.requires.0 = c.as_slice.ensures.value ∙ c.split-right.ensures.right ∙ ap (λ z. drop c.args.at z) one in
+    let there = dropped c.requires.0 c.args.at k e (ap (λ z. slice_get z k) (sym right) ∙ g) in
+    c.self.invariant.indexed.listed p c.requires.0 old there.0 e there.1 none
+
+pub overflow_add-position : goal.overflow_add-position
+overflow_add-position c =
+    let same = ap (λ v. v.chunks) c.self.view_is in
+    let low = slice_get_within c.self.inside.chunks.items c.args.position c.requires.0 (ap (λ z. slice_get z c.args.position) same ∙ c.requires.1) in
+    let counted = c.self.invariant.indexed.counted in
+    let fresh : c.len-name.result ≡ length c.self.inside.names.items = search rules in
+    omega (arith, low, counted, fresh)
+
+pub insert-requires : goal.insert-requires
+insert-requires c =
+    let same = ap (λ v. v.chunks) c.self.view_is in
+    let low = slice_get_within c.self.inside.chunks.items c.args.position c.requires.0 (ap (λ z. slice_get z c.args.position) same ∙ c.requires.1) in
+    let kept = ap length c.in_ok-reserve.ensures.items in
+    let size : c.reserve.new.self.len ≡ length c.reserve.new.self.items = search rules in
+    omega (arith, low, kept, size)
+
+pub overflow_add-position-2 : goal.overflow_add-position-2
+overflow_add-position-2 c =
+    let same = ap (λ v. v.chunks) c.self.view_is in
+    let low = slice_get_within c.self.inside.chunks.items c.args.position c.requires.0 (ap (λ z. slice_get z c.args.position) same ∙ c.requires.1) in
+    let counted = c.self.invariant.indexed.counted in
+    let fresh : c.len-name.result ≡ length c.self.inside.names.items = search rules in
+    omega (arith, low, counted, fresh)
+
+pub insert-requires-2 : goal.insert-requires-2
+insert-requires-2 c =
+    let same = ap (λ v. v.chunks) c.self.view_is in
+    let low = slice_get_within c.self.inside.chunks.items c.args.position c.requires.0 (ap (λ z. slice_get z c.args.position) same ∙ c.requires.1) in
+    let counted = c.self.invariant.indexed.counted in
+    let kept = ap length c.in_ok-reserve-2.ensures.items in
+    let size : vec_len c.reserve-2.new.self ≡ length c.reserve-2.new.self.items = search rules in
+    omega (arith, low, counted, kept, size)
+
+pub returns-clause-next : goal.returns-clause-next
+returns-clause-next c =
+    let same = ap (λ v. v.chunks) c.self.view_is in
+    let low = slice_get_within c.self.inside.chunks.items c.args.position c.requires.0 (ap (λ z. slice_get z c.args.position) same ∙ c.requires.1) in
+    let counted = c.self.invariant.indexed.counted in
+    let fresh : c.len-name.result ≡ length c.self.inside.names.items = search rules in
+    omega (arith, low, counted, fresh)
 
 pub invariant_of-self-2 : goal.invariant_of-self-2
 invariant_of-self-2 c =

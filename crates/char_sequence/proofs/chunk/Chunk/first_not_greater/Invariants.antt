@@ -2,7 +2,7 @@ use Rattle.std.proofs.Common.{◌≡◌, ℕ, ◌<◌, ◌≤◌, Some}
 use Rattle.std.specs.List.{slice_get}
 use Rattle.change_ops.specs.Ids.{Less}
 use Rattle.char_sequence.specs.declared.sequence.Element.{Element}
-use Rattle.char_sequence.proofs.chunk.Chunk.past_greater.Given as goal
+use Rattle.char_sequence.proofs.chunk.Chunk.first_not_greater.Given as goal
 
 abbrev pub invariant-loop-place : goal.invariant-loop-place
 invariant-loop-place l =

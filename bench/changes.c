@@ -1,0 +1,72 @@
+#include "changes.h"
+
+#include <stdarg.h>
+#include <stdio.h>
+#include <stdlib.h>
+
+const Id START = {0, 0};
+
+Changes no_changes(void) {
+    Changes changes = {NULL, 0, 0, 0};
+    return changes;
+}
+
+void let_go(Changes *changes) {
+    free(changes->bytes);
+    *changes = no_changes();
+}
+
+static void add(Changes *changes, const char *format, ...) {
+    if (changes->room - changes->length < 2048) {
+        changes->room = 2 * changes->room + 65536;
+        changes->bytes = realloc(changes->bytes, changes->room);
+        if (!changes->bytes) {
+            exit(1);
+        }
+    }
+    va_list arguments;
+    va_start(arguments, format);
+    changes->length += (size_t)vsnprintf(changes->bytes + changes->length, 2048, format, arguments);
+    va_end(arguments);
+}
+
+void begin_change(Changes *changes, uint32_t node, uint32_t count) {
+    changes->changes++;
+    add(changes, "change %u %u\n", node, count);
+}
+
+void insert_line(Changes *changes, Id id, Id place, uint32_t code) {
+    add(changes, "i %llu@%u ", (unsigned long long)id.counter, id.node);
+    if (place.node == 0) {
+        add(changes, "-");
+    } else {
+        add(changes, "%llu@%u", (unsigned long long)place.counter, place.node);
+    }
+    add(changes, " %x\n", code);
+}
+
+void mark_line(Changes *changes, Id id, const char *key_and_value, Id from, Id to) {
+    add(changes, "m %llu@%u %s <%llu@%u <%llu@%u\n", (unsigned long long)id.counter, id.node, key_and_value,
+        (unsigned long long)from.counter, from.node, (unsigned long long)to.counter, to.node);
+}
+
+Id type_change(Changes *changes, Id first, Id place, uint32_t count) {
+    begin_change(changes, first.node, count);
+    Id id = first;
+    for (uint32_t at = 0; at < count; at++) {
+        insert_line(changes, id, place, 'a' + at % 26);
+        place = id;
+        id.counter++;
+    }
+    return place;
+}
+
+Id type_text(Changes *changes, Id first, uint32_t count) {
+    Id last = START;
+    for (uint32_t done = 0; done < count; done += 256) {
+        uint32_t next = count - done < 256 ? count - done : 256;
+        last = type_change(changes, first, last, next);
+        first.counter += next;
+    }
+    return last;
+}

@@ -1,0 +1,38 @@
+/* The text of changes (docs/CHANGES.md). */
+#ifndef CHANGES_H
+#define CHANGES_H
+
+#include <stddef.h>
+#include <stdint.h>
+
+typedef struct {
+    uint64_t counter;
+    uint32_t node;
+} Id;
+
+/* No id: where a character's place is the text's start. */
+extern const Id START;
+
+typedef struct {
+    char *bytes;
+    size_t length;
+    size_t room;
+    /* How many changes it has. */
+    uint32_t changes;
+} Changes;
+
+Changes no_changes(void);
+void let_go(Changes *changes);
+
+/* The first line of a change. */
+void begin_change(Changes *changes, uint32_t node, uint32_t count);
+void insert_line(Changes *changes, Id id, Id place, uint32_t code);
+/* A mark from before one character to before another; the key and the value as they are written, as "strong -". */
+void mark_line(Changes *changes, Id id, const char *key_and_value, Id from, Id to);
+
+/* A whole change of characters, each behind the one before it and the first at a place. It answers the last one's id. */
+Id type_change(Changes *changes, Id first, Id place, uint32_t count);
+/* So many characters, in changes of 256. */
+Id type_text(Changes *changes, Id first, uint32_t count);
+
+#endif

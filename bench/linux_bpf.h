@@ -1,0 +1,6 @@
+#ifndef LINUX_BPF_H
+#define LINUX_BPF_H
+
+void measure_linux(void);
+
+#endif

@@ -1,0 +1,300 @@
+#!/usr/bin/env python3
+"""Measures the built program: sessions on standard input, sessions over TCP, spans shared out among processors, and what
+versions take of memory. sessions.py HUB [replay|refusals|filter|memory|serve].. does those parts, and with no word all.
+
+Times are by the clock, so other work on the machine shows in them."""
+
+import multiprocessing
+import os
+import socket
+import statistics
+import subprocess
+import sys
+import time
+
+CHARACTERS = 32768
+CHANGES = 4096
+# Answers 1 on a strong span: `ldxw r0, [r1+24]`, `and r0, 1`, `exit`.
+STRONG = "611018000000000057000000010000009500000000000000"
+# Answers 0 on every span: `ldxw r0, [r1+24]`, `and r0, 32`, `exit`.
+NEVER = "611018000000000057000000200000009500000000000000"
+
+
+def slot(opcode, registers, offset, immediate):
+    number = immediate & 0xFFFFFFFF
+    return bytes([opcode, registers]) + (offset & 0xFFFF).to_bytes(2, "little") + number.to_bytes(4, "little")
+
+
+def long_program(slots):
+    """A program of so many slots that answers 0: it adds to r2 and ends."""
+    program = [slot(0xB7, 0, 0, 0), slot(0xB7, 2, 0, 1)]
+    while len(program) < slots - 1:
+        program.append(slot(0x07, 2, 0, 3))
+    program.append(slot(0x95, 0, 0, 0))
+    return b"".join(program).hex()
+
+
+def typed(node, first, parent, count, code="61"):
+    """A change of characters, each behind the one before it."""
+    lines = [f"change {node} {count}"]
+    for counter in range(first, first + count):
+        lines.append(f"i {counter}@{node} {parent} {code}")
+        parent = f"{counter}@{node}"
+    return "\n".join(lines) + "\n"
+
+
+def text_of(count, code="61"):
+    """So many characters by node 1, in changes of 256."""
+    changes = []
+    for first in range(1, count + 1, 256):
+        parent = f"{first - 1}@1" if first > 1 else "-"
+        changes.append(typed(1, first, parent, min(256, count + 1 - first), code))
+    return changes
+
+
+def row(what, value, unit):
+    print(f"{what:<72} {value:12.2f} {unit}", flush=True)
+
+
+class Replay:
+    """A session with `hub replay`."""
+
+    def __init__(self, hub, workers=1, processors=None):
+        bind = (lambda: os.sched_setaffinity(0, processors)) if processors else None
+        words = [hub, "replay", "--workers", str(workers)]
+        self.child = subprocess.Popen(words, stdin=subprocess.PIPE, stdout=subprocess.PIPE, preexec_fn=bind)
+
+    def ask(self, request, last="ok "):
+        """Sends a request, and answers the lines of its reply up to the one that ends it."""
+        self.child.stdin.write(request.encode())
+        self.child.stdin.flush()
+        lines = []
+        while True:
+            line = self.child.stdout.readline().decode()
+            lines.append(line)
+            if line.startswith(last):
+                return lines
+            if not line.startswith(("hit ", "end ")):
+                sys.exit(f"{request[:60]!r} was answered {line!r}")
+
+    def memory(self, name):
+        """A figure of the process in MiB."""
+        with open(f"/proc/{self.child.pid}/status") as status:
+            for line in status:
+                if line.startswith(name):
+                    return int(line.split()[1]) / 1024
+        return 0.0
+
+    def end(self):
+        self.child.stdin.close()
+        if self.child.wait() != 0:
+            sys.exit("the session failed")
+
+
+def measure_replay(hub):
+    print("\nA session of 4,096 changes on standard input, 8 characters each, to 32,768")
+    size = CHARACTERS // CHANGES
+    changes = [typed(1, size * k + 1, f"{size * k}@1" if k else "-", size) for k in range(CHANGES)]
+    alone = "".join(changes)
+    pulling = f"sub 1024 {STRONG}\n" + "".join(change + "pull 0 1024\n" for change in changes)
+    for what, session in (("without a subscriber", alone), ("with one that pulls after each", pulling)):
+        times = []
+        for _ in range(3):
+            start = time.perf_counter()
+            done = subprocess.run([hub, "replay"], input=session.encode(), stdout=subprocess.PIPE, check=True)
+            times.append(time.perf_counter() - start)
+        if f"ok version {CHANGES}\n".encode() not in done.stdout:
+            sys.exit("a change was refused")
+        row(f"whole, {what}", min(times), "s")
+        row("  a change", min(times) / CHANGES * 1e6, "us")
+
+
+def waits_at_the_end(hub, after_refusal):
+    """How long changes of 8 characters take at the end of a text of 30,720 and more, each perhaps after one that was refused."""
+    session = Replay(hub)
+    for change in text_of(30720):
+        session.ask(change)
+    waits = []
+    for first in range(30721, 32721, 8):
+        if after_refusal:
+            session.ask("change 1 1\ni 1@1 - 61\n", last="no 46 ")
+        start = time.perf_counter()
+        session.ask(typed(1, first, f"{first - 1}@1", 8))
+        waits.append(time.perf_counter() - start)
+    session.end()
+    return waits
+
+
+def measure_refusals(hub):
+    print("\nChanges of 8 characters at the end of 32,768, by one that waits for each reply: median")
+    row("each after one that was accepted", statistics.median(waits_at_the_end(hub, False)) * 1e6, "us")
+    row("each after one that was refused", statistics.median(waits_at_the_end(hub, True)) * 1e6, "us")
+
+
+def spans_session(hub, count, workers, processors):
+    """A session over a text of so many spans of one character."""
+    session = Replay(hub, workers, processors)
+    for change in text_of(count):
+        session.ask(change)
+    counter = count + 1
+    places = list(range(1, count, 2))
+    for start in range(0, len(places), 256):
+        part = places[start : start + 256]
+        lines = [f"change 1 {len(part)}"]
+        for place in part:
+            lines.append(f"m {counter}@1 strong - <{place}@1 >{place}@1")
+            counter += 1
+        session.ask("\n".join(lines) + "\n")
+    return session
+
+
+def measure_filter(hub):
+    print("\nA pull of one version of 5,000 spans")
+    programs = (("3", NEVER), ("500", long_program(500)), ("2,000", long_program(2000)))
+    every = sorted(os.sched_getaffinity(0))
+    for slots, program in programs:
+        what = f"a program of {slots} slots"
+        least = {}
+        for processors, workers in ((1, 1), (2, 1), (2, 2), (4, 1), (4, 2)):
+            if processors > len(every):
+                continue
+            session = spans_session(hub, 5000, workers, every[:processors])
+            times = []
+            for turn in range(60):
+                session.ask(f"sub 1024 {program}\n")
+                start = time.perf_counter()
+                reply = session.ask(f"pull {turn} 1024\n")
+                times.append(time.perf_counter() - start)
+                if not reply[-2].endswith(" 5000\n"):
+                    sys.exit(f"no end: {reply[-2]}")
+                session.ask(f"close {turn}\n")
+            session.end()
+            least[processors, workers] = min(times)
+            row(f"{what}, {processors} processor(s), --workers {workers}: least", min(times) * 1e3, "ms")
+            row("  median", statistics.median(times) * 1e3, "ms")
+        if len(every) > 1:
+            row("  one processor against two, the better of both", least[1, 1] / min(least[2, 1], least[2, 2]), "times")
+
+
+def versions_session(hub, texts, later):
+    """A session that makes versions, with how much memory it took."""
+    session = Replay(hub)
+    for change in texts:
+        session.ask(change)
+    start = time.perf_counter()
+    for change in later:
+        session.ask(change)
+    took = time.perf_counter() - start
+    most, now = session.memory("VmHWM"), session.memory("VmRSS")
+    session.end()
+    return most, now, took / max(len(later), 1)
+
+
+def removals(count):
+    """Changes of one operation that change no span."""
+    return [f"change 1 1\nu {CHARACTERS + 1 + k}@1 strong ^ $\n" for k in range(count)]
+
+
+def marks(count, key):
+    """Changes of one mark each, of 4 characters with 4 between them."""
+    lines = []
+    for k in range(count):
+        lines.append(f"change 1 1\nm {CHARACTERS + 1 + k}@1 {key(k)} <{8 * k + 1}@1 <{8 * k + 5}@1\n")
+    return lines
+
+
+def nested(count):
+    """Changes of one comment each, of a number of its own and within the one before it."""
+    lines = []
+    for k in range(count):
+        lines.append(f"change 1 1\nm {CHARACTERS + 1 + k}@1 comment:{k + 1} - <{k + 1}@1 >{CHARACTERS - k}@1\n")
+    return lines
+
+
+def measure_memory(hub):
+    print("\nMemory of versions of 32,768 characters that a hub keeps: VmHWM of /proc/PID/status")
+    full = CHANGES - CHARACTERS // 256
+    link = "link " + "x" * 1024
+    # The last two are cut short, since all 4,096 versions would take more than this machine has.
+    cases = (
+        ("one-byte characters, one span", "61", removals(full)),
+        ("four-byte characters, one span", "1f600", removals(full)),
+        ("one-byte characters, a mark more in each", "61", marks(full, lambda k: "strong -")),
+        ("one-byte characters, a link of 1,024 bytes more in each", "61", marks(512, lambda k: link)),
+        ("one-byte characters, a comment more in each, nested", "61", nested(512)),
+    )
+    for what, code, later in cases:
+        most, now, took = versions_session(hub, text_of(CHARACTERS, code), later)
+        row(f"{len(later) + CHARACTERS // 256:,} versions: {what}", most, "MiB")
+        row("  a change, by one that waits for each reply", took * 1e6, "us")
+
+
+def client(port, node, changes, size, ready, go, times):
+    """Sends changes to a server, each after the reply to the one before it."""
+    with socket.create_connection(("127.0.0.1", port)) as connection:
+        connection.setsockopt(socket.IPPROTO_TCP, socket.TCP_NODELAY, 1)
+        requests = [typed(node, size * k + 1, f"{size * k}@{node}" if k else "-", size).encode() for k in range(changes)]
+        replies = connection.makefile("rb")
+        ready.release()
+        go.wait()
+        took = []
+        for request in requests:
+            start = time.perf_counter()
+            connection.sendall(request)
+            reply = replies.readline()
+            took.append(time.perf_counter() - start)
+            if not reply.startswith(b"ok version "):
+                sys.exit(f"answered {reply!r}")
+        connection.shutdown(socket.SHUT_WR)
+        replies.read()
+        times.put(took)
+
+
+def serve_with(hub, clients, size):
+    """The changes a second of so many clients, each a process, and how long each of them waited."""
+    words = [hub, "serve", "--port", "0", "--sessions", str(clients)]
+    server = subprocess.Popen(words, stdout=subprocess.PIPE)
+    port = int(server.stdout.readline().split()[1])
+    ready, go, times = multiprocessing.Semaphore(0), multiprocessing.Event(), multiprocessing.Queue()
+    each = CHANGES // clients
+    running = []
+    for node in range(1, clients + 1):
+        one = multiprocessing.Process(target=client, args=(port, node, each, size, ready, go, times))
+        one.start()
+        running.append(one)
+    for _ in running:
+        ready.acquire()
+    start = time.perf_counter()
+    go.set()
+    waits = [wait for _ in running for wait in times.get()]
+    took = time.perf_counter() - start
+    for one in running:
+        one.join()
+    if server.wait() != 0:
+        sys.exit("the server failed")
+    return each * clients / took, waits
+
+
+def measure_serve(hub):
+    print("\nA server on 127.0.0.1: 4,096 changes of clients that wait for each reply")
+    for size in (1, 8):
+        for clients in (1, 8):
+            rates = [serve_with(hub, clients, size) for _ in range(3)]
+            rate, waits = max(rates)
+            row(f"{clients} client(s), changes of {size} character(s)", rate, "changes/s")
+            row("  median wait", statistics.median(waits) * 1e6, "us")
+            row("  99 of 100 waits are below", sorted(waits)[len(waits) * 99 // 100] * 1e6, "us")
+
+
+PARTS = {"replay": measure_replay, "refusals": measure_refusals, "filter": measure_filter, "memory": measure_memory, "serve": measure_serve}
+
+
+def main():
+    hub, *wanted = sys.argv[1:]
+    for name, measure in PARTS.items():
+        if not wanted or name in wanted:
+            measure(hub)
+
+
+if __name__ == "__main__":
+    main()

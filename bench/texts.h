@@ -1,0 +1,7 @@
+#ifndef TEXTS_H
+#define TEXTS_H
+
+void measure_texts(void);
+void measure_chosen_ids(void);
+
+#endif

@@ -1,0 +1,105 @@
+//! Texts: changes read and taken in, and versions made.
+use change_history::history::History;
+use change_ops::change::read_change;
+use std::alloc::Global;
+
+/// Reads the change at the front of a text, and answers what follows it.
+fn pass_change(alloc: Global, text: &str) -> Option<&str> {
+    match read_change(alloc, text) {
+        Ok((_change, rest)) => Some(rest),
+        Err(_) => None,
+    }
+}
+
+/// Takes in the change at the front of a text, and answers what follows it.
+fn take_change<'a>(alloc: Global, history: &mut History, text: &'a str) -> Option<&'a str> {
+    let Ok((change, rest)) = read_change(alloc, text) else {
+        return None;
+    };
+    match history.accept(change) {
+        Ok(()) => Some(rest),
+        Err(_) => None,
+    }
+}
+
+/// Takes in so many changes of a text, and answers what follows them.
+fn take_changes<'a>(
+    alloc: Global,
+    history: &mut History,
+    text: &'a str,
+    count: u32,
+) -> Option<&'a str> {
+    let mut rest: &str = text;
+    for _change in 0..count {
+        rest = take_change(alloc, history, rest)?;
+    }
+    Some(rest)
+}
+
+/// How many spans the version of a history has; 0 where there was no memory for it.
+fn spans_of(alloc: Global, history: &History) -> u64 {
+    match history.version(alloc) {
+        Ok(version) => version.rows().len() as u64,
+        Err(_) => 0,
+    }
+}
+
+/// Takes in so many changes of a text, each with its version.
+fn follow_changes(alloc: Global, history: &mut History, text: &str, count: u32) -> u64 {
+    let mut rest: &str = text;
+    let mut spans = 0;
+    for _change in 0..count {
+        let Some(next) = take_change(alloc, history, rest) else {
+            return 0;
+        };
+        rest = next;
+        spans = spans_of(alloc, history);
+    }
+    spans
+}
+
+/// Reads so many changes of a text. It answers how many bytes follow them.
+#[unsafe(no_mangle)]
+pub extern "C" fn bench_read(alloc: Global, text: &[u8], count: u32) -> u64 {
+    let Ok(mut rest) = std::str::from_utf8(text) else {
+        return u64::MAX;
+    };
+    for _change in 0..count {
+        let Some(next) = pass_change(alloc, rest) else {
+            return u64::MAX;
+        };
+        rest = next;
+    }
+    rest.len() as u64
+}
+
+/// Takes in so many changes of a text, and then so many more, each of these with its version. It answers how many spans the
+/// last version has.
+#[unsafe(no_mangle)]
+pub extern "C" fn bench_accept(alloc: Global, text: &[u8], alone: u32, followed: u32) -> u64 {
+    let Ok(text) = std::str::from_utf8(text) else {
+        return u64::MAX;
+    };
+    let mut history = History::new(alloc);
+    match take_changes(alloc, &mut history, text, alone) {
+        Some(rest) => follow_changes(alloc, &mut history, rest, followed),
+        None => u64::MAX,
+    }
+}
+
+/// Takes in so many changes of a text, and then makes its version so many times. It answers how many spans the version has.
+#[unsafe(no_mangle)]
+pub extern "C" fn bench_version(alloc: Global, text: &[u8], count: u32, rounds: u32) -> u64 {
+    let Ok(text) = std::str::from_utf8(text) else {
+        return u64::MAX;
+    };
+    let mut history = History::new(alloc);
+    if take_changes(alloc, &mut history, text, count).is_none() {
+        return u64::MAX;
+    }
+    let mut spans = 0;
+    for _round in 0..rounds {
+        spans = spans_of(alloc, &history);
+    }
+    spans
+}

@@ -1,0 +1,91 @@
+use crate::client::connect;
+use crate::fault::Fault;
+use crate::few_clients::{silent_and_vanishing, three};
+use crate::many_clients::many;
+use crate::server::{Port, serve};
+use std::alloc::Global;
+use std::io::Eprint;
+use std::net::{Net, TcpListener, TcpStream};
+use std::sync::{OnceLock, Wait};
+use std::thread::{Threads, join};
+
+/// A server and its clients.
+#[derive(Clone, Copy)]
+pub enum Trial {
+    /// Two clients at once, and then a third.
+    Three,
+    /// One that is silent in the middle of a line, one that vanishes, and others beside them.
+    SilentAndVanishing,
+    /// Eight at once, with 1,000 changes together.
+    Many,
+}
+
+impl Trial {
+    pub fn name(self) -> &'static str {
+        match self {
+            Trial::Three => "three clients",
+            Trial::SilentAndVanishing => "a silent client and one that vanishes",
+            Trial::Many => "eight clients with 1,000 changes",
+        }
+    }
+
+    fn sessions(self) -> &'static str {
+        match self {
+            Trial::Three => "3",
+            Trial::SilentAndVanishing => "4",
+            Trial::Many => "8",
+        }
+    }
+
+    fn clients<H: Threads + Net<Stream = TcpStream> + Sync>(
+        self,
+        rt: &H,
+        alloc: Global,
+        port: u16,
+    ) -> Result<(), Fault> {
+        match self {
+            Trial::Three => three(rt, alloc, port),
+            Trial::SilentAndVanishing => silent_and_vanishing(rt, alloc, port),
+            Trial::Many => many(rt, alloc, port),
+        }
+    }
+
+    /// Runs the clients once the port is there. Where they fail, the sessions that the server still waits for end at once.
+    fn clients_at<H: Threads + Wait + Net<Stream = TcpStream> + Sync>(
+        self,
+        rt: &H,
+        alloc: Global,
+        port: &Port,
+    ) -> Result<(), Fault> {
+        let port = port.wait(rt).ok_or(Fault::Port)?;
+        let told = self.clients(rt, alloc, port);
+        if told.is_err() {
+            for _ in 0..8u8 {
+                let _ = connect(rt, port);
+            }
+        }
+        told
+    }
+
+    /// Runs the server and its clients. Answers the server's exit status, and what went wrong with the clients.
+    pub fn run<
+        H: Threads
+            + Wait
+            + Net<Listener = TcpListener, Stream = TcpStream>
+            + Eprint
+            + Copy
+            + Send
+            + Sync,
+    >(self, rt: &H, alloc: Global) -> (u8, Result<(), Fault>) {
+        let port = OnceLock::new();
+        let ((status, is_port_alone), told) = join(
+            rt,
+            || serve(rt, alloc, self.sessions(), &port),
+            || self.clients_at(rt, alloc, &port),
+        );
+        match told {
+            Ok(()) if !is_port_alone => (status, Err(Fault::Port)),
+            told => (status, told),
+        }
+    }
+}

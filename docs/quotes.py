@@ -1,0 +1,37 @@
+#!/usr/bin/env python3
+"""Says which quotations of THEOREM.md don't stand where it says they do. Run it at the top of the repository.
+
+A quotation is an indented line. It stands in the file that the line `FILE` or `FILE: CALL, CALL` above it names, and there, where calls are
+named, in the contract of one of them."""
+import pathlib
+import re
+import sys
+
+
+def contract(lines, call):
+    """The lines of a function from its name to its body, or to the end of a declaration."""
+    name = re.compile(r"\bfn " + call.split("::")[-1] + r"\b")
+    for start, line in enumerate(lines):
+        if name.search(line):
+            end = next(at for at in range(start, len(lines)) if lines[at] == "{" or lines[at].endswith(";"))
+            return lines[start : end + 1]
+    return []
+
+
+lines, quoted, wrong = [], 0, 0
+for number, line in enumerate(pathlib.Path("docs/THEOREM.md").read_text().splitlines(), 1):
+    if not line.startswith("    "):
+        continue
+    text = line.strip()
+    name, _, calls = text.partition(": ")
+    if name.endswith((".rt", ".antt")) and " " not in name:
+        lines = [it.strip() for it in pathlib.Path("crates", name).read_text().splitlines()]
+        if calls:
+            lines = [it for call in calls.split(", ") for it in contract(lines, call)]
+        continue
+    quoted += 1
+    if text not in lines:
+        print(f"line {number} quotes what isn't there: {text}")
+        wrong += 1
+print(f"{quoted} quotations, {wrong} wrong")
+sys.exit(wrong > 0)

@@ -1,0 +1,31 @@
+/* What a filter is given: r1 points to these 56 bytes, and r0 is its verdict. See docs/PROGRAMS.md. */
+#ifndef SPAN_H
+#define SPAN_H
+
+typedef __UINT8_TYPE__ u8;
+typedef __UINT32_TYPE__ u32;
+typedef __UINT64_TYPE__ u64;
+
+struct span {
+    const u8 *text; /* 0: the text's first byte */
+    const u8 *end;  /* 8: the place after its last byte */
+    u32 len;        /* 16: its length in bytes, 0 to 131,072 */
+    u32 characters; /* 20: its length in characters */
+    u32 flags;      /* 24: the sum of those below */
+    u32 color;      /* 28: 65,536 * red + 256 * green + blue; 0 where there is none */
+    u32 link_len;   /* 32: the link's length in bytes, 0 where there is none */
+    u32 comments;   /* 36: how many comments there are */
+    u32 index;      /* 40: the span's place among those of the version, from 0 */
+    u32 count;      /* 44: how many spans the version has */
+    u64 version;    /* 48: the version's number */
+};
+
+_Static_assert(sizeof(struct span) == 56, "56 bytes");
+_Static_assert(__builtin_offsetof(struct span, version) == 48, "the version stands at 48");
+
+enum { STRONG = 1, EM = 2, LINK = 4, COLOR = 8, COMMENT = 16 };
+
+/* The verdict: 0 says nothing, and any other number is sent to the subscriber. It is the one function of a file. */
+u64 filter(const struct span *span);
+
+#endif
