@@ -35,6 +35,10 @@ nothing_held = replicate 8 None
 abbrev pub fresh : {S : Type 0} → Token Program → ℕ → S → Sub S
 fresh p n sink = record { program = p; first = n; cursor = n; handed = n; held = nothing_held; count = 0; closed = false; sink = sink }
 
+-- jobs are handed out from the cursor on again
+abbrev pub rewound : {S : Type 0} → Sub S → Sub S
+rewound a = record a { handed = a.cursor }
+
 -- the cursor has moved on by one version
 abbrev pub slide : Held → Held
 slide held = drop 1 held ++ None ∷ []

@@ -1,7 +1,8 @@
 ghost use Rattle.std.specs.Prelude.{◌≡◌, ◌≤◌, ◌<◌, ◌-◌, ◌+◌, ◌++◌, ◌⊎◌, true, false, None, Some, [], length, take, drop, replicate, slice_get, MatchBool, MatchOption, IsTrue, ◌↔◌, IfOk};
+ghost use Rattle.meaning.specs.Safe.{Safe};
 ghost use Rattle.batches.specs.Batches.{items_of};
 ghost use Rattle.batches.specs.Orderly.{IsOrderly, RisesFrom};
-ghost use Rattle.batches.specs.Feed.{IsHeldAt, IsFed, IsWanted, Keeps, Moved, Stops, Finds, fresh, nothing_held};
+ghost use Rattle.batches.specs.Feed.{IsHeldAt, IsFed, IsWanted, Keeps, Moved, Stops, Finds, fresh, rewound, nothing_held};
 
 use crate::batch::Batch;
 use crate::item::{Item, Job};
@@ -243,9 +244,28 @@ impl<N: Naming, S: Sink<Item<N>>> Subscriber<N, S> {
 
     /// Where its items go.
     pub fn sink(&self) -> &S
-        ensures { result.now ≡ self.now.sink }
+        ensures value { result.now ≡ self.now.sink }
+        ensures safe { Safe self.now.program.value }
     {
+        self.program.every_run_ends();
         &self.sink
+    }
+
+    /// The first version of which no batch is held, where jobs were handed out below this one and this is the latest.
+    fn missing_from(&self, handed: u64, latest: u64) -> Option<u64>
+        requires wide { length self.now.held ≡ 8 }
+        requires behind { self.now.cursor ≤ latest + 1 }
+        requires few { latest ≤ 4096 }
+        ensures { Finds latest (record self.now { handed = handed }) result }
+    {
+        let from = handed.max(self.cursor);
+        let last = latest.min(self.cursor + 7);
+        for number in from..last + 1 {
+            if self.held[(number - self.cursor) as usize].is_none() {
+                return Some(number);
+            }
+        }
+        None
     }
 
     /// The next version for a job, where this is the latest.
@@ -255,14 +275,32 @@ impl<N: Naming, S: Sink<Item<N>>> Subscriber<N, S> {
         requires few { latest ≤ 4096 }
         ensures { Finds latest self.now result }
     {
-        let from = self.handed.max(self.cursor);
-        let last = latest.min(self.cursor + 7);
-        for number in from..last + 1 {
-            if self.held[(number - self.cursor) as usize].is_none() {
-                return Some(number);
-            }
+        self.missing_from(self.handed, latest)
+    }
+
+    /// The first version of which no batch is sent or held, handed out or not, where this is the latest.
+    pub fn missing_version(&self, latest: u64) -> Option<u64>
+        requires wide { length self.now.held ≡ 8 }
+        requires behind { self.now.cursor ≤ latest + 1 }
+        requires few { latest ≤ 4096 }
+        ensures { Finds latest (rewound self.now) result }
+    {
+        self.missing_from(self.cursor, latest)
+    }
+
+    /// The job of a version.
+    pub fn job_of(&self, id: usize, number: u64, versions: &[VersionToken<N>]) -> Job<N>
+        requires there { number < length versions.now }
+        requires few { length versions.now ≤ 4097 }
+        ensures of { (result.subscriber ≡ id) × (result.number ≡ number) × (result.program ≡ self.now.program) }
+        ensures version { slice_get versions.now number ≡ Some result.version }
+    {
+        Job {
+            subscriber: id,
+            number,
+            program: self.program.again(),
+            version: versions[number as usize].again(),
         }
-        None
     }
 
     /// The job of a version. The next one is handed out for a version after it.
@@ -274,17 +312,12 @@ impl<N: Naming, S: Sink<Item<N>>> Subscriber<N, S> {
         ensures handed { self.new ≡ record self.old { handed = number + 1 } }
     {
         self.handed = number + 1;
-        Job {
-            subscriber: id,
-            number,
-            program: self.program.again(),
-            version: versions[number as usize].again(),
-        }
+        self.job_of(id, number, versions)
     }
 
     /// Versions that are not held may be handed out again.
     pub fn reissue(&mut self)
-        ensures { self.new ≡ record self.old { handed = self.old.cursor } }
+        ensures { self.new ≡ rewound self.old }
     {
         self.handed = self.cursor;
     }

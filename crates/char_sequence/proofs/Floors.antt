@@ -1,9 +1,9 @@
 -- The floor of a chunk's ids, and its text, as elements are put in and hidden.
-use Rattle.std.proofs.Common.{◌≡◌, ◌≢◌, ℕ, zero, suc, ◌<◌, ◌≤◌, false, List, [], ◌∷◌, ◌++◌, Some, ◌⊎◌, length, set, take, drop, length-append, ◌+◌, ◌-◌, sym, ap, refl, subst, ◌∙◌, arith, ⊎_elim}
+use Rattle.std.proofs.Common.{◌≡◌, ◌≢◌, ℕ, zero, suc, ◌<◌, ◌≤◌, List, [], ◌∷◌, ◌++◌, Some, ◌⊎◌, length, set, take, drop, append_assoc, ◌+◌, sym, ap, refl, subst, ◌∙◌, arith, ⊎_elim}
 use Rattle.std.specs.List.{slice_get, insert}
 use Rattle.std.proofs.lemmas.List.Edits.{length-insert}
 use Rattle.std.proofs.lemmas.Option.{same_Some, none-some, slice_get_within}
-use Rattle.std.proofs.lemmas.Grind.{common_steps}
+use Rattle.std.proofs.lemmas.List.{take-append-drop, take_at, drop_at}
 use Rattle.change_ops.specs.Ids.{Less}
 use Rattle.change_ops.specs.declared.id.OpId.{OpId}
 use Rattle.char_sequence.specs.declared.sequence.Element.{Element}
@@ -11,7 +11,7 @@ use Rattle.char_sequence.specs.Chunks.{IsChunk, IsTextOf, IsFloor}
 use Rattle.char_sequence.specs.Visible.{visible_text}
 use Rattle.char_sequence.proofs.Ids.{less_irrefl, lower_floor}
 use Rattle.char_sequence.proofs.Lists.{inserted_cases, set_cases}
-use Rattle.char_sequence.proofs.VisibleText.{visible_append, visible_most}
+use Rattle.char_sequence.proofs.VisibleText.{visible_append}
 
 pub floor_one : (e : Element) → IsFloor (e ∷ []) e.id
 floor_one e zero x g less = less_irrefl e.id (subst (λ z. Less z.id e.id) (sym (same_Some e x g)) less)
@@ -36,31 +36,27 @@ floor_changed items k o e floor old is above i x g less =
     (λ (v : (i ≢ k) × (slice_get items i ≡ Some x)). above i x v.1 less)
     (set_cases items k e i x (slice_get_within items k o old) g)
 
--- an element put behind all others
-insert_last : (items : List Element) (e : Element) → insert items (length items) e ≡ items ++ e ∷ []
-insert_last [] e = refl
-insert_last (x ∷ items) e = ap (λ z. x ∷ z) (insert_last items e)
+-- an element put among others
+insert_is : (items : List Element) (k : ℕ) (e : Element) → k ≤ length items → insert items k e ≡ take k items ++ e ∷ drop k items
+insert_is items zero e h = refl
+insert_is [] (suc k) e h = absurd (omega arith)
+insert_is (x ∷ items) (suc k) e h = ap (λ z. x ∷ z) (insert_is items k e (omega arith))
 
-drop_last : (items : List Element) (e : Element) → drop (length items) (items ++ e ∷ []) ≡ e ∷ []
-drop_last [] e = refl
-drop_last (x ∷ items) e = drop_last items e
-
-pub text_last : (items : List Element) (k : ℕ) (e : Element) → k ≡ length items → visible_text (insert items k e) ≡ visible_text items ++ visible_text (drop k (insert items k e))
-text_last items k e is =
-    let last : insert items k e ≡ items ++ e ∷ [] = ap (λ n. insert items n e) is ∙ insert_last items e in
-    let end : drop k (insert items k e) ≡ e ∷ [] = ap (λ z. drop k z) last ∙ ap (λ n. drop n (items ++ e ∷ [])) is ∙ drop_last items e in
-    ap visible_text last ∙ visible_append items (e ∷ []) ∙ ap (λ z. visible_text items ++ visible_text z) (sym end)
-
--- of a chunk with one more element at its end there is room for the text
-pub room_last : (items : List Element) (k : ℕ) (e : Element) → k ≡ length items → length items < 64 → length (visible_text items) + length (visible_text (drop k (insert items k e))) ≤ 256
-room_last items k e is few =
-    let more = length-insert items k e (omega arith) in
-    let most = visible_most (insert items k e) in
-    let split = ap length (text_last items k e is) ∙ length-append (visible_text items) (visible_text (drop k (insert items k e))) in
-    omega (arith, more, most, split)
-
-take_whole : (xs : List Element) (k : ℕ) → take (length xs - k) (drop k xs) ≡ drop k xs
-take_whole xs k = grind (arith, common_steps)
+pub put_text : (items new : List Element) (k at : ℕ) (e : Element) (bs bs' : List ℕ) → k ≤ length items → new ≡ insert items k e → bs ≡ visible_text items → at ≡ length (visible_text (take k items)) → bs' ≡ (take at bs ++ visible_text (e ∷ [])) ++ drop at bs → bs' ≡ visible_text new
+put_text items new k at e bs bs' h is shown size put =
+    let front = visible_text (take k items) in
+    let back = visible_text (drop k items) in
+    let both : bs ≡ front ++ back = shown ∙ ap visible_text (sym (take-append-drop k items)) ∙ visible_append (take k items) (drop k items) in
+    let before : take at bs ≡ front = ap (take at) both ∙ take_at front back at (sym size) in
+    let behind : drop at bs ≡ back = ap (drop at) both ∙ drop_at front back at (sym size) in
+    put
+    ∙ ap (λ z. (z ++ visible_text (e ∷ [])) ++ drop at bs) before
+    ∙ ap (λ z. (front ++ visible_text (e ∷ [])) ++ z) behind
+    ∙ append_assoc front (visible_text (e ∷ [])) back
+    ∙ ap (λ z. front ++ z) (sym (visible_append (e ∷ []) (drop k items)))
+    ∙ sym (visible_append (take k items) (e ∷ drop k items))
+    ∙ ap visible_text (sym (insert_is items k e h))
+    ∙ ap visible_text (sym is)
 
 -- ---- what a chunk keeps
 pub chunk_one : (new : List Element) (capacity room : ℕ) (text : List ℕ) (e : Element) → new ≡ e ∷ [] → 64 ≤ capacity → 256 ≤ room → text ≡ visible_text new → IsChunk new capacity × IsTextOf new text room × IsFloor new e.id
@@ -75,20 +71,3 @@ chunk_inserted items new capacity room k text e floor low above h few is enough 
       record { shown = shown; room = wide },
       subst (λ z. IsFloor z low) (sym is) (floor_inserted items k e floor low h above not_low not_new),
     )
-
--- the text of an element behind all others is put behind theirs
-pub tail_room : (items new : List Element) (k : ℕ) (e : Element) → new ≡ insert items k e → k ≡ length items → length items < 64 → length (visible_text items) + length (visible_text (take (length new - k) (drop k new))) ≤ 256
-tail_room items new k e is at few =
-    let tail = ap (λ z. length (visible_text z)) (take_whole new k) in
-    let same = ap (λ z. length (visible_text (drop k z))) is in
-    let room = room_last items k e at few in
-    omega (arith, tail, same, room)
-
-pub tail_text : (items new : List Element) (k : ℕ) (e : Element) (text more : List ℕ) → new ≡ insert items k e → k ≡ length items → text ≡ visible_text items → more ≡ text ++ visible_text (take (length new - k) (drop k new)) → more ≡ visible_text new
-tail_text items new k e text more is at shown put =
-    put
-    ∙ ap (λ bs. bs ++ visible_text (take (length new - k) (drop k new))) shown
-    ∙ ap (λ z. visible_text items ++ visible_text z) (take_whole new k)
-    ∙ ap (λ z. visible_text items ++ visible_text (drop k z)) is
-    ∙ sym (text_last items k e at)
-    ∙ ap visible_text (sym is)

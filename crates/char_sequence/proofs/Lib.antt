@@ -13,4 +13,6 @@ pub mod Joined
 pub mod Chunking
 pub mod Walking
 pub mod Renaming
+pub mod PlaceTables
 pub mod Ranges
+pub mod Boundaries

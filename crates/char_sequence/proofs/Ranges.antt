@@ -2,7 +2,7 @@
 use Rattle.std.proofs.Common.{◌≡◌, ℕ, zero, suc, ◌+◌, ◌-◌, ◌≤◌, List, [], ◌∷◌, ◌++◌, Some, length, take, drop, slice_range, sym, ap, refl, ◌∙◌, arith, append_assoc, append-nil, length-append}
 use Rattle.std.specs.List.{slice_get}
 use Rattle.std.proofs.lemmas.Option.{same_Some, none-some}
-use Rattle.std.proofs.lemmas.List.{take_all}
+use Rattle.std.proofs.lemmas.List.{take_all, drop_all, drop-drop}
 use Rattle.std.proofs.lemmas.Grind.{common_steps}
 use Rattle.char_sequence.specs.declared.sequence.Element.{Element}
 use Rattle.char_sequence.specs.Chunks.{joined, start_of}
@@ -89,3 +89,46 @@ range_front cs i from to order =
     ∙ length-append (visible_text (slice_range front from to)) (visible_text (slice_range back (from - length front) (to - length front)))
     in
     omega (arith, whole)
+
+-- a range within the first chunks
+pub range_within : (cs : List (List Element)) (q from to : ℕ) → from ≤ to → to ≤ start_of cs q → slice_range (joined (take q cs)) from to ≡ slice_range (joined cs) from to
+range_within cs q from to order within =
+    let front = joined (take q cs) in
+    let back = joined (drop q cs) in
+    let none : (to - length front) - (from - length front) ≡ 0 = omega arith in
+    sym (ap (λ es. slice_range es from to) (joined_cut cs q)
+    ∙ range_append front back from to order
+    ∙ ap (λ n. slice_range front from to ++ take n (drop (from - length front) back)) none
+    ∙ append-nil (slice_range front from to))
+
+-- what stands behind a place, from the chunk that the place is in on
+pub drop_within : (cs : List (List Element)) (p to : ℕ) → start_of cs p ≤ to → drop (to - start_of cs p) (joined (drop p cs)) ≡ drop to (joined cs)
+drop_within cs p to reached =
+    let front = joined (take p cs) in
+    let back = joined (drop p cs) in
+    sym (ap (drop to) (joined_cut cs p) ∙ drop_append to front back ∙ ap (λ z. z ++ drop (to - length front) back) (drop_all to front reached))
+
+-- ---- read on from a place
+pub next_text : (cs through : List (List Element)) (q read to count : ℕ) (view : List Element) → to ≡ read + count → to ≤ start_of cs q → through ≡ take q cs → drop read (joined cs) ≡ view → visible_text (slice_range (joined through) read to) ≡ visible_text (take count view)
+next_text cs through q read to count view sum far front is =
+    let left : to - read ≡ count = omega (arith, sum) in
+    ap (λ z. visible_text (slice_range (joined z) read to)) front
+    ∙ ap visible_text (range_within cs q read to (omega (arith, sum)) far)
+    ∙ ap (λ n. visible_text (take n (drop read (joined cs)))) left
+    ∙ ap (λ z. visible_text (take count z)) is
+
+pub next_left : (cs rest : List (List Element)) (p start read to count : ℕ) (view : List Element) → to ≡ read + count → start ≡ start_of cs p → start ≤ to → rest ≡ drop p cs → drop read (joined cs) ≡ view → drop (to - start) (joined rest) ≡ drop count view
+next_left cs rest p start read to count view sum at reached back is =
+    ap (λ z. drop (to - start) (joined z)) back
+    ∙ ap (λ n. drop (to - n) (joined (drop p cs))) at
+    ∙ drop_within cs p to (omega (arith, at, reached))
+    ∙ ap (λ n. drop n (joined cs)) sum
+    ∙ sym (drop-drop count read (joined cs))
+    ∙ ap (drop count) is
+
+-- what is left to read has no more elements than were there
+pub rest_within : (cs rest : List (List Element)) (p start to : ℕ) → start ≡ start_of cs p → start ≤ to → to ≤ length (joined cs) → rest ≡ drop p cs → length (joined cs) ≤ 32768 → (to - start ≤ length (joined rest)) × (length (joined rest) ≤ 32768)
+rest_within cs rest p start to at reached within back few =
+    let whole = ap length (joined_cut cs p) ∙ length-append (joined (take p cs)) (joined (drop p cs)) in
+    let same = ap (λ z. length (joined z)) back in
+    (omega (arith, whole, same, at), omega (arith, whole, same))

@@ -8,3 +8,4 @@ pub mod Index
 pub mod Visible
 pub mod Chunks
 pub mod Rooms
+pub mod PlaceTables

@@ -1,5 +1,6 @@
 ghost use Rattle.std.specs.Prelude.{vec_capacity, string_bytes, false, ◌≡◌, ℕ, ◌<◌, ◌≤◌, ◌∷◌, [], Some, length, take, drop, set, insert, slice_get, MatchOption, IfSome};
 ghost use Rattle.std.specs.String.{string_capacity};
+ghost use Rattle.std.specs.String.Boundary.{IsSplitPoint};
 ghost use Rattle.change_ops.specs.Ids.{Less};
 ghost use Rattle.char_sequence.specs.declared.sequence.Element.{Element};
 ghost use Rattle.char_sequence.specs.Order.{IsAt};
@@ -9,7 +10,7 @@ ghost use Rattle.char_sequence.specs.Chunks.{IsFloor};
 ghost use Rattle.char_sequence.specs.Visible.{visible_text};
 
 use crate::sequence::Element;
-use crate::visible::{push_with_room, write_text};
+use crate::visible::{visible_len, write_at, write_text};
 use change_ops::id::OpId;
 use std::alloc::{AllocError, Global};
 use std::marker::Model;
@@ -151,20 +152,31 @@ impl Chunk {
         None
     }
 
+    /// How many bytes of the text stand before a place.
+    fn text_before(&self, place: usize) -> usize
+        requires { place ≤ length self.now }
+        ensures value { result ≡ length (visible_text (take place self.now)) }
+        ensures split { IsSplitPoint (visible_text self.now) result }
+    {
+        let count = self.items.len();
+        if place == count {
+            self.text.len()
+        } else {
+            let (before, _) = self.items.split_at(place);
+            visible_len(before)
+        }
+    }
+
     /// Puts an element at a place; those from there on move on.
     pub(crate) fn insert(&mut self, place: usize, element: Element)
         requires within { place ≤ length self.old }
         requires room { length self.old < 64 }
         ensures { self.new ≡ insert self.old place element }
     {
+        let at = self.text_before(place);
         self.floor = lesser(self.floor, element.id);
-        let is_last = place == self.items.len();
         self.items.insert(place, element).unwrap();
-        if is_last {
-            push_with_room(&self.items[place..], &mut self.text);
-        } else {
-            write_text(&self.items, &mut self.text);
-        }
+        write_at(&element, at, &mut self.text);
     }
 
     /// Makes the element at a place a tombstone.

@@ -7,6 +7,7 @@ ghost use Rattle.char_sequence.specs.Places.{IsPast, IsAfter};
 ghost use Rattle.char_sequence.specs.Chunks.{joined, start_of};
 
 use crate::chunk::{Blank, CHUNK_LIMIT, Chunk};
+use crate::place_table::PlaceTable;
 use crate::sequence::Element;
 use change_ops::id::OpId;
 use indexmap::IndexMap;
@@ -199,6 +200,13 @@ impl ChunkList {
     {
         let spot = self.spot_of(id)?;
         Some(start(&self.chunks, spot.position) + spot.at)
+    }
+
+    /// The places of all elements by their ids.
+    pub(crate) fn place_table(&self, alloc: Global) -> Result<PlaceTable<'_>, AllocError>
+        ensures { IfOk result (λ table. table ≡ joined self.now.chunks) }
+    {
+        PlaceTable::new(alloc, &self.chunks, &self.names, &self.index, self.count)
     }
 
     /// The spot after the parent, or the start, past the greater ids.

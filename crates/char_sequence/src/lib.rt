@@ -5,5 +5,7 @@ mod chunk;
 mod chunk_list;
 pub mod elements;
 pub mod newest;
+pub mod place_table;
 pub mod sequence;
 mod visible;
+pub mod visible_cursor;

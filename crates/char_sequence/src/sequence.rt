@@ -3,7 +3,8 @@ ghost use Rattle.std.specs.Prelude.{◌≡◌, ℕ, ◌<◌, ◌≤◌, ◌*◌,
 use crate::chunk_list::ChunkList;
 use crate::elements::Elements;
 use crate::newest::Newest;
-use crate::visible::push_visible;
+use crate::place_table::PlaceTable;
+use crate::visible_cursor::VisibleCursor;
 use change_ops::character::Character;
 use change_ops::id::OpId;
 use change_ops::operation::{Named, Op};
@@ -195,6 +196,15 @@ impl Sequence {
         self.elements.place_of(id)
     }
 
+    /// The places of all characters by their ids, as they are now.
+    ///
+    /// `alloc` is for the table.
+    pub fn place_table(&self, alloc: Global) -> Result<PlaceTable<'_>, AllocError>
+        ensures { IfOk result (λ table. table ≡ self.now.elements) }
+    {
+        self.elements.place_table(alloc)
+    }
+
     /// Whether the character is there and not removed.
     pub fn visible(&self, id: OpId) -> bool
         ensures { (ops : List Op) → Shows self.now.elements ops → IsTrue result ↔ Present ops id × (Removed ops id → ⊥) }
@@ -234,15 +244,14 @@ impl Sequence {
         }
     }
 
-    /// Appends the visible text of the characters at the places from `from` up to `to`, removed ones counted as places;
-    /// the error is want of memory, and changes nothing.
-    pub fn push_visible(&self, from: usize, to: usize, text: &mut String) -> Result<(), AllocError>
-        requires order { from ≤ to }
-        requires within { to ≤ length self.now.elements }
-        ensures ok { OnOk result (string_bytes text.new ≡ string_bytes text.old ++ visible_text (slice_range self.now.elements from to)) }
-        ensures err { OnErr result (string_bytes text.new ≡ string_bytes text.old) }
+    /// All characters in order, to read the visible ones of them piece after piece.
+    pub fn visible_from_start(&self) -> VisibleCursor<'_>
+        ensures { result ≡ self.now.elements }
     {
-        push_visible(self.elements.as_slice(), from, to, text)
+        VisibleCursor {
+            chunks: self.elements.as_slice(),
+            read: 0,
+        }
     }
 
     /// The number of chunks that the characters are kept in, and the length of the longest.

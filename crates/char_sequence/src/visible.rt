@@ -1,6 +1,7 @@
 //! The visible text of elements in a row, and of a range of places.
-ghost use Rattle.std.specs.Prelude.{◌≡◌, ◌≤◌, ◌+◌, ◌-◌, ◌*◌, ◌++◌, true, length, slice_range, string_bytes, OnOk, OnErr};
+ghost use Rattle.std.specs.Prelude.{◌≡◌, ◌≤◌, ◌+◌, ◌-◌, ◌*◌, ◌++◌, ◌∷◌, [], true, length, take, drop, slice_range, string_bytes, OnOk, OnErr};
 ghost use Rattle.std.specs.String.{string_len, string_capacity};
+ghost use Rattle.std.specs.String.Boundary.{IsSplitPoint};
 ghost use Rattle.char_sequence.specs.Chunks.{joined};
 ghost use Rattle.char_sequence.specs.Visible.{visible_text};
 
@@ -9,7 +10,7 @@ use crate::sequence::{CHARACTER_LIMIT, Element};
 use std::alloc::AllocError;
 
 /// How many bytes the visible text has.
-fn visible_len(elements: &[Element]) -> usize
+pub(crate) fn visible_len(elements: &[Element]) -> usize
     requires { length elements.now ≤ CHARACTER_LIMIT }
     ensures value { result ≡ length (visible_text elements.now) }
     ensures limit { result ≤ 4 * length elements.now }
@@ -21,6 +22,18 @@ fn visible_len(elements: &[Element]) -> usize
         }
     }
     count
+}
+
+/// Writes the element's character, where it is visible, into a text from the byte `at` on, for which there is room.
+pub(crate) fn write_at(element: &Element, at: usize, text: &mut String)
+    requires split { IsSplitPoint (string_bytes text.old) at }
+    requires room { string_len text.old + 4 ≤ string_capacity text.old }
+    ensures bytes { string_bytes text.new ≡ (take at (string_bytes text.old) ++ visible_text (element.now ∷ [])) ++ drop at (string_bytes text.old) }
+    ensures capacity { string_capacity text.old ≤ string_capacity text.new }
+{
+    if element.visible {
+        text.insert(at, element.character.value()).unwrap();
+    }
 }
 
 /// Writes the visible text in place of what was there, for which there is room.

@@ -71,7 +71,11 @@ the program, a line of 16 hexadecimal digits for each slot.",
         .after_help(STATUSES)
 }
 
-fn check<'a>(alloc: Global) -> Command<'a> {
+fn check<'a>(alloc: Global) -> Result<Command<'a>, AllocError> {
+    let explain = Arg::new(alloc, "explain")
+        .long("explain")
+        .action(ArgAction::SetTrue)
+        .help("Prints also what the verifier knows of the program (docs/PROGRAMS.md)");
     Command::new(alloc, "check")
         .about("Says whether a program is accepted")
         .long_about(
@@ -79,9 +83,14 @@ fn check<'a>(alloc: Global) -> Command<'a> {
 is sure to end with a number and without a fault. Standard input is the program's
 bytes, as pairs of hexadecimal digits of either case; spaces, tabs and ends of
 lines are skipped. Printed is `accepted <slots>`, or the refusal of the first
-slot at fault.",
+slot at fault. With --explain there stands behind it, of an accepted program, the
+greatest number of steps; of one that is refused at a slot from 10 to 26, the
+instruction there, and from 15 on what is known before it: a line for each
+register and each eight bytes of the stack that are set, and one for the least
+length of the text (docs/PROGRAMS.md).",
         )
         .after_help(STATUSES)
+        .arg(explain)
 }
 
 fn dis<'a>(alloc: Global) -> Command<'a> {
@@ -172,7 +181,7 @@ command reads standard input, in the form that its own help says (as in
         .after_help(STATUSES)
         .subcommand_required(true)
         .subcommand(asm(alloc))?
-        .subcommand(check(alloc))?
+        .subcommand(check(alloc)?)?
         .subcommand(dis(alloc))?
         .subcommand(replay(alloc)?)?
         .subcommand(run(alloc)?)?

@@ -62,7 +62,9 @@ fn serving(matches: &ArgMatches<'_>) -> Option<Request> {
 fn request_of(alloc: Global, matches: &ArgMatches<'_>) -> Result<Request, Unread> {
     let request = match matches.subcommand() {
         Some(("asm", _)) => Some(Request::Perform(Command::Asm)),
-        Some(("check", _)) => Some(Request::Perform(Command::Check)),
+        Some(("check", check)) => Some(Request::Perform(Command::Check {
+            explain: check.get_flag("explain"),
+        })),
         Some(("dis", _)) => Some(Request::Perform(Command::Dis)),
         Some(("replay", replay)) => Some(Request::Replay {
             workers: workers(replay),

@@ -3,5 +3,5 @@
 
 pub mod disassemble;
 mod form;
-mod line;
+pub mod line;
 mod parts;

@@ -67,7 +67,7 @@ impl fmt::Display for Arguments {
 
 /// An instruction as its canonical line, without the LF.
 #[derive(Clone, Copy, Debug, PartialEq, Eq)]
-pub(crate) struct Line(pub(crate) Insn);
+pub struct Line(pub Insn);
 
 impl fmt::Display for Line {
     ghost output = { λ line. Some (spell (pieces line.0)) };

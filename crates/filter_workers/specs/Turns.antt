@@ -1,7 +1,7 @@
 -- What workers do to a hub.
-use Rattle.std.specs.Prelude.{◌≡◌, ◌≤◌, ℕ, Ok, Err, Option, Some, None, List, All, length}
+use Rattle.std.specs.Prelude.{◌≡◌, ◌≤◌, ℕ, Bool, true, false, Ok, Err, Option, Some, None, List, All, length}
 use Rattle.batches.specs.Batches.{Slip}
-use Rattle.hub_core.specs.Machine.{TakesJob, Commits}
+use Rattle.hub_core.specs.Machine.{TakesJob, Misses, Commits}
 use Rattle.hub_core.specs.declared.error.CommitError.{CommitError}
 use Rattle.ingest_workers.specs.Holdings.{InOneHolding}
 use Rattle.filter_workers.specs.declared.work.TurnEnd.{TurnEnd}
@@ -16,6 +16,13 @@ Ends job Refused = (e : CommitError) × InOneHolding (λ old new. Commits old jo
 abbrev pub Turns : Option TurnEnd → Type 0
 Turns (Some end) = (job : Slip) × InOneHolding (λ old new. TakesJob old (Some job) new) × Ends job end
 Turns None = InOneHolding (λ old new. TakesJob old None new)
+
+-- the job of the first version that a subscriber waited for was found in one holding of the lock, and its batch committed or refused in another; or it
+-- waited for none
+abbrev pub CatchesUp : ℕ → Bool → Type 0
+CatchesUp subscriber true =
+    (job : Slip) × InOneHolding (λ old new. (new ≡ old) × Misses old subscriber (Some job)) × (end : TurnEnd) × Ends job end
+CatchesUp subscriber false = InOneHolding (λ old new. (new ≡ old) × Misses old subscriber None)
 
 -- how many batches a turn committed
 abbrev pub batches_of : TurnEnd → ℕ

@@ -1,4 +1,4 @@
-ghost use Rattle.std.specs.Prelude.{◌≡◌, IfOk};
+ghost use Rattle.std.specs.Prelude.{◌≡◌, ◌≤◌, IfOk};
 ghost use Rattle.std.specs.Option.{option_map_or};
 ghost use Rattle.span_view.specs.Views.{view_at};
 ghost use Rattle.batches.specs.Verdicts.{verdict_on, verdicts_of};
@@ -13,8 +13,18 @@ use std::thread::Threads;
 use verifier::verify::Verified;
 use version_history::published::{Naming, Published};
 
-/// How few spans are worth a thread of their own.
-pub(crate) const SPANS_PER_THREAD: usize = 256;
+/// How much work is worth a thread of its own, in steps of a program: about half a millisecond.
+const STEPS_PER_THREAD: usize = 262_144;
+
+/// What it takes to make a span's context and begin a run, in steps.
+const STEPS_TO_BEGIN: usize = 32;
+
+/// How few spans are worth a thread of their own, where so many workers share the processors and a run takes at most so many steps.
+fn spans_per_thread(workers: usize, steps: usize) -> usize
+    requires few { steps ≤ 4096 }
+{
+    (STEPS_PER_THREAD / (steps + STEPS_TO_BEGIN) + 1).saturating_mul(workers)
+}
 
 /// The verdict on the span at an index, or 0 past the last one.
 fn verdict_at(program: &Verified, version: &Version, index: usize) -> u64
@@ -47,24 +57,25 @@ fn verdicts<R: Threads + Sync>(
         .collect(rt, alloc)
 }
 
-/// The batch of a job, by threads of which each has at least so many spans.
-pub(crate) fn filter_in_pieces<N: Naming, R: Threads + Sync>(
+/// The batch of a job, where so many workers share the processors: the more they are, the fewer threads this one may start.
+pub(crate) fn filter_beside<N: Naming, R: Threads + Sync>(
     rt: &R,
     alloc: Global,
     published: &Published<'_, N>,
     job: &Job<N>,
-    least: usize,
+    workers: usize,
 ) -> Result<Batch<N>, AllocError>
     ensures { IfOk result (λ batch. batch ≡ job.now) }
 {
     let program = published.program(&job.program);
     let version = published.look(&job.version);
+    let least = spans_per_thread(workers, program.words().len());
     let verdicts = verdicts(rt, alloc, program, version, least)?;
     Batch::from_verdicts(alloc, published, job, verdicts)
 }
 
-/// The batch of a job, as `Batch::compute` answers it. The spans of a long version are shared out among as many threads as there are
-/// processors to run them. It asks for no lock.
+/// The batch of a job, as `Batch::compute` answers it. The spans of a version are shared out among as many threads as there are
+/// processors to run them, where the program is so long and the spans are so many that each thread is worth its start. It asks for no lock.
 pub fn filter<N: Naming, R: Threads + Sync>(
     rt: &R,
     alloc: Global,
@@ -73,5 +84,5 @@ pub fn filter<N: Naming, R: Threads + Sync>(
 ) -> Result<Batch<N>, AllocError>
     ensures { IfOk result (λ batch. batch ≡ job.now) }
 {
-    filter_in_pieces(rt, alloc, published, job, SPANS_PER_THREAD)
+    filter_beside(rt, alloc, published, job, 1)
 }

@@ -1,7 +1,7 @@
 ghost use Rattle.std.specs.Prelude.{◌≡◌, ◌≤◌, ◌<◌, ◌*◌, ◌^◌, Ok, All, IfOk, length};
-ghost use Rattle.filter_workers.specs.Turns.{Ends, Turns, AreCommitted, batches_of};
+ghost use Rattle.filter_workers.specs.Turns.{Ends, Turns, CatchesUp, AreCommitted, batches_of};
 
-use crate::filter::{SPANS_PER_THREAD, filter_in_pieces};
+use crate::filter::filter_beside;
 use crate::gate::Gate;
 use batches::item::Job;
 use hub_core::error::CommitError;
@@ -39,11 +39,11 @@ fn answer<N: Naming + Ledger, R: Threads + Wait + Copy + Sync>(
     hub: &Hub<'_, N, R>,
     published: &Published<'_, N>,
     job: &Job<N>,
-    least: usize,
+    workers: usize,
 ) -> Result<TurnEnd, AllocError>
     ensures { IfOk result (Ends job.now) }
 {
-    let batch = filter_in_pieces(rt, alloc, published, job, least)?;
+    let batch = filter_beside(rt, alloc, published, job, workers)?;
     match hub.commit(rt, batch) {
         Ok(()) => Ok(TurnEnd::Committed),
         Err(CommitError::OutOfMemory) => Err(AllocError),
@@ -58,7 +58,7 @@ fn turn<N: Naming + Ledger, R: Threads + Wait + Copy + Sync, G: Gate<N>>(
     hub: &Hub<'_, N, R>,
     published: &Published<'_, N>,
     gate: &G,
-    least: usize,
+    workers: usize,
 ) -> Result<Option<TurnEnd>, AllocError>
     ensures { IfOk result Turns }
 {
@@ -66,7 +66,7 @@ fn turn<N: Naming + Ledger, R: Threads + Wait + Copy + Sync, G: Gate<N>>(
         return Ok(None);
     };
     gate.before(&job);
-    let end = answer(rt, alloc, hub, published, &job, least);
+    let end = answer(rt, alloc, hub, published, &job, workers);
     if end.is_ok() {
         let _ = hub.pump(rt, job.subscriber);
     } else {
@@ -84,14 +84,14 @@ fn work_alone<N: Naming + Ledger, R: Threads + Wait + Copy + Sync, G: Gate<N>>(
     hub: &Hub<'_, N, R>,
     published: &Published<'_, N>,
     gate: &G,
-    least: usize,
+    workers: usize,
     turns: u32,
 ) -> Result<u64, AllocError>
     ensures { IfOk result (AreCommitted turns) }
 {
     let mut committed = 0;
     for _turn in 0..turns {
-        let Some(end) = turn(rt, alloc, hub, published, gate, least)? else {
+        let Some(end) = turn(rt, alloc, hub, published, gate, workers)? else {
             break;
         };
         committed += end.batches();
@@ -132,14 +132,33 @@ pub fn work<N: Naming + Ledger + Send + Sync, R: Threads + Wait + Copy + Send + 
     if turns == 0 {
         return Ok(0);
     }
-    let least = SPANS_PER_THREAD * workers;
     let counts = map_indices(
         rt,
         alloc,
         workers,
         &|_| -> Result<u64, AllocError>
             ensures { IfOk result (AreCommitted turns) }
-        { work_alone(rt, alloc, hub, published, gate, least, turns) },
+        { work_alone(rt, alloc, hub, published, gate, workers, turns) },
     )?;
     total(counts.as_slice(), u64::from(turns))
+}
+
+/// Computes the batch of the first version that a subscriber waits for, whoever its job was handed out to, and commits it; where
+/// another committed it meanwhile that is as good. It answers whether the subscriber waited for one.
+pub fn catch_up<N: Naming + Ledger, R: Threads + Wait + Copy + Sync>(
+    rt: &R,
+    alloc: Global,
+    hub: &Hub<'_, N, R>,
+    published: &Published<'_, N>,
+    subscriber: usize,
+    workers: usize,
+) -> Result<bool, AllocError>
+    requires { (1 ≤ workers) × (workers ≤ 16) }
+    ensures { IfOk result (CatchesUp subscriber) }
+{
+    let Some(job) = hub.missing_job(rt, subscriber) else {
+        return Ok(false);
+    };
+    let _end = answer(rt, alloc, hub, published, &job, workers)?;
+    Ok(true)
 }

@@ -5,8 +5,16 @@ use std::io::{Read, Write};
 use std::net::{Net, TcpStream};
 use std::thread::{Threads, join};
 
-/// A subscriber whose program's verdict is 1 on every span.
-const SUBSCRIBE: &str = "sub 8 b7000000010000009500000000000000\n";
+/// A subscriber whose program's verdict is 1 on every span, and a pull of its first items.
+const SUBSCRIBE_AND_PULL: &str = "sub 8 b7000000010000009500000000000000\npull 0 9\n";
+
+/// A change, and a subscriber of that program.
+const CHANGE_AND_SUBSCRIBE: &str =
+    "change 2 1\ni 1@2 - 62\nsub 8 b7000000010000009500000000000000\n";
+
+/// A subscriber of that program, a pull of its first items, and one of a subscriber that is closed.
+const SUBSCRIBE_AND_PULL_TWICE: &str =
+    "sub 8 b7000000010000009500000000000000\npull 1 9\npull 0 9\n";
 
 fn expect(got: &str, want: &str) -> Result<(), Fault> {
     if got == want {
@@ -14,6 +22,18 @@ fn expect(got: &str, want: &str) -> Result<(), Fault> {
     } else {
         Err(Fault::Reply)
     }
+}
+
+/// A whole session of these lines, which is to be answered this.
+fn expect_session<H: Net<Stream = TcpStream>>(
+    rt: &H,
+    alloc: Global,
+    port: u16,
+    lines: &str,
+    want: &str,
+) -> Result<(), Fault> {
+    let got = answered(rt, alloc, port, lines)?;
+    expect(got.as_str(), want)
 }
 
 /// Two clients send a change each, at once, and are answered in some order.
@@ -43,18 +63,21 @@ pub fn three<H: Threads + Net<Stream = TcpStream>>(
     port: u16,
 ) -> Result<(), Fault> {
     two_at_once(rt, alloc, port)?;
-    let lines = format!(in alloc; "{SUBSCRIBE}pull 0 9\n")?;
-    let third = answered(rt, alloc, port, lines.as_str())?;
-    expect(third.as_str(), "ok sub 0\nhit 2 0 1\nend 2 1\nok items 2\n")
+    expect_session(
+        rt,
+        alloc,
+        port,
+        SUBSCRIBE_AND_PULL,
+        "ok sub 0\nhit 2 0 1\nend 2 1\nok items 2\n",
+    )
 }
 
 /// A client that has a change accepted and subscribes, and is gone while a reply lies unread at its end, so that the
 /// server's next read of it fails.
-fn vanish<H: Net<Stream = TcpStream>>(rt: &H, alloc: Global, port: u16) -> Result<(), Fault> {
+fn vanish<H: Net<Stream = TcpStream>>(rt: &H, port: u16) -> Result<(), Fault> {
     let stream = connect(rt, port)?;
     let mut end = &stream;
-    let lines = format!(in alloc; "change 2 1\ni 1@2 - 62\n{SUBSCRIBE}")?;
-    end.write_all(lines.as_bytes())?;
+    end.write_all(CHANGE_AND_SUBSCRIBE.as_bytes())?;
     // The first reply, and one byte of the second.
     let mut read = [0u8; 14];
     end.read_exact(&mut read)?;
@@ -63,6 +86,28 @@ fn vanish<H: Net<Stream = TcpStream>>(rt: &H, alloc: Global, port: u16) -> Resul
     } else {
         Err(Fault::Reply)
     }
+}
+
+/// Two more clients, after one that vanished: its change stands, and its subscription is closed.
+fn served_beside<H: Net<Stream = TcpStream>>(
+    rt: &H,
+    alloc: Global,
+    port: u16,
+) -> Result<(), Fault> {
+    expect_session(
+        rt,
+        alloc,
+        port,
+        SUBSCRIBE_AND_PULL_TWICE,
+        "ok sub 1\nhit 1 0 1\nend 1 1\nok items 2\nno 52 NoSubscriber\n",
+    )?;
+    expect_session(
+        rt,
+        alloc,
+        port,
+        "change 3 1\ni 2@3 1@2 63\nsub 9\n",
+        "ok version 2\nno 60 BadCommand\n",
+    )
 }
 
 /// While a client is silent in the middle of a line, another vanishes, and two more are served beside them: the change
@@ -74,17 +119,8 @@ pub fn silent_and_vanishing<H: Net<Stream = TcpStream>>(
 ) -> Result<(), Fault> {
     let mut silent = Client::connect(rt, alloc, port)?;
     silent.send("change 1 1\ni 1@1")?;
-    vanish(rt, alloc, port)?;
-    let lines = format!(in alloc; "{SUBSCRIBE}pull 1 9\npull 0 9\n")?;
-    let third = answered(rt, alloc, port, lines.as_str())?;
-    expect(
-        third.as_str(),
-        "ok sub 1\nhit 1 0 1\nend 1 1\nok items 2\nno 52 NoSubscriber\n",
-    )?;
-    let fourth = answered(rt, alloc, port, "change 3 1\ni 2@3 1@2 63\nsub 9\n")?;
-    expect(fourth.as_str(), "ok version 2\nno 60 BadCommand\n")?;
-    expect(
-        silent.answered(alloc, " - 61\n")?.as_str(),
-        "ok version 3\n",
-    )
+    vanish(rt, port)?;
+    served_beside(rt, alloc, port)?;
+    let told = silent.answered(alloc, " - 61\n")?;
+    expect(told.as_str(), "ok version 3\n")
 }

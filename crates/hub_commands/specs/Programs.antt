@@ -68,6 +68,13 @@ pub data IsAcceptanceReply (bytes : List ℕ) (reply : Reply) : Type 0 where
 unfoldable pub IsCheckReply : List ℕ → Reply → Type 0
 IsCheckReply input reply = IsProgramReply IsAcceptanceReply (without_blanks input) reply
 
+-- `check --explain`: what `check` answers, with further text behind it
+pub record IsExplainReply (input : List ℕ) (reply : Reply) : Type 0 where
+  pub first : Reply
+  pub checks : IsCheckReply input first
+  pub more : List ℕ
+  pub is : reply ≡ record first { text = first.text ++ more }
+
 -- a text that a span may have
 pub record IsSpanText (text : List ℕ) : Type 0 where
   pub characters : IsUtf8 text

@@ -36,7 +36,7 @@ fn acceptance_answer(alloc: Global, words: &Words<'_>) -> Result<Answer, AllocEr
 }
 
 /// What `check` answers to a program in hexadecimal.
-fn check_answer(alloc: Global, input: &[u8]) -> Result<Answer, AllocError>
+pub fn check_answer(alloc: Global, input: &[u8]) -> Result<Answer, AllocError>
     ensures { IfOk result (λ answer. IsCheckReply input.now answer) }
 {
     let digits = without_blanks(alloc, input)?;

@@ -5,6 +5,7 @@ ghost use Rattle.hub_commands.specs.Requests.{IsReplyTo};
 use crate::asm::asm;
 use crate::check::check;
 use crate::dis::dis;
+use crate::explain::explain;
 use crate::failure::Failure;
 use crate::run::run;
 use crate::spans::spans;
@@ -24,7 +25,8 @@ pub fn perform<R: Read, W: Write>(
 {
     match command {
         Command::Asm => asm(alloc, reader, writer),
-        Command::Check => check(alloc, reader, writer),
+        Command::Check { explain: false } => check(alloc, reader, writer),
+        Command::Check { explain: true } => explain(alloc, reader, writer),
         Command::Dis => dis(alloc, reader, writer),
         Command::Run { digits, options } => {
             run(alloc, digits.as_bytes(), options, reader, writer)

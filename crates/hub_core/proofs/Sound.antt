@@ -11,14 +11,14 @@ use Rattle.span_flatten.specs.Version.{Snapshot, IsVersion}
 use Rattle.version_history.specs.Tokens.{Token}
 use Rattle.batches.specs.Batches.{Entry, Slip}
 use Rattle.batches.specs.Orderly.{RisesFrom}
-use Rattle.batches.specs.Feed.{Sub, IsFed, IsWanted, Keeps, Moved, Stops, IsDue, IsNext, Finds, fresh, nothing_held}
+use Rattle.batches.specs.Feed.{Sub, IsFed, IsWanted, Keeps, Moved, Stops, IsDue, IsNext, Finds, fresh, rewound, nothing_held}
 use Rattle.batches.proofs.Feeding.{get_push, rises_are, fed_more, fresh_fed, fed_handed, fed_closed}
 use Rattle.change_history.specs.Accepted.{operations_of}
 use Rattle.hub_core.specs.declared.error.CommitError.TheVariants.{Stale}
 use Rattle.change_history.specs.VersionAt.{IsVersionAt}
 use Rattle.change_history.specs.declared.refusal.SubmitError.{SubmitError}
 use Rattle.hub_core.specs.Accepting.{Accepts}
-use Rattle.hub_core.specs.Machine.{State, IsOpen, Submits, Commits, Pumps, Reissues, Closes, TakesJob, FindsAt, IsSound}
+use Rattle.hub_core.specs.Machine.{State, IsOpen, HasNone, Submits, Commits, Pumps, Reissues, Closes, TakesJob, Misses, FindsAt, IsSound}
 
 -- the version of all changes
 pub version_of_all : (changes : List Edit) (c : Edit) (v : Snapshot) → IsVersion (operations_of (changes ++ c ∷ [])) (length changes + 1) v → IsVersionAt (changes ++ c ∷ []) (length changes + 1) v
@@ -217,6 +217,30 @@ module _ {S : Type 0} where
   job_taken o s job id number a a' ts same found at made of version versions =
       subst (λ (y : State S). TakesJob y (Some job) (record s { subs = set s.subs id a' })) same
       (job_here s job id number a a' ts (subst (λ (y : State S). FindsAt y id (Some number)) (sym same) found) at made of version versions)
+
+  pub missed : (o s : State S) (job : Slip) (id number latest : ℕ) (x a : Sub S) (ts : List (Token Snapshot)) → s ≡ o → id < length s.subs → x ≡ get_or s.subs id x → x.closed ≡ false → a ≡ get_or s.subs id a
+      → latest ≡ length s.changes → IsNext latest (rewound a) number → (job.subscriber ≡ id) × (job.number ≡ number) × (job.program ≡ a.program) → slice_get ts number ≡ Some job.version → ts ≡ s.versions
+      → Misses o id (Some job)
+  missed o s job id number latest x a ts same within read opened found is next of version versions =
+      subst (λ (y : State S). Misses y id (Some job)) same (
+        a,
+        open_both s id x a within read opened found,
+        subst (λ (z : ℕ × ℕ). IsNext z.0 (rewound a) z.1) (λ i. (is i, sym of.1 i)) next,
+        of.0,
+        of.2,
+        subst (λ (z : List (Token Snapshot) × ℕ). slice_get z.0 z.1 ≡ Some job.version) (λ i. (versions i, sym of.1 i)) version,
+      )
+
+  pub missed_none : (o s : State S) (id latest : ℕ) (a : Sub S) → s ≡ o → id < length s.subs → a ≡ get_or s.subs id a → latest ≡ length s.changes
+      → ((n : ℕ) → ¬ IsDue latest (rewound a) n) → Misses o id None
+  missed_none o s id latest a same within found is none =
+      subst (λ (y : State S). Misses y id None) same (λ b is_open n due.
+      let one : b ≡ a = same_Some b a (sym is_open.0 ∙ reads s id a within found) in
+      none n (subst (λ (z : ℕ × Sub S). IsDue z.0 (rewound z.1) n) (λ i. (sym is i, one i)) due))
+
+  -- no open subscriber has the id
+  pub missed_unknown : (o : State S) (id : ℕ) → HasNone o id → Misses o id None
+  missed_unknown o id none = λ a is_open n due. true≢false (sym (none a is_open.0) ∙ is_open.1)
 
   -- the sink of the subscriber that was read
   pub sink_there : (o s : State S) (id : ℕ) (a : Sub S) (sink : S) → s ≡ o → id < length s.subs → a ≡ get_or s.subs id a → sink ≡ a.sink → (x : Sub S) × (slice_get o.subs id ≡ Some x) × (sink ≡ x.sink)

@@ -5,7 +5,7 @@ use Rattle.meaning.specs.Step.{Program}
 use Rattle.span_flatten.specs.Version.{Snapshot}
 use Rattle.version_history.specs.Tokens.{Token}
 use Rattle.batches.specs.Batches.{Entry, Slip}
-use Rattle.batches.specs.Feed.{Sub, IsFed, IsWanted, IsDue, IsNext, Moved, Stops, fresh, holding, nothing_held}
+use Rattle.batches.specs.Feed.{Sub, IsFed, IsWanted, IsDue, IsNext, Moved, Stops, fresh, holding, rewound, nothing_held}
 use Rattle.change_history.specs.Accepted.{IsAccepted, IsRefused}
 use Rattle.change_history.specs.VersionAt.{IsVersionAt}
 use Rattle.change_history.specs.declared.refusal.SubmitError.{SubmitError}
@@ -60,6 +60,13 @@ TakesJob {S} s (Some job) s' =
     × (slice_get s.versions job.number ≡ Some job.version) × (s' ≡ with_sub s job.subscriber (record a { handed = job.number + 1 }))
 TakesJob {S} s None s' = (s' ≡ s) × ((id : ℕ) (a : Sub S) → IsOpen s id a → (n : ℕ) → ¬ IsDue (length s.changes) a n)
 
+-- the job of the first version that this open subscriber waits for, as it would be handed out again; or it waits for none
+abbrev pub Misses : {S : Type 0} → State S → ℕ → Option Slip → Type 0
+Misses {S} s id (Some job) =
+    (a : Sub S) × IsOpen s id a × IsNext (length s.changes) (rewound a) job.number × (job.subscriber ≡ id) × (job.program ≡ a.program)
+    × (slice_get s.versions job.number ≡ Some job.version)
+Misses {S} s id None = (a : Sub S) → IsOpen s id a → (n : ℕ) → ¬ IsDue (length s.changes) (rewound a) n
+
 -- what the subscriber with an id is found to have
 abbrev pub FindsAt : {S : Type 0} → State S → ℕ → Option ℕ → Type 0
 FindsAt {S} s id (Some n) = (a : Sub S) × IsOpen s id a × IsNext (length s.changes) a n
@@ -79,7 +86,7 @@ Commits {S} s b (Err commit.Stale) s' = (s' ≡ s) × (a : Sub S) × IsOpen s b.
 
 -- what is not held may be handed out again
 abbrev pub Reissues : {S : Type 0} → State S → ℕ → Result (Unit {0}) NoSubscriber → State S → Type 0
-Reissues {S} s id (Ok _) s' = (a : Sub S) × IsOpen s id a × (s' ≡ with_sub s id (record a { handed = a.cursor }))
+Reissues {S} s id (Ok _) s' = (a : Sub S) × IsOpen s id a × (s' ≡ with_sub s id (rewound a))
 Reissues s id (Err _) s' = (s' ≡ s) × HasNone s id
 
 -- closed for good, with nothing held; what was sent stays

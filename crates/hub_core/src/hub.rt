@@ -1,5 +1,6 @@
 ghost use Rattle.std.specs.Prelude.{◌≡◌, ◌+◌, ◌<◌, ◌≤◌, ◌↔◌, ◌++◌, ◌∷◌, [], Some, length, map, slice_get, IsTrue, IfOk, OnOk, MatchOption, vec_len, vec_capacity};
 ghost use Rattle.change_ops.specs.Changes.{Edit};
+ghost use Rattle.meaning.specs.Safe.{Safe};
 ghost use Rattle.span_flatten.specs.Version.{IsVersion};
 ghost use Rattle.batches.specs.Feed.{Sub};
 ghost use Rattle.change_history.specs.Accepted.{AreAccepted, operations_of};
@@ -8,7 +9,7 @@ ghost use Rattle.change_history.specs.VersionAt.{IsVersionAt};
 ghost use Rattle.hub_core.specs.Stream.{BeginsStream};
 ghost use Rattle.hub_core.specs.Runs.{CommitsJob};
 ghost use Rattle.hub_core.specs.Accepting.{Accepts};
-ghost use Rattle.hub_core.specs.Machine.{IsStart, Submits, Subscribes, Commits, Pumps, Reissues, Closes, TakesJob, FindsAt, FindsJob};
+ghost use Rattle.hub_core.specs.Machine.{IsStart, Submits, Subscribes, Commits, Pumps, Reissues, Closes, TakesJob, Misses, FindsAt, FindsJob};
 
 use crate::error::{CommitError, NoSubscriber, SubscribeError};
 use batches::batch::Batch;
@@ -236,6 +237,21 @@ impl<'p, N: Naming, S: Sink<Item<N>>> Core<'p, N, S> {
         Some(sub.hand_out(id, number, self.versions.as_slice()))
     }
 
+    /// The job of the first version that an open subscriber waits for, whoever it was handed out to; None only where it waits
+    /// for none. Nothing is handed out.
+    pub fn missing_job(&self, id: usize) -> Option<Job<N>>
+        ensures { Misses self.now id result }
+    {
+        if id >= self.subs.len() || self.subs[id].is_closed() {
+            return None;
+        }
+        let sub = &self.subs[id];
+        let Some(number) = sub.missing_version(latest(&self.history)) else {
+            return None;
+        };
+        Some(sub.job_of(id, number, self.versions.as_slice()))
+    }
+
     /// Holds a batch, if its subscriber waits for it.
     pub fn commit(&mut self, batch: Batch<N>) -> Result<(), CommitError>
         ensures commits { Commits self.old batch result self.new }
@@ -299,11 +315,12 @@ impl<'p, N: Naming, S: Sink<Item<N>>> Core<'p, N, S> {
         Ok(())
     }
 
-    /// A subscriber's sink, also of a closed one; None for an unknown id. What it was sent is a beginning of the stream of its program
-    /// over the accepted changes, from the subscriber's first version to the last.
+    /// A subscriber's sink, also of a closed one; None for an unknown id. What it was sent is a beginning of the stream of its program,
+    /// of which every run ends with a number, over the accepted changes, from the subscriber's first version to the last.
     pub fn sink(&self, id: usize) -> Option<&S>
         ensures value { MatchOption result (length self.now.subs ≤ id) (λ sink. (a : Sub S) × (slice_get self.now.subs id ≡ Some a) × (sink.now ≡ a.sink)) }
         ensures stream { (a : Sub S) → slice_get self.now.subs id ≡ Some a → BeginsStream a.program.value self.now.changes a.first (length self.now.changes) (map (λ item. item.what) (S.sent a.sink)) }
+        ensures safe { (a : Sub S) → slice_get self.now.subs id ≡ Some a → Safe a.program.value }
     {
         if id >= self.subs.len() {
             return None;

@@ -24,7 +24,10 @@ pub enum Command {
     /// To assemble it.
     Asm,
     /// To say whether the program that it is in hexadecimal is accepted.
-    Check,
+    Check {
+        /// Whether to say also what the verifier knows of it.
+        explain: bool,
+    },
     /// To print the text of the program that it is in hexadecimal.
     Dis,
     /// To run a program, in hexadecimal, on the span whose text it is.

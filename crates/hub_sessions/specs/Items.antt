@@ -1,10 +1,25 @@
 -- What a session prints of the items that it takes.
+use Rattle.std.specs.Prelude.{◌≡◌, ℕ, List, [], ◌∷◌, ◌++◌, length}
+use Rattle.std.specs.List.{flat_map}
 use Rattle.batches.specs.declared.item.Finding.{Finding}
 use Rattle.batches.specs.declared.item.Finding.TheVariants as finding
+use Rattle.batches.specs.Batches.{Entry}
+use Rattle.session_lines.specs.Replies.{reply_text}
 use Rattle.session_lines.specs.declared.reply.Reply.{Reply}
 use Rattle.session_lines.specs.declared.reply.Reply.TheVariants as reply
 
--- the line of an item
+-- what is printed of a finding
 abbrev pub item_reply : Finding → Reply
 item_reply (finding.Hit version span verdict) = reply.Hit version span verdict
 item_reply (finding.End version spans) = reply.End version spans
+
+-- the line of an item, with its LF
+abbrev pub item_line : Entry → List ℕ
+item_line item = reply_text (item_reply item.what) ++ 10 ∷ []
+
+-- so many items were taken behind those that were taken before, and their lines appended in the same order
+pub record Takes (count : ℕ) (taken taken' : List Entry) (out out' : List ℕ) : Type 0 where
+  pub items : List Entry
+  pub next : taken' ≡ taken ++ items
+  pub printed : out' ≡ out ++ flat_map item_line items
+  pub many : length items ≡ count

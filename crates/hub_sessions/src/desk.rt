@@ -1,7 +1,9 @@
-ghost use Rattle.std.specs.Prelude.{◌≤◌, ◌<◌, IfSome, length};
+ghost use Rattle.std.specs.Prelude.{◌≡◌, ◌≤◌, ◌==◌};
+ghost use Rattle.hub_sessions.specs.Holding.{place_in};
 
 use ingest_workers::hub::Hub;
 use std::alloc::Global;
+use std::marker::Model;
 use std::sync::Wait;
 use std::sync::ledger::Ledger;
 use subscriber_queues::ends::Subscription;
@@ -18,21 +20,32 @@ pub(crate) struct Desk<'s, 'p, N: Naming + Ledger, R: Wait + Copy> {
     ghost range: { (1 ≤ workers) × (workers ≤ 16) },
 }
 
-/// A subscriber that the session made and hasn't closed, and the session's end of its queue.
+/// A subscriber that the session made and hasn't closed, and the session's end of its queue. Contracts see its id and what was
+/// taken.
 #[derive(Drop)]
 pub(crate) struct Held<N: Naming, R: Wait + Copy> {
     pub(crate) id: usize,
     pub(crate) items: Subscription<N, R>,
 }
 
+impl<N: Naming, R: Wait + Copy> Model for Held<N, R> {
+    ghost use Rattle.hub_sessions.specs.Holding.{Watched};
+
+    ghost Value = { Watched };
+
+    ghost view = { λ h. record { id = h.id; taken = h.items } };
+}
+
+/// Whether it has this id.
+fn has_id<N: Naming, R: Wait + Copy>(one: &Held<N, R>, id: usize) -> bool
+    ensures { result ≡ (one.now.id == id) }
+{
+    one.id == id
+}
+
 /// Where the subscriber of an id is among these.
 pub(crate) fn place_of<N: Naming, R: Wait + Copy>(held: &[Held<N, R>], id: usize) -> Option<usize>
-    ensures { IfSome result (λ place. place < length held.now) }
+    ensures { result ≡ place_in held.now id }
 {
-    for place in 0..held.len() {
-        if held[place].id == id {
-            return Some(place);
-        }
-    }
-    None
+    held.iter().position(|one| has_id(one, id))
 }

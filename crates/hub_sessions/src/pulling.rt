@@ -1,10 +1,11 @@
-ghost use Rattle.std.specs.Prelude.{◌≡◌, ◌≤◌, ◌+◌, IfOk};
-ghost use Rattle.hub_sessions.specs.Items.{item_reply};
+ghost use Rattle.std.specs.Prelude.{◌≡◌, ◌≤◌, IfOk, string_bytes};
+ghost use Rattle.hub_sessions.specs.Holding.{Pulls, PullsAny};
+ghost use Rattle.hub_sessions.specs.Items.{item_reply, Takes};
 
 use crate::desk::{Desk, Held, place_of};
-use batches::item::{Finding, Item};
+use batches::item::Finding;
 use filter_workers::gate::Open;
-use filter_workers::work::work;
+use filter_workers::work::{catch_up, work};
 use refusals::reason::Reason;
 use session_lines::reply::Reply;
 use std::alloc::AllocError;
@@ -38,7 +39,7 @@ fn take_waiting<N: Naming, R: Wait + Copy>(
     most: usize,
     out: &mut String,
 ) -> Result<usize, AllocError>
-    ensures { IfOk result (λ taken. taken ≤ most) }
+    ensures { IfOk result (λ taken. (taken ≤ most) × Takes taken items.old items.new (string_bytes out.old) (string_bytes out.new)) }
 {
     for taken in 0..most {
         let Some(item) = items.take() else {
@@ -50,56 +51,76 @@ fn take_waiting<N: Naming, R: Wait + Copy>(
 }
 
 impl<N: Naming + Ledger + Send + Sync, R: Threads + Wait + Copy + Send + Sync> Desk<'_, '_, N, R> {
-    /// Has items sent and takes them, until so many are taken or none is left. It answers how many are still to be taken.
+    /// Has items sent and takes them, until so many are taken or none is left. It answers how many.
     fn drain(
         &self,
-        one: &mut Held<N, R>,
+        id: usize,
+        items: &mut Subscription<N, R>,
         most: usize,
         out: &mut String,
-    ) -> Result<usize, AllocError> {
-        let mut left = most;
-        for _ in 0..most {
-            let _ = self.hub.pump(&self.rt, one.id);
-            let taken = take_waiting(&mut one.items, left, out)?;
-            left -= taken;
-            if taken == 0 {
+    ) -> Result<usize, AllocError>
+        ensures { IfOk result (λ taken. (taken ≤ most) × Takes taken items.old items.new (string_bytes out.old) (string_bytes out.new)) }
+    {
+        let mut taken = 0;
+        for _round in 0..most {
+            let _ = self.hub.pump(&self.rt, id);
+            let more = take_waiting(items, most - taken, out)?;
+            taken += more;
+            if more == 0 {
                 break;
             }
         }
-        Ok(left)
+        Ok(taken)
     }
 
-    /// Works until no job is left and takes items, until so many are taken or none is there.
+    /// Computes the batches that no worker computes yet, of all subscribers, and then the first one that this subscriber waits
+    /// for, whoever else computes it. It answers whether the subscriber waited for one.
+    fn compute(&self, id: usize) -> Result<bool, AllocError> {
+        work(
+            &self.rt,
+            self.alloc,
+            self.hub,
+            self.published,
+            &Open,
+            self.workers,
+            u32::MAX,
+        )?;
+        catch_up(
+            &self.rt,
+            self.alloc,
+            self.hub,
+            self.published,
+            id,
+            self.workers,
+        )
+    }
+
+    /// Computes and takes items, until so many are taken or none is due.
+    ///
+    /// A round in which the subscriber waited for a batch takes an item at least, the end of that batch's version or one before it. A
+    /// round in which it waited for none, and then no item was to be had, has all versions behind it that were published before.
     fn pull_from(
         &self,
-        one: &mut Held<N, R>,
+        id: usize,
+        items: &mut Subscription<N, R>,
         count: usize,
         out: &mut String,
-    ) -> Result<Reply, AllocError> {
-        let mut left = count;
-        for _ in 0..count {
-            let worked = work(
-                &self.rt,
-                self.alloc,
-                self.hub,
-                self.published,
-                &Open,
-                self.workers,
-                u32::MAX,
-            );
-            let rest = self.drain(one, left, out)?;
-            if worked.is_err() {
+    ) -> Result<Reply, AllocError>
+        ensures { IfOk result (Pulls count items.old items.new (string_bytes out.old) (string_bytes out.new)) }
+    {
+        let mut taken = 0;
+        for _round in 0..count {
+            let computed = self.compute(id);
+            let more = self.drain(id, items, count - taken, out)?;
+            taken += more;
+            let Ok(waited) = computed else {
                 return Ok(Reply::Refused(Reason::OutOfMemory));
-            }
-            if rest == left {
-                break;
-            }
-            left = rest;
-            if left == 0 {
+            };
+            if taken == count || (more == 0 && !waited) {
                 break;
             }
         }
-        Ok(Reply::Items(count.saturating_sub(left)))
+        Ok(Reply::Items(taken))
     }
 
     /// Takes items of a subscriber of the session, appends their lines, and answers what is printed behind them.
@@ -109,13 +130,13 @@ impl<N: Naming + Ledger + Send + Sync, R: Threads + Wait + Copy + Send + Sync> D
         id: usize,
         count: usize,
         out: &mut String,
-    ) -> Result<Reply, AllocError> {
-        match place_of(held.as_slice(), id) {
-            Some(place) => {
-                let one = &mut held[place];
-                self.pull_from(one, count, out)
-            }
-            None => Ok(Reply::Refused(Reason::NoSubscriber)),
-        }
+    ) -> Result<Reply, AllocError>
+        ensures { IfOk result (PullsAny id count held.old.items held.new.items (string_bytes out.old) (string_bytes out.new)) }
+    {
+        let Some(place) = place_of(held.as_slice(), id) else {
+            return Ok(Reply::Refused(Reason::NoSubscriber));
+        };
+        let one = &mut held[place];
+        self.pull_from(one.id, &mut one.items, count, out)
     }
 }

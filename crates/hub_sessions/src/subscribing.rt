@@ -1,4 +1,5 @@
-ghost use Rattle.std.specs.Prelude.{◌≡◌, [], IfOk};
+ghost use Rattle.std.specs.Prelude.{◌≡◌, [], IfOk, IfErr};
+ghost use Rattle.hub_sessions.specs.Holding.{Subscribes, Closes};
 
 use crate::desk::{Desk, Held, place_of};
 use bpf_words::words::Words;
@@ -57,7 +58,10 @@ impl<N: Naming + Ledger, R: Wait + Copy> Desk<'_, '_, N, R> {
         held: &mut Vec<Held<N, R>>,
         capacity: usize,
         bytes: &[u8],
-    ) -> Result<usize, Reason> {
+    ) -> Result<usize, Reason>
+        ensures ok { IfOk result (λ id. Subscribes held.old.items (Reply.Subscribed id) held.new.items) }
+        ensures err { IfErr result (λ reason. Subscribes held.old.items (Reply.Refused reason) held.new.items) }
+    {
         let program = accepted(self.alloc, bytes)?;
         if self.hub.is_full(&self.rt) {
             return Err(Reason::SubscribersFull);
@@ -83,7 +87,9 @@ impl<N: Naming + Ledger, R: Wait + Copy> Desk<'_, '_, N, R> {
         held: &mut Vec<Held<N, R>>,
         capacity: usize,
         bytes: &[u8],
-    ) -> Reply {
+    ) -> Reply
+        ensures { Subscribes held.old.items result held.new.items }
+    {
         match self.add(held, capacity, bytes) {
             Ok(id) => Reply::Subscribed(id),
             Err(reason) => Reply::Refused(reason),
@@ -91,14 +97,15 @@ impl<N: Naming + Ledger, R: Wait + Copy> Desk<'_, '_, N, R> {
     }
 
     /// Closes a subscriber of the session.
-    pub(crate) fn close(&self, held: &mut Vec<Held<N, R>>, id: usize) -> Reply {
+    pub(crate) fn close(&self, held: &mut Vec<Held<N, R>>, id: usize) -> Reply
+        ensures { Closes held.old.items id result held.new.items }
+    {
         let Some(place) = place_of(held.as_slice(), id) else {
             return Reply::Refused(Reason::NoSubscriber);
         };
         let one = held.remove(place);
-        match self.hub.close(&self.rt, one.id) {
-            Ok(()) => Reply::Closed(id),
-            Err(_) => Reply::Refused(Reason::NoSubscriber),
-        }
+        // Refused where the hub has it as closed, which it then is.
+        let _ = self.hub.close(&self.rt, one.id);
+        Reply::Closed(id)
     }
 }

@@ -1,5 +1,5 @@
 //! Tests of the program's commands of what no clause says and no case of `hub_cases` shows: devices that fail, random
-//! histories, and that there is help.
+//! histories, random sessions with refused requests, and that there is help.
 #![tactic(auto)]
 
 #[cfg(test)]
@@ -10,3 +10,7 @@ mod devices;
 mod help;
 #[cfg(test)]
 mod random_histories;
+#[cfg(test)]
+mod refused_requests;
+#[cfg(test)]
+mod spoiled_sessions;

@@ -1,7 +1,8 @@
 ghost use Rattle.std.specs.Prelude.{◌≡◌, ◌+◌, ◌≤◌, ◌↔◌, [], Some, Err, length, map, slice_get, IsTrue, OnOk, OnErr, MatchOption};
+ghost use Rattle.meaning.specs.Safe.{Safe};
 ghost use Rattle.batches.specs.Feed.{Sub};
 ghost use Rattle.change_history.specs.Accepted.{AreAccepted};
-ghost use Rattle.hub_core.specs.Machine.{Submits, Subscribes, TakesJob, Commits, Pumps, Reissues, Closes};
+ghost use Rattle.hub_core.specs.Machine.{Submits, Subscribes, TakesJob, Misses, Commits, Pumps, Reissues, Closes};
 ghost use Rattle.hub_core.specs.Stream.{BeginsStream};
 ghost use Rattle.subscriber_queues.specs.Queue.{Sending, was_sent, IsFull};
 
@@ -90,6 +91,14 @@ impl<'p, N: Naming + Ledger, R: Wait + Copy> Books<'p, N, R> {
         self.core.take_job()
     }
 
+    /// The job of the first version that an open subscriber waits for, whoever it was handed out to; None only where it waits
+    /// for none. Nothing is handed out.
+    pub fn missing_job(&self, id: usize) -> Option<Job<N>>
+        ensures { Misses self.now id result }
+    {
+        self.core.missing_job(id)
+    }
+
     /// Holds a batch, if its subscriber waits for it.
     pub fn commit(&mut self, batch: Batch<N>) -> Result<(), CommitError>
         ensures commits { Commits self.old batch result self.new }
@@ -128,11 +137,12 @@ impl<'p, N: Naming + Ledger, R: Wait + Copy> Books<'p, N, R> {
         self.core.count()
     }
 
-    /// A subscriber's queue, also of a closed one; None for an unknown id. What it was sent is a beginning of the stream of its program
-    /// over the accepted changes, from the subscriber's first version to the last.
+    /// A subscriber's queue, also of a closed one; None for an unknown id. What it was sent is a beginning of the stream of its program,
+    /// of which every run ends with a number, over the accepted changes, from the subscriber's first version to the last.
     pub fn sink(&self, id: usize) -> Option<&QueueSink<N, R>>
         ensures value { MatchOption result (length self.now.subs ≤ id) (λ sink. (a : Sub Sending) × (slice_get self.now.subs id ≡ Some a) × (sink.now ≡ a.sink)) }
         ensures stream { (a : Sub Sending) → slice_get self.now.subs id ≡ Some a → BeginsStream a.program.value self.now.changes a.first (length self.now.changes) (map (λ item. item.what) a.sink.sent) }
+        ensures safe { (a : Sub Sending) → slice_get self.now.subs id ≡ Some a → Safe a.program.value }
     {
         self.core.sink(id)
     }

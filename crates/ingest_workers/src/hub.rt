@@ -1,5 +1,5 @@
 ghost use Rattle.std.specs.Prelude.{◌≡◌, ◌≤◌, ◌↔◌, [], Err, length, All, IsTrue, IfOk, vec_len};
-ghost use Rattle.hub_core.specs.Machine.{Subscribes, TakesJob, Commits, Pumps, Reissues, Closes};
+ghost use Rattle.hub_core.specs.Machine.{Subscribes, TakesJob, Misses, Commits, Pumps, Reissues, Closes};
 ghost use Rattle.subscriber_queues.specs.Queue.{was_sent, IsFull};
 ghost use Rattle.ingest_workers.specs.Holdings.{InOneHolding};
 
@@ -84,6 +84,14 @@ impl<'p, N: Naming + Ledger, R: Wait + Copy> Hub<'p, N, R> {
         ensures { InOneHolding (λ old new. TakesJob old result new) }
     {
         self.books.lock(rt).take_job()
+    }
+
+    /// The job of the first version that an open subscriber waits for, whoever it was handed out to; None only where it waited
+    /// for none. Nothing is handed out.
+    pub fn missing_job(&self, rt: &R, id: usize) -> Option<Job<N>>
+        ensures { InOneHolding (λ old new. (new ≡ old) × Misses old id result) }
+    {
+        self.books.lock(rt).missing_job(id)
     }
 
     /// Holds a batch, if its subscriber waits for it.

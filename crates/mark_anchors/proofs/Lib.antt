@@ -11,7 +11,9 @@ pub mod Deciding
 pub mod Gathering
 pub mod Values
 pub mod Commenting
+pub mod Grouping
 pub mod Uniform
 pub mod Cuts
 pub mod FormatLaws
 pub mod Painting
+pub mod Stretching

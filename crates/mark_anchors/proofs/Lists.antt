@@ -50,3 +50,9 @@ pub pushed_still : {X : Type 0} (xs : List X) (y : X) (i : ℕ) (x : X) → slic
 pushed_still [] y i x g = absurd (none-some x g)
 pushed_still (z ∷ zs) y zero x g = g
 pushed_still (z ∷ zs) y (suc i) x g = pushed_still zs y i x g
+
+-- there is an element at each place
+pub item_at : {X : Type 0} (xs : List X) (i : ℕ) → i < length xs → (x : X) × (slice_get xs i ≡ Some x)
+item_at [] i less = absurd (omega arith)
+item_at (x ∷ xs) zero less = (x, refl)
+item_at (x ∷ xs) (suc i) less = item_at xs i (omega arith)

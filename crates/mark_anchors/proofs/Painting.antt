@@ -1,5 +1,5 @@
 -- Marks painted over places, one after another.
-use Rattle.std.proofs.Common.{◌≡◌, ℕ, ◌+◌, ◌<◌, ◌≤◌, ◌↔◌, List, [], ◌∷◌, ◌++◌, Option, Some, None, length, get_or, sym, ap, refl, ◌∙◌, subst, ⊎_elim, arith, rules, Bor}
+use Rattle.std.proofs.Common.{◌≡◌, ℕ, ◌+◌, ◌<◌, ◌≤◌, ◌↔◌, List, [], ◌∷◌, ◌++◌, Option, Some, None, inl, inr, length, get_or, sym, ap, refl, ◌∙◌, subst, ⊎_elim, arith, rules, Bor}
 use Rattle.std.specs.List.{slice_get, Contains}
 use Rattle.std.proofs.Math.ListN.{set}
 use Rattle.std.proofs.lemmas.List.{length-set}
@@ -11,7 +11,7 @@ use Rattle.std.specs.declared.result.Result.TheVariants.{Ok, Err}
 use Rattle.std.specs.Option.{option_copied}
 use Rattle.std.specs.Slice.{IsItemAt}
 use Rattle.std.proofs.lemmas.Bool.{cases_lt, false≢true, ltb-true, lt-ltb}
-use Rattle.std.proofs.lemmas.List.Elements.{Contains-append_left, Contains-push}
+use Rattle.std.proofs.lemmas.List.Elements.{Contains-append_left, Contains-push, Contains-push_cases}
 use Rattle.std.proofs.lemmas.List.Kept.{AllPairs-from_increasing}
 use Rattle.std.proofs.lemmas.List.Sorted.{searched, searchable_from_sorted}
 use Rattle.std.proofs.lemmas.Option.{same_Some, slice_get_within, slice_get_past, slice_get_read, get_or_from_slice_get}
@@ -20,13 +20,13 @@ use Rattle.change_ops.specs.declared.id.OpId.{OpId}
 use Rattle.change_ops.proofs.IdLaws.{compares_ids}
 use Rattle.char_sequence.proofs.Lists.{slice_get_set_same, slice_get_set_other}
 use Rattle.mark_anchors.specs.Placed.{CoversPlace, IsBest}
-use Rattle.mark_anchors.specs.KeyMarks.{AreById, IsCountBelow, IsCountUpTo, ArePainted, AreOver, numbered}
+use Rattle.mark_anchors.specs.KeyMarks.{AreById, IsEndOf, IsCountBelow, IsCountUpTo, ArePainted, AreOver, numbered}
 use Rattle.mark_anchors.specs.declared.placed.PlacedMark.{PlacedMark}
 use Rattle.mark_anchors.proofs.Deciding.{best_new, more_skipped}
 use Rattle.mark_anchors.proofs.Lists.{contains_at, contains_from}
 
 -- ---- how many places are before one
-ascending : (xs : List ℕ) → IsStrictlyIncreasing xs → (i j : ℕ) → i ≤ j → j < length xs → get_or xs i 0 ≤ get_or xs j 0
+pub ascending : (xs : List ℕ) → IsStrictlyIncreasing xs → (i j : ℕ) → i ≤ j → j < length xs → get_or xs i 0 ≤ get_or xs j 0
 ascending xs rising i j le within =
     ⊎_elim
     (λ (less : i < j). let low : get_or xs i 0 < get_or xs j 0 = AllPairs-from_increasing xs rising i j 0 less within in omega arith)
@@ -262,3 +262,15 @@ places_more old mid new a b first second = (
   subst (λ (l : List ℕ). Contains l a) (sym second) (Contains-append_left mid (b ∷ []) a (subst (λ (l : List ℕ). Contains l a) (sym first) (Contains-push old a))),
   subst (λ (l : List ℕ). Contains l b) (sym second) (Contains-push mid b),
 )
+
+-- and each place of the new list is one at which a mark begins or ends
+pub ends_more : (marks : List PlacedMark) (mark : PlacedMark) (old mid new : List ℕ) → Contains marks mark → mid ≡ old ++ mark.start ∷ [] → new ≡ mid ++ mark.end ∷ [] → ((c : ℕ) → Contains old c → IsEndOf marks c) → (c : ℕ) → Contains new c → IsEndOf marks c
+ends_more marks mark old mid new there first second all c held =
+    ⊎_elim
+    (λ (before : Contains mid c).
+    ⊎_elim
+    (λ (older : Contains old c). all c older)
+    (λ (start : mark.start ≡ c). (mark, there, inl start))
+    (Contains-push_cases old mark.start c (subst (λ (l : List ℕ). Contains l c) first before)))
+    (λ (end : mark.end ≡ c). (mark, there, inr end))
+    (Contains-push_cases mid mark.end c (subst (λ (l : List ℕ). Contains l c) second held))

@@ -20,7 +20,7 @@ use Rattle.mark_anchors.specs.Formatting.{Formatting}
 use Rattle.mark_anchors.specs.Marks.{AreMarks}
 use Rattle.mark_anchors.specs.MarkRange.{IsRangeOf}
 use Rattle.mark_anchors.specs.Places.{IsBoundary, Lies}
-use Rattle.mark_anchors.specs.Ranges.{IsOfFormat, AreRanges, AreCuts, IsCut, IsUniform}
+use Rattle.mark_anchors.specs.Ranges.{IsOfFormat, AreRanges, AreCuts, IsUniform}
 use Rattle.mark_anchors.specs.declared.mark_range.MarkRange.{MarkRange}
 use Rattle.mark_anchors.specs.declared.ranges.FormattedRange.{FormattedRange}
 use Rattle.mark_anchors.proofs.Commenting.{rises}
@@ -114,9 +114,6 @@ boundary_within es (AfterCharacter x) n (k, (e, at, id), next) = let within : k 
 boundary_within es TextEnd n is = let at : n ≡ length es = is in omega arith
 
 -- ---- cuts
-pub cut_kept : (es : List Element) (old new : List ℕ) (o : Op) → ((c : ℕ) → Contains old c → Contains new c) → IsCut es old o → IsCut es new o
-cut_kept es old new o more cut = (cut.0, (cut.1.0, cut.1.1, more cut.0 cut.1.2, more cut.1.0 cut.1.3))
-
 -- the last of the first so many cuts, or the start
 abbrev pub IsReached : List ℕ → ℕ → ℕ → Type 0
 IsReached cuts k from = ((k ≡ 0) × (from ≡ 0)) ⊎ ((j : ℕ) × (k ≡ j + 1) × (slice_get cuts j ≡ Some from))

@@ -1,5 +1,5 @@
 -- The marks of a key by rising ids, painted over the places at which they begin and end.
-use Rattle.std.specs.Prelude.{◌≡◌, ℕ, ◌<◌, ◌≤◌, ◌↔◌, List, Option, Some, None, Contains, length, slice_get}
+use Rattle.std.specs.Prelude.{◌≡◌, ℕ, ◌<◌, ◌≤◌, ◌⊎◌, ◌↔◌, List, Option, Some, None, Contains, length, slice_get}
 use Rattle.std.specs.List.Sorted.{IsStrictlyIncreasing}
 use Rattle.change_ops.specs.Ids.{Less}
 use Rattle.mark_anchors.specs.Placed.{IsBest}
@@ -21,6 +21,14 @@ IsCountUpTo places place n = (j x : ℕ) → slice_get places j ≡ Some x → (
 abbrev pub numbered : List PlacedMark → Option ℕ → Option PlacedMark
 numbered marks None = None
 numbered marks (Some number) = slice_get marks number
+
+-- a mark begins or ends at the place
+abbrev pub IsEndOf : List PlacedMark → ℕ → Type 0
+IsEndOf marks place = (m : PlacedMark) × Contains marks m × ((m.start ≡ place) ⊎ (m.end ≡ place))
+
+-- none of the marks begins or ends behind the one place and before the other
+abbrev pub AreStill : List PlacedMark → ℕ → ℕ → Type 0
+AreStill marks place until = (m : PlacedMark) → Contains marks m → ((m.start ≤ place) ⊎ (until ≤ m.start)) × ((m.end ≤ place) ⊎ (until ≤ m.end))
 
 -- at each place the mark of this number is the greatest, among the first so many, of those that cover it
 pub record ArePainted (places : List ℕ) (marks : List PlacedMark) (count : ℕ) (numbers : List (Option ℕ)) : Type 0 where

@@ -8,6 +8,7 @@ pub mod Anchored
 pub mod Places
 pub mod Placed
 pub mod Commented
+pub mod Stretches
 pub mod KeyMarks
 pub mod Resolution
 pub mod Ranges

@@ -17,6 +17,14 @@ pub record IsPlaced (es : List Element) (key : Key) (o : Op) (p : PlacedMark) : 
   pub id : p.id ≡ id_of o
   pub lies : Lies es o p.start p.end
 
+-- the marks are the first so many operations with their places, in the same order
+pub record AreFirstMarks (es : List Element) (operations : List Op) (count : ℕ) (marks : List PlacedMark) : Type 0 where
+  pub sized : length marks ≡ count
+  pub placed : (i : ℕ) (p : PlacedMark) → slice_get marks i ≡ Some p → (p.index ≡ i) × ((o : Op) × (slice_get operations i ≡ Some o) × IsPlaced es p.key o p)
+
+abbrev pub AreAllPlaced : List Element → List Op → List PlacedMark → Type 0
+AreAllPlaced es operations marks = AreFirstMarks es operations (length operations) marks
+
 -- the marks are the operations of the key among the first so many
 pub record AreFirstPlaced (es : List Element) (operations : List Op) (key : Key) (count : ℕ) (marks : List PlacedMark) : Type 0 where
   pub placed : (i : ℕ) (p : PlacedMark) → slice_get marks i ≡ Some p → (o : Op) × (slice_get operations p.index ≡ Some o) × IsPlaced es key o p

@@ -3,9 +3,11 @@ use Rattle.std.specs.Prelude.{List}
 use Rattle.change_ops.specs.declared.attribute.Key.TheVariants.{Strong, Em, Link, Color}
 use Rattle.change_ops.specs.declared.operation.Op.{Op}
 use Rattle.char_sequence.specs.declared.sequence.Element.{Element}
-use Rattle.mark_anchors.specs.Placed.{ArePlaced}
+use Rattle.mark_anchors.specs.Placed.{AreAllPlaced, ArePlaced}
 use Rattle.mark_anchors.specs.Commented.{AreCommented}
 use Rattle.mark_anchors.specs.declared.placed.PlacedMark.{PlacedMark}
+use Rattle.mark_anchors.specs.Stretches.{AreStretches}
+use Rattle.mark_anchors.specs.declared.stretch.Stretch.{Stretch}
 use Rattle.mark_anchors.specs.declared.comments.CommentMarks.{CommentMarks}
 
 -- the marks, and the elements against which they were resolved
@@ -13,10 +15,12 @@ pub record Resolution : Type 0 where
   pub elements : List Element
   pub marks : List Op
 
--- the marks of each key
-pub record AreResolved (es : List Element) (operations : List Op) (strongs ems links colors : List PlacedMark) (commented : List CommentMarks) : Type 0 where
+-- all marks, and those of each key
+pub record AreResolved (es : List Element) (operations : List Op) (marks : List PlacedMark) (strongs ems links colors : List PlacedMark) (commented : List CommentMarks) (stretches : List Stretch) : Type 0 where
+  pub all : AreAllPlaced es operations marks
   pub strong : ArePlaced es operations Strong strongs
   pub em : ArePlaced es operations Em ems
   pub link : ArePlaced es operations Link links
   pub color : ArePlaced es operations Color colors
   pub comments : AreCommented es operations commented
+  pub along : AreStretches es operations commented stretches

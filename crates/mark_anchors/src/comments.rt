@@ -6,15 +6,16 @@ ghost use Rattle.char_sequence.specs.declared.sequence.Element.{Element};
 ghost use Rattle.char_sequence.specs.Order.{Shows, IsAt};
 ghost use Rattle.mark_anchors.specs.Format.{Bears};
 ghost use Rattle.mark_anchors.specs.Marks.{AreMarks};
-ghost use Rattle.mark_anchors.specs.Places.{IsOfKey};
-ghost use Rattle.mark_anchors.specs.Commented.{AreCommented};
+ghost use Rattle.mark_anchors.specs.Placed.{AreAllPlaced};
+ghost use Rattle.mark_anchors.specs.Stretches.{AreStretches};
+ghost use Rattle.mark_anchors.specs.Commented.{AreCommented, AreEmpty, AreGrouped, AreNumbered};
 
 use crate::key_marks::KeyMarks;
-use crate::placed::{holds_at, placed_marks};
+use crate::placed::PlacedMark;
+use crate::stretch::{Stretch, holds_along};
 use change_ops::attribute::{CommentNumber, Key};
 use change_ops::id::OpId;
 use change_ops::operation::Op;
-use char_sequence::sequence::Sequence;
 use smallvec::SmallVec;
 use std::alloc::{AllocError, Global};
 
@@ -25,29 +26,25 @@ pub(crate) struct CommentMarks {
     marks: KeyMarks,
 }
 
-/// The number of the comment that the operation adds or removes.
-fn comment_number(operation: &Op) -> Option<CommentNumber>
-    ensures { (n : ℕ) → IsOfKey (Key.Comment n) operation.now → result ≡ Some n }
+/// The number of the comment that the mark adds or removes.
+fn comment_number(mark: &PlacedMark) -> Option<CommentNumber>
+    ensures some { (n : ℕ) → result ≡ Some n → mark.now.key ≡ Key.Comment n }
+    ensures all { (n : ℕ) → mark.now.key ≡ Key.Comment n → result ≡ Some n }
 {
-    let key = match operation {
-        Op::AddMark { attribute, .. } => attribute.key(),
-        Op::RemoveMark { key, .. } => *key,
-        _ => return None,
-    };
-    match key {
-        Key::Comment(number) => Some(number),
+    match &mark.key {
+        Key::Comment(number) => Some(*number),
         _ => None,
     }
 }
 
 /// The numbers of all comments, rising.
-fn comment_numbers(alloc: Global, operations: &[Op]) -> Result<Vec<CommentNumber>, AllocError>
+fn comment_numbers(alloc: Global, marks: &[PlacedMark]) -> Result<Vec<CommentNumber>, AllocError>
     ensures rising { IfOk result (λ numbers. IsStrictlyIncreasing numbers.items) }
-    ensures every { IfOk result (λ numbers. (n : ℕ) (o : Op) → Contains operations.now o → IsOfKey (Key.Comment n) o → Contains numbers.items n) }
+    ensures every { IfOk result (λ numbers. AreNumbered marks.now numbers.items) }
 {
     let mut numbers = Vec::new(alloc);
-    for operation in operations {
-        if let Some(number) = comment_number(operation) {
+    for mark in marks {
+        if let Some(number) = comment_number(mark) {
             numbers.push(number)?;
         }
     }
@@ -56,43 +53,89 @@ fn comment_numbers(alloc: Global, operations: &[Op]) -> Result<Vec<CommentNumber
     Ok(numbers)
 }
 
+/// So many groups of no mark.
+fn empty_groups(alloc: Global, count: usize) -> Result<Vec<Vec<PlacedMark>>, AllocError>
+    ensures sized { IfOk result (λ groups. length groups.items ≡ count) }
+    ensures empty { IfOk result (λ groups. AreEmpty groups.items) }
+{
+    let mut groups = Vec::with_capacity(alloc, count)?;
+    for _group in 0..count {
+        groups.push(Vec::new(alloc))?;
+    }
+    Ok(groups)
+}
+
+/// Where the comment of the number stands.
+fn position_of(numbers: &[CommentNumber], number: CommentNumber) -> usize
+    requires rising { IsStrictlyIncreasing numbers.now }
+    requires there { Contains numbers.now number }
+    ensures { slice_get numbers.now result ≡ Some number }
+{
+    match numbers.binary_search(&number) {
+        Ok(position) => position,
+        Err(_) => unreachable!(),
+    }
+}
+
+/// The marks of each of the comments.
+fn grouped(
+    alloc: Global,
+    marks: &[PlacedMark],
+    numbers: &[CommentNumber],
+) -> Result<Vec<Vec<PlacedMark>>, AllocError>
+    requires rising { IsStrictlyIncreasing numbers.now }
+    requires every { AreNumbered marks.now numbers.now }
+    ensures sized { IfOk result (λ groups. length groups.items ≡ length numbers.now) }
+    ensures grouped { IfOk result (λ groups. (es : List Element) (operations : List Op) → AreAllPlaced es operations marks.now → AreGrouped es operations (length operations) numbers.now groups.items) }
+{
+    let mut groups = empty_groups(alloc, numbers.len())?;
+    for mark in marks {
+        if let Some(number) = comment_number(mark) {
+            groups[position_of(numbers, number)].push(*mark)?;
+        }
+    }
+    Ok(groups)
+}
+
 /// The marks of each comment, by rising numbers.
 pub(crate) fn comment_marks(
     alloc: Global,
-    sequence: &Sequence,
-    operations: &[Op],
+    marks: &[PlacedMark],
 ) -> Result<Vec<CommentMarks>, AllocError>
-    requires { (ops : List Op) × Shows sequence.now.elements ops × ((o : Op) → Contains operations.now o → Contains ops o) }
-    ensures { IfOk result (λ comments. AreCommented sequence.now.elements operations.now comments.items) }
+    ensures { IfOk result (λ comments. (es : List Element) (operations : List Op) → AreAllPlaced es operations marks.now → AreCommented es operations comments.items) }
 {
-    let numbers = comment_numbers(alloc, operations)?;
-    let mut comments = Vec::new(alloc);
-    for number in &numbers {
-        let marks = placed_marks(alloc, sequence, operations, &Key::Comment(*number))?;
+    let numbers = comment_numbers(alloc, marks)?;
+    let groups = grouped(alloc, marks, &numbers)?;
+    let mut comments = Vec::with_capacity(alloc, numbers.len())?;
+    for index in 0..numbers.len() {
         comments.push(CommentMarks {
-            number: *number,
-            marks,
+            number: numbers[index],
+            marks: KeyMarks::new(alloc, Vec::from_slice(alloc, &groups[index])?)?,
         })?;
     }
     Ok(comments)
 }
 
-/// The numbers of the comments at the place, rising.
+/// The numbers of the comments at the place, rising. Each is found by its stretch, if the place is in it.
 pub(crate) fn comments_at(
     alloc: Global,
     operations: &[Op],
     comments: &[CommentMarks],
+    stretches: &mut Vec<Stretch>,
     place: usize,
 ) -> Result<SmallVec<CommentNumber, 4>, AllocError>
-    requires { (es : List Element) × AreCommented es operations.now comments.now }
+    requires commented { (es : List Element) × AreCommented es operations.now comments.now }
+    requires sized { length stretches.old.items ≡ length comments.now }
+    ensures kept { (es : List Element) → AreCommented es operations.now comments.now → AreStretches es operations.now comments.now stretches.old.items → AreStretches es operations.now comments.now stretches.new.items }
     ensures rising { IfOk result (λ numbers. IsStrictlyIncreasing numbers.items) }
-    ensures borne { (es : List Element) (ops : List Op) (e : OpId) → Shows es ops → AreMarks ops operations.now → AreCommented es operations.now comments.now → IsAt es e place → IfOk result (λ numbers. (n : ℕ) → Contains numbers.items n ↔ Bears ops e (Attribute.Comment n)) }
+    ensures borne { (es : List Element) (ops : List Op) (e : OpId) → Shows es ops → AreMarks ops operations.now → AreCommented es operations.now comments.now → AreStretches es operations.now comments.now stretches.old.items → IsAt es e place → IfOk result (λ numbers. (n : ℕ) → Contains numbers.items n ↔ Bears ops e (Attribute.Comment n)) }
 {
-    let mut numbers = SmallVec::new(alloc);
-    for comment in comments {
-        if holds_at(operations, &comment.marks, place) {
+    let mut numbers = Vec::new(alloc);
+    for index in 0..comments.len() {
+        let comment = &comments[index];
+        if holds_along(operations, &comment.marks, &mut stretches[index], place) {
             numbers.push(comment.number)?;
         }
     }
-    Ok(numbers)
+    SmallVec::from_slice(alloc, &numbers)
 }

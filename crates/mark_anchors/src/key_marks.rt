@@ -1,13 +1,12 @@
 //! The marks of one key, painted in the order of their ids over the places at which they begin and end, so that the one with the
 //! greatest id is on top.
-ghost use Rattle.std.specs.Prelude.{◌≡◌, ◌<◌, ◌≤◌, ◌+◌, ℕ, List, Some, Contains, IfOk, length, slice_get};
+ghost use Rattle.std.specs.Prelude.{◌≡◌, ◌<◌, ◌≤◌, ◌+◌, ◌↔◌, ℕ, List, Some, Contains, IfOk, length, slice_get};
 ghost use Rattle.std.specs.List.Sorted.{IsStrictlyIncreasing, IsPermutation};
 ghost use Rattle.mark_anchors.specs.Placed.{IsBest};
-ghost use Rattle.mark_anchors.specs.KeyMarks.{AreById, IsCountBelow, IsCountUpTo, ArePainted};
+ghost use Rattle.mark_anchors.specs.KeyMarks.{AreById, AreStill, IsEndOf, IsCountBelow, IsCountUpTo, ArePainted};
 ghost use Rattle.mark_anchors.specs.declared.placed.PlacedMark.{PlacedMark};
 
 use crate::placed::PlacedMark;
-use crate::ranges::in_order;
 use std::alloc::{AllocError, Global};
 use std::marker::Model;
 
@@ -79,18 +78,28 @@ fn count_up_to(places: &[usize], place: usize) -> usize
     }
 }
 
-/// The places at which the marks begin and end, rising.
-fn places_of(alloc: Global, marks: &[PlacedMark]) -> Result<Vec<usize>, AllocError>
-    ensures rising { IfOk result (λ places. IsStrictlyIncreasing places.items) }
+/// The places, rising, each once.
+pub(crate) fn in_order(mut places: Vec<usize>) -> Vec<usize>
+    ensures rising { IsStrictlyIncreasing result.items }
+    ensures members { (c : ℕ) → Contains result.items c ↔ Contains places.items c }
+{
+    places.sort_unstable();
+    places.dedup();
+    places
+}
+
+/// The places at which the marks begin and end.
+pub(crate) fn places_of(alloc: Global, marks: &[PlacedMark]) -> Result<Vec<usize>, AllocError>
     ensures begins { IfOk result (λ places. (m : PlacedMark) → Contains marks.now m → Contains places.items m.start) }
     ensures ends { IfOk result (λ places. (m : PlacedMark) → Contains marks.now m → Contains places.items m.end) }
+    ensures no_other { IfOk result (λ places. (c : ℕ) → Contains places.items c → IsEndOf marks.now c) }
 {
-    let mut places = Vec::new(alloc);
+    let mut places = Vec::with_capacity(alloc, 2 * marks.len())?;
     for mark in marks {
         places.push(mark.start)?;
         places.push(mark.end)?;
     }
-    Ok(in_order(places))
+    Ok(places)
 }
 
 /// For each of the places the number of the mark that decides there.
@@ -116,13 +125,24 @@ impl KeyMarks {
         ensures { IfOk result (λ key_marks. IsPermutation marks.items key_marks) }
     {
         let marks = by_id(marks);
-        let places = places_of(alloc, &marks)?;
+        let places = in_order(places_of(alloc, &marks)?);
         let numbers = painted(alloc, &places, &marks)?;
         Ok(KeyMarks {
             marks,
             places,
             numbers,
         })
+    }
+
+    /// A place up to which no mark begins or ends behind this one.
+    pub(crate) fn next_place(&self, place: usize) -> usize
+        ensures { AreStill self.now place result }
+    {
+        let count = count_up_to(&self.places, place);
+        match self.places.get(count) {
+            Some(next) => *next,
+            None => usize::MAX,
+        }
     }
 
     /// The mark with the greatest id among those that cover the place.

@@ -12,3 +12,4 @@ pub mod marks;
 mod placed;
 pub mod ranges;
 pub mod resolved;
+mod stretch;

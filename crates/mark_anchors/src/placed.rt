@@ -1,116 +1,114 @@
 //! Marks with the places that they cover, so that no look-up by id is left.
-ghost use Rattle.std.specs.Prelude.{◌≡◌, ◌<◌, ◌⊎◌, ◌↔◌, ℕ, List, Some, Contains, MatchOption, IfOk, IsTrue, length, slice_get};
+ghost use Rattle.std.specs.Prelude.{◌≡◌, ◌<◌, ◌↔◌, ℕ, true, List, Some, Contains, IfOk, IsTrue, length, slice_get};
 ghost use Rattle.std.specs.Option.{option_copied};
 ghost use Rattle.change_ops.specs.Ids.{Less};
-ghost use Rattle.change_ops.specs.Operations.{AnchorNames, key_of};
+ghost use Rattle.change_ops.specs.Operations.{AnchorNames, is_mark, key_of};
 ghost use Rattle.char_sequence.specs.declared.sequence.Element.{Element};
 ghost use Rattle.char_sequence.specs.Tree.{Present};
 ghost use Rattle.char_sequence.specs.Order.{Shows, IsAt};
 ghost use Rattle.mark_anchors.specs.Format.{Bears};
 ghost use Rattle.mark_anchors.specs.Marks.{AreMarks};
-ghost use Rattle.mark_anchors.specs.Places.{IsBoundary, IsOfKey};
-ghost use Rattle.mark_anchors.specs.Placed.{IsPlaced, ArePlaced, IsBest, IsValue};
+ghost use Rattle.mark_anchors.specs.Places.{IsBoundary};
+ghost use Rattle.mark_anchors.specs.Placed.{IsPlaced, AreAllPlaced, ArePlaced, IsBest, IsValue};
 
 use crate::key_marks::KeyMarks;
+use crate::mark_range::mark_range;
 use change_ops::attribute::{Attribute, Color, Key, Link};
 use change_ops::id::OpId;
 use change_ops::operation::{Anchor, Op};
-use char_sequence::sequence::Sequence;
+use char_sequence::place_table::PlaceTable;
 use std::alloc::{AllocError, Global};
 
-/// A mark operation, by its index, with the places that it covers: from `start` up to `end`, which is not one of them.
+/// A mark operation, by its index, with its key and the places that it covers: from `start` up to `end`, which is not one of them.
 #[derive(Clone, Copy)]
 pub(crate) struct PlacedMark {
     pub(crate) index: usize,
     pub(crate) id: OpId,
+    pub(crate) key: Key,
     pub(crate) start: usize,
     pub(crate) end: usize,
 }
 
 /// The place of a character that is there.
-fn place_of(sequence: &Sequence, id: OpId) -> usize
-    requires { (ops : List Op) × Shows sequence.now.elements ops × Present ops id }
-    ensures { IsAt sequence.now.elements id result }
+fn place_of(places: &PlaceTable<'_>, id: OpId) -> usize
+    requires { (ops : List Op) × Shows places.now ops × Present ops id }
+    ensures { IsAt places.now id result }
 {
-    sequence.place_of(id).unwrap()
+    places.place_of(id).unwrap()
 }
 
 /// The number of characters, removed ones too, before the anchor.
-pub(crate) fn boundary(sequence: &Sequence, anchor: Anchor) -> usize
-    requires { (ops : List Op) × Shows sequence.now.elements ops × ((x : OpId) → AnchorNames anchor x → Present ops x) }
-    ensures { IsBoundary sequence.now.elements anchor result }
+pub(crate) fn boundary(places: &PlaceTable<'_>, anchor: Anchor) -> usize
+    requires { (ops : List Op) × Shows places.now ops × ((x : OpId) → AnchorNames anchor x → Present ops x) }
+    ensures { IsBoundary places.now anchor result }
 {
-    let count = sequence.len();
+    let count = places.len();
     match anchor {
         Anchor::TextStart => 0,
-        Anchor::BeforeCharacter(id) => place_of(sequence, id),
-        Anchor::AfterCharacter(id) => place_of(sequence, id) + 1,
+        Anchor::BeforeCharacter(id) => place_of(places, id),
+        Anchor::AfterCharacter(id) => place_of(places, id) + 1,
         Anchor::TextEnd => count,
     }
 }
 
-/// The operation with its places, if it is a mark operation of the key.
-fn placed_mark(sequence: &Sequence, operation: &Op, index: usize, key: &Key) -> Option<PlacedMark>
-    requires { (ops : List Op) × Shows sequence.now.elements ops × Contains ops operation.now }
-    ensures { MatchOption result (IsOfKey key.now operation.now → ⊥) (λ p. IsPlaced sequence.now.elements key.now operation.now p × (p.index ≡ index)) }
+/// The mark operation with its places.
+fn placed_mark(places: &PlaceTable<'_>, operation: &Op, index: usize) -> PlacedMark
+    requires mark { is_mark operation.now ≡ true }
+    requires shown { (ops : List Op) × Shows places.now ops × Contains ops operation.now }
+    ensures placed { IsPlaced places.now result.key operation.now result }
+    ensures index { result.index ≡ index }
 {
-    let (of, start, end) = match operation {
-        Op::AddMark {
-            attribute,
-            start,
-            end,
-            ..
-        } => (attribute.key(), *start, *end),
-        Op::RemoveMark {
-            key,
-            start,
-            end,
-            ..
-        } => (*key, *start, *end),
-        _ => return None,
+    let Some(range) = mark_range(operation) else {
+        unreachable!();
     };
-    if of != *key {
-        return None;
-    }
-    Some(PlacedMark {
+    PlacedMark {
         index,
         id: operation.id(),
-        start: boundary(sequence, start),
-        end: boundary(sequence, end),
-    })
+        key: range.key,
+        start: boundary(places, range.start),
+        end: boundary(places, range.end),
+    }
 }
 
-/// The mark operations of the key, each with its places.
-fn gathered(
+/// The mark operations with their places, each looked up once.
+pub(crate) fn placed_marks(
     alloc: Global,
-    sequence: &Sequence,
+    places: &PlaceTable<'_>,
     operations: &[Op],
-    key: &Key,
 ) -> Result<Vec<PlacedMark>, AllocError>
-    requires { (ops : List Op) × Shows sequence.now.elements ops × ((o : Op) → Contains operations.now o → Contains ops o) }
-    ensures { IfOk result (λ marks. ArePlaced sequence.now.elements operations.now key.now marks.items) }
+    requires { (ops : List Op) × Shows places.now ops × AreMarks ops operations.now }
+    ensures { IfOk result (λ marks. AreAllPlaced places.now operations.now marks.items) }
 {
-    let mut marks = Vec::new(alloc);
+    let mut marks = Vec::with_capacity(alloc, operations.len())?;
     for index in 0..operations.len() {
-        if let Some(mark) = placed_mark(sequence, &operations[index], index, key) {
-            marks.push(mark)?;
-        }
+        marks.push(placed_mark(places, &operations[index], index))?;
     }
     Ok(marks)
 }
 
-/// The mark operations of the key, so that the one that decides at a place is found.
-pub(crate) fn placed_marks(
+/// Those of the marks that are of the key.
+fn gathered(alloc: Global, marks: &[PlacedMark], key: &Key) -> Result<Vec<PlacedMark>, AllocError>
+    ensures { IfOk result (λ found. (es : List Element) (operations : List Op) → AreAllPlaced es operations marks.now → ArePlaced es operations key.now found.items) }
+{
+    let mut found = Vec::new(alloc);
+    for mark in marks {
+        if mark.key == *key {
+            found.push(*mark)?;
+        }
+    }
+    Ok(found)
+}
+
+/// Those of the marks that are of the key, so that the one that decides at a place is found.
+pub(crate) fn marks_of(
     alloc: Global,
-    sequence: &Sequence,
-    operations: &[Op],
+    marks: &[PlacedMark],
     key: &Key,
 ) -> Result<KeyMarks, AllocError>
-    requires { (ops : List Op) × Shows sequence.now.elements ops × ((o : Op) → Contains operations.now o → Contains ops o) }
-    ensures { IfOk result (λ marks. ArePlaced sequence.now.elements operations.now key.now marks) }
+    ensures { IfOk result (λ found. (es : List Element) (operations : List Op) → AreAllPlaced es operations marks.now → ArePlaced es operations key.now found) }
 {
-    let marks = gathered(alloc, sequence, operations, key)?;
-    KeyMarks::new(alloc, marks)
+    let found = gathered(alloc, marks, key)?;
+    KeyMarks::new(alloc, found)
 }
 
 /// What the deciding mark adds at the place.

@@ -1,19 +1,24 @@
-ghost use Rattle.std.specs.Prelude.{◌≡◌, ◌<◌, List, Some, IfOk, length, slice_get};
+ghost use Rattle.std.specs.Prelude.{◌≡◌, ◌<◌, ◌↔◌, ℕ, List, Some, Contains, IfOk, length, slice_get};
+ghost use Rattle.std.specs.List.Sorted.{IsStrictlyIncreasing};
+ghost use Rattle.change_ops.specs.declared.attribute.Attribute.{Attribute};
 ghost use Rattle.char_sequence.specs.declared.sequence.Element.{Element};
 ghost use Rattle.char_sequence.specs.Tree.{Present};
 ghost use Rattle.char_sequence.specs.Order.{Shows};
-ghost use Rattle.mark_anchors.specs.Format.{IsFormat};
+ghost use Rattle.mark_anchors.specs.Format.{Bears, IsFormat};
 ghost use Rattle.mark_anchors.specs.Marks.{AreMarks};
+ghost use Rattle.mark_anchors.specs.Ranges.{AreCuts};
 
 use crate::comments::{CommentMarks, comment_marks, comments_at};
 use crate::format::Format;
-use crate::key_marks::KeyMarks;
+use crate::key_marks::{KeyMarks, in_order, places_of};
 use crate::marks::Marks;
-use crate::placed::{color_at, holds_at, link_at, placed_marks};
-use change_ops::attribute::Key;
+use crate::placed::{PlacedMark, color_at, holds_at, link_at, marks_of, placed_marks};
+use crate::stretch::{Stretch, no_stretches};
+use change_ops::attribute::{CommentNumber, Key};
 use change_ops::id::OpId;
 use change_ops::operation::Op;
 use char_sequence::sequence::Sequence;
+use smallvec::SmallVec;
 use std::alloc::{AllocError, Global};
 use std::marker::Model;
 
@@ -22,11 +27,13 @@ use std::marker::Model;
 pub struct ResolvedMarks<'a> {
     sequence: &'a Sequence,
     operations: &'a [Op],
+    marks: Vec<PlacedMark>,
     strong: KeyMarks,
     em: KeyMarks,
     link: KeyMarks,
     color: KeyMarks,
     comments: Vec<CommentMarks>,
+    stretches: Vec<Stretch>,
 }
 
 impl<'a> Model for ResolvedMarks<'a> {
@@ -36,7 +43,7 @@ impl<'a> Model for ResolvedMarks<'a> {
 
     ghost view = { λ r. record { elements = r.sequence.now.elements; marks = r.operations.now } };
 
-    ghost invariant = { λ r. AreResolved r.sequence.now.elements r.operations.now r.strong r.em r.link r.color r.comments.items };
+    ghost invariant = { λ r. AreResolved r.sequence.now.elements r.operations.now r.marks.items r.strong r.em r.link r.color r.comments.items r.stretches.items };
 }
 
 impl Marks {
@@ -53,14 +60,19 @@ impl Marks {
         ensures marks { IfOk result (λ resolved. resolved.marks ≡ self.now) }
     {
         let operations = self.operations();
+        let places = sequence.place_table(alloc)?;
+        let marks = placed_marks(alloc, &places, operations)?;
+        let comments = comment_marks(alloc, &marks)?;
         Ok(ResolvedMarks {
             sequence,
             operations,
-            strong: placed_marks(alloc, sequence, operations, &Key::Strong)?,
-            em: placed_marks(alloc, sequence, operations, &Key::Em)?,
-            link: placed_marks(alloc, sequence, operations, &Key::Link)?,
-            color: placed_marks(alloc, sequence, operations, &Key::Color)?,
-            comments: comment_marks(alloc, sequence, operations)?,
+            strong: marks_of(alloc, &marks, &Key::Strong)?,
+            em: marks_of(alloc, &marks, &Key::Em)?,
+            link: marks_of(alloc, &marks, &Key::Link)?,
+            color: marks_of(alloc, &marks, &Key::Color)?,
+            stretches: no_stretches(alloc, comments.len())?,
+            comments,
+            marks,
         })
     }
 
@@ -81,10 +93,24 @@ impl Marks {
 }
 
 impl ResolvedMarks<'_> {
-    /// The format of the character at the place, which counts removed characters too.
-    pub fn format_at_place(&self, alloc: Global, place: usize) -> Result<Format, AllocError>
-        requires { place < length self.now.elements }
-        ensures { (ops : List Op) (e : Element) → Shows self.now.elements ops → AreMarks ops self.now.marks → slice_get self.now.elements place ≡ Some e → IfOk result (λ format. IsFormat ops e.id format) }
+    /// The places at which marks begin and end, and the end of the text.
+    pub(crate) fn cuts(&self, alloc: Global) -> Result<Vec<usize>, AllocError>
+        ensures { IfOk result (λ cuts. AreCuts self.now.elements self.now.marks cuts.items) }
+    {
+        let mut cuts = places_of(alloc, &self.marks)?;
+        cuts.push(self.sequence.len())?;
+        Ok(in_order(cuts))
+    }
+
+    /// The format at the place, with these comments.
+    fn format_with(
+        &self,
+        place: usize,
+        comments: SmallVec<CommentNumber, 4>,
+    ) -> Result<Format, AllocError>
+        requires within { place < length self.now.elements }
+        requires rising { IsStrictlyIncreasing comments.items }
+        ensures { (ops : List Op) (e : Element) → Shows self.now.elements ops → AreMarks ops self.now.marks → slice_get self.now.elements place ≡ Some e → ((n : ℕ) → Contains comments.items n ↔ Bears ops e.id (Attribute.Comment n)) → IfOk result (λ format. IsFormat ops e.id format) }
     {
         let operations = self.operations;
         let link = match link_at(operations, &self.link, place) {
@@ -96,7 +122,39 @@ impl ResolvedMarks<'_> {
             em: holds_at(operations, &self.em, place),
             link,
             color: color_at(operations, &self.color, place),
-            comments: comments_at(alloc, operations, &self.comments, place)?,
+            comments,
         })
+    }
+
+    /// The format of the character at the place, which counts removed characters too.
+    pub fn format_at_place(&self, alloc: Global, place: usize) -> Result<Format, AllocError>
+        requires { place < length self.now.elements }
+        ensures { (ops : List Op) (e : Element) → Shows self.now.elements ops → AreMarks ops self.now.marks → slice_get self.now.elements place ≡ Some e → IfOk result (λ format. IsFormat ops e.id format) }
+    {
+        let mut stretches = no_stretches(alloc, self.comments.len())?;
+        let comments = comments_at(
+            alloc,
+            self.operations,
+            &self.comments,
+            &mut stretches,
+            place,
+        )?;
+        self.format_with(place, comments)
+    }
+
+    /// The same, where what was found of the comments at an earlier place is used again.
+    pub(crate) fn format_along(&mut self, alloc: Global, place: usize) -> Result<Format, AllocError>
+        requires { place < length self.old.elements }
+        ensures same { self.new ≡ self.old }
+        ensures format { (ops : List Op) (e : Element) → Shows self.old.elements ops → AreMarks ops self.old.marks → slice_get self.old.elements place ≡ Some e → IfOk result (λ format. IsFormat ops e.id format) }
+    {
+        let comments = comments_at(
+            alloc,
+            self.operations,
+            &self.comments,
+            &mut self.stretches,
+            place,
+        )?;
+        self.format_with(place, comments)
     }
 }

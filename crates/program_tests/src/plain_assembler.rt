@@ -5,7 +5,7 @@ use std::alloc::{AllocError, Global};
 // What a line of assembler text stands for, by the pattern of its tokens.
 
 /// What a line is. The fields of a jump lack the distance to the label.
-#[derive(Clone, Copy, Debug, PartialEq, Eq)]
+#[derive(Clone, Copy)]
 pub enum Line<'a> {
     Blank,
     Label(&'a str),

@@ -1,5 +1,5 @@
 /// What an opcode byte stands for. `register`: the second operand is a register.
-#[derive(Clone, Copy, Debug, PartialEq, Eq)]
+#[derive(Clone, Copy)]
 pub enum Kind {
     Arithmetic { code: u8, bits: u32, register: bool },
     Negation { bits: u32 },
@@ -79,7 +79,7 @@ pub fn kind_of(opcode: u8) -> Kind {
 }
 
 /// The fields of a slot.
-#[derive(Clone, Copy, Debug, PartialEq, Eq)]
+#[derive(Clone, Copy)]
 pub struct Fields {
     pub opcode: u8,
     pub destination: u8,

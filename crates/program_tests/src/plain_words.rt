@@ -78,11 +78,11 @@ fn fault_in_slot(program: &[u8], slot: usize) -> Option<SlotFault> {
     let here = fields_at(program, slot);
     let kind = kind_of(here.opcode);
     let named = named_by(kind);
-    let wide = kind == Kind::WideLoad;
+    let wide = matches!(kind, Kind::WideLoad);
     let next = slot.saturating_add(1);
-    if kind == Kind::Unknown {
+    if matches!(kind, Kind::Unknown) {
         Some(SlotFault::UnknownOpcode)
-    } else if kind == Kind::OutOfProfile || (wide && here.source != 0) {
+    } else if matches!(kind, Kind::OutOfProfile) || (wide && here.source != 0) {
         Some(SlotFault::OutOfProfile)
     } else if wide && next >= program.len() / 8 {
         Some(SlotFault::TruncatedWide)

@@ -164,7 +164,7 @@ fn known_opcode(random: &mut Random) -> u8 {
 fn push_instruction(random: &mut Random, out: &mut Vec<u8>, opcode: u8) -> Result<(), AllocError> {
     let first = random_fields(random, opcode);
     out.extend_from_slice(&slot_bytes(&first))?;
-    if kind_of(opcode) == Kind::WideLoad {
+    if matches!(kind_of(opcode), Kind::WideLoad) {
         let second = Fields {
             opcode: 0,
             destination: 0,

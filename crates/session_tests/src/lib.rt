@@ -1,4 +1,4 @@
-//! Tests of sessions: over readers and writers that fail.
+//! Tests of sessions: over readers and writers that fail, and while others hold their subscribers' jobs.
 #![tactic(auto)]
 
 #[cfg(test)]
@@ -9,3 +9,5 @@ mod faults;
 mod lines;
 #[cfg(test)]
 mod replays;
+#[cfg(test)]
+mod taken_jobs;

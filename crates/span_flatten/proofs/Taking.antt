@@ -1,5 +1,5 @@
 -- The text is taken in range after range.
-use Rattle.std.proofs.Common.{◌≡◌, ℕ, zero, suc, ◌+◌, ◌-◌, ◌*◌, ◌<◌, ◌≤◌, Bool, true, false, cond, List, [], ◌∷◌, ◌++◌, Some, length, map, take, drop, refl, sym, ap, subst, ◌∙◌, arith, zero-add, append-nil, length-append, All, IsUtf8, encode_utf8_all, ⊎_elim}
+use Rattle.std.proofs.Common.{◌≡◌, ℕ, zero, suc, ◌+◌, ◌-◌, ◌*◌, ◌<◌, ◌≤◌, Bool, true, false, cond, List, [], ◌∷◌, ◌++◌, Some, length, map, take, drop, refl, sym, ap, subst, ◌∙◌, arith, zero-add, append-nil, length-append, length-drop, All, IsUtf8, encode_utf8_all, ⊎_elim}
 use Rattle.std.specs.List.{filter, slice_get, slice_range}
 use Rattle.std.specs.Str.{IsCharBoundary}
 use Rattle.std.proofs.lemmas.Bool.{cases_Bool}
@@ -257,19 +257,44 @@ taken_version elements marks place number text rows end t ops h m =
     }
 
 -- ---- from range to range
-pub record IsAlong (es : List Element) (marks : List Op) (ranges : List FormattedRange) (k : ℕ) (text : List ℕ) (rows : List Row) : Type 0 where
+pub record IsAlong (es : List Element) (marks : List Op) (ranges : List FormattedRange) (k : ℕ) (text : List ℕ) (rows : List Row) (left : List Element) : Type 0 where
   pub place : ℕ
   pub taken : IsTaken es marks place text rows
+  pub ahead : left ≡ drop place es
   pub next : (r : FormattedRange) → slice_get ranges k ≡ Some r → r.from ≡ place
   pub end : k ≡ length ranges → place ≡ length es
 
-pub along_none : (es : List Element) (marks : List Op) (ranges : List FormattedRange) → AreRanges es marks (length es) ranges → IsAlong es marks ranges 0 [] []
-along_none es marks ranges are = record { place = 0; taken = taken_none es marks; next = are.first; end = λ e. sym (are.none (sym e)) }
+pub along_none : (es : List Element) (marks : List Op) (ranges : List FormattedRange) (left : List Element) → left ≡ es → AreRanges es marks (length es) ranges → IsAlong es marks ranges 0 [] [] left
+along_none es marks ranges left whole are = record { place = 0; taken = taken_none es marks; ahead = whole; next = are.first; end = λ e. sym (are.none (sym e)) }
 
-pub along_more : (es : List Element) (marks : List Op) (ranges : List FormattedRange) (k : ℕ) (r : FormattedRange) (text text' : List ℕ) (rows rows' : List Row) → AreRanges es marks (length es) ranges → slice_get ranges k ≡ Some r → ((held : List Op) → IsOfFormat es held r → IsTaken es held r.from text rows → IsTaken es held r.to text' rows') → IsAlong es marks ranges k text rows → IsAlong es marks ranges (k + 1) text' rows'
-along_more es marks ranges k r text text' rows rows' are at more along = record {
-  place = r.to;
-  taken = more marks (are.formatted k r at) (subst (λ n. IsTaken es marks n text rows) (sym (along.next r at)) along.taken);
-  next = λ s g. are.next k r s at g;
-  end = λ e. are.last k r e at;
-}
+-- the cursor stands at the range's start
+pub along_ahead : (es : List Element) (marks : List Op) (ranges : List FormattedRange) (k : ℕ) (r : FormattedRange) (text : List ℕ) (rows : List Row) (left : List Element) → slice_get ranges k ≡ Some r → IsAlong es marks ranges k text rows left → left ≡ drop r.from es
+along_ahead es marks ranges k r text rows left at along = along.ahead ∙ ap (λ n. drop n es) (sym (along.next r at))
+
+pub along_room : (es : List Element) (marks : List Op) (ranges : List FormattedRange) (k : ℕ) (r : FormattedRange) (text : List ℕ) (rows : List Row) (left : List Element) → AreRanges es marks (length es) ranges → slice_get ranges k ≡ Some r → IsAlong es marks ranges k text rows left → r.to - r.from ≤ length left
+along_room es marks ranges k r text rows left are at along =
+    let size = ap length (along_ahead es marks ranges k r text rows left at along) ∙ length-drop r.from es in
+    let within = are.within k r at in
+    omega (arith, size, within)
+
+pub along_more : (es : List Element) (marks : List Op) (ranges : List FormattedRange) (k : ℕ) (r : FormattedRange) (text text' : List ℕ) (rows rows' : List Row) (left left' : List Element) → AreRanges es marks (length es) ranges → slice_get ranges k ≡ Some r → ((elements : List Element) (held : List Op) → left ≡ drop r.from elements → IsOfFormat elements held r → IsTaken elements held r.from text rows → IsTaken elements held r.to text' rows' × (left' ≡ drop r.to elements)) → IsAlong es marks ranges k text rows left → IsAlong es marks ranges (k + 1) text' rows' left'
+along_more es marks ranges k r text text' rows rows' left left' are at more along =
+    let all = more es marks (along_ahead es marks ranges k r text rows left at along) (are.formatted k r at) (subst (λ n. IsTaken es marks n text rows) (sym (along.next r at)) along.taken) in
+    record {
+      place = r.to;
+      taken = all.0;
+      ahead = all.1;
+      next = λ s g. are.next k r s at g;
+      end = λ e. are.last k r e at;
+    }
+
+-- what of the ranges was taken in, and what is left
+pub turn_at : {X : Type 0} (front rest all : List X) (x : X) → front ++ x ∷ rest ≡ all → slice_get all (length front) ≡ Some x
+turn_at front rest all x is = ap (λ l. slice_get l (length front)) (sym is) ∙ at front
+  where
+    at : (l : List _) → slice_get (l ++ x ∷ rest) (length l) ≡ Some x
+    at [] = refl
+    at (y ∷ l) = at l
+
+pub turn_end : {X : Type 0} (front rest all : List X) → front ++ rest ≡ all → length rest ≡ 0 → length front ≡ length all
+turn_end front rest all is none = let sum = ap length is in let sizes = length-append front rest in omega (arith, sum, sizes, none)

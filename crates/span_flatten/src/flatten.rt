@@ -1,4 +1,4 @@
-ghost use Rattle.std.specs.Prelude.{◌≡◌, ◌<◌, ◌≤◌, ◌+◌, ◌++◌, ℕ, List, IfOk, length, string_bytes};
+ghost use Rattle.std.specs.Prelude.{◌≡◌, ◌<◌, ◌≤◌, ◌+◌, ◌-◌, ◌++◌, ℕ, List, IfOk, length, drop, string_bytes};
 ghost use Rattle.change_ops.specs.declared.operation.Op.{Op};
 ghost use Rattle.char_sequence.specs.declared.sequence.Element.{Element};
 ghost use Rattle.char_sequence.specs.Order.{Shows, SameSet};
@@ -10,49 +10,46 @@ ghost use Rattle.span_flatten.specs.Version.{IsPiece, IsDraft, IsVersion};
 
 use crate::version::{Row, Version};
 use char_sequence::sequence::Sequence;
+use char_sequence::visible_cursor::VisibleCursor;
 use mark_anchors::format::Format;
 use mark_anchors::marks::Marks;
 use mark_anchors::ranges::FormattedRange;
 use std::alloc::{AllocError, Global};
 
 /// Gives the text from `start` on a row, or lengthens the last row where that has the same format.
-fn add_row(rows: &mut Vec<Row>, start: usize, end: usize, format: &Format) -> Result<(), AllocError>
-    ensures draft { IfOk result (λ _. (shown more : List Shown) (piece : Span) (text text' : List ℕ) → IsPiece more piece → piece.format ≡ format.now → text' ≡ text ++ piece.text → start ≡ length text → end ≡ length text' → IsDraft shown text rows.old.items → IsDraft (shown ++ more) text' rows.new.items) }
+fn add_row(rows: &mut Vec<Row>, start: usize, end: usize, format: Format) -> Result<(), AllocError>
+    ensures draft { IfOk result (λ _. (shown more : List Shown) (piece : Span) (text text' : List ℕ) → IsPiece more piece → piece.format ≡ format → text' ≡ text ++ piece.text → start ≡ length text → end ≡ length text' → IsDraft shown text rows.old.items → IsDraft (shown ++ more) text' rows.new.items) }
     ensures count { IfOk result (λ _. length rows.new.items ≤ length rows.old.items + 1) }
 {
     let count = rows.len();
     if count > 0 {
-        if rows[count - 1].format == *format {
+        if rows[count - 1].format == format {
             rows[count - 1].end = end;
             return Ok(());
         }
     }
-    rows.push(Row {
-        start,
-        end,
-        format: format.clone()?,
-    })?;
+    rows.push(Row { start, end, format })?;
     Ok(())
 }
 
-/// Adds the visible text of a range. One without visible characters makes no row.
+/// Adds the visible text of a range, at whose start the cursor stands. One without visible characters makes no row.
 fn take_in(
     text: &mut String,
     rows: &mut Vec<Row>,
-    sequence: &Sequence,
-    range: &FormattedRange,
+    cursor: &mut VisibleCursor<'_>,
+    range: FormattedRange,
 ) -> Result<(), AllocError>
-    requires some { range.now.from < range.now.to }
-    requires within { range.now.to ≤ length sequence.now.elements }
-    ensures { (marks : List Op) → IsOfFormat sequence.now.elements marks range.now → IsTaken sequence.now.elements marks range.now.from (string_bytes text.old) rows.old.items → IfOk result (λ _. IsTaken sequence.now.elements marks range.now.to (string_bytes text.new) rows.new.items) }
+    requires some { range.from < range.to }
+    requires within { range.to - range.from ≤ length cursor.old }
+    ensures { (elements : List Element) (marks : List Op) → cursor.old ≡ drop range.from elements → IsOfFormat elements marks range → IsTaken elements marks range.from (string_bytes text.old) rows.old.items → IfOk result (λ _. IsTaken elements marks range.to (string_bytes text.new) rows.new.items × (cursor.new ≡ drop range.to elements)) }
 {
     let start = text.len();
-    sequence.push_visible(range.from, range.to, text)?;
+    cursor.push_next(range.to - range.from, text)?;
     let end = text.len();
     if start == end {
         return Ok(());
     }
-    add_row(rows, start, end, &range.format)?;
+    add_row(rows, start, end, range.format)?;
     Ok(())
 }
 
@@ -69,9 +66,10 @@ pub fn flatten(
     let ranges = marks.ranges(alloc, sequence)?;
     let mut text = String::new(alloc);
     let mut rows = Vec::new(alloc);
+    let mut cursor = sequence.visible_from_start();
     let _count = sequence.len();
-    for range in &ranges {
-        take_in(&mut text, &mut rows, sequence, range)?;
+    for range in ranges {
+        take_in(&mut text, &mut rows, &mut cursor, range)?;
     }
     Ok(Version { number, text, rows })
 }

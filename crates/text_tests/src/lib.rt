@@ -12,4 +12,6 @@ mod refusal_names;
 #[cfg(test)]
 mod sequence_calls;
 #[cfg(test)]
+mod slow_formats;
+#[cfg(test)]
 mod view_calls;

@@ -8,3 +8,4 @@ pub mod Taking
 pub mod Arising
 pub mod PlainRuns
 pub mod GuardRuns
+pub mod Reaching

@@ -1,11 +1,11 @@
 -- One step of a run, from what its instruction does.
-use Rattle.std.proofs.Common.{◌≡◌, ℕ, ◌+◌, ◌-◌, ◌<◌, true, false, cond, if◌then◌else◌, List, length, Option, Some, Result, Ok, Err, refl, ap, ◌∙◌, subst, arith, eqb, set}
+use Rattle.std.proofs.Common.{◌≡◌, ℕ, ◌+◌, ◌-◌, ◌<◌, ◌⊎◌, inl, inr, Bool, true, false, cond, if◌then◌else◌, List, length, Option, Some, None, Result, Ok, Err, refl, ap, ◌∙◌, subst, arith, eqb, set}
 use Rattle.std.specs.Prelude.{ℤ, pos}
 use Rattle.std.proofs.lemmas.Bool.{lt-ltb}
 use Rattle.std.proofs.lemmas.Option.{slice_get_within}
 use Rattle.bpf_words.specs.declared.instruction.Insn.{Insn}
 use Rattle.bpf_words.specs.declared.instruction.Insn.TheVariants.{Compute, Negate, Extend, Convert, Jump, JumpLong, Branch, Load, LoadSigned, Store, LoadWide, Exit}
-use Rattle.bpf_words.specs.Flow.{StartsAt}
+use Rattle.bpf_words.specs.Flow.{StartsAt, jump_of}
 use Rattle.meaning.specs.declared.FaultKind.{FaultKind}
 use Rattle.meaning.specs.declared.FaultKind.TheVariants.{WriteR10}
 use Rattle.meaning.specs.State.{State, register_of, operand_in}
@@ -19,53 +19,59 @@ use Rattle.abstract_state.specs.Lent.{Lengths}
 use Rattle.abstract_state.specs.State.{Span, WithinState, does}
 use Rattle.verifier.specs.Walk.{ComesTo, Ends}
 
--- ---- an instruction leaves the slot to the program
-abbrev StaysAt : ℕ → Moved → Type 0
-StaysAt slot (Ok (On next distance)) = next.slot ≡ slot
-StaysAt slot (Ok (Returns value)) = Unit {0}
-StaysAt slot (Err kind) = Unit {0}
+-- ---- an instruction leaves the slot to the program, and goes on forward or as its jump says
+abbrev pub StaysAt : ℕ → Option ℤ → Moved → Type 0
+StaysAt slot jump (Ok (On next distance)) = (next.slot ≡ slot) × (((n : ℕ) × (distance ≡ pos n)) ⊎ (jump ≡ Some distance))
+StaysAt slot jump (Ok (Returns value)) = Unit {0}
+StaysAt slot jump (Err kind) = Unit {0}
 
-stays_then : {A : Type 0} (slot : ℕ) (part : Result A FaultKind) (rest : A → Moved) → ((a : A) → StaysAt slot (rest a)) → StaysAt slot (then_with part rest)
-stays_then slot (Ok a) rest h = h a
-stays_then slot (Err kind) rest h = tt
+stays_then : {A : Type 0} (slot : ℕ) (jump : Option ℤ) (part : Result A FaultKind) (rest : A → Moved) → ((a : A) → StaysAt slot jump (rest a)) → StaysAt slot jump (then_with part rest)
+stays_then slot jump (Ok a) rest h = h a
+stays_then slot jump (Err kind) rest h = tt
 
-stays_write : (s : State) (register value : ℕ) (distance : ℤ) → StaysAt s.slot (write_and_go s register value distance)
-stays_write s register value distance =
-    elim (eqb register 10) as (λ b. StaysAt s.slot (then_with (cond b (Err WriteR10) (Ok (record s { registers = set s.registers register (Some value) }))) (λ new. Ok (On new distance)))) [ true ↦ tt | false ↦ refl ]
+stays_write : (s : State) (jump : Option ℤ) (register value n : ℕ) → StaysAt s.slot jump (write_and_go s register value (pos n))
+stays_write s jump register value n =
+    elim (eqb register 10) as (λ b. StaysAt s.slot jump (then_with (cond b (Err WriteR10) (Ok (record s { registers = set s.registers register (Some value) }))) (λ new. Ok (On new (pos n))))) [ true ↦ tt | false ↦ (refl, inl (n, refl)) ]
 
 -- what is written and gone on with after one part, and after two
-stays_one : {A : Type 0} (s : State) (register : ℕ) (part : Result A FaultKind) (value : A → ℕ) → StaysAt s.slot (then_with part (λ a. write_and_go s register (value a) (pos 0)))
-stays_one s register part value = stays_then s.slot part (λ a. write_and_go s register (value a) (pos 0)) (λ a. stays_write s register (value a) (pos 0))
+stays_one : {A : Type 0} (s : State) (jump : Option ℤ) (register : ℕ) (part : Result A FaultKind) (value : A → ℕ) → StaysAt s.slot jump (then_with part (λ a. write_and_go s register (value a) (pos 0)))
+stays_one s jump register part value = stays_then s.slot jump part (λ a. write_and_go s register (value a) (pos 0)) (λ a. stays_write s jump register (value a) 0)
 
-stays_two : {A B : Type 0} (s : State) (register : ℕ) (first : Result A FaultKind) (second : A → Result B FaultKind) (value : A → B → ℕ) → StaysAt s.slot (then_with first (λ a. then_with (second a) (λ b. write_and_go s register (value a b) (pos 0))))
-stays_two s register first second value =
-    stays_then s.slot first (λ a. then_with (second a) (λ b. write_and_go s register (value a b) (pos 0))) (λ a. stays_one s register (second a) (value a))
+stays_two : {A B : Type 0} (s : State) (jump : Option ℤ) (register : ℕ) (first : Result A FaultKind) (second : A → Result B FaultKind) (value : A → B → ℕ) → StaysAt s.slot jump (then_with first (λ a. then_with (second a) (λ b. write_and_go s register (value a b) (pos 0))))
+stays_two s jump register first second value =
+    stays_then s.slot jump first (λ a. then_with (second a) (λ b. write_and_go s register (value a b) (pos 0))) (λ a. stays_one s jump register (second a) (value a))
 
-pub stays : (context text : List ℕ) (s : State) (insn : Insn) → StaysAt s.slot (perform context text s insn)
+-- a comparison goes on to the next instruction, or as its jump says
+either_way : (holds : Bool) (distance : ℤ) → ((n : ℕ) × ((if holds then distance else pos 0) ≡ pos n)) ⊎ (Some distance ≡ Some (if holds then distance else pos 0))
+either_way true distance = inr refl
+either_way false distance = inl (0, refl)
+
+pub stays : (context text : List ℕ) (s : State) (insn : Insn) → StaysAt s.slot (jump_of insn) (perform context text s insn)
 stays context text s (Compute width operation destination operand) =
-    stays_two s destination (first_of s operation destination) (λ a. operand_in s operand) (λ a b. value_of operation width (cut width a) (cut width b))
-stays context text s (Negate width destination) = stays_one s destination (register_of s destination) (λ a. negated width (cut width a))
-stays context text s (Extend extension destination source) = stays_one s destination (register_of s source) (λ a. extended extension a)
-stays context text s (Convert conversion bits destination) = stays_one s destination (register_of s destination) (λ a. converted conversion bits a)
-stays context text s (Jump distance) = refl
-stays context text s (JumpLong distance) = refl
+    stays_two s None destination (first_of s operation destination) (λ a. operand_in s operand) (λ a b. value_of operation width (cut width a) (cut width b))
+stays context text s (Negate width destination) = stays_one s None destination (register_of s destination) (λ a. negated width (cut width a))
+stays context text s (Extend extension destination source) = stays_one s None destination (register_of s source) (λ a. extended extension a)
+stays context text s (Convert conversion bits destination) = stays_one s None destination (register_of s destination) (λ a. converted conversion bits a)
+stays context text s (Jump distance) = (refl, inr refl)
+stays context text s (JumpLong distance) = (refl, inr refl)
 stays context text s (Branch width comparison left right distance) =
     let goes : ℕ → ℕ → Moved = λ a b. Ok (On s (if holds_of comparison width (cut width a) (cut width b) then distance else pos 0)) in
-    stays_then s.slot (register_of s left) (λ a. then_with (operand_in s right) (goes a)) (λ a. stays_then s.slot (operand_in s right) (goes a) (λ b. refl))
+    stays_then s.slot (Some distance) (register_of s left) (λ a. then_with (operand_in s right) (goes a))
+    (λ a. stays_then s.slot (Some distance) (operand_in s right) (goes a) (λ b. (refl, either_way (holds_of comparison width (cut width a) (cut width b)) distance)))
 stays context text s (Load size destination base offset) =
-    stays_two s destination (register_of s base) (λ address. load context text s.stack (address_of address offset) (bytes_in size)) (λ address value. value)
+    stays_two s None destination (register_of s base) (λ address. load context text s.stack (address_of address offset) (bytes_in size)) (λ address value. value)
 stays context text s (LoadSigned size destination base offset) =
-    stays_two s destination (register_of s base) (λ address. load context text s.stack (address_of address offset) (bytes_in_signed size)) (λ address value. with_sign size value)
+    stays_two s None destination (register_of s base) (λ address. load context text s.stack (address_of address offset) (bytes_in_signed size)) (λ address value. with_sign size value)
 stays context text s (Store size base offset operand) =
     let goes : List (Option ℕ) → Moved = λ stack. Ok (On (record s { stack = stack }) (pos 0)) in
     let stores : ℕ → ℕ → Result (List (Option ℕ)) FaultKind = λ address value. store context text s.stack (address_of address offset) (bytes_in size) value in
-    stays_then s.slot (register_of s base) (λ address. then_with (operand_in s operand) (λ value. then_with (stores address value) goes))
-    (λ address. stays_then s.slot (operand_in s operand) (λ value. then_with (stores address value) goes) (λ value. stays_then s.slot (stores address value) goes (λ stack. refl)))
-stays context text s (LoadWide destination value) = stays_write s destination value (pos 1)
-stays context text s Exit = stays_then s.slot (register_of s 0) (λ value. Ok (Returns value)) (λ value. tt)
+    stays_then s.slot None (register_of s base) (λ address. then_with (operand_in s operand) (λ value. then_with (stores address value) goes))
+    (λ address. stays_then s.slot None (operand_in s operand) (λ value. then_with (stores address value) goes) (λ value. stays_then s.slot None (stores address value) goes (λ stack. (refl, inl (0, refl)))))
+stays context text s (LoadWide destination value) = stays_write s None destination value 1
+stays context text s Exit = stays_then s.slot None (register_of s 0) (λ value. Ok (Returns value)) (λ value. tt)
 
 pub stays_on : (span : Span) (s next : State) (insn : Insn) (distance : ℤ) → does span s insn ≡ Ok (On next distance) → next.slot ≡ s.slot
-stays_on span s next insn distance e = subst (StaysAt s.slot) e (stays span.context span.text s insn)
+stays_on span s next insn distance e = (subst (StaysAt s.slot (jump_of insn)) e (stays span.context span.text s insn)).0
 
 -- ---- a state at another slot
 pub contains_at : (o : Option AbsState) (lengths : Lengths) (s : State) (slot : ℕ) → WithinState o lengths s → WithinState o lengths (record s { slot = slot })
@@ -80,7 +86,7 @@ some_left program span s c =
     let enough = c.enough in
     omega arith
 
-stepped : (program : Program) (span : Span) (s : State) (insn : Insn) (moved : Moved) → StartsAt program s.slot insn → does span s insn ≡ moved → step program span.context span.text s ≡ then_with moved (land program)
+pub stepped : (program : Program) (span : Span) (s : State) (insn : Insn) (moved : Moved) → StartsAt program s.slot insn → does span s insn ≡ moved → step program span.context span.text s ≡ then_with moved (land program)
 stepped program span s insn moved starts e = rw (starts, e) refl
 
 pub ends_here : (program : Program) (span : Span) (s : State) (insn : Insn) (value : ℕ) → ComesTo program span s → StartsAt program s.slot insn → does span s insn ≡ Ok (Returns value) → Ends program span

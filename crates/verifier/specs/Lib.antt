@@ -4,3 +4,4 @@ pub mod Walk
 pub mod Plain
 pub mod Arises
 pub mod Guard
+pub mod Reaches

@@ -2,6 +2,7 @@
 //! known of the machine before each.
 #![tactic(auto)]
 
+pub mod before;
 pub mod refusal;
 mod structure;
 pub mod verify;

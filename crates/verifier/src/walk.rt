@@ -12,6 +12,7 @@ ghost use Rattle.verifier.specs.Structure.{IsOfState, IsStructured};
 ghost use Rattle.verifier.specs.Arises.{Arises, ArisesAt, AllArise, IsTarget, IsGranted, IsCause, FallsAs, FallsFrom};
 ghost use Rattle.verifier.specs.Waiting.{waiting_at};
 ghost use Rattle.verifier.specs.Walk.{Advances, Follows, JumpsWithin, Keeps};
+ghost use Rattle.verifier.specs.Reaches.{ContainsRuns, Covers, IsStateBelow};
 
 use crate::refusal::VerifyError;
 use crate::waiting::Waiting;
@@ -137,7 +138,8 @@ fn visit(
     requires jumps { JumpsWithin (length waiting.old) slot insn.now }
     requires spares { written_by insn.now ≢ Some 10 }
     ensures size { length waiting.new ≡ length waiting.old }
-    ensures states { IfErr result IsOfState }
+    ensures below { IfErr result (IsStateBelow (slot + 1)) }
+    ensures covers { (program : Program) → IsPaired program → IsStructured program → StartsAt program slot insn.now → Covers program slot (after flow state.old) waiting.old → IfOk result (λ next. Covers program (slot + 1) (after next state.new) waiting.new) }
     ensures follows { (program : Program) → IsPaired program → IsStructured program → StartsAt program slot insn.now → Follows program slot (after flow state.old) waiting.old → IfOk result (λ next. Follows program (slot + 1) (after next state.new) waiting.new) }
     ensures floor { (program : Program) → IsPaired program → IsStructured program → StartsAt program slot insn.now → AllArise program waiting.old → FallsAs program slot (after flow state.old) → IfErr result (IsCause program) × IfOk result (λ next. AllArise program waiting.new × FallsAs program (slot + 1) (after next state.new)) }
 {
@@ -151,6 +153,40 @@ fn visit(
     }
 }
 
+/// What a walk knows before a slot, once it is past those below it.
+#[derive(Drop)]
+pub struct Walked {
+    flow: Flow,
+    state: AbsState,
+    waiting: Waiting,
+}
+
+/// Takes the instructions below a slot in order, once.
+fn walk_to(alloc: Global, words: &Words<'_>, end: usize) -> Result<Walked, VerifyError>
+    requires structured { IsStructured (program_of words.now) }
+    requires end { end ≤ length (program_of words.now) }
+    ensures size { IfOk result (λ walked. length walked.waiting ≡ length (program_of words.now)) }
+    ensures follows { IfOk result (λ walked. Follows (program_of words.now) end (after walked.flow walked.state) walked.waiting) }
+    ensures covers { IfOk result (λ walked. Covers (program_of words.now) end (after walked.flow walked.state) walked.waiting) }
+    ensures arises { IfOk result (λ walked. AllArise (program_of words.now) walked.waiting × FallsAs (program_of words.now) end (after walked.flow walked.state)) }
+    ensures below { IfErr result (IsStateBelow end) }
+    ensures floor { IfErr result (IsCause (program_of words.now)) }
+{
+    let mut waiting = Waiting::new(alloc, words.len())?;
+    let mut state = AbsState::entry();
+    let mut flow = Flow::Live;
+    for slot in 0..end {
+        if let Some(insn) = words.insn(slot) {
+            flow = visit(slot, &insn, flow, &mut state, &mut waiting)?;
+        }
+    }
+    Ok(Walked {
+        flow,
+        state,
+        waiting,
+    })
+}
+
 /// Takes the instructions of a program in order, once.
 pub fn walk(alloc: Global, words: &Words<'_>) -> Result<(), VerifyError>
     requires { IsStructured (program_of words.now) }
@@ -158,14 +194,30 @@ pub fn walk(alloc: Global, words: &Words<'_>) -> Result<(), VerifyError>
     ensures states { IfErr result IsOfState }
     ensures floor { IfErr result (IsCause (program_of words.now)) }
 {
-    let count = words.len();
-    let mut waiting = Waiting::new(alloc, count)?;
-    let mut state = AbsState::entry();
-    let mut flow = Flow::Live;
-    for slot in 0..count {
-        if let Some(insn) = words.insn(slot) {
-            flow = visit(slot, &insn, flow, &mut state, &mut waiting)?;
-        }
-    }
+    walk_to(alloc, words, words.len())?;
     Ok(())
+}
+
+/// What is known before a slot, from all edges into it; nothing where no run comes there.
+pub fn walk_before(
+    alloc: Global,
+    words: &Words<'_>,
+    slot: usize,
+) -> Result<Option<AbsState>, VerifyError>
+    requires structured { IsStructured (program_of words.now) }
+    requires slot { slot < length (program_of words.now) }
+    ensures contains { IfOk result (ContainsRuns (program_of words.now) slot) }
+    ensures arises { (insn : Insn) → StartsAt (program_of words.now) slot insn → IfOk result (ArisesAt (program_of words.now) slot) }
+    ensures below { IfErr result (IsStateBelow slot) }
+    ensures floor { IfErr result (IsCause (program_of words.now)) }
+{
+    let Walked {
+        flow,
+        mut state,
+        mut waiting,
+    } = walk_to(alloc, words, slot)?;
+    match waiting.arrive(slot, flow, &mut state) {
+        Flow::Live => Ok(Some(state)),
+        Flow::Dead => Ok(None),
+    }
 }

@@ -54,7 +54,7 @@ impl<N: Naming> VersionToken<N> {
     }
 }
 
-/// Shows that a program stands in the list of the hub `N`, at its place, for good.
+/// Shows that a program, of which every run ends with a number, stands in the list of the hub `N`, at its place, for good.
 #[derive(Drop)]
 pub struct ProgramToken<N: Naming> {
     at: Pushed<Verified>,
@@ -64,16 +64,26 @@ pub struct ProgramToken<N: Naming> {
 impl<N: Naming> Model for ProgramToken<N> {
     ghost use Rattle.boxcar.specs.Table.{Shows};
     ghost use Rattle.version_history.specs.Tokens.{Token};
+    ghost use Rattle.meaning.specs.Safe.{Safe};
     ghost use Rattle.meaning.specs.Step.{Program};
 
     ghost Value = { Token Program };
 
     ghost view = { λ t. record { place = t.at.index; value = t.at.value } };
 
-    ghost invariant = { λ t. Shows N.programs t.at };
+    ghost invariant = { λ t. Shows N.programs t.at × Safe t.at.value };
 }
 
 impl<N: Naming> ProgramToken<N> {
+    ghost use Rattle.meaning.specs.Safe.{Safe};
+
+    /// The law that every run of the program ends with a number.
+    pub fn every_run_ends(&self)
+        ensures { Safe self.now.value }
+    {
+        let _at = &self.at;
+    }
+
     /// A copy.
     pub fn again(&self) -> ProgramToken<N>
         ensures { result ≡ self.now }
@@ -158,6 +168,8 @@ impl<'p, N: Naming> Published<'p, N> {
         ensures ok { IfOk result (λ t. t.value ≡ program) }
         ensures err { IfErr result (λ p. p ≡ program) }
     {
+        // For the clause that every run of the program ends.
+        let _rows = program.rows();
         let at = self.programs.push_shown(rt, program)?;
         Ok(ProgramToken {
             at,

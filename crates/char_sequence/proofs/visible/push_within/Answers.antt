@@ -1,5 +1,4 @@
-use Rattle.std.proofs.Common.{◌≡◌, ◌-◌, ◌++◌, length, slice_range, string_bytes, ap, sym, refl, ◌∙◌, arith, rules}
-use Rattle.std.specs.String.{string_len}
+use Rattle.std.proofs.Common.{◌≡◌, ◌-◌, ◌++◌, length, slice_range, string_bytes, ap, sym, refl, ◌∙◌, arith}
 use Rattle.std.proofs.lemmas.Slice.{pushed}
 use Rattle.char_sequence.specs.Visible.{visible_text}
 use Rattle.char_sequence.proofs.Ranges.{range_whole}

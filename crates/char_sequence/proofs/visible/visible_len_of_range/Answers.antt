@@ -1,4 +1,4 @@
-use Rattle.std.proofs.Common.{◌≡◌, ◌+◌, ◌-◌, length, take, slice_range, ap, sym, refl, ◌∙◌, arith, length-append}
+use Rattle.std.proofs.Common.{◌+◌, ◌-◌, length, take, slice_range, ap, sym, refl, ◌∙◌, arith, length-append}
 use Rattle.char_sequence.specs.Chunks.{joined, start_of}
 use Rattle.char_sequence.specs.Visible.{visible_text}
 use Rattle.char_sequence.proofs.Joined.{start_after_chunk, start_within}

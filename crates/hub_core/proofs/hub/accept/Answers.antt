@@ -1,4 +1,4 @@
-use Rattle.std.proofs.Common.{◌≡◌, ◌+◌, ◌++◌, ◌∷◌, [], ◌∙◌, List, length, sym, ap, subst}
+use Rattle.std.proofs.Common.{◌++◌, ◌∷◌, [], ◌∙◌, List, sym, ap, subst}
 use Rattle.change_ops.specs.Changes.{Edit}
 use Rattle.change_history.specs.Kept.{IsDraft}
 use Rattle.hub_core.proofs.Sound.{version_of_all, version_along}

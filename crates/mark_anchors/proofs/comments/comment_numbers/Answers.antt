@@ -8,33 +8,33 @@ use Rattle.std.proofs.lemmas.List.Sorted.{Contains-permutation}
 use Rattle.std.proofs.lemmas.Map.Keys.{IsStrictlyIncreasing-dedup}
 use Rattle.std.proofs.lemmas.Option.{same_Some, slice_get_within}
 use Rattle.change_ops.specs.declared.attribute.Key.TheVariants.{Comment}
-use Rattle.mark_anchors.specs.Places.{IsOfKey}
+use Rattle.mark_anchors.specs.declared.placed.PlacedMark.{PlacedMark}
 use Rattle.mark_anchors.proofs.Lists.{read_at, contains_at}
 use Rattle.mark_anchors.proofs.Lists.{first_or_last}
 use Rattle.mark_anchors.proofs.comments.comment_numbers.Goals.{in-Some+in_ok-push, in_default}
 use Rattle.mark_anchors.proofs.comments.comment_numbers.Goals as goal
 
-pub loop-operation-preserved : goal.loop-operation-preserved
-loop-operation-preserved c =
+pub loop-mark-preserved : goal.loop-mark-preserved
+loop-mark-preserved c =
     λ n j o less at of_key.
-    let operation = c.operation-item.result in
-    let k = c.loop-operation.operation-index in
-    let read : slice_get c.args.operations.now k ≡ Some operation = read_at c.args.operations.now k operation c.operation-item.is c.loop-operation-test.true in
+    let mark = c.mark-item.result in
+    let k = c.loop-mark.mark-index in
+    let read : slice_get c.args.marks.now k ≡ Some mark = read_at c.args.marks.now k mark c.mark-item.is c.loop-mark-test.true in
     elim c.match-comment_number.branch [
       | in-Some+in_ok-push w ↦
           subst (λ l. Contains l n) (sym (ap (λ v. v.items) w.numbers-is ∙ w.in_ok-push.ensures.items))
           (⊎_elim
-          (λ (old : j < k). Contains-append_left c.loop-operation.numbers.items (w.in-Some.number ∷ []) n (c.loop-operation.invariant n j o old at of_key))
-          (λ (new : (j ≡ k) × (operation ≡ o)).
-          let same : w.in-Some.number ≡ n = same_Some w.in-Some.number n (sym w.in-Some.is ∙ c.comment_number.ensures n (subst (IsOfKey (Comment n)) (sym new.1) of_key)) in
-          subst (λ m. Contains (c.loop-operation.numbers.items ++ w.in-Some.number ∷ []) m) same (Contains-push c.loop-operation.numbers.items w.in-Some.number))
-          (first_or_last c.args.operations.now k j operation o less read at))
+          (λ (old : j < k). Contains-append_left c.loop-mark.numbers.items (w.in-Some.number ∷ []) n (c.loop-mark.invariant n j o old at of_key))
+          (λ (new : (j ≡ k) × (mark ≡ o)).
+          let same : w.in-Some.number ≡ n = same_Some w.in-Some.number n (sym w.in-Some.is ∙ c.comment_number.ensures.all n (subst (λ (z : PlacedMark). z.key ≡ Comment n) (sym new.1) of_key)) in
+          subst (λ m. Contains (c.loop-mark.numbers.items ++ w.in-Some.number ∷ []) m) same (Contains-push c.loop-mark.numbers.items w.in-Some.number))
+          (first_or_last c.args.marks.now k j mark o less read at))
       | in_default w ↦
           subst (λ l. Contains l n) (sym (ap (λ v. v.items) w.numbers-is))
           (⊎_elim
-          (λ (old : j < k). c.loop-operation.invariant n j o old at of_key)
-          (λ (new : (j ≡ k) × (operation ≡ o)). absurd (w.in_default.not-Some n (c.comment_number.ensures n (subst (IsOfKey (Comment n)) (sym new.1) of_key))))
-          (first_or_last c.args.operations.now k j operation o less read at))
+          (λ (old : j < k). c.loop-mark.invariant n j o old at of_key)
+          (λ (new : (j ≡ k) × (mark ≡ o)). absurd (w.in_default.not-Some n (c.comment_number.ensures.all n (subst (λ (z : PlacedMark). z.key ≡ Comment n) (sym new.1) of_key))))
+          (first_or_last c.args.marks.now k j mark o less read at))
     ]
 
 pub returns-clause-rising : goal.returns-clause-rising
@@ -46,8 +46,8 @@ pub returns-clause-every : goal.returns-clause-every
 returns-clause-every c =
     λ n o held of_key.
     let sorted = c.sort_unstable.new.self.items in
-    let at = contains_at c.args.operations.now o held in
-    let within : at.0 < length c.args.operations.now = slice_get_within c.args.operations.now at.0 o at.1 in
-    let noted = c.loop-operation.invariant n at.0 o (omega arith) at.1 of_key in
+    let at = contains_at c.args.marks.now o held in
+    let within : at.0 < length c.args.marks.now = slice_get_within c.args.marks.now at.0 o at.1 in
+    let noted = c.loop-mark.invariant n at.0 o (omega arith) at.1 of_key in
     subst (λ l. Contains l n) (sym (dedup_is eqb sorted c.dedup.new.self.items c.dedup.ensures.filtered))
-    (Contains-dedup_nat sorted n (Contains-permutation c.loop-operation.numbers.items sorted n c.sort_unstable.ensures.permutation noted))
+    (Contains-dedup_nat sorted n (Contains-permutation c.loop-mark.numbers.items sorted n c.sort_unstable.ensures.permutation noted))

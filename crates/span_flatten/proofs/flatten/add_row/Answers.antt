@@ -16,9 +16,8 @@ returns-then-eq-clause-draft c =
 pub returns-clause-draft : goal.returns-clause-draft
 returns-clause-draft c =
     λ shown more piece text text' is format grown started ended draft.
-    let now : Row = record { start = c.args.start; end = c.args.end; format = c.in_ok-clone.field-0 } in
+    let now : Row = record { start = c.args.start; end = c.args.end; format = c.args.format } in
     let counted : c.len-count.result ≡ length c.args.rows.now.items = search rules in
-    let cloned : c.in_ok-clone.field-0 ≡ c.args.format.now = search rules in
     let other : (d : Row) → 0 < length c.args.rows.now.items → (get_or c.args.rows.now.items (length c.args.rows.now.items - 1) d).format ≡ piece.format → ⊥ =
     elim c.if-count-gt0.branch [
       | then-count-gt0+else-eq w ↦
@@ -26,4 +25,4 @@ returns-clause-draft c =
       | else-count-gt0 w ↦ λ d some e. absurd (let none = w.if-count-gt0.false in omega arith)
     ] in
     subst (λ rows. IsDraft (shown ++ more) text' rows) (sym c.in_ok-push.ensures.items)
-    (draft_fresh shown draft.spans text text' c.args.rows.now.items now more piece draft.cut draft.layout draft.texts other is grown started ended (cloned ∙ sym format))
+    (draft_fresh shown draft.spans text text' c.args.rows.now.items now more piece draft.cut draft.layout draft.texts other is grown started ended (sym format))

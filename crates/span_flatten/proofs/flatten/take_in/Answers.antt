@@ -1,35 +1,48 @@
-use Rattle.std.proofs.Common.{◌≡◌, ◌∙◌, ℕ, List, length, refl, sym, rules, string_bytes}
+use Rattle.std.proofs.Common.{◌≡◌, ◌∙◌, ◌+◌, ◌-◌, ◌<◌, ◌++◌, ℕ, List, length, take, drop, refl, sym, ap, arith, rules, string_bytes}
 use Rattle.std.specs.List.{slice_range}
+use Rattle.std.proofs.lemmas.List.{drop-drop}
 use Rattle.std.proofs.lemmas.Str.{IsUtf8-string_bytes}
 use Rattle.char_sequence.specs.declared.sequence.Element.{Element}
 use Rattle.char_sequence.specs.Visible.{visible_text}
+use Rattle.mark_anchors.specs.declared.ranges.FormattedRange.{FormattedRange}
 use Rattle.span_flatten.specs.Spans.{Span}
 use Rattle.span_flatten.proofs.Taking.{more_of, taken_empty, piece_more, taken_more}
 use Rattle.span_flatten.proofs.flatten.take_in.Goals as goal
 
+-- what is left behind the range
+left_behind : (es left left' : List Element) (from to : ℕ) → from < to → left ≡ drop from es → left' ≡ drop (to - from) left → left' ≡ drop to es
+left_behind es left left' from to some at moved =
+    let sum : from + (to - from) ≡ to = omega arith in
+    moved ∙ ap (drop (to - from)) at ∙ drop-drop (to - from) from es ∙ ap (λ n. drop n es) sum
+
 pub returns-then-start-end : goal.returns-then-start-end
 returns-then-start-end c =
-    λ marks of t.
-    let es : List Element = c.args.sequence.now.elements in
-    let started : c.len-start.result ≡ length (string_bytes c.args.text.now) = search rules in
-    let ended : c.len-end.result ≡ length (string_bytes c.push_visible.new.text) = search rules in
-    taken_empty es marks c.args.range.now (string_bytes c.args.text.now) (string_bytes c.push_visible.new.text) c.args.rows.now.items c.requires.some of c.in_ok-push_visible.ensures.ok t
-    (sym started ∙ c.if-start-end.true ∙ ended)
+    λ es marks at of t.
+    let range : FormattedRange = c.args.range in
+    let text : List ℕ = string_bytes c.args.text.now in
+    let text' : List ℕ = string_bytes c.push_next.new.text in
+    let grown : text' ≡ text ++ visible_text (slice_range es range.from range.to) = c.in_ok-push_next.ensures.text ∙ ap (λ l. text ++ visible_text (take (range.to - range.from) l)) at in
+    let started : c.len-start.result ≡ length text = search rules in
+    let ended : c.len-end.result ≡ length text' = search rules in (
+      taken_empty es marks range text text' c.args.rows.now.items c.requires.some of grown t (sym started ∙ c.if-start-end.true ∙ ended),
+      left_behind es c.args.cursor.now c.push_next.new.self range.from range.to c.requires.some at c.in_ok-push_next.ensures.left,
+    )
 
 pub returns : goal.returns
 returns c =
-    λ marks of t.
-    let es : List Element = c.args.sequence.now.elements in
-    let range = c.args.range.now in
+    λ es marks at of t.
+    let range : FormattedRange = c.args.range in
     let text : List ℕ = string_bytes c.args.text.now in
-    let text' : List ℕ = string_bytes c.push_visible.new.text in
+    let text' : List ℕ = string_bytes c.push_next.new.text in
     let rows = c.args.rows.now.items in
-    let grown = c.in_ok-push_visible.ensures.ok in
+    let grown : text' ≡ text ++ visible_text (slice_range es range.from range.to) = c.in_ok-push_next.ensures.text ∙ ap (λ l. text ++ visible_text (take (range.to - range.from) l)) at in
     let started : c.len-start.result ≡ length text = search rules in
     let ended : c.len-end.result ≡ length text' = search rules in
     let piece : Span = record { text = visible_text (slice_range es range.from range.to); format = range.format } in
     let is =
     piece_more es marks range text text' rows c.requires.some of grown t (λ same. c.if-start-end.false (started ∙ same ∙ sym ended))
-    (IsUtf8-string_bytes c.args.text.now) (IsUtf8-string_bytes c.push_visible.new.text) in
-    let draft = c.in_ok-add_row.ensures.draft t.shown (more_of range.format (slice_range es range.from range.to)) piece text text' is refl grown started ended t.draft in
-    taken_more es marks range text text' rows c.requires.some of grown t c.add_row.new.rows.items draft c.in_ok-add_row.ensures.count
+    (IsUtf8-string_bytes c.args.text.now) (IsUtf8-string_bytes c.push_next.new.text) in
+    let draft = c.in_ok-add_row.ensures.draft t.shown (more_of range.format (slice_range es range.from range.to)) piece text text' is refl grown started ended t.draft in (
+      taken_more es marks range text text' rows c.requires.some of grown t c.add_row.new.rows.items draft c.in_ok-add_row.ensures.count,
+      left_behind es c.args.cursor.now c.push_next.new.self range.from range.to c.requires.some at c.in_ok-push_next.ensures.left,
+    )

@@ -1,9 +1,12 @@
-use Rattle.std.proofs.Common.{None}
+use Rattle.std.proofs.Common.{None, Some}
+use Rattle.abstract_state.specs.State.{lengths_of}
 use Rattle.abstract_state.specs.Steps.{after}
 use Rattle.verifier.proofs.Walking.{arrived, passed, skipped}
 use Rattle.verifier.proofs.walk.visit.Goals as goal
 use Rattle.std.proofs.Common.{refl, inl, inr}
 use Rattle.verifier.proofs.Arising.{falls_here, falls_next, dead_falls}
+use Rattle.verifier.proofs.Reaching.{covers_passed}
+use Rattle.verifier.proofs.Waits.{within_some}
 
 pub returns-in_default-clause-follows : goal.returns-in_default-clause-follows
 returns-in_default-clause-follows c = λ program paired structured starts follows.
@@ -45,3 +48,14 @@ returns-in-Err-Refused-clause-floor c = λ program paired structured starts all 
 
 pub returns-in-Err-OutOfMemory-clause-floor : goal.returns-in-Err-OutOfMemory-clause-floor
 returns-in-Err-OutOfMemory-clause-floor c = λ program paired structured starts all falls. (inl refl, tt)
+
+pub returns-in_default-clause-covers : goal.returns-in_default-clause-covers
+returns-in_default-clause-covers c = λ program paired structured starts covers.
+    covers_passed program c.args.slot c.args.insn.now (after c.args.flow c.args.state.now) None None c.args.waiting.now c.arrive.new.self c.arrive.new.self paired structured starts
+    c.in_default.ensures.falls c.in_default.ensures.arrives c.in_default.ensures.others (λ slot lengths s waits. waits) (λ span s within. absurd (let is = within.1 in cc)) covers
+
+pub returns-in-Ok-clause-covers : goal.returns-in-Ok-clause-covers
+returns-in-Ok-clause-covers c = λ program paired structured starts covers.
+    covers_passed program c.args.slot c.args.insn.now (after c.args.flow c.args.state.now) (Some c.arrive.new.state) (after c.in-Ok.next c.pass.new.state) c.args.waiting.now c.arrive.new.self c.pass.new.waiting paired structured starts
+    c.in-Live.ensures.falls c.in-Live.ensures.arrives c.in-Live.ensures.others c.in-Ok.ensures.kept
+    (λ span s within. c.in-Ok.ensures.sound span s (within_some (Some c.arrive.new.state) c.arrive.new.state (lengths_of span) s refl within)) covers

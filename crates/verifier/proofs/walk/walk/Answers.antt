@@ -1,66 +1,12 @@
-use Rattle.std.proofs.Common.{◌≡◌, ◌+◌, ◌<◌, length, ◌∙◌, subst, sym, rules}
+use Rattle.std.proofs.Common.{subst}
 use Rattle.bpf_words.specs.Words.{program_of}
-use Rattle.bpf_words.proofs.Paired.{program_of-paired}
 use Rattle.abstract_state.specs.Steps.{after}
-use Rattle.verifier.specs.Walk.{Follows, JumpsWithin}
-use Rattle.verifier.specs.declared.refusal.StructureFault.TheVariants.{WriteR10}
-use Rattle.verifier.proofs.Walking.{jumps_within, begins, ends, stepped_over}
-use Rattle.verifier.proofs.walk.walk.Goals.{in-Some+in_ok-flow, in_default}
+use Rattle.verifier.specs.Walk.{Follows}
+use Rattle.verifier.proofs.Walking.{ends}
 use Rattle.verifier.proofs.walk.walk.Goals as goal
-use Rattle.verifier.specs.Arises.{IsCause}
-use Rattle.verifier.proofs.Arising.{entry_falls, second_falls, passed_on}
-
-pub loop-slot-init : goal.loop-slot-init
-loop-slot-init c =
-    let some : 0 < length (program_of c.args.words.now) = search rules in
-    record {
-      size = search rules;
-      follows = begins (program_of c.args.words.now) c.entry-state.result c.in_ok-waiting.waiting some (program_of-paired c.args.words.now c.len-count.ensures.sound) c.entry-state.ensures.contains;
-      waits = λ slot a e. let none = c.in_ok-waiting.ensures.nothing slot in absurd (cc);
-      falls = entry_falls (program_of c.args.words.now) c.entry-state.result some (program_of-paired c.args.words.now c.len-count.ensures.sound) c.entry-state.ensures.context;
-    }
-
-pub visit-requires-clause-jumps : goal.visit-requires-clause-jumps
-visit-requires-clause-jumps c =
-    subst (λ n. JumpsWithin n c.loop-slot.slot c.in-Some.insn) (sym c.loop-slot.invariant.size)
-    (jumps_within (program_of c.args.words.now) c.loop-slot.slot c.in-Some.insn c.requires c.in-Some.ensures.value)
-
-pub visit-requires-clause-spares : goal.visit-requires-clause-spares
-visit-requires-clause-spares c = λ writes.
-    let below : c.loop-slot.slot < length (program_of c.args.words.now) = search rules in
-    c.requires c.loop-slot.slot c.in-Some.insn below c.in-Some.ensures.value WriteR10 writes
-
-pub loop-slot-preserved : goal.loop-slot-preserved
-loop-slot-preserved c =
-    elim c.match-insn.branch [
-      | in-Some+in_ok-flow w ↦
-          let follows : Follows (program_of c.args.words.now) (c.loop-slot.slot + 1) (after w.in_ok-flow.flow w.visit.new.state) w.visit.new.waiting =
-          w.in_ok-flow.ensures.follows (program_of c.args.words.now) (program_of-paired c.args.words.now c.len-count.ensures.sound) c.requires w.in-Some.ensures.value c.loop-slot.invariant.follows in
-          let step = w.in_ok-flow.ensures.floor (program_of c.args.words.now) (program_of-paired c.args.words.now c.len-count.ensures.sound) c.requires w.in-Some.ensures.value c.loop-slot.invariant.waits c.loop-slot.invariant.falls in
-          rw (w.waiting-is, w.state-is, w.flow-is)
-          (record {
-            size = w.in_ok-flow.ensures.size ∙ c.loop-slot.invariant.size;
-            follows = follows;
-            waits = step.1.0;
-            falls = step.1.1;
-          })
-      | in_default w ↦
-          rw (w.waiting-is, w.state-is, w.flow-is)
-          (record {
-            size = c.loop-slot.invariant.size;
-            follows = stepped_over (program_of c.args.words.now) c.loop-slot.slot (after c.loop-slot.flow c.loop-slot.state) c.loop-slot.waiting w.in_default.ensures.value c.loop-slot.invariant.follows;
-            waits = c.loop-slot.invariant.waits;
-            falls = second_falls (program_of c.args.words.now) c.loop-slot.slot (after c.loop-slot.flow c.loop-slot.state) w.in_default.ensures.value c.loop-slot.invariant.falls;
-          })
-    ]
 
 pub returns-clause-safe : goal.returns-clause-safe
 returns-clause-safe c =
-    let last : c.loop-slot.slot ≡ length (program_of c.args.words.now) = search rules in
-    ends (program_of c.args.words.now) (after c.loop-slot.flow c.loop-slot.state) c.loop-slot.waiting
-    (subst (λ n. Follows (program_of c.args.words.now) n (after c.loop-slot.flow c.loop-slot.state) c.loop-slot.waiting) last c.loop-slot.invariant.follows)
-
-pub returns-in_err-flow-clause-floor : goal.returns-in_err-flow-clause-floor
-returns-in_err-flow-clause-floor c =
-    passed_on c.from_residual-in_err-flow.result c.in_err-flow.field-0.0 (IsCause (program_of c.args.words.now)) c.from_residual-in_err-flow.ensures.1
-    (c.in_err-flow.ensures.floor (program_of c.args.words.now) (program_of-paired c.args.words.now c.len-count.ensures.sound) c.requires c.in-Some.ensures.value c.loop-slot.invariant.waits c.loop-slot.invariant.falls).0
+    let walked = c.in_ok-walk_to.field-0 in
+    ends (program_of c.args.words.now) (after walked.flow walked.state) walked.waiting
+    (subst (λ n. Follows (program_of c.args.words.now) n (after walked.flow walked.state) walked.waiting) c.len.ensures.value c.in_ok-walk_to.ensures.follows)

@@ -12,4 +12,4 @@ returns-clause-stream g c = begins g.S.Sink.sent g.S.Sink.full c.args.self.now _
 pub returns-clause-value : goal.returns-clause-value
 returns-clause-value g c =
     let within : c.args.id < length c.self.inside.subs.items = omega arith in
-    sink_there c.args.self.now _ c.args.id c.index.result.now c.sink.result.now c.self.view_is within c.index.ensures c.sink.ensures
+    sink_there c.args.self.now _ c.args.id c.index.result.now c.sink.result.now c.self.view_is within c.index.ensures c.sink.ensures.value

@@ -1,0 +1,103 @@
+ghost use Rattle.std.specs.Prelude.{◌≡◌};
+
+use crate::lines::{TEN_VERSIONS, TEN_VERSIONS_REPLIES};
+use hub_sessions::conversation::session;
+use ingest_workers::hub::Hub;
+use ingest_workers::share::Share;
+use span_flatten::version::Version;
+use std::alloc::Global;
+use std::io;
+use std::marker::Brand;
+use std::process::Abort;
+use std::sync::Wait;
+use std::sync::ledger::{Blank, Ledger};
+use std::test::*;
+use std::thread::Threads;
+use verifier::verify::Verified;
+use version_history::published::{Naming, Published};
+
+/// A reader that gives one line a read. Before each it takes all jobs of the hub and drops them, as workers of other sessions
+/// would that never come to an end.
+#[derive(Drop)]
+struct JobTaker<'a, 'h, 'p, N: Naming + Ledger, R: Wait + Copy> {
+    rt: R,
+    hub: &'h Hub<'p, N, R>,
+    rest: &'a [u8],
+    jobs: u32,
+}
+
+impl<N: Naming + Ledger, R: Wait + Copy> JobTaker<'_, '_, '_, N, R> {
+    fn take_jobs(&mut self) {
+        for _ in 0..100u32 {
+            if self.hub.take_job(&self.rt).is_none() {
+                break;
+            }
+            self.jobs = self.jobs.saturating_add(1);
+        }
+    }
+}
+
+impl<N: Naming + Ledger, R: Wait + Copy> io::Read for JobTaker<'_, '_, '_, N, R> {
+    fn read(&mut self, buf: &mut [u8]) -> io::Result<usize> {
+        self.take_jobs();
+        let mut given = 0;
+        for place in buf.iter_mut() {
+            let rest = self.rest;
+            let Some((byte, rest)) = rest.split_first() else {
+                break;
+            };
+            *place = *byte;
+            self.rest = rest;
+            given += 1;
+            if *byte == b'\n' {
+                break;
+            }
+        }
+        Ok(given)
+    }
+}
+
+#[test]
+fn a_pull_answers_what_is_due_though_others_took_its_jobs(rt: HostRuntime) -> Result<(), Fail> {
+    let versions = boxcar::Vec::new(rt.alloc())?;
+    let programs = boxcar::Vec::new(rt.alloc())?;
+    taken::<Brand, _>(rt, rt.alloc(), Blank::new(1), &versions, &programs)
+}
+
+fn taken<N: Naming + Ledger + Send + Sync, R: Threads + Wait + Abort + Copy + Send + Sync>(
+    rt: R,
+    alloc: Global,
+    blank: Blank,
+    versions: &boxcar::Vec<Version>,
+    programs: &boxcar::Vec<Verified>,
+) -> Result<(), Fail>
+    requires named { (versions.now ≡ N.versions) × (programs.now ≡ N.programs) }
+    requires blank { (blank.name ≡ N.name) × (blank.parts ≡ N.parts) × (N.parts ≡ 1) }
+{
+    let published = Published::<N>::new(versions, programs);
+    let (hub, mut shares) = Hub::new(&rt, alloc, blank, &published, 1)?;
+    let mut out = Vec::new(alloc);
+    let jobs = with_jobs_taken(&rt, alloc, &hub, &published, &mut shares[0], &mut out);
+    assert_eq!(rt; out.as_slice(), TEN_VERSIONS_REPLIES.as_bytes());
+    assert!(rt; jobs > 8);
+    Ok(())
+}
+
+/// Runs the session, and answers how many jobs were taken from it.
+fn with_jobs_taken<'p, N: Naming + Ledger + Send + Sync, R: Threads + Wait + Copy + Send + Sync>(
+    rt: &R,
+    alloc: Global,
+    hub: &Hub<'p, N, R>,
+    published: &Published<'p, N>,
+    share: &mut Share<N>,
+    out: &mut Vec<u8>,
+) -> u32 {
+    let mut reader = JobTaker {
+        rt: *rt,
+        hub,
+        rest: TEN_VERSIONS.as_bytes(),
+        jobs: 0,
+    };
+    let _ = session(rt, alloc, hub, published, share, &mut reader, out, 2);
+    reader.jobs
+}

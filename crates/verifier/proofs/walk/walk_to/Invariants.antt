@@ -1,0 +1,16 @@
+use Rattle.std.proofs.Common.{◌≡◌, length}
+use Rattle.bpf_words.specs.Words.{program_of}
+use Rattle.abstract_state.specs.Steps.{after}
+use Rattle.verifier.specs.Arises.{AllArise, FallsAs}
+use Rattle.verifier.specs.Walk.{Follows}
+use Rattle.verifier.specs.Reaches.{Covers}
+use Rattle.verifier.proofs.walk.walk_to.Given as goal
+
+abbrev pub invariant-loop-slot : goal.invariant-loop-slot
+invariant-loop-slot l = record {
+  size : length l.waiting ≡ length (program_of l.words);
+  follows : Follows (program_of l.words) l.slot (after l.flow l.state) l.waiting;
+  covers : Covers (program_of l.words) l.slot (after l.flow l.state) l.waiting;
+  waits : AllArise (program_of l.words) l.waiting;
+  falls : FallsAs (program_of l.words) l.slot (after l.flow l.state);
+}

@@ -1,0 +1,42 @@
+-- The states that the runs of a program come to, and what is known of them.
+use Rattle.std.specs.Prelude.{◌≡◌, ℕ, ◌<◌, ◌≤◌, Option, Ok}
+use Rattle.meaning.specs.State.{State, start}
+use Rattle.meaning.specs.Step.{Program, Next, step}
+use Rattle.abstract_state.specs.declared.state.AbsState.{AbsState}
+use Rattle.abstract_state.specs.State.{Span, lengths_of, WithinState}
+use Rattle.verifier.specs.declared.refusal.VerifyError.{VerifyError}
+use Rattle.verifier.specs.declared.refusal.VerifyError.TheVariants.{Structure, State as StateRefused, OutOfMemory}
+use Rattle.verifier.specs.Waiting.{States}
+use Rattle.verifier.specs.Walk.{IsAwaited}
+
+-- the run on a span comes to a state
+pub data Reaches (program : Program) (span : Span) : State → Type 0 where
+  at_start : Reaches program span start
+  by_step : {s next : State} → Reaches program span s → step program span.context span.text s ≡ Ok (Next next) → Reaches program span next
+
+-- what is known before a slot contains each state that a run comes to there; where nothing is known, no run comes there
+abbrev pub ContainsRuns : Program → ℕ → Option AbsState → Type 0
+ContainsRuns program slot known = (span : Span) (s : State) → Reaches program span s → s.slot ≡ slot → WithinState known (lengths_of span) s
+
+-- a refusal for what is known at a slot below, or for want of memory
+abbrev pub IsStateBelow : ℕ → VerifyError → Type 0
+IsStateBelow end (Structure slot fault) = ⊥
+IsStateBelow end (StateRefused slot fault) = slot < end
+IsStateBelow end OutOfMemory = Unit {0}
+
+-- a refusal for what is known comes at a slot below
+abbrev pub IsBefore : ℕ → VerifyError → Type 0
+IsBefore end (Structure slot fault) = Unit {0}
+IsBefore end (StateRefused slot fault) = slot < end
+IsBefore end OutOfMemory = Unit {0}
+
+-- ---- how the walk keeps it
+-- the run comes to a state by a step from below a slot, or it begins there
+pub data Enters (program : Program) (span : Span) (slot : ℕ) : State → Type 0 where
+  from_start : Enters program span slot start
+  from_below : {s next : State} → Reaches program span s → s.slot < slot → step program span.context span.text s ≡ Ok (Next next) → Enters program span slot next
+
+-- each state from a slot on that a run enters from below is awaited
+abbrev pub Covers : Program → ℕ → Option AbsState → States → Type 0
+Covers program slot falling waiting =
+    (span : Span) (s : State) → Enters program span slot s → slot ≤ s.slot → IsAwaited program slot falling waiting (lengths_of span) s

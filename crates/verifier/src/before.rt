@@ -1,0 +1,42 @@
+//! What the verifier knows before a slot.
+ghost use Rattle.std.specs.Prelude.{◌≡◌, ◌↔◌, ℕ, ◌<◌, length, Err, IfOk, IfErr};
+ghost use Rattle.bpf_words.specs.declared.instruction.Insn.{Insn};
+ghost use Rattle.bpf_words.specs.Flow.{StartsAt};
+ghost use Rattle.bpf_words.specs.Words.{program_of};
+ghost use Rattle.verifier.specs.Arises.{ArisesAt};
+ghost use Rattle.verifier.specs.Plain.{IsPlain};
+ghost use Rattle.verifier.specs.Guard.{IsGuard};
+ghost use Rattle.verifier.specs.Structure.{FirstFault};
+ghost use Rattle.verifier.specs.Reaches.{ContainsRuns, IsBefore};
+ghost use Rattle.verifier.specs.declared.refusal.StructureFault.{StructureFault};
+
+use crate::refusal::VerifyError;
+use crate::structure::check;
+use crate::walk::walk_before;
+use abstract_state::state::AbsState;
+use bpf_words::words::Words;
+use std::alloc::Global;
+
+/// What `verify` knows of the machine before a slot: it contains each state that a run comes to there, on any context and text that
+/// fit, and it is nothing where no run comes there. Refused is what `verify` refuses for its structure or at a slot below.
+pub fn state_before(
+    alloc: Global,
+    words: &Words<'_>,
+    slot: usize,
+) -> Result<Option<AbsState>, VerifyError>
+    requires { slot < length (program_of words.now) }
+    ensures contains { IfOk result (ContainsRuns (program_of words.now) slot) }
+    ensures arises { IfOk result (λ known. (insn : Insn) → StartsAt (program_of words.now) slot insn → ArisesAt (program_of words.now) slot known) }
+    ensures structure { (at : ℕ) (fault : StructureFault) → (result ≡ Err (VerifyError.Structure at fault)) ↔ FirstFault (program_of words.now) at fault }
+    ensures plain { IfErr result (λ e. IsPlain (program_of words.now) → e ≡ VerifyError.OutOfMemory) }
+    ensures guard { IfErr result (λ e. IsGuard (program_of words.now) → e ≡ VerifyError.OutOfMemory) }
+    ensures before { IfErr result (IsBefore slot) }
+{
+    if let Err(wrong) = check(words) {
+        return Err(VerifyError::Structure {
+            slot: wrong.slot,
+            fault: wrong.fault,
+        });
+    }
+    walk_before(alloc, words, slot)
+}
