@@ -3,12 +3,12 @@
 #
 #     ./compile.sh strong.c > strong.hex
 #
-# CLANG, OBJCOPY and OBJDUMP name the tools, MCPU the instruction set.
+# CLANG, OBJCOPY and OBJDUMP name the tools, MCPU the instruction set, CFLAGS further options for clang.
 set -eu
 objdump=${OBJDUMP:-llvm-objdump}
 folder=$(mktemp -d)
 trap 'rm -rf "$folder"' EXIT
-"${CLANG:-clang}" -target bpf -mcpu="${MCPU:-v3}" -O2 -Wall -Werror -c "$1" -o "$folder/object"
+"${CLANG:-clang}" -target bpf -mcpu="${MCPU:-v3}" -O2 -Wall -Werror ${CFLAGS:-} -c "$1" -o "$folder/object"
 # The program is the section .text. What it needs beside that has a relocation, and a second function would be called.
 if "$objdump" -r "$folder/object" | grep R_BPF >&2; then
     echo "$1: the program needs what stands outside of it" >&2

@@ -10,7 +10,7 @@ pub mod bounds;
 pub mod branch;
 mod join;
 pub mod known;
-mod memory;
+pub mod memory;
 pub mod place;
 pub mod quantity;
 pub mod refusal;

@@ -4,22 +4,22 @@ use std::alloc::{AllocError, Global};
 
 /// What the exit status of each command says.
 const STATUSES: &str =
-    "The exit status is 0 where it is done; 1 where the input is refused, or the program
-that is run meets a fault or no end; 2 where the command line is wrong; 3 where
-a read or a write fails. A refusal is printed as `refused <number> <Name>` and
-where it is (docs/REFUSALS.md).";
+    "The exit status is 0 if the command is done; 1 if its input is refused, or the
+program that is run meets a fault or runs out of steps; 2 if the command line is
+wrong; 3 if a read or a write fails. A refusal is printed as `refused <number>
+<Name>`, with its place behind it (docs/REFUSALS.md).";
 
 /// The options of `run` whose fields have 32 bits, with their defaults and what they say of the span.
 static FIELDS: [(&str, &str, &str); 6] = [
     (
         "flags",
         "0",
-        "1 strong, 2 em, 4 link, 8 color, 16 comments, added up",
+        "The sum of 1 strong, 2 em, 4 link, 8 color, 16 comments",
     ),
     (
         "color",
         "0",
-        "The color in decimal, 65536 * red + 256 * green + blue; 0 where there is none",
+        "The color in decimal, 65536 * red + 256 * green + blue; 0 if there is none",
     ),
     ("link", "0", "The link's length in bytes"),
     ("comments", "0", "The number of comments"),
@@ -34,9 +34,10 @@ fn run<'a>(alloc: Global) -> Result<Command<'a>, AllocError> {
     let mut run = Command::new(alloc, "run")
         .about("Runs a program on one span")
         .long_about(
-            "Runs a program on one span. Standard input is the span's text as it is, a last
-line feed too: UTF-8, at most 131,072 bytes. Printed is `verdict <number>`,
-`fault <slot> F<k> <Name>` or `out of steps`. All numbers are decimal.",
+            "Runs a program on one span. Standard input is the span's text, to the last byte:
+UTF-8, at most 131,072 bytes; a line feed at the end belongs to it. Printed is
+`verdict <number>`, `fault <slot> F<k> <Name>` or `out of steps`. All numbers are
+decimal.",
         )
         .after_help(STATUSES)
         .arg(program)?;
@@ -64,7 +65,7 @@ fn asm<'a>(alloc: Global) -> Command<'a> {
     Command::new(alloc, "asm")
         .about("Assembles a program")
         .long_about(
-            "Assembles a program. Standard input is assembler text, UTF-8, with an
+            "Assembles a program. Standard input is assembler text in UTF-8, with an
 instruction, a label or nothing on each line (docs/INSTRUCTIONS.md). Printed is
 the program, a line of 16 hexadecimal digits for each slot.",
         )
@@ -75,19 +76,20 @@ fn check<'a>(alloc: Global) -> Result<Command<'a>, AllocError> {
     let explain = Arg::new(alloc, "explain")
         .long("explain")
         .action(ArgAction::SetTrue)
-        .help("Prints also what the verifier knows of the program (docs/PROGRAMS.md)");
+        .help("Also prints what the verifier knows of the program (docs/PROGRAMS.md)");
     Command::new(alloc, "check")
         .about("Says whether a program is accepted")
         .long_about(
-            "Says whether a program is accepted, that is whether each run of it, on any span,
-is sure to end with a number and without a fault. Standard input is the program's
-bytes, as pairs of hexadecimal digits of either case; spaces, tabs and ends of
-lines are skipped. Printed is `accepted <slots>`, or the refusal of the first
-slot at fault. With --explain there stands behind it, of an accepted program, the
-greatest number of steps; of one that is refused at a slot from 10 to 26, the
-instruction there, and from 15 on what is known before it: a line for each
-register and each eight bytes of the stack that are set, and one for the least
-length of the text (docs/PROGRAMS.md).",
+            "Says whether a program is accepted. Each run of an accepted program, on any span,
+ends with a number and without a fault. Standard input is the program's bytes, as
+pairs of hexadecimal digits of either case; spaces, tabs and line breaks are
+skipped. Printed is `accepted <slots>`, or the refusal of the first slot at fault.
+
+With --explain more lines follow. Of an accepted program: the greatest number of
+steps, the fields of the context that it can read, and the bytes of the text. Of
+one that is refused with 10 to 26: the instruction at that slot, and from 15 on
+what is known before it, a line for each register and each eight bytes of the
+stack that are set, and one for the least length of the text (docs/PROGRAMS.md).",
         )
         .after_help(STATUSES)
         .arg(explain)
@@ -98,7 +100,7 @@ fn dis<'a>(alloc: Global) -> Command<'a> {
         .about("Prints the text of a program")
         .long_about(
             "Prints the text of a program. Standard input is the program's bytes, as pairs of
-hexadecimal digits of either case; spaces, tabs and ends of lines are skipped.
+hexadecimal digits of either case; spaces, tabs and line breaks are skipped.
 Printed is its canonical text (docs/INSTRUCTIONS.md), which `hub asm` turns back
 into the same bytes.",
         )
@@ -110,9 +112,9 @@ fn spans<'a>(alloc: Global) -> Command<'a> {
         .about("Prints the spans that changes make")
         .long_about(
             "Prints the spans that changes make. Standard input is the texts of changes back
-to back, in the order in which they are to be accepted (docs/CHANGES.md); the
-empty input is no change. Printed are the spans of the last version, a line
-`<index> <format> <text>` each.",
+to back, in the order in which they are to be accepted (docs/CHANGES.md); empty
+input is no change. Printed are the spans of the last version, each as a line
+`<index> <format> <text>`.",
         )
         .after_help(STATUSES)
 }
@@ -133,7 +135,7 @@ fn replay<'a>(alloc: Global) -> Result<Command<'a>, AllocError> {
         .about("Answers a session")
         .long_about(
             "Answers a session. Standard input is the session's lines (docs/SESSIONS.md):
-changes, and subscriptions of programs. Printed are the replies. A line that is
+changes, and subscriptions of programs. Printed are the replies. A request that is
 refused is answered `no <number> <Name>`, and the session goes on.",
         )
         .after_help(STATUSES)
@@ -147,7 +149,7 @@ fn serve<'a>(alloc: Global) -> Result<Command<'a>, AllocError> {
         .required(true)
         .action(ArgAction::Set)
         .value_parser(value_parser!(u16).range(0..))
-        .help("The port, 0 to 65535; at 0 the system chooses one");
+        .help("The port, 0 to 65535; with 0 the system chooses one");
     let sessions = Arg::new(alloc, "sessions")
         .long("sessions")
         .value_name("NUMBER")
@@ -159,8 +161,9 @@ fn serve<'a>(alloc: Global) -> Result<Command<'a>, AllocError> {
         .about("Answers sessions over TCP")
         .long_about(
             "Answers sessions over TCP, on 127.0.0.1. Standard input isn't read. Printed is
-`port <number>`. A session is as that of `hub replay --help`; all of them share
-one text. The program ends when so many sessions have ended.",
+`port <number>`. A session has the form that `hub replay --help` tells; all of them
+share one text. The program ends when as many sessions have ended as --sessions
+says.",
         )
         .after_help(STATUSES)
         .arg(port)?
@@ -175,7 +178,7 @@ pub fn hub<'a>(alloc: Global) -> Result<Command<'a>, AllocError> {
         .about("A hub for one shared rich text, with verdicts of BPF programs on its spans")
         .long_about(
             "A hub for one shared rich text, with verdicts of BPF programs on its spans. Each
-command reads standard input, in the form that its own help says (as in
+command but `serve` reads standard input, in the form that its own help tells (as
 `hub spans --help`), and prints on standard output.",
         )
         .after_help(STATUSES)

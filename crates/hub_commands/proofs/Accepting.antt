@@ -15,10 +15,11 @@ use Rattle.change_history.specs.Accepted.{IsRefused, AreAccepted}
 use Rattle.change_history.specs.declared.refusal.SubmitError.{SubmitError}
 use Rattle.change_history.specs.declared.refusal.SubmitError.TheVariants.{OutOfMemory}
 use Rattle.change_history.proofs.Chronicle.{accepted_more}
-use Rattle.hub_commands.specs.declared.reason.Reason.TheVariants.{Unread, Unaccepted}
+use Rattle.refusals.specs.declared.reason.Reason.TheVariants.{Unread, Unaccepted}
 use Rattle.hub_commands.specs.declared.spans.Stop.{Stop}
 use Rattle.hub_commands.specs.declared.spans.Stop.TheVariants as stop
 use Rattle.hub_commands.specs.SpansReply.{Begins, next_number, unread, unaccepted}
+use Rattle.hub_commands.specs.Reasons.{in_change}
 use Rattle.hub_commands.specs.Stopping.{MatchStop, StopsAt, StopsWithin, Takes}
 
 pub begins_more : (input rest after : List ℕ) (changes more : List Edit) → Begins input changes rest → Takes changes rest more after → Begins input more after
@@ -47,20 +48,20 @@ none_left input (byte ∷ rest) changes e front = let none : length (byte ∷ re
 -- ---- where the changes stop
 pub unread_there : (changes : List Edit) (text : List ℕ) (number : ℕ) (error : ChangeError) (why : Stop) → number ≡ next_number changes
     → (error ≡ reading.OutOfMemory) ⊎ BeginsWithNoChange text error
-    → MatchStop why (error ≡ reading.OutOfMemory) (λ reason. (error ≢ reading.OutOfMemory) × (reason ≡ Unread number error)) → StopsAt changes text why
+    → MatchStop why (error ≡ reading.OutOfMemory) (λ reason. (error ≢ reading.OutOfMemory) × (reason ≡ in_change number (Unread error))) → StopsAt changes text why
 unread_there changes text number error stop.Memory counted because given = tt
 unread_there changes text number error (stop.Refused reason) counted because given =
     elim because [
       | inl wanting ↦ absurd (given.0 wanting)
-      | inr fault ↦ unread error fault (given.1 ∙ ap (λ (n : ℕ). Unread n error) counted)
+      | inr fault ↦ unread error fault (given.1 ∙ ap (λ (n : ℕ). in_change n (Unread error)) counted)
     ]
 
 pub unaccepted_there : (changes : List Edit) (text rest : List ℕ) (change : Edit) (number : ℕ) (error : SubmitError) (why : Stop)
     → number ≡ next_number changes → Spells text change rest → IsRefused changes change error
-    → MatchStop why (error ≡ OutOfMemory) (λ reason. (error ≢ OutOfMemory) × (reason ≡ Unaccepted number error)) → StopsAt changes text why
+    → MatchStop why (error ≡ OutOfMemory) (λ reason. (error ≢ OutOfMemory) × (reason ≡ in_change number (Unaccepted error))) → StopsAt changes text why
 unaccepted_there changes text rest change number error stop.Memory counted spells because given = tt
 unaccepted_there changes text rest change number error (stop.Refused reason) counted spells because given =
-    unaccepted change rest error spells because given.0 (given.1 ∙ ap (λ (n : ℕ). Unaccepted n error) counted)
+    unaccepted change rest error spells because given.0 (given.1 ∙ ap (λ (n : ℕ). in_change n (Unaccepted error)) counted)
 
 pub stops_within : (input rest : List ℕ) (changes : List Edit) (why : Stop) → Begins input changes rest → rest ≢ [] → StopsAt changes rest why → StopsWithin input why
 stops_within input rest changes stop.Memory front more here = tt

@@ -24,7 +24,7 @@ use Rattle.verifier.specs.Guard.{IsGuard}
 use Rattle.assembler.specs.declared.fault.AsmError.{AsmError}
 use Rattle.assembler.specs.Text.{AsmText, AsmFault}
 use Rattle.hub_requests.specs.declared.SpanOptions.{SpanOptions}
-use Rattle.hub_commands.specs.declared.reason.Reason.TheVariants.{BadHex, Words, Source}
+use Rattle.refusals.specs.declared.reason.Reason.TheVariants.{BadHex, Words, Source}
 use Rattle.hub_commands.specs.Answers.{Reply, done}
 use Rattle.hub_commands.specs.Hexadecimal.{slot_lines}
 use Rattle.hub_commands.specs.Reasons.{refusal}

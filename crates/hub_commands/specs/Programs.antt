@@ -25,7 +25,7 @@ use Rattle.assembler.specs.declared.fault.AsmError.{AsmError}
 use Rattle.assembler.specs.Text.{AsmText, AsmFault}
 use Rattle.disassembler.specs.Canonical.{canonical}
 use Rattle.hub_requests.specs.declared.SpanOptions.{SpanOptions}
-use Rattle.hub_commands.specs.declared.reason.Reason.TheVariants.{TextRefused, BadHex, Words, Unverified, Source}
+use Rattle.refusals.specs.declared.reason.Reason.TheVariants.{TextRefused, BadHex, Words, Unverified, Source}
 use Rattle.hub_commands.specs.Answers.{Reply, line, done, failed}
 use Rattle.hub_commands.specs.Hexadecimal.{without_blanks, slot_lines}
 use Rattle.hub_commands.specs.Reasons.{refusal}

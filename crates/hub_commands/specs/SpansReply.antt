@@ -10,10 +10,10 @@ use Rattle.span_flatten.specs.Spans.{Span, AreSpans}
 use Rattle.change_history.specs.Accepted.{operations_of, AreAccepted, IsRefused}
 use Rattle.change_history.specs.declared.refusal.SubmitError.{SubmitError}
 use Rattle.change_history.specs.declared.refusal.SubmitError.TheVariants.{OutOfMemory}
-use Rattle.hub_commands.specs.declared.reason.Reason.{Reason}
-use Rattle.hub_commands.specs.declared.reason.Reason.TheVariants.{TextRefused, Unread, Unaccepted}
+use Rattle.refusals.specs.declared.reason.ChangeReason.{ChangeReason}
+use Rattle.refusals.specs.declared.reason.Reason.TheVariants.{TextRefused, Unread, Unaccepted}
 use Rattle.hub_commands.specs.Answers.{Reply, done}
-use Rattle.hub_commands.specs.Reasons.{refusal}
+use Rattle.hub_commands.specs.Reasons.{refusal, in_change, change_refusal}
 use Rattle.hub_commands.specs.SpanLines.{span_lines}
 
 -- The input begins with the texts of these changes, each accepted after those before it; the rest follows.
@@ -28,13 +28,13 @@ next_number changes = length changes + 1
 
 -- Why no change at the front of a text follows these: none can be read, by the grammar of changes, or the one that stands
 -- there isn't accepted. Want of memory is no fault of the input.
-pub data IsStopped (changes : List Edit) (text : List ℕ) (reason : Reason) : Type 0 where
-  unread : (error : ChangeError) → BeginsWithNoChange text error → reason ≡ Unread (next_number changes) error → IsStopped changes text reason
+pub data IsStopped (changes : List Edit) (text : List ℕ) (reason : ChangeReason) : Type 0 where
+  unread : (error : ChangeError) → BeginsWithNoChange text error → reason ≡ in_change (next_number changes) (Unread error) → IsStopped changes text reason
   unaccepted : (change : Edit) (rest : List ℕ) (error : SubmitError) → Spells text change rest → IsRefused changes change error → error ≢ OutOfMemory
-      → reason ≡ Unaccepted (next_number changes) error → IsStopped changes text reason
+      → reason ≡ in_change (next_number changes) (Unaccepted error) → IsStopped changes text reason
 
 -- why the changes of an input end before it does
-pub record Stops (input : List ℕ) (reason : Reason) : Type 0 where
+pub record Stops (input : List ℕ) (reason : ChangeReason) : Type 0 where
   pub changes : List Edit
   pub rest : List ℕ
   pub before : Begins input changes rest
@@ -46,4 +46,4 @@ pub data IsSpansReply (input : List ℕ) (reply : Reply) : Type 0 where
   no_text : ¬ (IsUtf8 input) → reply ≡ refusal TextRefused → IsSpansReply input reply
   shown : (changes : List Edit) (spans : List Span) → Begins input changes [] → AreSpans (operations_of changes) spans → reply ≡ done (span_lines spans)
       → IsSpansReply input reply
-  stopped : (reason : Reason) → Stops input reason → reply ≡ refusal reason → IsSpansReply input reply
+  stopped : (reason : ChangeReason) → Stops input reason → reply ≡ change_refusal reason → IsSpansReply input reply

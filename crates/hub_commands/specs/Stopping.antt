@@ -4,12 +4,12 @@ use Rattle.change_ops.specs.Changes.{Edit}
 use Rattle.change_ops.specs.Spelling.{Spells}
 use Rattle.change_history.specs.Accepted.{IsAccepted}
 use Rattle.hub_commands.specs.SpansReply.{IsStopped, Stops}
-use Rattle.hub_commands.specs.declared.reason.Reason.{Reason}
+use Rattle.refusals.specs.declared.reason.ChangeReason.{ChangeReason}
 use Rattle.hub_commands.specs.declared.spans.Stop.{Stop}
 use Rattle.hub_commands.specs.declared.spans.Stop.TheVariants as stop
 
 -- what holds where memory was wanting, or of the reason
-abbrev pub MatchStop : Stop → Type 0 → (Reason → Type 0) → Type 0
+abbrev pub MatchStop : Stop → Type 0 → (ChangeReason → Type 0) → Type 0
 MatchStop stop.Memory Wanting Because = Wanting
 MatchStop (stop.Refused reason) Wanting Because = Because reason
 

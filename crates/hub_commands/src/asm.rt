@@ -7,8 +7,8 @@ use crate::failure::Failure;
 use crate::hexadecimal::slot_lines;
 use crate::input::read_input;
 use crate::output::write_answer;
-use crate::reason::Reason;
 use assembler::assembly::assemble;
+use refusals::reason::Reason;
 use std::alloc::{AllocError, Global};
 use std::io::{Read, Write};
 

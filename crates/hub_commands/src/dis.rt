@@ -7,9 +7,9 @@ use crate::failure::Failure;
 use crate::hexadecimal::{decode_hex, without_blanks};
 use crate::input::read_input;
 use crate::output::write_answer;
-use crate::reason::Reason;
 use bpf_words::words::Words;
 use disassembler::disassemble::disassemble;
+use refusals::reason::Reason;
 use std::alloc::{AllocError, Global};
 use std::io::{Read, Write};
 

@@ -10,6 +10,7 @@ use crate::hexadecimal::{decode_hex, without_blanks};
 use crate::input::read_input;
 use crate::known_lines::push_state;
 use crate::output::write_answer;
+use crate::reads::push_reads;
 use bpf_words::instruction::Insn;
 use bpf_words::words::Words;
 use disassembler::line::Line;
@@ -81,12 +82,15 @@ fn most_steps(alloc: Global, words: &Words<'_>) -> Result<usize, AllocError> {
     Ok(steps[0])
 }
 
-/// What is known of a program: of an accepted one its greatest number of steps, and of one that is refused at a slot the instruction
-/// there, and the state before it where the instruction is refused for that.
+/// What is known of a program: of an accepted one its greatest number of steps and what it can read of a span, and of one that is
+/// refused at a slot the instruction there, and the state before it where the instruction is refused for that.
 fn program_explanation(alloc: Global, words: &Words<'_>) -> Result<String, AllocError> {
     let mut text = String::new(alloc);
     match verify(alloc, words) {
-        Ok(_) => writeln!(text, "steps <= {}", most_steps(alloc, words)?)?,
+        Ok(_) => {
+            writeln!(text, "steps <= {}", most_steps(alloc, words)?)?;
+            push_reads(alloc, &mut text, words)?;
+        }
         Err(VerifyError::Structure { slot, .. }) => push_instruction(&mut text, words, slot)?,
         Err(VerifyError::State { slot, .. }) => {
             push_instruction(&mut text, words, slot)?;

@@ -12,7 +12,7 @@ mod input;
 mod known_lines;
 mod output;
 pub mod perform;
-mod reason;
+mod reads;
 mod run;
 mod span_lines;
 mod spans;

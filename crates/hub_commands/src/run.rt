@@ -7,12 +7,12 @@ use crate::failure::Failure;
 use crate::hexadecimal::decode_hex;
 use crate::input::read_past;
 use crate::output::write_answer;
-use crate::reason::Reason;
 use bpf_words::context::{Context, Facts, TEXT_LIMIT};
 use bpf_words::words::Words;
 use hub_requests::SpanOptions;
 use interpreter::run::run_checked;
 use meaning::{FaultKind, Outcome};
+use refusals::reason::Reason;
 use std::alloc::{AllocError, Global};
 use std::io::{Read, Write};
 

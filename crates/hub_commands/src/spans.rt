@@ -5,8 +5,9 @@ ghost use Rattle.change_ops.specs.declared.refusal.ChangeError.TheVariants.{OutO
 ghost use Rattle.span_flatten.specs.Spans.{Span, AreSpans};
 ghost use Rattle.change_history.specs.Accepted.{operations_of};
 ghost use Rattle.change_history.specs.declared.refusal.SubmitError.TheVariants.{OutOfMemory};
-ghost use Rattle.hub_commands.specs.declared.reason.Reason.TheVariants.{Unread, Unaccepted};
+ghost use Rattle.refusals.specs.declared.reason.Reason.TheVariants.{Unread, Unaccepted};
 ghost use Rattle.hub_commands.specs.Answers.{done, IsAnswered};
+ghost use Rattle.hub_commands.specs.Reasons.{in_change};
 ghost use Rattle.hub_commands.specs.SpanLines.{span_lines};
 ghost use Rattle.hub_commands.specs.SpansReply.{Begins, IsSpansReply};
 ghost use Rattle.hub_commands.specs.Stopping.{MatchStop, StopsAt, StopsWithin, Takes};
@@ -15,12 +16,12 @@ use crate::answer::Answer;
 use crate::failure::Failure;
 use crate::input::read_input;
 use crate::output::write_answer;
-use crate::reason::Reason;
 use crate::span_lines::lines_of;
 use change_history::history::History;
 use change_history::refusal::SubmitError;
 use change_ops::change::read_change;
 use change_ops::refusal::ChangeError;
+use refusals::reason::{ChangeReason, Reason};
 use std::alloc::{AllocError, Global};
 use std::io::{Read, Write};
 
@@ -28,28 +29,34 @@ use std::io::{Read, Write};
 #[derive(Drop)]
 enum Stop {
     /// A change can't be read, or isn't accepted after those before it.
-    Refused(Reason),
+    Refused(ChangeReason),
     /// No memory was found.
     Memory,
 }
 
 /// Where the change of this number can't be read.
 fn unread(number: usize, error: ChangeError) -> Stop
-    ensures { MatchStop result (error ≡ NoMemory) (λ reason. (error ≢ NoMemory) × (reason ≡ Unread number error)) }
+    ensures { MatchStop result (error ≡ NoMemory) (λ reason. (error ≢ NoMemory) × (reason ≡ in_change number (Unread error))) }
 {
     match error {
         ChangeError::OutOfMemory => Stop::Memory,
-        _ => Stop::Refused(Reason::Unread(number, error)),
+        _ => Stop::Refused(ChangeReason {
+            number,
+            reason: Reason::Unread(error),
+        }),
     }
 }
 
 /// Where the change of this number isn't accepted.
 fn unaccepted(number: usize, error: SubmitError) -> Stop
-    ensures { MatchStop result (error ≡ OutOfMemory) (λ reason. (error ≢ OutOfMemory) × (reason ≡ Unaccepted number error)) }
+    ensures { MatchStop result (error ≡ OutOfMemory) (λ reason. (error ≢ OutOfMemory) × (reason ≡ in_change number (Unaccepted error))) }
 {
     match error {
         SubmitError::OutOfMemory => Stop::Memory,
-        _ => Stop::Refused(Reason::Unaccepted(number, error)),
+        _ => Stop::Refused(ChangeReason {
+            number,
+            reason: Reason::Unaccepted(error),
+        }),
     }
 }
 

@@ -107,11 +107,11 @@ module _ {S : Type 0} (sent : S → List Entry) (full : S → Type 0) where
   fed_at s id a sound within is = subst (IsFed sent full s.versions) (sym is) (All-get_or (IsFed sent full s.versions) s.subs id a within sound.fed)
 
   pub pumped : (o s : State S) (id m : ℕ) (x a b : Sub S) → s ≡ o → id < length s.subs → x ≡ get_or s.subs id x → x.closed ≡ false → a ≡ get_or s.subs id a
-      → Moved sent full a m b → Stops sent full b → Pumps sent full o id (Ok m) (record s { subs = set s.subs id b })
-  pumped o s id m x a b same within read opened found moved stops =
+      → Moved sent full a m b → Stops sent full b → IsFed sent full s.versions b → Pumps sent full o id (Ok m) (record s { subs = set s.subs id b })
+  pumped o s id m x a b same within read opened found moved stops fed =
       let one : a ≡ x = found ∙ get_or_default s.subs id a x within ∙ sym read in
       subst (λ z. Pumps sent full z id (Ok m) (record s { subs = set s.subs id b })) same
-      (a, b, (slice_get_read s.subs (length s.subs) id a refl within found, ap (λ (z : Sub S). z.closed) one ∙ opened), moved, stops, refl)
+      (a, b, (slice_get_read s.subs (length s.subs) id a refl within found, ap (λ (z : Sub S). z.closed) one ∙ opened), moved, stops, fed, refl)
 
   -- the subscriber that was read as open
   pub open_at : (s : State S) (id : ℕ) (x a : Sub S) → id < length s.subs → x ≡ get_or s.subs id x → x.closed ≡ false → a ≡ get_or s.subs id a → IsOpen s id a

@@ -15,9 +15,11 @@ use Rattle.batches.specs.Batches.{Entry, batch_of, entry, items_of}
 use Rattle.batches.specs.Orderly.{items_of_all}
 use Rattle.batches.specs.Feed.{Sub, items_at, IsFed}
 use Rattle.batches.proofs.Feeding.{All_get}
+use Rattle.change_history.specs.Accepted.{AreAccepted}
 use Rattle.change_history.specs.VersionAt.{IsVersionAt}
 use Rattle.hub_core.specs.Stream.{AreVersionsFrom, BeginsStream}
 use Rattle.hub_core.specs.Machine.{State, IsSound}
+use Rattle.hub_core.specs.Consistent.{IsConsistent}
 
 what_of_entries : (p : Token Program) (v : Token Snapshot) (found : List Finding) → map (λ (e : Entry). e.what) (map (entry p v) found) ≡ found
 what_of_entries p v [] = refl
@@ -90,3 +92,7 @@ module _ {S : Type 0} (sent : S → List Entry) (full : S → Type 0) where
   pub begins : (o s : State S) → s ≡ o → IsSound sent full s → (id : ℕ) (a : Sub S) → slice_get o.subs id ≡ Some a
       → BeginsStream a.program.value o.changes a.first (length o.changes) (map (λ (e : Entry). e.what) (sent a.sink))
   begins o s same sound id a = begins_here o id a (subst (IsSound sent full) same sound)
+
+  -- and the state is consistent
+  pub consistent : (o s : State S) → s ≡ o → IsSound sent full s → AreAccepted s.changes → IsConsistent sent full o
+  consistent o s same sound accepted = subst (IsConsistent sent full) same (record { sound = sound; accepted = accepted; streams = begins s s refl sound })

@@ -2,3 +2,4 @@ pub mod Stream
 pub mod Accepting
 pub mod Machine
 pub mod Runs
+pub mod Consistent

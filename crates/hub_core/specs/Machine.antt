@@ -95,9 +95,11 @@ Closes {S} s id (Ok _) s' = (a : Sub S) × IsOpen s id a × (s' ≡ with_sub s i
 Closes s id (Err _) s' = (s' ≡ s) × HasNone s id
 
 module _ {S : Type 0} (sent : S → List Entry) (full : S → Type 0) where
-  -- that many items of held batches are sent, in order, until the next batch isn't held or the sink is full
+  -- that many items of held batches are sent, in order, until the next batch isn't held or the sink is full; all that was sent is then what
+  -- the subscriber's cursor and count say
   abbrev pub Pumps : State S → ℕ → Result ℕ NoSubscriber → State S → Type 0
-  Pumps s id (Ok m) s' = (a : Sub S) × (b : Sub S) × IsOpen s id a × Moved sent full a m b × Stops sent full b × (s' ≡ with_sub s id b)
+  Pumps s id (Ok m) s' = (a : Sub S) × (b : Sub S) × IsOpen s id a × Moved sent full a m b × Stops sent full b × IsFed sent full s.versions b
+      × (s' ≡ with_sub s id b)
   Pumps s id (Err _) s' = (s' ≡ s) × HasNone s id
 
   -- what the core's type keeps

@@ -7,6 +7,7 @@ ghost use Rattle.change_history.specs.Accepted.{AreAccepted, operations_of};
 ghost use Rattle.change_history.specs.Kept.{IsDraft};
 ghost use Rattle.change_history.specs.VersionAt.{IsVersionAt};
 ghost use Rattle.hub_core.specs.Stream.{BeginsStream};
+ghost use Rattle.hub_core.specs.Consistent.{IsConsistent};
 ghost use Rattle.hub_core.specs.Runs.{CommitsJob};
 ghost use Rattle.hub_core.specs.Accepting.{Accepts};
 ghost use Rattle.hub_core.specs.Machine.{IsStart, Submits, Subscribes, Commits, Pumps, Reissues, Closes, TakesJob, Misses, FindsAt, FindsJob};
@@ -175,6 +176,13 @@ impl<'p, N: Naming, S: Sink<Item<N>>> Core<'p, N, S> {
         self.history.len()
     }
 
+    /// The law of what is so of a core between any two calls: what each sink was sent, with which tokens, and what is held.
+    pub fn stays_consistent(&self)
+        ensures { IsConsistent S.sent S.full self.now }
+    {
+        let _ = self.history.len();
+    }
+
     /// Whether as many subscribers were added as ever are. A closed one keeps its place, so that this stays so for good.
     pub fn is_full(&self) -> bool
         ensures { IsTrue result ↔ (length self.now.subs ≡ 64) }
@@ -317,6 +325,7 @@ impl<'p, N: Naming, S: Sink<Item<N>>> Core<'p, N, S> {
 
     /// A subscriber's sink, also of a closed one; None for an unknown id. What it was sent is a beginning of the stream of its program,
     /// of which every run ends with a number, over the accepted changes, from the subscriber's first version to the last.
+    /// [`Core::stays_consistent`] says how far it goes, with which tokens, and what is held.
     pub fn sink(&self, id: usize) -> Option<&S>
         ensures value { MatchOption result (length self.now.subs ≤ id) (λ sink. (a : Sub S) × (slice_get self.now.subs id ≡ Some a) × (sink.now ≡ a.sink)) }
         ensures stream { (a : Sub S) → slice_get self.now.subs id ≡ Some a → BeginsStream a.program.value self.now.changes a.first (length self.now.changes) (map (λ item. item.what) (S.sent a.sink)) }

@@ -6,22 +6,31 @@ use ingest_workers::hub::Hub;
 use ingest_workers::share::Share;
 use span_flatten::version::Version;
 use std::alloc::{AllocError, Global};
-use std::io::Write;
+use std::io::{Read, Write};
 use std::marker::Brand;
-use std::net::{Net, OpenListener, TcpListener, TcpStream};
+use std::net::{Net, OpenListener, Shutdown, TcpListener, TcpStream};
 use std::sync::Wait;
 use std::sync::atomic::{AtomicBool, Ordering};
 use std::sync::ledger::{Blank, Ledger};
 use std::thread::Threads;
+use std::time::Duration;
 use std::{io, thread};
 use verifier::verify::Verified;
 use version_history::published::{Naming, Published};
 
+/// How many seconds to wait for a client that still sends though its session has ended.
+const DRAIN_SECONDS: u64 = 1;
+
+/// How many times to read from it, 4,096 bytes at most each time.
+const DRAIN_READS: u32 = 4096;
+
 /// Why not all sessions were served to their ends.
 #[derive(Drop)]
 pub enum ServeError {
-    /// The port can't be bound, or its line can't be written.
+    /// The port can't be bound.
     Port(io::Error),
+    /// The line of the port can't be written.
+    Output,
     /// An accept failed, or a session's read or write.
     Connection,
     /// No memory was found for the hub.
@@ -31,6 +40,23 @@ pub enum ServeError {
 impl From<AllocError> for ServeError {
     fn from(_error: AllocError) -> ServeError {
         ServeError::OutOfMemory
+    }
+}
+
+/// Tells the client that no more replies come, and reads past what it still sends: a connection that is closed with bytes unread is
+/// reset, and the client may then miss replies. What fails here takes nothing from the session, which has ended.
+fn drain(stream: &TcpStream) {
+    let pause = Duration::from_secs(DRAIN_SECONDS);
+    if stream.shutdown(Shutdown::Write).is_err() || stream.set_read_timeout(Some(pause)).is_err() {
+        return;
+    }
+    let mut stream = stream;
+    let mut bytes = [0u8; 4096];
+    for _ in 0..DRAIN_READS {
+        match stream.read(&mut bytes) {
+            Ok(0) | Err(_) => return,
+            Ok(_) => {}
+        }
     }
 }
 
@@ -63,6 +89,7 @@ fn serve_one<'p, N: Naming + Ledger + Send + Sync, R: Threads + Wait + Copy + Se
     if ended.is_err() {
         failed.store(true, Ordering::SeqCst);
     }
+    drain(&stream);
 }
 
 /// Accepts a connection for each share, and runs a session over it in a thread of its own; answers once all have ended
@@ -134,10 +161,7 @@ fn serve_on<
 {
     let published = Published::<N>::new(versions, programs);
     let (hub, shares) = Hub::new(&rt, alloc, blank, &published, sessions)?;
-    let listener = match listen(&rt, port, writer) {
-        Ok(listener) => listener,
-        Err(error) => return Err(ServeError::Port(error)),
-    };
+    let listener = listen(&rt, port, writer)?;
     if serve_shares(&rt, alloc, &hub, &published, shares, &listener, workers) {
         Ok(())
     } else {

@@ -58,7 +58,7 @@ impl io::Write for FailingWriter {
 }
 
 /// The command lines and inputs that the devices are tried with.
-static LINES: [(&str, &str, u8); 7] = [
+static LINES: [(&str, &str, u8); 8] = [
     ("hub run b7000000010000009500000000000000", "text", 0),
     ("hub run 9500000000000000", "", 1),
     ("hub asm", "mov r0, 1\nexit\n", 0),
@@ -66,6 +66,11 @@ static LINES: [(&str, &str, u8); 7] = [
     ("hub dis", "b7000000010000009500000000000000\n", 0),
     ("hub spans", "change 1 1\ni 1@1 - 61\n", 0),
     ("hub spans", "change 1 1\ni 1@1 - d800\n", 1),
+    (
+        "hub replay",
+        "sub 8 b7000000010000009500000000000000\npull 0 1\n",
+        0,
+    ),
 ];
 
 /// The status where the reader fails after so many reads, and whether it came to that.

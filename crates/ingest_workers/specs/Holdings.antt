@@ -4,12 +4,17 @@ use Rattle.change_ops.specs.Changes.{Edit}
 use Rattle.span_flatten.specs.Version.{Snapshot}
 use Rattle.version_history.specs.Tokens.{Token}
 use Rattle.hub_core.specs.Machine.{State, Submits}
+use Rattle.hub_core.specs.Consistent.{IsConsistent}
 use Rattle.change_history.specs.declared.refusal.SubmitError.{SubmitError}
-use Rattle.subscriber_queues.specs.Queue.{Sending}
+use Rattle.subscriber_queues.specs.Queue.{Sending, was_sent, IsFull}
 
--- a core whose sinks are queues was found under the lock, and this event made another of it
+-- the states before a call and after it are consistent
+abbrev pub AreConsistent : State Sending → State Sending → Type 0
+AreConsistent old new = IsConsistent was_sent IsFull old × IsConsistent was_sent IsFull new
+
+-- a core whose sinks are queues was found under the lock, and this event made another of it; both are consistent
 abbrev pub InOneHolding : (State Sending → State Sending → Type 0) → Type 0
-InOneHolding event = (old : State Sending) × (new : State Sending) × event old new
+InOneHolding event = (old : State Sending) × (new : State Sending) × event old new × AreConsistent old new
 
 -- a change is submitted, and the number of its version answered; or it is refused
 abbrev pub Ingests : State Sending → Edit → Result ℕ SubmitError → State Sending → Type 0

@@ -4,7 +4,9 @@ ghost use Rattle.batches.specs.Feed.{Sub};
 ghost use Rattle.change_history.specs.Accepted.{AreAccepted};
 ghost use Rattle.hub_core.specs.Machine.{Submits, Subscribes, TakesJob, Misses, Commits, Pumps, Reissues, Closes};
 ghost use Rattle.hub_core.specs.Stream.{BeginsStream};
+ghost use Rattle.hub_core.specs.Consistent.{IsConsistent};
 ghost use Rattle.subscriber_queues.specs.Queue.{Sending, was_sent, IsFull};
+ghost use Rattle.ingest_workers.specs.Holdings.{AreConsistent};
 
 use crate::share::Share;
 use batches::batch::Batch;
@@ -20,7 +22,7 @@ use subscriber_queues::ends::QueueSink;
 use version_history::published::{Naming, ProgramToken, VersionToken};
 
 /// What lies under a hub's lock: its core, and the book of its ledger, whose total is the number of accepted changes. Each call is
-/// one event of the core; contracts see the core.
+/// one event of the core, from a consistent state to another; contracts see the core.
 #[derive(Drop)]
 pub struct Books<'p, N: Naming + Ledger, R: Wait + Copy> {
     core: Core<'p, N, QueueSink<N, R>>,
@@ -30,13 +32,14 @@ pub struct Books<'p, N: Naming + Ledger, R: Wait + Copy> {
 impl<'p, N: Naming + Ledger, R: Wait + Copy> Model for Books<'p, N, R> {
     ghost use Rattle.std.specs.Prelude.{◌≡◌, length};
     ghost use Rattle.hub_core.specs.Machine.{State};
-    ghost use Rattle.subscriber_queues.specs.Queue.{Sending};
+    ghost use Rattle.hub_core.specs.Consistent.{IsConsistent};
+    ghost use Rattle.subscriber_queues.specs.Queue.{Sending, was_sent, IsFull};
 
     ghost Value = { State Sending };
 
     ghost view = { λ b. b.core };
 
-    ghost invariant = { λ b. b.book.total ≡ length b.core.changes };
+    ghost invariant = { λ b. (b.book.total ≡ length b.core.changes) × IsConsistent was_sent IsFull b.core };
 }
 
 impl<'p, N: Naming + Ledger, R: Wait + Copy> Books<'p, N, R> {
@@ -44,6 +47,7 @@ impl<'p, N: Naming + Ledger, R: Wait + Copy> Books<'p, N, R> {
         requires { book.total ≡ length core.changes }
         ensures { result ≡ core.entry }
     {
+        core.stays_consistent();
         Books { core, book }
     }
 
@@ -58,16 +62,19 @@ impl<'p, N: Naming + Ledger, R: Wait + Copy> Books<'p, N, R> {
         ensures ok { OnOk result (share.new ≡ share.old + 1) }
         ensures err { OnErr result (share.new ≡ share.old) }
         ensures within { OnOk result (share.new ≤ length self.new.changes) }
+        ensures consistent { AreConsistent self.old self.new }
     {
-        let token = self.core.submit(rt, change)?;
-        let _most = self.core.count();
+        let token = self.core.submit(rt, change);
+        self.core.stays_consistent();
+        let token = token?;
         share.count_one(&mut self.book);
         Ok(token)
     }
 
     /// Whether as many subscribers were added as ever are, closed ones counted.
     pub fn is_full(&self) -> bool
-        ensures { IsTrue result ↔ (length self.now.subs ≡ 64) }
+        ensures full { IsTrue result ↔ (length self.now.subs ≡ 64) }
+        ensures consistent { IsConsistent was_sent IsFull self.now }
     {
         self.core.is_full()
     }
@@ -79,22 +86,29 @@ impl<'p, N: Naming + Ledger, R: Wait + Copy> Books<'p, N, R> {
         sink: QueueSink<N, R>,
     ) -> Result<usize, SubscribeError>
         requires { sink.sent ≡ [] }
-        ensures { Subscribes self.old (length self.old.changes) program sink result self.new }
+        ensures event { Subscribes self.old (length self.old.changes) program sink result self.new }
+        ensures consistent { AreConsistent self.old self.new }
     {
-        self.core.subscribe(program, sink)
+        let id = self.core.subscribe(program, sink);
+        self.core.stays_consistent();
+        id
     }
 
     /// Hands out a version that a subscriber's program is to be run on; None only where there is none.
     pub fn take_job(&mut self) -> Option<Job<N>>
-        ensures { TakesJob self.old result self.new }
+        ensures event { TakesJob self.old result self.new }
+        ensures consistent { AreConsistent self.old self.new }
     {
-        self.core.take_job()
+        let job = self.core.take_job();
+        self.core.stays_consistent();
+        job
     }
 
     /// The job of the first version that an open subscriber waits for, whoever it was handed out to; None only where it waits
     /// for none. Nothing is handed out.
     pub fn missing_job(&self, id: usize) -> Option<Job<N>>
-        ensures { Misses self.now id result }
+        ensures event { Misses self.now id result }
+        ensures consistent { IsConsistent was_sent IsFull self.now }
     {
         self.core.missing_job(id)
     }
@@ -103,29 +117,41 @@ impl<'p, N: Naming + Ledger, R: Wait + Copy> Books<'p, N, R> {
     pub fn commit(&mut self, batch: Batch<N>) -> Result<(), CommitError>
         ensures commits { Commits self.old batch result self.new }
         ensures takes_no_memory { ¬ (result ≡ Err CommitError.OutOfMemory) }
+        ensures consistent { AreConsistent self.old self.new }
     {
-        self.core.commit(batch)
+        let held = self.core.commit(batch);
+        self.core.stays_consistent();
+        held
     }
 
     /// Sends what can be sent to a subscriber. It answers how many items.
     pub fn pump(&mut self, id: usize) -> Result<usize, NoSubscriber>
-        ensures { Pumps was_sent IsFull self.old id result self.new }
+        ensures event { Pumps was_sent IsFull self.old id result self.new }
+        ensures consistent { AreConsistent self.old self.new }
     {
-        self.core.pump(id)
+        let sent = self.core.pump(id);
+        self.core.stays_consistent();
+        sent
     }
 
     /// What a subscriber doesn't hold may be handed out again.
     pub fn reissue(&mut self, id: usize) -> Result<(), NoSubscriber>
-        ensures { Reissues self.old id result self.new }
+        ensures event { Reissues self.old id result self.new }
+        ensures consistent { AreConsistent self.old self.new }
     {
-        self.core.reissue(id)
+        let found = self.core.reissue(id);
+        self.core.stays_consistent();
+        found
     }
 
     /// Closes a subscriber for good, and drops the batches that it holds.
     pub fn close(&mut self, id: usize) -> Result<(), NoSubscriber>
-        ensures { Closes self.old id result self.new }
+        ensures event { Closes self.old id result self.new }
+        ensures consistent { AreConsistent self.old self.new }
     {
-        self.core.close(id)
+        let found = self.core.close(id);
+        self.core.stays_consistent();
+        found
     }
 
     /// How many changes were accepted.

@@ -15,6 +15,7 @@ use Rattle.refusals.specs.declared.reason.Place.{Place}
 use Rattle.refusals.specs.declared.reason.Place.TheVariants.{Whole, Slot, Line}
 use Rattle.refusals.specs.declared.reason.Reason.{Reason}
 use Rattle.refusals.specs.declared.reason.Reason.TheVariants as reason
+use Rattle.refusals.specs.declared.reason.ChangeReason.{ChangeReason}
 use Rattle.refusals.specs.Names.{slot_fault, structure_fault, state_fault, line_fault, refusal_name}
 
 -- slots are counted from 0, lines from 1
@@ -114,6 +115,6 @@ reason_place reason.BadHex = Whole
 abbrev pub reason_text : Reason → List ℕ
 reason_text reason = reason_title reason ++ place_text (reason_place reason)
 
--- of the change of this number, from 1, in an input of many
-abbrev pub change_text : ℕ → Reason → List ℕ
-change_text number reason = reason_title reason ++ codes " change " ++ decimal number ++ place_text (reason_place reason)
+-- the same of a change in an input of many, by its number
+abbrev pub change_reason_text : ChangeReason → List ℕ
+change_reason_text change = reason_title change.reason ++ codes " change " ++ decimal change.number ++ place_text (reason_place change.reason)

@@ -1,6 +1,6 @@
 ghost use Rattle.std.specs.Prelude.{◌≡◌};
 ghost use Rattle.std.specs.declared.option.Option.TheVariants.{Some};
-ghost use Rattle.refusals.specs.Reasons.{word_place, place_text, reason_title, reason_place, reason_text, change_text, verdict_title, verdict_place, source_title, source_place, unread_title, unread_place, unaccepted_title, unaccepted_place, word_title};
+ghost use Rattle.refusals.specs.Reasons.{word_place, place_text, reason_title, reason_place, reason_text, change_reason_text, verdict_title, verdict_place, source_title, source_place, unread_title, unread_place, unaccepted_title, unaccepted_place, word_title};
 
 use crate::names::{line_fault, refusal_name, slot_fault, state_fault, structure_fault};
 use assembler::fault::AsmError;
@@ -205,17 +205,6 @@ impl Reason {
             _ => Place::Whole,
         }
     }
-
-    /// The same of the change of this number, from 1, in an input of many.
-    pub fn in_change(self, number: usize) -> ChangeReason
-        ensures number { result.number ≡ number }
-        ensures reason { result.reason ≡ self }
-    {
-        ChangeReason {
-            number,
-            reason: self,
-        }
-    }
 }
 
 /// The number and name, and the slot or the line, where there is one.
@@ -230,13 +219,14 @@ impl fmt::Display for Reason {
 /// Why a change of an input of many is refused.
 #[derive(Clone, Copy)]
 pub struct ChangeReason {
+    /// The change's, from 1.
     pub number: usize,
     pub reason: Reason,
 }
 
 /// The number and name, the change, and the line, where there is one.
 impl fmt::Display for ChangeReason {
-    ghost output = { λ reason. Some (change_text reason.number reason.reason) };
+    ghost output = { λ reason. Some (change_reason_text reason) };
 
     fn fmt<W: fmt::Write>(&self, f: &mut fmt::Formatter<W>) -> fmt::Result {
         write!(

@@ -1,5 +1,5 @@
 -- What a line of a session asks for, other than a change's.
-use Rattle.std.specs.Prelude.{◌≡◌, ◌≢◌, ℕ, ◌^◌, ◌<◌, ◌≤◌, ⊤, List, length, codes, Result, Ok, Err}
+use Rattle.std.specs.Prelude.{◌≡◌, ◌≢◌, ℕ, ◌^◌, ◌<◌, ◌≤◌, List, length, codes, Result, Ok, Err}
 use Rattle.std.specs.List.{AllByRecursion}
 use Rattle.hex.specs.Hex.{decode_of}
 use Rattle.hex.specs.declared.error.FromHexError.{FromHexError}
@@ -46,7 +46,7 @@ abbrev pub Grants : Command → Result SessionRequest LineRefusal → Type 0
 Grants (subscribe capacity digits) (Ok (Subscribe room program)) = (room ≡ capacity) × IsCount capacity × (decode_of digits ≡ Ok program.items)
 Grants (subscribe capacity digits) (Err BadCapacity) = ¬ (IsCount capacity)
 Grants (subscribe capacity digits) (Err BadHex) = IsCount capacity × ((error : FromHexError) × (decode_of digits ≡ Err error))
-Grants (subscribe capacity digits) (Err OutOfMemory) = ⊤
+Grants (subscribe capacity digits) (Err OutOfMemory) = IsCount capacity
 Grants (pull subscriber count) (Ok (Pull id most)) = (id ≡ subscriber) × (most ≡ count)
 Grants (close subscriber) (Ok (Close id)) = id ≡ subscriber
 Grants command answer = ⊥

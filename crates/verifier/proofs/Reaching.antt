@@ -1,7 +1,10 @@
 -- What the walk over the slots knows of each state that a run comes to.
-use Rattle.std.proofs.Common.{◌≡◌, ◌≢◌, ℕ, ◌+◌, ◌<◌, inl, inr, ⊎_elim, Bool, true, false, if◌then◌else◌, nat_lt, length, Option, Some, None, Result, Ok, Err, refl, sym, ap, ◌∙◌, subst, arith}
+use Rattle.std.proofs.Common.{◌≡◌, ◌≢◌, ℕ, ◌+◌, ◌<◌, inl, inr, ⊎_elim, Bool, true, false, if◌then◌else◌, nat_lt, List, [], ◌∷◌, ◌++◌, length, get_or, Option, Some, None, Result, Ok, Err, refl, sym, ap, ◌∙◌, subst, arith}
 use Rattle.std.specs.Prelude.{pos, negsuc}
 use Rattle.std.specs.List.{slice_get}
+use Rattle.std.proofs.lemmas.List.{length-append}
+use Rattle.std.proofs.Math.ListN.{get_or-append}
+use Rattle.std.proofs.Math.Seq.{get_or-append_seam}
 use Rattle.std.proofs.lemmas.Bool.{cases_eq}
 use Rattle.std.proofs.lemmas.Option.{slice_get_within}
 use Rattle.bpf_words.specs.declared.instruction.Insn.{Insn}
@@ -93,6 +96,46 @@ all_joined program slot falling joined waiting structured falls arrives covers s
     (λ (waits : WithinState (waiting_at waiting s.slot) (lengths_of span) s).
     arrives (lengths_of span) s (subst (λ k. WithinState (waiting_at waiting k) (lengths_of span) s) at waits))
     awaited.1
+
+-- what waited at a slot is joined to what falls into it, and all else still waits
+pub covers_arrived : (program : Program) (slot : ℕ) (falling joined : Option AbsState) (old mid : States) → ((lengths : Lengths) (s : State) → WithinState falling lengths s → WithinState joined lengths s) → ((lengths : Lengths) (s : State) → WithinState (waiting_at old slot) lengths s → WithinState joined lengths s) → ((other : ℕ) → other ≢ slot → waiting_at mid other ≡ waiting_at old other) → Covers program slot falling old → Covers program slot joined mid
+covers_arrived program slot falling joined old mid falls arrives others covers span s entered low =
+    let awaited = covers span s entered low in (
+      low,
+      ⊎_elim
+          (λ (fell : Between program slot s.slot × WithinState falling (lengths_of span) s). inl (fell.0, falls (lengths_of span) s fell.1))
+          (λ (waits : WithinState (waiting_at old s.slot) (lengths_of span) s).
+          ⊎_elim
+          (λ (here : s.slot ≡ slot).
+          let between : Between program slot s.slot = λ k least most. absurd (omega arith) in
+          inl (between, arrives (lengths_of span) s (subst (λ k. WithinState (waiting_at old k) (lengths_of span) s) here waits)))
+          (λ (apart : s.slot ≡ slot → ⊥). inr (subst (λ o. WithinState o (lengths_of span) s) (sym (others s.slot apart)) waits))
+          (cases_eq s.slot slot))
+          awaited.1,
+    )
+
+-- ---- what is known before each slot, in a list
+abbrev pub ContainRunsBelow : Program → ℕ → List (Option AbsState) → Type 0
+ContainRunsBelow program count states = (slot : ℕ) → slot < count → ContainsRuns program slot (get_or states slot None)
+
+pub contain_none : (program : Program) (states : List (Option AbsState)) → ContainRunsBelow program 0 states
+contain_none program states slot less = absurd (omega arith)
+
+pub count_more : (slot : ℕ) (known : Option AbsState) (states : List (Option AbsState)) → length states ≡ slot → length (states ++ known ∷ []) ≡ slot + 1
+count_more slot known states size = length-append states (known ∷ []) ∙ ap (λ n. n + 1) size
+
+pub contain_more : (program : Program) (slot : ℕ) (known : Option AbsState) (states : List (Option AbsState)) → length states ≡ slot → ContainsRuns program slot known → ContainRunsBelow program slot states → ContainRunsBelow program (slot + 1) (states ++ known ∷ [])
+contain_more program slot known states size here below at less =
+    ⊎_elim
+    (λ (last : at ≡ slot).
+    let end : at ≡ length states = last ∙ sym size in
+    let is : get_or (states ++ known ∷ []) at None ≡ known = ap (λ k. get_or (states ++ known ∷ []) k None) end ∙ get_or-append_seam states known [] None in
+    subst (λ k. ContainsRuns program k (get_or (states ++ known ∷ []) at None)) (sym last) (subst (λ o. ContainsRuns program slot o) (sym is) here))
+    (λ (apart : at ≡ slot → ⊥).
+    let under : at < slot = omega arith in
+    let is : get_or (states ++ known ∷ []) at None ≡ get_or states at None = get_or-append states (known ∷ []) None at (omega arith) in
+    subst (λ o. ContainsRuns program at o) (sym is) (below at under))
+    (cases_eq at slot)
 
 -- ---- one turn of the walk
 pub covers_begin : (program : Program) (entry : AbsState) (waiting : States) → ((span : Span) → Contains entry (lengths_of span) start) → Covers program 0 (Some entry) waiting

@@ -1,5 +1,5 @@
 -- The states that the runs of a program come to, and what is known of them.
-use Rattle.std.specs.Prelude.{◌≡◌, ℕ, ◌<◌, ◌≤◌, Option, Ok}
+use Rattle.std.specs.Prelude.{◌≡◌, ℕ, ◌<◌, ◌≤◌, List, length, Option, None, Ok, slice_index_or}
 use Rattle.meaning.specs.State.{State, start}
 use Rattle.meaning.specs.Step.{Program, Next, step}
 use Rattle.abstract_state.specs.declared.state.AbsState.{AbsState}
@@ -17,6 +17,10 @@ pub data Reaches (program : Program) (span : Span) : State → Type 0 where
 -- what is known before a slot contains each state that a run comes to there; where nothing is known, no run comes there
 abbrev pub ContainsRuns : Program → ℕ → Option AbsState → Type 0
 ContainsRuns program slot known = (span : Span) (s : State) → Reaches program span s → s.slot ≡ slot → WithinState known (lengths_of span) s
+
+-- so does what is known before each slot
+abbrev pub ContainAllRuns : Program → List (Option AbsState) → Type 0
+ContainAllRuns program states = (slot : ℕ) → slot < length program → ContainsRuns program slot (slice_index_or states slot None)
 
 -- a refusal for what is known at a slot below, or for want of memory
 abbrev pub IsStateBelow : ℕ → VerifyError → Type 0

@@ -1,4 +1,4 @@
-//! What the verifier knows before a slot.
+//! What the verifier knows before a slot, and before each.
 ghost use Rattle.std.specs.Prelude.{◌≡◌, ◌↔◌, ℕ, ◌<◌, length, Err, IfOk, IfErr};
 ghost use Rattle.bpf_words.specs.declared.instruction.Insn.{Insn};
 ghost use Rattle.bpf_words.specs.Flow.{StartsAt};
@@ -7,12 +7,12 @@ ghost use Rattle.verifier.specs.Arises.{ArisesAt};
 ghost use Rattle.verifier.specs.Plain.{IsPlain};
 ghost use Rattle.verifier.specs.Guard.{IsGuard};
 ghost use Rattle.verifier.specs.Structure.{FirstFault};
-ghost use Rattle.verifier.specs.Reaches.{ContainsRuns, IsBefore};
+ghost use Rattle.verifier.specs.Reaches.{ContainsRuns, ContainAllRuns, IsBefore};
 ghost use Rattle.verifier.specs.declared.refusal.StructureFault.{StructureFault};
 
 use crate::refusal::VerifyError;
 use crate::structure::check;
-use crate::walk::walk_before;
+use crate::walk::{walk_before, walk_each};
 use abstract_state::state::AbsState;
 use bpf_words::words::Words;
 use std::alloc::Global;
@@ -39,4 +39,20 @@ pub fn state_before(
         });
     }
     walk_before(alloc, words, slot)
+}
+
+/// What `verify` knows of the machine before each slot, as `state_before` answers it of one, by one walk. Refused is what `verify`
+/// refuses.
+pub fn states_before(alloc: Global, words: &Words<'_>) -> Result<Vec<Option<AbsState>>, VerifyError>
+    ensures size { IfOk result (λ states. length states.items ≡ length (program_of words.now)) }
+    ensures contains { IfOk result (λ states. ContainAllRuns (program_of words.now) states.items) }
+    ensures structure { (at : ℕ) (fault : StructureFault) → (result ≡ Err (VerifyError.Structure at fault)) ↔ FirstFault (program_of words.now) at fault }
+{
+    if let Err(wrong) = check(words) {
+        return Err(VerifyError::Structure {
+            slot: wrong.slot,
+            fault: wrong.fault,
+        });
+    }
+    walk_each(alloc, words)
 }

@@ -12,7 +12,7 @@ ghost use Rattle.verifier.specs.Structure.{IsOfState, IsStructured};
 ghost use Rattle.verifier.specs.Arises.{Arises, ArisesAt, AllArise, IsTarget, IsGranted, IsCause, FallsAs, FallsFrom};
 ghost use Rattle.verifier.specs.Waiting.{waiting_at};
 ghost use Rattle.verifier.specs.Walk.{Advances, Follows, JumpsWithin, Keeps};
-ghost use Rattle.verifier.specs.Reaches.{ContainsRuns, Covers, IsStateBelow};
+ghost use Rattle.verifier.specs.Reaches.{ContainsRuns, ContainAllRuns, Covers, IsStateBelow};
 
 use crate::refusal::VerifyError;
 use crate::waiting::Waiting;
@@ -84,6 +84,16 @@ fn go_on(state: &mut AbsState, next: &Option<AbsState>) -> Flow
     };
     *state = *next;
     Flow::Live
+}
+
+/// What is known, if a run can come there.
+fn live(flow: Flow, state: &AbsState) -> Option<AbsState>
+    ensures { result ≡ after flow state.now }
+{
+    match flow {
+        Flow::Live => Some(*state),
+        Flow::Dead => None,
+    }
 }
 
 /// Makes of what is known before an instruction what is known on its edges: of a jump at its target, else in the state.
@@ -220,4 +230,25 @@ pub fn walk_before(
         Flow::Live => Ok(Some(state)),
         Flow::Dead => Ok(None),
     }
+}
+
+/// What is known before each slot, from all edges into it; nothing where no run comes there.
+pub fn walk_each(alloc: Global, words: &Words<'_>) -> Result<Vec<Option<AbsState>>, VerifyError>
+    requires { IsStructured (program_of words.now) }
+    ensures size { IfOk result (λ states. length states.items ≡ length (program_of words.now)) }
+    ensures contains { IfOk result (λ states. ContainAllRuns (program_of words.now) states.items) }
+    ensures below { IfErr result (IsStateBelow (length (program_of words.now))) }
+{
+    let mut states = Vec::with_capacity(alloc, words.len())?;
+    let mut waiting = Waiting::new(alloc, words.len())?;
+    let mut state = AbsState::entry();
+    let mut flow = Flow::Live;
+    for slot in 0..words.len() {
+        flow = waiting.arrive(slot, flow, &mut state);
+        states.push(live(flow, &state))?;
+        if let Some(insn) = words.insn(slot) {
+            flow = visit(slot, &insn, flow, &mut state, &mut waiting)?;
+        }
+    }
+    Ok(states)
 }

@@ -1,5 +1,5 @@
 use Rattle.std.proofs.Common.{◌≡◌}
-use Rattle.hub_commands.specs.declared.reason.Reason.TheVariants.{Unverified}
+use Rattle.refusals.specs.declared.reason.Reason.TheVariants.{Unverified}
 use Rattle.hub_commands.specs.Answers.{Reply}
 use Rattle.hub_commands.specs.Reasons.{refusal}
 use Rattle.hub_commands.specs.Programs.{IsAcceptanceReply, rejected}

@@ -1,6 +1,6 @@
 use Rattle.std.proofs.Common.{◌≡◌, ◌∙◌, Ok, rules}
 use Rattle.hex.specs.Hex.{decode_of}
-use Rattle.hub_commands.specs.declared.reason.Reason.TheVariants.{BadHex, Words}
+use Rattle.refusals.specs.declared.reason.Reason.TheVariants.{BadHex, Words}
 use Rattle.hub_commands.specs.Answers.{Reply}
 use Rattle.hub_commands.specs.Hexadecimal.{without_blanks}
 use Rattle.hub_commands.specs.Reasons.{refusal}

@@ -3,7 +3,7 @@ use Rattle.std.specs.Prelude.{string_bytes}
 use Rattle.hex.specs.Hex.{decode_of}
 use Rattle.bpf_words.specs.Words.{program_of}
 use Rattle.disassembler.specs.Canonical.{canonical}
-use Rattle.hub_commands.specs.declared.reason.Reason.TheVariants.{BadHex, Words}
+use Rattle.refusals.specs.declared.reason.Reason.TheVariants.{BadHex, Words}
 use Rattle.hub_commands.specs.Answers.{Reply, done}
 use Rattle.hub_commands.specs.Hexadecimal.{without_blanks}
 use Rattle.hub_commands.specs.Reasons.{refusal}

@@ -1,6 +1,6 @@
 use Rattle.std.proofs.Common.{◌≡◌, ℕ, List, [], subst}
 use Rattle.hub_commands.specs.Answers.{Reply}
-use Rattle.hub_commands.specs.Reasons.{refusal}
+use Rattle.hub_commands.specs.Reasons.{change_refusal}
 use Rattle.hub_commands.specs.SpansReply.{Begins, Stops, shown, stopped, IsSpansReply}
 use Rattle.hub_commands.proofs.Replies.{mapped}
 use Rattle.hub_commands.proofs.spans.spans_answer.Goals as goal
@@ -16,4 +16,4 @@ returns-in-Err-Refused c =
     let reason = c.in-Err-Refused.reason in
     let because : Stops c.in-Ok.text.now reason = rw c.in-Err-Refused.field-0-is at c.in-Err-Refused.ensures in
     let here : Stops c.args.input.now reason = subst (λ (bytes : List ℕ). Stops bytes reason) c.in-Ok.ensures.cases.0 because in
-    mapped (λ (answer : Reply). answer ≡ refusal reason) (IsSpansReply c.args.input.now) c.refused-in-Err-Refused.result c.refused-in-Err-Refused.ensures (λ answer given. stopped reason here given)
+    mapped (λ (answer : Reply). answer ≡ change_refusal reason) (IsSpansReply c.args.input.now) c.refused-in-Err-Refused.result c.refused-in-Err-Refused.ensures (λ answer given. stopped reason here given)

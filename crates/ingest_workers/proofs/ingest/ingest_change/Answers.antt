@@ -7,4 +7,4 @@ pub returns-clause-event : goal.returns-clause-event
 returns-clause-event g c =
     let old = c.deref_mut.result.now in
     let new = c.submit.new.self in
-    (old, new, ingested old new c.args.change c.in_ok-token.token c.number.result c.in_ok-token.ensures.event (c.number.ensures ∙ ap (λ (v : Snapshot). v.number) c.look.ensures))
+    (old, new, ingested old new c.args.change c.in_ok-token.token c.number.result c.in_ok-token.ensures.event (c.number.ensures ∙ ap (λ (v : Snapshot). v.number) c.look.ensures), c.in_ok-token.ensures.consistent)
