@@ -18,7 +18,7 @@ use Rattle.abstract_state.specs.Branch.{LeavesSides}
 use Rattle.abstract_state.specs.Exact.{Fact, Holds, tail_after}
 use Rattle.abstract_state.specs.Exact.Fact.{TextIn, NumberIn, AnyNumber}
 
--- what an instruction writes into a register, row by row
+-- what an instruction writes into a register, case by case
 pub data Yields (a : AbsState) : Insn → ℕ → Fact → Type 0 where
   text_begin : (d base : ℕ) → IsContextAt 0 (register_at a.registers base) → Yields a (Load Double d base (pos 0)) d (TextIn 0 0 (Some 0))
   text_end : (d base : ℕ) → IsContextAt 0 (register_at a.registers base) → Yields a (Load Double d base (pos 8)) d (TextIn 0 131072 (Some 0))

@@ -23,7 +23,7 @@ pub enum Known {
     Lent(LentPlace),
 }
 
-/// How far a result may lie from the begin of a lent region.
+/// How far a result may lie from the start of a lent region.
 pub const NEAR: u64 = 1 << 20;
 
 pub fn number(quantity: Option<Quantity>) -> Option<Known>

@@ -21,7 +21,7 @@ use crate::stack::{are_set, filled, overwrite, spill};
 use crate::state::AbsState;
 use bpf_words::instruction::{SignedSize, Size};
 
-/// A place moved by an offset modulo 2^64, where it isn't before the begin.
+/// A place moved by an offset modulo 2^64, where it isn't before the start.
 fn moved(place: u64, offset: u64) -> Option<u64>
     requires { place ≤ 2 ^ 20 }
     ensures small { IfSome result (λ a. a ≤ place + 2 ^ 16) }

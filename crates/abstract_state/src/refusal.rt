@@ -18,7 +18,7 @@ pub enum Refusal {
     StackUnset,
     /// A load that may leave the text.
     TextBounds,
-    /// An address that may lie over 2^20 bytes behind the text's begin.
+    /// An address that may lie over 2^20 bytes after the text's start.
     TextOffset,
     /// A store to the context or the text.
     ReadOnlyStore,

@@ -1,4 +1,4 @@
-//! Instructions that go on to one slot.
+//! Instructions after which a run goes on at one slot of the program.
 ghost use Rattle.std.specs.Prelude.{◌≡◌, ◌≢◌, ℕ, pos, ◌+◌, ◌%◌, ◌^◌, ◌<◌, ◌≤◌, Option, Some, None, Ok, IfSome, IfOk, IsOk};
 ghost use Rattle.std.specs.Int.{cast_unsigned, w64};
 ghost use Rattle.meaning.specs.State.{State, register_of};

@@ -81,7 +81,7 @@ impl Quantity {
         self.bits.add(other.bits)
     }
 
-    /// The sum, by the table's row.
+    /// The sum: bits, interval, tails.
     fn plus(self, other: Quantity, width: Width) -> Option<Quantity>
         ensures contains { MapsBoth width self other result (λ x y. value_of Arithmetic.Add width x y) }
         ensures constants { width ≡ Width.Full → (m n : ℕ) (t : Option ℕ) → IsIn self m m t → IsIn other n n None → m + n < 2 ^ 64 → IfSome result (λ q. IsIn q (m + n) (m + n) (tail_after t n)) }
@@ -118,7 +118,7 @@ impl Quantity {
         self.tails.difference(other.range.low)
     }
 
-    /// The difference, by the table's row.
+    /// The difference: bits, interval, tails.
     fn minus(self, other: Quantity, width: Width) -> Option<Quantity>
         ensures { MapsBoth width self other result (λ x y. value_of Arithmetic.Sub width x y) }
     {

@@ -7,7 +7,7 @@ use Rattle.version_history.specs.Tokens.{Token}
 use Rattle.batches.specs.Batches.{Entry, Slip, items_of}
 use Rattle.batches.specs.Orderly.{items_of_all}
 
--- the batches that are held: at place i that of the version i after the cursor
+-- the batches that are held: at position i that of the version i after the cursor
 abbrev pub Held : Type 0
 Held = List (Option Slip)
 
@@ -23,7 +23,7 @@ pub record Sub (S : Type 0) : Type 0 where
   pub closed : Bool
   pub sink : S
 
--- a batch is held at this place
+-- a batch is held at this position
 abbrev pub IsHeldAt : Held → ℕ → Type 0
 IsHeldAt held i = (b : Slip) × (slice_get held i ≡ Some (Some b))
 
@@ -48,7 +48,7 @@ abbrev pub slid : ℕ → Held → Held
 slid zero held = held
 slid (suc d) held = slide (slid d held)
 
--- the items of the version at this place
+-- the items of the version at this position
 abbrev pub items_at : Token Program → List (Token Snapshot) → ℕ → List Entry
 items_at p [] n = []
 items_at p (t ∷ ts) zero = items_of p t
@@ -58,7 +58,7 @@ items_at p (t ∷ ts) (suc n) = items_at p ts n
 abbrev pub sent_of : {S : Type 0} → List (Token Snapshot) → Sub S → List Entry
 sent_of ts s = items_of_all s.program (drop s.first (take s.cursor ts)) ++ take s.count (items_at s.program ts s.cursor)
 
--- a held batch is that of the version at its place, for the subscriber's program
+-- a held batch is that of the version at its position, for the subscriber's program
 abbrev pub IsOwed : {S : Type 0} → List (Token Snapshot) → Sub S → Type 0
 IsOwed ts s = (i : ℕ) (b : Slip) → slice_get s.held i ≡ Some (Some b)
     → (b.number ≡ s.cursor + i) × (b.program ≡ s.program) × (slice_get ts (s.cursor + i) ≡ Some b.version)

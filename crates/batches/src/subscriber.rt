@@ -54,7 +54,7 @@ fn send_batch<N: Naming, S: Sink<Item<N>>>(sink: &mut S, batch: &Batch<N>, from:
     at
 }
 
-/// The batch at the first place, if one is held there.
+/// The batch at the first position, if one is held there.
 fn front<N: Naming>(held: &[Option<Batch<N>>]) -> Option<&Batch<N>>
     requires { length held.now ≡ 8 }
     ensures { MatchOption result (¬ IsHeldAt held.now 0) (λ batch. slice_get held.now 0 ≡ Some (Some batch.now)) }
@@ -62,7 +62,7 @@ fn front<N: Naming>(held: &[Option<Batch<N>>]) -> Option<&Batch<N>>
     held[0].as_ref()
 }
 
-/// Whether a batch is held at a place.
+/// Whether a batch is held at a position.
 fn is_held_at<N: Naming>(held: &[Option<Batch<N>>], place: usize) -> bool
     requires { place < length held.now }
     ensures { IsTrue result ↔ IsHeldAt held.now place }
@@ -85,7 +85,7 @@ fn is_of_version<N: Naming>(
     }
 }
 
-/// Eight places, all empty.
+/// Eight positions, all empty.
 fn no_batches<N: Naming>(alloc: Global) -> Result<Vec<Option<Batch<N>>>, AllocError>
     ensures { IfOk result (λ held. held.items ≡ nothing_held) }
 {
@@ -96,7 +96,7 @@ fn no_batches<N: Naming>(alloc: Global) -> Result<Vec<Option<Batch<N>>>, AllocEr
     Ok(held)
 }
 
-/// Empties all places.
+/// Empties all positions.
 fn let_go<N: Naming>(held: &mut [Option<Batch<N>>])
     ensures { held.new ≡ replicate (length held.old) None }
 {

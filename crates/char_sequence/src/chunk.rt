@@ -57,7 +57,7 @@ fn floor_of(elements: &[Element]) -> OpId
     floor
 }
 
-/// From 1 to 64 elements in a row, of which none is taken out, with memory for 64.
+/// From 1 to 64 consecutive elements, of which none is taken out, with memory for 64.
 #[derive(Drop)]
 pub(crate) struct Chunk {
     items: Vec<Element>,
@@ -118,7 +118,7 @@ impl Chunk {
         self.text.as_str()
     }
 
-    /// The place of an element of this id.
+    /// The index within the chunk of an element of this id.
     pub(crate) fn place_of(&self, id: OpId) -> Option<usize>
         ensures within { IfSome result (λ k. k < 64) }
         ensures found { MatchOption result (HasId self.now id → ⊥) (λ k. IsAt self.now id k) }
@@ -131,7 +131,7 @@ impl Chunk {
         None
     }
 
-    /// The first place from `start` on whose id is not greater.
+    /// The first index from `start` on whose id is not greater.
     pub(crate) fn past_greater(&self, start: usize, id: OpId) -> Option<usize>
         ensures { MatchOption result ((i : ℕ) (x : Element) → start ≤ i → slice_get self.now i ≡ Some x → Less id x.id) (IsNext self.now id start) }
     {
@@ -152,7 +152,7 @@ impl Chunk {
         None
     }
 
-    /// How many bytes of the text stand before a place.
+    /// How many bytes of the text stand before an index.
     fn text_before(&self, place: usize) -> usize
         requires { place ≤ length self.now }
         ensures value { result ≡ length (visible_text (take place self.now)) }
@@ -167,7 +167,7 @@ impl Chunk {
         }
     }
 
-    /// Puts an element at a place; those from there on move on.
+    /// Puts an element at an index; those from there on move on.
     pub(crate) fn insert(&mut self, place: usize, element: Element)
         requires within { place ≤ length self.old }
         requires room { length self.old < 64 }
@@ -179,7 +179,7 @@ impl Chunk {
         write_at(&element, at, &mut self.text);
     }
 
-    /// Makes the element at a place a tombstone.
+    /// Makes the element at an index a tombstone.
     pub(crate) fn hide(&mut self, place: usize)
         requires { place < length self.old }
         ensures { (x : Element) → slice_get self.old place ≡ Some x → self.new ≡ set self.old place (record { id = x.id; character = x.character; visible = false }) }
@@ -188,7 +188,7 @@ impl Chunk {
         write_text(&self.items, &mut self.text);
     }
 
-    /// Moves the elements from a place on into a chunk of their own.
+    /// Moves the elements from an index on into a chunk of their own.
     pub(crate) fn split(&mut self, at: usize, blank: Blank) -> Chunk
         requires { (0 < at) × (at < length self.old) }
         ensures left { self.new ≡ take at self.old }

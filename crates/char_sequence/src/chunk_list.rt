@@ -59,11 +59,11 @@ pub(crate) enum Room {
     In(Spot),
 }
 
-/// Elements in a row, of which none is taken out, in chunks, found by their ids.
+/// Consecutive elements, of which none is taken out, in chunks, found by their ids.
 #[derive(Drop)]
 pub(crate) struct ChunkList {
     chunks: Vec<Chunk>,
-    // The chunks' names in the same order. A name stays as chunks before it are split.
+    // The chunks' numbers, given once, in the same order. A number stays as chunks before it are split.
     names: Vec<usize>,
     // The name of each element's chunk.
     index: IndexMap<OpId, usize>,

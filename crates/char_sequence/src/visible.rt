@@ -1,4 +1,4 @@
-//! The visible text of elements in a row, and of a range of places.
+//! The visible text of consecutive elements, and of a range of places.
 ghost use Rattle.std.specs.Prelude.{◌≡◌, ◌≤◌, ◌+◌, ◌-◌, ◌*◌, ◌++◌, ◌∷◌, [], true, length, take, drop, slice_range, string_bytes, OnOk, OnErr};
 ghost use Rattle.std.specs.String.{string_len, string_capacity};
 ghost use Rattle.std.specs.String.Boundary.{IsSplitPoint};

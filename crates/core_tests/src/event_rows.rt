@@ -1,15 +1,15 @@
-ghost use Rattle.std.specs.Prelude.{◌≡◌, ◌++◌, ◌∷◌, [], All, IfOk, OnOk};
+ghost use Rattle.std.specs.Prelude.{◌≡◌, All, IfOk};
 ghost use Rattle.batches.specs.Orderly.{Listed};
 ghost use Rattle.hub_core.specs.Runs.{IsFreshEvent};
 
 use crate::answers::{Answer, Told, answer_of, was_sent};
-use crate::inputs::{CONSTANT_ONE, STRONG_FLAG, change, program};
+use crate::inputs::{CONSTANT_ONE, STRONG_FLAG, change, program, push_event};
 use batches::item::Job;
 use batches::sink::ListSink;
 use hub_core::hub::Core;
 use hub_core::run::{Event, Reply, run_events};
 use span_flatten::version::Version;
-use std::alloc::{AllocError, Global};
+use std::alloc::Global;
 use std::marker::Brand;
 use std::sync::Wait;
 use std::test::Fail;
@@ -132,16 +132,6 @@ fn event<N: Naming>(
         Step::Reissue(id) => Event::Reissue(id),
         Step::Close(id) => Event::Close(id),
     })
-}
-
-fn push_event<N: Naming>(
-    events: &mut Vec<Event<ProgramToken<N>, ListSink<N>>>,
-    event: Event<ProgramToken<N>, ListSink<N>>,
-) -> Result<(), AllocError>
-    ensures { OnOk result (events.new.items ≡ events.old.items ++ event ∷ []) }
-{
-    events.push(event)?;
-    Ok(())
 }
 
 fn events<N: Naming>(

@@ -1,6 +1,10 @@
+ghost use Rattle.std.specs.Prelude.{◌≡◌, ◌++◌, ◌∷◌, [], OnOk};
+
+use batches::sink::ListSink;
 use bpf_words::words::Words;
 use change_ops::change::{Change, read_change};
-use std::alloc::Global;
+use hub_core::run::Event;
+use std::alloc::{AllocError, Global};
 use std::sync::Wait;
 use std::test::Fail;
 use test_inputs::lines::lines;
@@ -34,4 +38,15 @@ pub fn change(alloc: Global, text: &str) -> Result<Change, Fail> {
     let text = lines(alloc, text)?;
     let (change, _) = read_change(alloc, text.as_str())?;
     Ok(change)
+}
+
+/// Appends an event; the proofs of the loops that do so need no more than this clause.
+pub fn push_event<N: Naming>(
+    events: &mut Vec<Event<ProgramToken<N>, ListSink<N>>>,
+    event: Event<ProgramToken<N>, ListSink<N>>,
+) -> Result<(), AllocError>
+    ensures { OnOk result (events.new.items ≡ events.old.items ++ event ∷ []) }
+{
+    events.push(event)?;
+    Ok(())
 }

@@ -1,45 +1,12 @@
 use std::alloc::{AllocError, Global};
-use std::fmt;
 use std::fmt::Write;
-
-/// An operation's id; ordered by counter, then by node.
-#[derive(Clone, Copy, PartialEq, Eq, PartialOrd, Ord)]
-pub struct Id {
-    pub counter: u64,
-    pub node: u64,
-}
-
-impl fmt::Display for Id {
-    fn fmt<W: fmt::Write>(&self, f: &mut fmt::Formatter<W>) -> fmt::Result {
-        let Id { counter, node } = *self;
-        write!(f, "{counter}@{node}")
-    }
-}
+use test_inputs::ids::{Id, Place};
 
 /// A character's code, and its UTF-8.
 #[derive(Clone, Copy)]
 pub struct Letter {
     pub code: u32,
     pub bytes: &'static [u8],
-}
-
-#[derive(Clone, Copy)]
-pub enum Place {
-    Start,
-    Before(Id),
-    After(Id),
-    End,
-}
-
-impl fmt::Display for Place {
-    fn fmt<W: fmt::Write>(&self, f: &mut fmt::Formatter<W>) -> fmt::Result {
-        match *self {
-            Place::Start => write!(f, "^"),
-            Place::Before(id) => write!(f, "<{id}"),
-            Place::After(id) => write!(f, ">{id}"),
-            Place::End => write!(f, "$"),
-        }
-    }
 }
 
 #[derive(Clone, Copy)]

@@ -1,9 +1,9 @@
-ghost use Rattle.std.specs.Prelude.{◌≡◌, ◌++◌, ◌∷◌, [], All, IfOk, OnOk};
+ghost use Rattle.std.specs.Prelude.{◌≡◌, All, IfOk};
 ghost use Rattle.batches.specs.Orderly.{Listed};
 ghost use Rattle.hub_core.specs.Runs.{IsFreshEvent};
 
 use crate::answers::{Answer, answer_of, was_sent};
-use crate::inputs::program;
+use crate::inputs::{program, push_event};
 use crate::plain_machine::{Machine, Offer, Program, Step};
 use crate::plain_text::{Operation, change_text};
 use crate::random_steps::{Start, any_step, first_steps};
@@ -306,16 +306,6 @@ fn event<N: Naming>(
         Step::Reissue(id) => Event::Reissue(id),
         Step::Close(id) => Event::Close(id),
     })
-}
-
-fn push_event<N: Naming>(
-    events: &mut Vec<Event<ProgramToken<N>, ListSink<N>>>,
-    event: Event<ProgramToken<N>, ListSink<N>>,
-) -> Result<(), AllocError>
-    ensures { OnOk result (events.new.items ≡ events.old.items ++ event ∷ []) }
-{
-    events.push(event)?;
-    Ok(())
 }
 
 fn events<N: Naming>(

@@ -1,6 +1,7 @@
 use crate::plain_machine::{Machine, Offer, Step};
-use crate::plain_text::{Act, Id, Letter, Operation, Place, is_insert};
+use crate::plain_text::{Act, Letter, Operation, is_insert};
 use std::alloc::{AllocError, Global};
+use test_inputs::ids::{Id, Place};
 use test_inputs::random::Random;
 
 /// Characters of one to four bytes.

@@ -13,13 +13,14 @@ use std::thread::Threads;
 use verifier::verify::Verified;
 use version_history::published::{Naming, Published};
 
-/// How much work is worth a thread of its own, in steps of a program: about half a millisecond.
+/// How much work, in steps of a program, justifies a further thread: about half a millisecond.
 const STEPS_PER_THREAD: usize = 262_144;
 
 /// What it takes to make a span's context and begin a run, in steps.
 const STEPS_TO_BEGIN: usize = 32;
 
-/// How few spans are worth a thread of their own, where so many workers share the processors and a run takes at most so many steps.
+/// The least number of spans that justifies a further thread, where so many workers share the processors and a run takes at most so
+/// many steps.
 fn spans_per_thread(workers: usize, steps: usize) -> usize
     requires few { steps ≤ 4096 }
 {

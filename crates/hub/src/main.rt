@@ -23,9 +23,11 @@ fn main(rt: HostRuntime) -> ExitCode {
     let status = match words(&rt) {
         Ok(words) => command(&rt, rt.alloc(), &words, &mut reader, &mut writer),
         Err(error) if error.kind() == io::ErrorKind::OutOfMemory => {
-            match rt.println("refused 45 OutOfMemory") {
-                Ok(()) => 1,
-                Err(_) => 3,
+            if rt.println("refused 45 OutOfMemory").is_ok() {
+                1
+            } else {
+                complain(&rt, "standard output can't be written");
+                3
             }
         }
         Err(_) => {

@@ -1,5 +1,11 @@
 //! What the verifier knows of a program, printed behind what `check` answers.
-ghost use Rattle.std.specs.Prelude.{◌≡◌, ◌++◌, IfOk};
+ghost use Rattle.std.specs.Prelude.{◌≡◌, ℕ, pos, ◌+◌, ◌<◌, ◌≤◌, ◌++◌, List, length, Some, true, IfOk, slice_index};
+ghost use Rattle.bpf_words.specs.Flow.{jump_of, falls_through, slots_of};
+ghost use Rattle.bpf_words.specs.Words.{program_of};
+ghost use Rattle.meaning.specs.State.{start};
+ghost use Rattle.meaning.specs.Outcomes.{outcome, outcome_from};
+ghost use Rattle.meaning.specs.Safe.{IsSpan, Safe};
+ghost use Rattle.verifier.specs.Structure.{IsStructured};
 ghost use Rattle.hub_commands.specs.Answers.{IsAnswered};
 ghost use Rattle.hub_commands.specs.Programs.{IsExplainReply};
 
@@ -21,10 +27,9 @@ use verifier::refusal::VerifyError;
 use verifier::verify::verify;
 
 /// Appends the instruction of a slot.
-fn push_instruction(text: &mut String, words: &Words<'_>, slot: usize) -> Result<(), AllocError> {
-    if slot >= words.len() {
-        return Ok(());
-    }
+fn push_instruction(text: &mut String, words: &Words<'_>, slot: usize) -> Result<(), AllocError>
+    requires { slot < length (program_of words.now) }
+{
     match words.insn(slot) {
         Some(insn) => writeln!(text, "slot {slot}: {}", Line(insn)),
         None => Ok(()),
@@ -37,44 +42,80 @@ fn push_state_before(
     text: &mut String,
     words: &Words<'_>,
     slot: usize,
-) -> Result<(), AllocError> {
-    if slot >= words.len() {
-        return Ok(());
-    }
+) -> Result<(), AllocError>
+    requires { slot < length (program_of words.now) }
+{
     match state_before(alloc, words, slot) {
         Ok(Some(state)) => push_state(text, &state),
+        Ok(None) => text.push_str("  no run comes there\n"),
         Err(VerifyError::OutOfMemory) => Err(AllocError),
-        _ => Ok(()),
+        Err(_) => text.push_str("  nothing is known\n"),
     }
 }
 
 /// Whether a run can go on to the next instruction.
-fn falls_through(insn: &Insn) -> bool {
+fn falls_through(insn: &Insn) -> bool
+    ensures { result ≡ falls_through insn.now }
+{
     !matches!(insn, Insn::Jump { .. } | Insn::JumpLong { .. } | Insn::Exit)
 }
 
-/// The greatest number of steps from a slot on, where those of the slots behind it are known.
-fn steps_from(steps: &[usize], slot: usize, insn: &Insn) -> usize {
-    let next = if falls_through(insn) {
-        slot.saturating_add(insn.slots())
-    } else {
-        steps.len()
-    };
-    let target = match insn.distance() {
-        Some(distance) => slot
-            .saturating_add(1)
-            .saturating_add(distance.unsigned_abs() as usize),
-        None => steps.len(),
-    };
-    let after_next = steps.get(next).copied().unwrap_or(0);
-    let after_jump = steps.get(target).copied().unwrap_or(0);
-    after_next.max(after_jump).saturating_add(1)
+/// The number at a slot; none behind the last.
+fn steps_at(steps: &[usize], slot: usize) -> usize
+    ensures { result ≡ slice_index steps.now slot }
+{
+    if slot < steps.len() { steps[slot] } else { 0 }
 }
 
-/// The greatest number of steps of a program whose jumps all lead forward: the instructions on its longest path.
-fn most_steps(alloc: Global, words: &Words<'_>) -> Result<usize, AllocError> {
+/// The greatest number of steps past an instruction that goes on to the next one.
+fn steps_past(steps: &[usize], slot: usize, insn: &Insn) -> usize
+    requires slot { slot < 4096 }
+    ensures bound { (most : ℕ) → ((k : ℕ) → slice_index steps.now k ≤ most) → result ≤ most }
+    ensures falls { falls_through insn.now ≡ true → result ≡ slice_index steps.now (slot + slots_of insn.now) }
+{
+    if falls_through(insn) {
+        steps_at(steps, slot + insn.slots())
+    } else {
+        0
+    }
+}
+
+/// The greatest number of steps from where an instruction jumps to.
+fn steps_behind(steps: &[usize], slot: usize, insn: &Insn) -> usize
+    requires slot { slot < 4096 }
+    ensures bound { (most : ℕ) → ((k : ℕ) → slice_index steps.now k ≤ most) → result ≤ most }
+    ensures jumps { (n : ℕ) → jump_of insn.now ≡ Some (pos n) → result ≡ slice_index steps.now (slot + 1 + n) }
+{
+    match insn.distance() {
+        Some(distance) => steps_at(steps, slot + 1 + distance.unsigned_abs() as usize),
+        None => 0,
+    }
+}
+
+/// The greatest number of steps from a slot on, where those of the slots behind it are known.
+fn steps_from(steps: &[usize], slot: usize, insn: &Insn) -> usize
+    requires slot { slot < 4096 }
+    requires few { (k : ℕ) → slice_index steps.now k ≤ 4096 }
+    ensures bound { (most : ℕ) → ((k : ℕ) → slice_index steps.now k ≤ most) → result ≤ most + 1 }
+    ensures some { 1 ≤ result }
+    ensures falls { falls_through insn.now ≡ true → slice_index steps.now (slot + slots_of insn.now) < result }
+    ensures jumps { (n : ℕ) → jump_of insn.now ≡ Some (pos n) → slice_index steps.now (slot + 1 + n) < result }
+{
+    let past = steps_past(steps, slot, insn);
+    let behind = steps_behind(steps, slot, insn);
+    past.max(behind) + 1
+}
+
+/// The greatest number of steps of a program whose jumps all lead forward: the instructions on its longest path. No run takes more.
+fn most_steps(alloc: Global, words: &Words<'_>) -> Result<usize, AllocError>
+    requires structured { IsStructured (program_of words.now) }
+    requires safe { Safe (program_of words.now) }
+    ensures { IfOk result (λ most. (context text : List ℕ) → IsSpan context text
+        → outcome_from (program_of words.now) context text most start ≡ outcome (program_of words.now) context text) }
+{
     let mut steps = vec![in alloc; 0; words.len()]?;
-    for slot in (0..words.len()).rev() {
+    for done in 0..words.len() {
+        let slot = words.len() - 1 - done;
         if let Some(insn) = words.insn(slot) {
             steps[slot] = steps_from(&steps, slot, &insn);
         }

@@ -1,4 +1,7 @@
 //! What the loads of an accepted program can read of a span (docs/PROGRAMS.md, "What the verifier knew").
+ghost use Rattle.std.specs.Prelude.{◌≡◌, length};
+ghost use Rattle.bpf_words.specs.Words.{program_of};
+
 use abstract_state::known::Known;
 use abstract_state::memory::{count, count_signed};
 use abstract_state::place::{ContextPlace, LentPlace};
@@ -11,19 +14,19 @@ use std::alloc::{AllocError, Global};
 use verifier::before::states_before;
 use verifier::refusal::VerifyError;
 
-/// The fields of the context, by rising offset.
-static FIELDS: [(u64, &str); 11] = [
-    (0, "text"),
-    (8, "end"),
-    (16, "len"),
-    (20, "characters"),
-    (24, "flags"),
-    (28, "color"),
-    (32, "link_len"),
-    (36, "comments"),
-    (40, "index"),
-    (44, "count"),
-    (48, "version"),
+/// The fields of the context, by rising offset: the first byte of each, how many it has, and its name.
+static FIELDS: [(u64, u64, &str); 11] = [
+    (0, 8, "text"),
+    (8, 8, "end"),
+    (16, 4, "len"),
+    (20, 4, "characters"),
+    (24, 4, "flags"),
+    (28, 4, "color"),
+    (32, 4, "link_len"),
+    (36, 4, "comments"),
+    (40, 4, "index"),
+    (44, 4, "count"),
+    (48, 8, "version"),
 ];
 
 /// Where a load reads: so many bytes, at an offset from the address in a register.
@@ -67,13 +70,25 @@ fn load_of(insn: &Insn) -> Option<Load> {
 }
 
 impl Reads {
-    /// Adds the field that a load takes from the context.
-    fn add_field(&mut self, load: &Load, base: ContextPlace) {
+    /// Adds all that a span has.
+    fn add_all(&mut self) {
+        self.fields = [true; 11];
+        self.text = TEXT_LIMIT as u64;
+    }
+
+    /// Adds the fields of which a load takes bytes from the context; all of them where that is none.
+    fn add_fields(&mut self, load: &Load, base: ContextPlace) {
         let place = base.place.wrapping_add_signed(load.offset);
-        for (index, (field, _)) in FIELDS.iter().enumerate() {
-            if *field == place {
+        let end = place.saturating_add(load.bytes);
+        let mut some = false;
+        for (index, (first, bytes, _)) in FIELDS.iter().enumerate() {
+            if *first < end && place < first.saturating_add(*bytes) {
                 self.fields[index] = true;
+                some = true;
             }
+        }
+        if !some {
+            self.fields = [true; 11];
         }
     }
 
@@ -84,21 +99,22 @@ impl Reads {
         self.text = self.text.max(end);
     }
 
-    /// Adds what a load can read by what its register holds. Beside the span that of an accepted program reads the stack alone.
+    /// Adds what a load can read by what its register holds: all of the span where that may be any address, so that what is
+    /// printed needs no more than that what is known contains each run's state.
     fn add(&mut self, load: &Load, register: AbsReg) {
-        let AbsReg::Set(known) = register else {
-            return;
-        };
-        match known {
-            Known::Context(base) => self.add_field(load, base),
-            Known::Lent(base) => self.add_bytes(load, base),
-            Known::Stack(_base) => {}
-            Known::Number(_number) => {}
+        match register {
+            AbsReg::Set(Known::Context(base)) => self.add_fields(load, base),
+            AbsReg::Set(Known::Lent(base)) => self.add_bytes(load, base),
+            AbsReg::Set(Known::Stack(_base)) => {}
+            AbsReg::Set(Known::Number(_number)) => self.add_all(),
+            AbsReg::Unset => self.add_all(),
         }
     }
 
     /// What the loads of a program can read by what is known before each slot; a load to which no run comes reads nothing.
-    fn of(words: &Words<'_>, states: &[Option<AbsState>]) -> Reads {
+    fn of(words: &Words<'_>, states: &[Option<AbsState>]) -> Reads
+        requires { length states.now ≡ length (program_of words.now) }
+    {
         let mut reads = Reads {
             fields: [false; 11],
             text: 0,
@@ -107,7 +123,7 @@ impl Reads {
             let Some(insn) = words.insn(slot) else {
                 continue;
             };
-            if let (Some(load), Some(Some(state))) = (load_of(&insn), states.get(slot)) {
+            if let (Some(load), Some(state)) = (load_of(&insn), &states[slot]) {
                 reads.add(&load, state.registers[load.base.index()]);
             }
         }
@@ -119,7 +135,7 @@ impl Reads {
 fn push_fields(text: &mut String, fields: &[bool; 11]) -> Result<(), AllocError> {
     text.push_str("context: ")?;
     let mut some = false;
-    for (read, (_, name)) in fields.iter().zip(&FIELDS) {
+    for (read, (_, _, name)) in fields.iter().zip(&FIELDS) {
         if *read {
             if some {
                 text.push_str(", ")?;

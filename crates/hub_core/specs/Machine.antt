@@ -15,7 +15,7 @@ use Rattle.hub_core.specs.declared.error.CommitError.{CommitError}
 use Rattle.hub_core.specs.declared.error.CommitError.TheVariants as commit
 use Rattle.hub_core.specs.declared.error.NoSubscriber.{NoSubscriber}
 
--- the accepted changes, the tokens of their versions from version 0 on, and the subscribers, whose ids are their places
+-- the accepted changes, the tokens of their versions from version 0 on, and the subscribers, whose ids are their indexes in this list
 pub record State (S : Type 0) : Type 0 where
   pub changes : List Edit
   pub versions : List (Token Snapshot)

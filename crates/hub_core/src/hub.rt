@@ -183,7 +183,7 @@ impl<'p, N: Naming, S: Sink<Item<N>>> Core<'p, N, S> {
         let _ = self.history.len();
     }
 
-    /// Whether as many subscribers were added as ever are. A closed one keeps its place, so that this stays so for good.
+    /// Whether as many subscribers were added as ever are. A closed one keeps its id, so that this stays so for good.
     pub fn is_full(&self) -> bool
         ensures { IsTrue result ↔ (length self.now.subs ≡ 64) }
     {

@@ -19,7 +19,7 @@ pub enum Event<P, S> {
     Submit(Change),
     Subscribe(P, S),
     TakeJob,
-    /// Computes the batch of the job that was handed out at this place of the run, from 0, and commits it.
+    /// Computes the batch of the job that was handed out with this index among those of the run, from 0, and commits it.
     Commit(usize),
     Pump(usize),
     Reissue(usize),

@@ -16,23 +16,23 @@ use std::net::{Net, TcpListener, TcpStream};
 use std::sync::Wait;
 use std::thread::Threads;
 
-/// Why a command came to no status of its own.
-enum Fault {
+/// Why a command has no exit status of its own.
+enum CommandError {
     /// Standard input can't be read.
     Input,
     /// Standard output can't be written.
     Output,
-    /// One of the two.
+    /// Standard input can't be read, or standard output can't be written.
     Device,
     /// No memory was found.
     Memory,
 }
 
-impl From<Failure> for Fault {
-    fn from(failure: Failure) -> Fault {
+impl From<Failure> for CommandError {
+    fn from(failure: Failure) -> CommandError {
         match failure {
-            Failure::Device => Fault::Device,
-            Failure::Memory => Fault::Memory,
+            Failure::Device => CommandError::Device,
+            Failure::Memory => CommandError::Memory,
         }
     }
 }
@@ -54,15 +54,16 @@ pub fn command<
 >(rt: &H, alloc: Global, words: &[S], reader: &mut R, writer: &mut W) -> u8 {
     let fault = match answered(rt, alloc, words, reader, writer) {
         Ok(status) => return status,
-        Err(Fault::Memory) => {
-            return match writeln!(writer, "refused 45 OutOfMemory") {
-                Ok(()) => 1,
-                Err(_) => 3,
-            };
+        Err(CommandError::Memory) => {
+            if writeln!(writer, "refused 45 OutOfMemory").is_ok() {
+                return 1;
+            }
+            "standard output can't be written"
         }
-        Err(Fault::Input) => "standard input can't be read",
-        Err(Fault::Output) => "standard output can't be written",
-        Err(Fault::Device) => "standard input can't be read, or standard output can't be written",
+        Err(CommandError::Input) => "standard input can't be read",
+        Err(CommandError::Output) => "standard output can't be written",
+        Err(CommandError::Device) =>
+            "standard input can't be read, or standard output can't be written",
     };
     complain(rt, fault);
     3
@@ -73,12 +74,12 @@ fn complain<H: Eprint>(rt: &H, fault: &str) {
     let _ = eprintln!(rt; "hub: {fault}");
 }
 
-/// Prints a text, and gives the status.
-fn shown<W: Write>(writer: &mut W, text: &str, status: u8) -> Result<u8, Fault> {
+/// Prints help.
+fn shown<W: Write>(writer: &mut W, text: &str) -> Result<u8, CommandError> {
     match writer.write_all(text.as_bytes()) {
-        Ok(()) => Ok(status),
-        Err(error) if error.kind() == io::ErrorKind::OutOfMemory => Err(Fault::Memory),
-        Err(_) => Err(Fault::Output),
+        Ok(()) => Ok(0),
+        Err(error) if error.kind() == io::ErrorKind::OutOfMemory => Err(CommandError::Memory),
+        Err(_) => Err(CommandError::Output),
     }
 }
 
@@ -93,12 +94,15 @@ fn answered<
     S: AsStr,
     R: Read,
     W: Write,
->(rt: &H, alloc: Global, words: &[S], reader: &mut R, writer: &mut W) -> Result<u8, Fault> {
+>(rt: &H, alloc: Global, words: &[S], reader: &mut R, writer: &mut W) -> Result<u8, CommandError> {
     match request(alloc, words) {
         Ok(request) => asked(rt, alloc, &request, reader, writer),
-        Err(Unread::Shown(text)) => shown(writer, text.as_str(), 0),
-        Err(Unread::Usage(text)) => shown(writer, text.as_str(), 2),
-        Err(Unread::Memory) => Err(Fault::Memory),
+        Err(Unread::Shown(text)) => shown(writer, text.as_str()),
+        Err(Unread::Usage(text)) => {
+            let _ = eprint!(rt; "{text}");
+            Ok(2)
+        }
+        Err(Unread::Memory) => Err(CommandError::Memory),
     }
 }
 
@@ -113,7 +117,13 @@ fn asked<
         + Sync,
     R: Read,
     W: Write,
->(rt: &H, alloc: Global, request: &Request, reader: &mut R, writer: &mut W) -> Result<u8, Fault> {
+>(
+    rt: &H,
+    alloc: Global,
+    request: &Request,
+    reader: &mut R,
+    writer: &mut W,
+) -> Result<u8, CommandError> {
     match request {
         Request::Perform(command) => Ok(perform(alloc, command, reader, writer)?),
         Request::Replay { workers } => replayed(rt, alloc, reader, writer, *workers),
@@ -132,12 +142,12 @@ fn replayed<H: Threads + Wait + Copy + Send + Sync, R: Read, W: Write>(
     reader: &mut R,
     writer: &mut W,
     workers: Workers,
-) -> Result<u8, Fault> {
+) -> Result<u8, CommandError> {
     match replay(rt, alloc, reader, writer, workers.count()) {
         Ok(()) => Ok(0),
-        Err(ReplayError::Session(SessionFault::Read)) => Err(Fault::Input),
-        Err(ReplayError::Session(SessionFault::Write)) => Err(Fault::Output),
-        Err(ReplayError::OutOfMemory) => Err(Fault::Memory),
+        Err(ReplayError::Session(SessionFault::Read)) => Err(CommandError::Input),
+        Err(ReplayError::Session(SessionFault::Write)) => Err(CommandError::Output),
+        Err(ReplayError::OutOfMemory) => Err(CommandError::Memory),
     }
 }
 
@@ -158,7 +168,7 @@ fn served<
     sessions: Sessions,
     workers: Workers,
     writer: &mut W,
-) -> Result<u8, Fault> {
+) -> Result<u8, CommandError> {
     match serve(*rt, alloc, port, sessions.count(), workers.count(), writer) {
         Ok(()) => Ok(0),
         Err(ServeError::Port(error)) => {
@@ -169,7 +179,7 @@ fn served<
             complain(rt, "an accept failed, or a session's read or write");
             Ok(3)
         }
-        Err(ServeError::Output) => Err(Fault::Output),
-        Err(ServeError::OutOfMemory) => Err(Fault::Memory),
+        Err(ServeError::Output) => Err(CommandError::Output),
+        Err(ServeError::OutOfMemory) => Err(CommandError::Memory),
     }
 }

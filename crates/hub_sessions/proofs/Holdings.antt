@@ -1,9 +1,10 @@
 -- Where a subscriber is, and what is taken of it.
 use Rattle.std.proofs.Common.{◌≡◌, ℕ, ◌<◌, ◌==◌, List, [], Result, Ok, Err, length, set, get_or, refl, inl, inr}
-use Rattle.std.specs.Prelude.{Some, None, IfOk}
+use Rattle.std.specs.Prelude.{Some, None, IfOk, Bool, IsTrue, ◌↔◌}
 use Rattle.std.proofs.lemmas.List.Quantifiers.{position-Some}
 use Rattle.std.proofs.lemmas.Option.{slice_get_read}
 use Rattle.batches.specs.Batches.{Entry}
+use Rattle.ingest_workers.specs.Holdings.{InOneHolding}
 use Rattle.refusals.specs.declared.reason.Reason.TheVariants as reason
 use Rattle.session_lines.specs.declared.reply.Reply.{Reply}
 use Rattle.session_lines.specs.declared.reply.Reply.TheVariants.{Refused}
@@ -31,3 +32,7 @@ pulled id count place held one taken out out' (Err error) there read pulls = pul
 
 pub none_pulled : (id count : ℕ) (held : List Watched) (out : List ℕ) → place_in held id ≡ None → PullsAny id count held held out out (Refused reason.NoSubscriber)
 none_pulled id count held out none = inr (record { none = none; same = refl; printed = refl; told = refl })
+
+-- what a test of a full hub found
+pub full : (test : Bool) → IsTrue test → InOneHolding (λ old new. (new ≡ old) × (IsTrue test ↔ (length old.subs ≡ 64))) → InOneHolding (λ old new. (new ≡ old) × (length old.subs ≡ 64))
+full test is found = (found.0, found.1, (found.2.0, found.2.1.0 is), found.3)

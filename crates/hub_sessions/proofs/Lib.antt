@@ -1,2 +1,3 @@
 pub mod Takings
 pub mod Holdings
+pub mod Conversing

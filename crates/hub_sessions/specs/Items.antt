@@ -17,7 +17,7 @@ item_reply (finding.End version spans) = reply.End version spans
 abbrev pub item_line : Entry → List ℕ
 item_line item = reply_text (item_reply item.what) ++ 10 ∷ []
 
--- so many items were taken behind those that were taken before, and their lines appended in the same order
+-- so many items were taken after those that were taken before, and their lines appended in the same order
 pub record Takes (count : ℕ) (taken taken' : List Entry) (out out' : List ℕ) : Type 0 where
   pub items : List Entry
   pub next : taken' ≡ taken ++ items

@@ -1,4 +1,9 @@
-ghost use Rattle.std.specs.Prelude.{◌≤◌};
+ghost use Rattle.std.specs.Prelude.{◌≡◌, ◌≤◌, [], IfOk, IfErr, OnOk, string_bytes};
+ghost use Rattle.std.specs.Io.KnownBytes.{Appends};
+ghost use Rattle.refusals.specs.declared.reason.Reason.TheVariants as why;
+ghost use Rattle.session_lines.specs.declared.reply.Reply.TheVariants as told;
+ghost use Rattle.hub_sessions.specs.Sessions.{Submits, Answers, TakesTurn, BreaksTurn, Ends, reply_line};
+ghost use Rattle.hub_sessions.specs.declared.conversation.TurnFault.TheVariants as turn_fault;
 
 use crate::desk::{Desk, Held};
 use change_ops::change::Change;
@@ -44,6 +49,8 @@ enum TurnFault {
 }
 
 impl From<AllocError> for TurnFault {
+    ghost from_gives = { λ _ fault. fault ≡ turn_fault.Memory };
+
     fn from(_error: AllocError) -> TurnFault {
         TurnFault::Memory
     }
@@ -59,7 +66,10 @@ impl From<ReadFault> for TurnFault {
 }
 
 /// Writes what answers one request, whole.
-fn write_reply<W: Write>(writer: &mut W, out: &str) -> Result<(), SessionFault> {
+fn write_reply<W: Write>(writer: &mut W, out: &str) -> Result<(), SessionFault>
+    ensures ok { OnOk result (Appends (W.contents writer.old) (W.contents writer.new) out.now) }
+    ensures err { IfErr result (λ fault. fault ≡ SessionFault.Write) }
+{
     if out.is_empty() {
         return Ok(());
     }
@@ -70,7 +80,10 @@ fn write_reply<W: Write>(writer: &mut W, out: &str) -> Result<(), SessionFault> 
 }
 
 /// Writes that no memory was found. The session ends.
-fn write_no_memory<W: Write>(writer: &mut W) -> Result<(), SessionFault> {
+fn write_no_memory<W: Write>(writer: &mut W) -> Result<(), SessionFault>
+    ensures ok { OnOk result (Appends (W.contents writer.old) (W.contents writer.new) (reply_line (told.Refused why.OutOfMemory))) }
+    ensures err { IfErr result (λ fault. fault ≡ SessionFault.Write) }
+{
     write_reply(writer, "no 45 OutOfMemory\n")
 }
 
@@ -81,7 +94,8 @@ fn change<N: Naming + Ledger, R: Wait + Copy>(
     share: &mut Share<N>,
     change: Change,
 ) -> Reply
-    ensures { share.old ≤ share.new }
+    ensures submits { Submits change share.old result share.new }
+    ensures share { share.old ≤ share.new }
 {
     match ingest_change(rt, hub, share, change) {
         Ok(number) => Reply::Version(number),
@@ -90,7 +104,7 @@ fn change<N: Naming + Ledger, R: Wait + Copy>(
 }
 
 impl<N: Naming + Ledger + Send + Sync, R: Threads + Wait + Copy + Send + Sync> Desk<'_, '_, N, R> {
-    /// Does what is asked, appends the lines of items, and answers the line behind them.
+    /// Does what is asked, appends the lines of items, and answers the line after them.
     fn answer(
         &self,
         share: &mut Share<N>,
@@ -98,7 +112,9 @@ impl<N: Naming + Ledger + Send + Sync, R: Threads + Wait + Copy + Send + Sync> D
         request: SessionRequest,
         out: &mut String,
     ) -> Result<Reply, AllocError>
-        ensures { share.old ≤ share.new }
+        ensures answers { IfOk result (λ answer. Answers request (record { count = share.old; held = held.old.items }) (string_bytes out.old) (string_bytes out.new)
+            answer (record { count = share.new; held = held.new.items })) }
+        ensures share { share.old ≤ share.new }
     {
         match request {
             SessionRequest::Change(asked) => Ok(change(&self.rt, self.hub, share, asked)),
@@ -110,7 +126,7 @@ impl<N: Naming + Ledger + Send + Sync, R: Threads + Wait + Copy + Send + Sync> D
         }
     }
 
-    /// Reads a request, does what it asks, and appends the lines of the reply.
+    /// Reads a request, does what it asks, and puts the lines of the reply in place of those of the one before.
     fn turn<I: Read>(
         &self,
         share: &mut Share<N>,
@@ -118,8 +134,13 @@ impl<N: Naming + Ledger + Send + Sync, R: Threads + Wait + Copy + Send + Sync> D
         lines: &mut LineReader<I>,
         out: &mut String,
     ) -> Result<Turn, TurnFault>
-        ensures { share.old ≤ share.new }
+        ensures ok { IfOk result (λ turn. TakesTurn turn (record { count = share.old; held = held.old.items }) lines.old.left (string_bytes out.new)
+            (record { count = share.new; held = held.new.items }) lines.new.left) }
+        ensures err { IfErr result (λ fault. BreaksTurn fault (record { count = share.old; held = held.old.items }) (string_bytes out.new)
+            (record { count = share.new; held = held.new.items })) }
+        ensures share { share.old ≤ share.new }
     {
+        out.clear();
         match next_request(self.alloc, lines)? {
             Next::Request(request) => {
                 self.answer(share, held, request, out)?.push_line(out)?;
@@ -146,10 +167,10 @@ impl<N: Naming + Ledger + Send + Sync, R: Threads + Wait + Copy + Send + Sync> D
         out: &mut String,
         writer: &mut O,
     ) -> Result<(), SessionFault>
-        ensures { share.old ≤ share.new }
+        ensures ends { Ends result (record { count = share.old; held = held.old.items }) lines.old.left (O.contents writer.old) share.new (O.contents writer.new) }
+        ensures share { share.old ≤ share.new }
     {
         for _ in self.rt.forever() {
-            out.clear();
             let turn = self.turn(share, held, lines, out);
             write_reply(writer, out.as_str())?;
             match turn {
@@ -170,7 +191,8 @@ impl<N: Naming + Ledger + Send + Sync, R: Threads + Wait + Copy + Send + Sync> D
         reader: I,
         writer: &mut O,
     ) -> Result<(), SessionFault>
-        ensures { share.old ≤ share.new }
+        ensures ends { Ends result (record { count = share.old; held = held.old.items }) (I.remaining reader) (O.contents writer.old) share.new (O.contents writer.new) }
+        ensures share { share.old ≤ share.new }
     {
         let Ok(mut lines) = LineReader::new(self.alloc, reader) else {
             return write_no_memory(writer);
@@ -201,6 +223,7 @@ pub fn session<
     workers: usize,
 ) -> Result<(), SessionFault>
     requires workers { (1 ≤ workers) × (workers ≤ 16) }
+    ensures ends { Ends result (record { count = share.old; held = [] }) (I.remaining reader) (O.contents writer.old) share.new (O.contents writer.new) }
     ensures share { share.old ≤ share.new }
 {
     let desk = Desk {

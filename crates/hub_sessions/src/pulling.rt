@@ -15,6 +15,10 @@ use std::thread::Threads;
 use subscriber_queues::ends::Subscription;
 use version_history::published::Naming;
 
+/// How many batches each worker computes in a round of a pull, for whichever subscribers they are due. A bound keeps a pull from
+/// working for others without end while they write.
+const ROUND_TURNS: u32 = 8;
+
 /// What is printed of an item.
 fn reply_of(what: Finding) -> Reply
     ensures { result ≡ item_reply what }
@@ -73,8 +77,8 @@ impl<N: Naming + Ledger + Send + Sync, R: Threads + Wait + Copy + Send + Sync> D
         Ok(taken)
     }
 
-    /// Computes the batches that no worker computes yet, of all subscribers, and then the first one that this subscriber waits
-    /// for, whoever else computes it. It answers whether the subscriber waited for one.
+    /// Computes some of the batches that no worker computes yet, of all subscribers, and then the first one that this subscriber
+    /// waits for, whoever else computes it. It answers whether the subscriber waited for one.
     fn compute(&self, id: usize) -> Result<bool, AllocError> {
         work(
             &self.rt,
@@ -83,7 +87,7 @@ impl<N: Naming + Ledger + Send + Sync, R: Threads + Wait + Copy + Send + Sync> D
             self.published,
             &Open,
             self.workers,
-            u32::MAX,
+            ROUND_TURNS,
         )?;
         catch_up(
             &self.rt,
@@ -97,8 +101,8 @@ impl<N: Naming + Ledger + Send + Sync, R: Threads + Wait + Copy + Send + Sync> D
 
     /// Computes and takes items, until so many are taken or none is due.
     ///
-    /// A round in which the subscriber waited for a batch takes an item at least, the end of that batch's version or one before it. A
-    /// round in which it waited for none, and then no item was to be had, has all versions behind it that were published before.
+    /// In a round where the subscriber waited for a batch, at least one item is taken. Where it waited for none and no item came, all
+    /// items of the versions published before that round were taken.
     fn pull_from(
         &self,
         id: usize,
@@ -123,7 +127,7 @@ impl<N: Naming + Ledger + Send + Sync, R: Threads + Wait + Copy + Send + Sync> D
         Ok(Reply::Items(taken))
     }
 
-    /// Takes items of a subscriber of the session, appends their lines, and answers what is printed behind them.
+    /// Takes items of a subscriber of the session, appends their lines, and answers what is printed after them.
     pub(crate) fn pull(
         &self,
         held: &mut Vec<Held<N, R>>,

@@ -1,4 +1,6 @@
 ghost use Rattle.std.specs.Prelude.{◌≡◌, ◌≤◌};
+ghost use Rattle.hub_sessions.specs.Sessions.{Replays};
+ghost use Rattle.hub_sessions.specs.declared.replaying.ReplayError.TheVariants as replay_error;
 
 use crate::conversation::{SessionFault, session};
 use ingest_workers::hub::Hub;
@@ -22,6 +24,8 @@ pub enum ReplayError {
 }
 
 impl From<AllocError> for ReplayError {
+    ghost from_gives = { λ _ error. error ≡ replay_error.OutOfMemory };
+
     fn from(_error: AllocError) -> ReplayError {
         ReplayError::OutOfMemory
     }
@@ -46,11 +50,12 @@ fn replay_on<
     requires named { (versions.now ≡ N.versions) × (programs.now ≡ N.programs) }
     requires blank { (blank.name ≡ N.name) × (blank.parts ≡ N.parts) × (N.parts ≡ 1) }
     requires workers { (1 ≤ workers) × (workers ≤ 16) }
+    ensures { Replays result (I.remaining reader) (O.contents writer.old) (O.contents writer.new) }
 {
     let published = Published::<N>::new(versions, programs);
     let (hub, mut shares) = Hub::new(rt, alloc, blank, &published, 1)?;
     let Some(mut share) = shares.pop() else {
-        return Ok(());
+        unreachable!()
     };
     match session(
         rt, alloc, &hub, &published, &mut share, reader, writer, workers,
@@ -69,6 +74,7 @@ pub fn replay<R: Threads + Wait + Copy + Send + Sync, I: Read + Drop, O: Write>(
     workers: usize,
 ) -> Result<(), ReplayError>
     requires workers { (1 ≤ workers) × (workers ≤ 16) }
+    ensures { Replays result (I.remaining reader) (O.contents writer.old) (O.contents writer.new) }
 {
     let versions = boxcar::Vec::new(alloc)?;
     let programs = boxcar::Vec::new(alloc)?;

@@ -18,7 +18,8 @@ use std::{io, thread};
 use verifier::verify::Verified;
 use version_history::published::{Naming, Published};
 
-/// How many seconds to wait for a client that still sends though its session has ended.
+/// How many seconds each read waits for a client that still sends though its session has ended; all reads together wait at most
+/// `DRAIN_READS` times that.
 const DRAIN_SECONDS: u64 = 1;
 
 /// How many times to read from it, 4,096 bytes at most each time.
@@ -27,7 +28,7 @@ const DRAIN_READS: u32 = 4096;
 /// Why not all sessions were served to their ends.
 #[derive(Drop)]
 pub enum ServeError {
-    /// The port can't be bound.
+    /// The port can't be bound, or its number can't be asked for.
     Port(io::Error),
     /// The line of the port can't be written.
     Output,
@@ -45,7 +46,7 @@ impl From<AllocError> for ServeError {
 
 /// Tells the client that no more replies come, and reads past what it still sends: a connection that is closed with bytes unread is
 /// reset, and the client may then miss replies. What fails here takes nothing from the session, which has ended.
-fn drain(stream: &TcpStream) {
+fn read_rest(stream: &TcpStream) {
     let pause = Duration::from_secs(DRAIN_SECONDS);
     if stream.shutdown(Shutdown::Write).is_err() || stream.set_read_timeout(Some(pause)).is_err() {
         return;
@@ -89,7 +90,7 @@ fn serve_one<'p, N: Naming + Ledger + Send + Sync, R: Threads + Wait + Copy + Se
     if ended.is_err() {
         failed.store(true, Ordering::SeqCst);
     }
-    drain(&stream);
+    read_rest(&stream);
 }
 
 /// Accepts a connection for each share, and runs a session over it in a thread of its own; answers once all have ended

@@ -1,5 +1,7 @@
-ghost use Rattle.std.specs.Prelude.{◌≡◌, [], IfOk, IfErr};
-ghost use Rattle.hub_sessions.specs.Holding.{Subscribes, Closes};
+ghost use Rattle.std.specs.Prelude.{◌≡◌, ℕ, List, [], IfOk, IfErr};
+ghost use Rattle.bpf_words.specs.Words.{IsProgram, program_of};
+ghost use Rattle.meaning.specs.Safe.{Safe};
+ghost use Rattle.hub_sessions.specs.Holding.{IsNotSubscribed, Adds, Closes};
 
 use crate::desk::{Desk, Held, place_of};
 use bpf_words::words::Words;
@@ -19,7 +21,8 @@ fn ends<N: Naming, R: Wait + Copy>(
     alloc: Global,
     capacity: usize,
 ) -> Result<(QueueSink<N, R>, Subscription<N, R>), Reason>
-    ensures { IfOk result (λ q. (q.0.sent ≡ []) × (q.1 ≡ [])) }
+    ensures ok { IfOk result (λ q. (q.0 ≡ record { sent = []; capacity = capacity }) × (q.1 ≡ [])) }
+    ensures err { IfErr result (λ why. (bytes : List ℕ) → IsNotSubscribed capacity bytes why) }
 {
     match queue(rt, alloc, capacity) {
         Ok(ends) => Ok(ends),
@@ -29,7 +32,10 @@ fn ends<N: Naming, R: Wait + Copy>(
 }
 
 /// The accepted program of these bytes.
-fn accepted(alloc: Global, bytes: &[u8]) -> Result<Verified, Reason> {
+fn accepted(alloc: Global, bytes: &[u8]) -> Result<Verified, Reason>
+    ensures ok { IfOk result (λ program. IsProgram bytes.now × (program ≡ program_of bytes.now) × Safe program) }
+    ensures err { IfErr result (λ why. (capacity : ℕ) → IsNotSubscribed capacity bytes.now why) }
+{
     let words = match Words::new(bytes) {
         Ok(words) => words,
         Err(error) => return Err(Reason::Words(error)),
@@ -42,7 +48,10 @@ fn accepted(alloc: Global, bytes: &[u8]) -> Result<Verified, Reason> {
 
 impl<N: Naming + Ledger, R: Wait + Copy> Desk<'_, '_, N, R> {
     /// The token of a program, which is published.
-    fn publish(&self, program: Verified) -> Result<ProgramToken<N>, Reason> {
+    fn publish(&self, program: Verified) -> Result<ProgramToken<N>, Reason>
+        ensures ok { IfOk result (λ token. token.value ≡ program) }
+        ensures err { IfErr result (λ why. why ≡ Reason.OutOfMemory) }
+    {
         match self.published.publish_program(&self.rt, program) {
             Ok(token) => Ok(token),
             Err(_) => Err(Reason::OutOfMemory),
@@ -59,8 +68,8 @@ impl<N: Naming + Ledger, R: Wait + Copy> Desk<'_, '_, N, R> {
         capacity: usize,
         bytes: &[u8],
     ) -> Result<usize, Reason>
-        ensures ok { IfOk result (λ id. Subscribes held.old.items (Reply.Subscribed id) held.new.items) }
-        ensures err { IfErr result (λ reason. Subscribes held.old.items (Reply.Refused reason) held.new.items) }
+        ensures ok { IfOk result (λ id. Adds capacity bytes.now held.old.items (Reply.Subscribed id) held.new.items) }
+        ensures err { IfErr result (λ why. Adds capacity bytes.now held.old.items (Reply.Refused why) held.new.items) }
     {
         let program = accepted(self.alloc, bytes)?;
         if self.hub.is_full(&self.rt) {
@@ -88,7 +97,7 @@ impl<N: Naming + Ledger, R: Wait + Copy> Desk<'_, '_, N, R> {
         capacity: usize,
         bytes: &[u8],
     ) -> Reply
-        ensures { Subscribes held.old.items result held.new.items }
+        ensures { Adds capacity bytes.now held.old.items result held.new.items }
     {
         match self.add(held, capacity, bytes) {
             Ok(id) => Reply::Subscribed(id),
@@ -103,9 +112,9 @@ impl<N: Naming + Ledger, R: Wait + Copy> Desk<'_, '_, N, R> {
         let Some(place) = place_of(held.as_slice(), id) else {
             return Reply::Refused(Reason::NoSubscriber);
         };
-        let one = held.remove(place);
+        let _one = held.remove(place);
         // Refused where the hub has it as closed, which it then is.
-        let _ = self.hub.close(&self.rt, one.id);
+        let _ = self.hub.close(&self.rt, id);
         Reply::Closed(id)
     }
 }

@@ -1,61 +1,10 @@
 use hub_program::command;
-use std::io;
 use std::io::Eprint;
 use std::net::{Net, TcpListener, TcpStream};
 use std::sync::Wait;
 use std::test::Fail;
 use std::thread::Threads;
-
-/// A reader over bytes that gives one at a time, and whose reads fail once `good` of them are done.
-#[derive(Drop)]
-struct FailingReader<'a> {
-    rest: &'a [u8],
-    good: usize,
-    failed: bool,
-}
-
-impl io::Read for FailingReader<'_> {
-    fn read(&mut self, buf: &mut [u8]) -> io::Result<usize> {
-        if self.good == 0 {
-            self.failed = true;
-            return Err(io::Error::from(io::ErrorKind::Other));
-        }
-        self.good -= 1;
-        let rest = self.rest;
-        let Some(byte) = rest.first() else {
-            return Ok(0);
-        };
-        let Some(place) = buf.first_mut() else {
-            return Ok(0);
-        };
-        *place = *byte;
-        let (_, rest) = rest.split_at(1);
-        self.rest = rest;
-        Ok(1)
-    }
-}
-
-/// A writer that takes one byte at a time, and whose writes fail once `good` of them are done.
-#[derive(Drop)]
-struct FailingWriter {
-    good: usize,
-    failed: bool,
-}
-
-impl io::Write for FailingWriter {
-    fn write(&mut self, buf: &[u8]) -> io::Result<usize> {
-        if self.good == 0 {
-            self.failed = true;
-            return Err(io::Error::from(io::ErrorKind::Other));
-        }
-        self.good -= 1;
-        Ok(buf.len().min(1))
-    }
-
-    fn flush(&mut self) -> io::Result<()> {
-        Ok(())
-    }
-}
+use test_inputs::devices::{FailingReader, FailingWriter};
 
 /// The command lines and inputs that the devices are tried with.
 static LINES: [(&str, &str, u8); 8] = [
@@ -73,8 +22,8 @@ static LINES: [(&str, &str, u8); 8] = [
     ),
 ];
 
-/// The status where the reader fails after so many reads, and whether it came to that.
-fn status_of_failing_reader<
+/// The status where the reader fails after so many reads and the writer after so many writes, and whether it came to either.
+fn status_where_fails<
     H: AllocGlobal
         + Threads
         + Wait
@@ -83,43 +32,31 @@ fn status_of_failing_reader<
         + Copy
         + Send
         + Sync,
->(rt: &H, line: &str, input: &str, good: usize) -> Result<(u8, bool), Fail> {
+>(rt: &H, line: &str, input: &str, reads: usize, writes: usize) -> Result<(u8, bool), Fail> {
     let alloc = rt.alloc();
     let words: Vec<&str> = line.split(' ').collect(alloc)?;
-    let mut output = Vec::new(alloc);
     let mut reader = FailingReader {
         rest: input.as_bytes(),
-        good,
+        good: reads,
         failed: false,
     };
-    let status = command(rt, rt.alloc(), &words, &mut reader, &mut output);
-    Ok((status, reader.failed))
-}
-
-/// The status where the writer fails after so many writes, and whether it came to that.
-fn status_of_failing_writer<
-    H: AllocGlobal
-        + Threads
-        + Wait
-        + Net<Listener = TcpListener, Stream = TcpStream>
-        + Eprint
-        + Copy
-        + Send
-        + Sync,
->(rt: &H, line: &str, input: &str, good: usize) -> Result<(u8, bool), Fail> {
-    let alloc = rt.alloc();
-    let words: Vec<&str> = line.split(' ').collect(alloc)?;
-    let mut reader = input.as_bytes();
     let mut writer = FailingWriter {
-        good,
+        bytes: Vec::new(alloc),
+        good: writes,
         failed: false,
     };
     let status = command(rt, rt.alloc(), &words, &mut reader, &mut writer);
-    Ok((status, writer.failed))
+    Ok((status, reader.failed || writer.failed))
 }
 
-/// Whether each read that fails gives the status 3, and the answer is the ample one where none does.
-fn tells_failed_reads<
+#[derive(Clone, Copy)]
+enum Device {
+    Reader,
+    Writer,
+}
+
+/// Whether each failure of the device gives the status 3, and the answer is the ample one where it doesn't fail.
+fn tells_failures<
     H: AllocGlobal
         + Threads
         + Wait
@@ -128,32 +65,13 @@ fn tells_failed_reads<
         + Copy
         + Send
         + Sync,
->(rt: &H, line: &str, input: &str, ample: u8) -> Result<bool, Fail> {
+>(rt: &H, line: &str, input: &str, ample: u8, device: Device) -> Result<bool, Fail> {
     for good in 0..1000 {
-        let (status, failed) = status_of_failing_reader(rt, line, input, good)?;
-        if !failed {
-            return Ok(good > 0 && status == ample);
-        }
-        if status != 3 {
-            return Ok(false);
-        }
-    }
-    Ok(false)
-}
-
-/// The same of writes.
-fn tells_failed_writes<
-    H: AllocGlobal
-        + Threads
-        + Wait
-        + Net<Listener = TcpListener, Stream = TcpStream>
-        + Eprint
-        + Copy
-        + Send
-        + Sync,
->(rt: &H, line: &str, input: &str, ample: u8) -> Result<bool, Fail> {
-    for good in 0..1000 {
-        let (status, failed) = status_of_failing_writer(rt, line, input, good)?;
+        let (reads, writes) = match device {
+            Device::Reader => (good, usize::MAX),
+            Device::Writer => (usize::MAX, good),
+        };
+        let (status, failed) = status_where_fails(rt, line, input, reads, writes)?;
         if !failed {
             return Ok(good > 0 && status == ample);
         }
@@ -177,8 +95,8 @@ fn first_untold<
         + Sync,
 >(rt: &H, lines: &[(&'a str, &str, u8)]) -> Result<Option<&'a str>, Fail> {
     for &(line, input, ample) in lines {
-        let tells = tells_failed_reads(rt, line, input, ample)?
-            && tells_failed_writes(rt, line, input, ample)?;
+        let tells = tells_failures(rt, line, input, ample, Device::Reader)?
+            && tells_failures(rt, line, input, ample, Device::Writer)?;
         if !tells {
             return Ok(Some(line));
         }

@@ -7,21 +7,8 @@ use std::net::{Net, TcpListener, TcpStream};
 use std::sync::Wait;
 use std::test::Fail;
 use std::thread::Threads;
+use test_inputs::ids::{Id, Place};
 use test_inputs::random::Random;
-
-/// An operation's id; ordered by counter, then by node.
-#[derive(Clone, Copy, PartialEq, PartialOrd)]
-struct Id {
-    counter: u64,
-    node: u64,
-}
-
-impl fmt::Display for Id {
-    fn fmt<W: fmt::Write>(&self, f: &mut fmt::Formatter<W>) -> fmt::Result {
-        let Id { counter, node } = *self;
-        write!(f, "{counter}@{node}")
-    }
-}
 
 /// The character that an inserted one stands behind, as a line names it.
 #[derive(Clone, Copy)]
@@ -42,25 +29,6 @@ struct Letter {
     parent: Option<Id>,
     code: char,
     removed: bool,
-}
-
-#[derive(Clone, Copy)]
-enum Place {
-    Start,
-    Before(Id),
-    After(Id),
-    End,
-}
-
-impl fmt::Display for Place {
-    fn fmt<W: fmt::Write>(&self, f: &mut fmt::Formatter<W>) -> fmt::Result {
-        match *self {
-            Place::Start => write!(f, "^"),
-            Place::Before(id) => write!(f, "<{id}"),
-            Place::After(id) => write!(f, ">{id}"),
-            Place::End => write!(f, "$"),
-        }
-    }
 }
 
 /// An operation on one of the keys of `KEYS`, by its index; a removal has no value.

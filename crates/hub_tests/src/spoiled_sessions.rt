@@ -3,13 +3,13 @@
 use crate::answers::{answer, is_answered};
 use crate::refused_requests::{LAST, REFUSED};
 use std::alloc::{AllocError, Global};
-use std::fmt;
 use std::fmt::Write;
 use std::io::Eprint;
 use std::net::{Net, TcpListener, TcpStream};
 use std::sync::Wait;
 use std::test::Fail;
 use std::thread::Threads;
+use test_inputs::ids::Id;
 use test_inputs::random::Random;
 
 /// Programs that subscribers have: 1 on each span, on a strong one, and on one whose text ends with a question mark.
@@ -21,20 +21,6 @@ static PROGRAMS: [&str; 3] = [
 
 /// The first change of each session, so that the id `1@1` is used from then on.
 const FIRST: &str = "change 1 1\ni 1@1 - 61\n";
-
-/// A character's or an operation's id.
-#[derive(Clone, Copy)]
-struct Id {
-    counter: u64,
-    node: u64,
-}
-
-impl fmt::Display for Id {
-    fn fmt<W: fmt::Write>(&self, f: &mut fmt::Formatter<W>) -> fmt::Result {
-        let Id { counter, node } = *self;
-        write!(f, "{counter}@{node}")
-    }
-}
 
 /// What the good requests of a session may name, so that none of them is refused.
 #[derive(Drop)]

@@ -58,28 +58,17 @@ fn has_source(opcode: u8) -> bool {
     }
 }
 
-/// The operands in r0 and r1, the operation on them, EXIT.
-fn operation(
-    alloc: Global,
-    opcode: u8,
-    offset: i16,
-    immediate: i32,
-    a: u64,
-    b: u64,
-) -> Result<Vec<u8>, AllocError> {
-    let mut out = Vec::new(alloc);
-    push_wide(&mut out, 0, a)?;
-    push_wide(&mut out, 1, b)?;
-    let source = if has_source(opcode) { 1 } else { 0 };
-    push(&mut out, &slot(opcode, 0, source, offset, immediate))?;
-    push(&mut out, &slot(0x95, 0, 0, 0, 0))?;
-    Ok(out)
+/// What a program does with its two operands.
+#[derive(Clone, Copy)]
+enum Tried {
+    Operation { opcode: u8, offset: i16 },
+    Comparison { opcode: u8 },
 }
 
-/// The operands in r0 and r1, the comparison over three slots, and then 1 where it held, else 0.
-fn comparison(
+/// The operands in r0 and r1, the operation on them, EXIT; of a comparison, which skips two slots, 1 where it held, else 0.
+fn program_of(
     alloc: Global,
-    opcode: u8,
+    tried: Tried,
     immediate: i32,
     a: u64,
     b: u64,
@@ -87,11 +76,17 @@ fn comparison(
     let mut out = Vec::new(alloc);
     push_wide(&mut out, 0, a)?;
     push_wide(&mut out, 1, b)?;
+    let (opcode, offset) = match tried {
+        Tried::Operation { opcode, offset } => (opcode, offset),
+        Tried::Comparison { opcode } => (opcode, 2),
+    };
     let source = if has_source(opcode) { 1 } else { 0 };
-    push(&mut out, &slot(opcode, 0, source, 2, immediate))?;
-    push(&mut out, &slot(0xb7, 0, 0, 0, 0))?;
-    push(&mut out, &slot(0x95, 0, 0, 0, 0))?;
-    push(&mut out, &slot(0xb7, 0, 0, 0, 1))?;
+    push(&mut out, &slot(opcode, 0, source, offset, immediate))?;
+    if matches!(tried, Tried::Comparison { .. }) {
+        push(&mut out, &slot(0xb7, 0, 0, 0, 0))?;
+        push(&mut out, &slot(0x95, 0, 0, 0, 0))?;
+        push(&mut out, &slot(0xb7, 0, 0, 0, 1))?;
+    }
     push(&mut out, &slot(0x95, 0, 0, 0, 0))?;
     Ok(out)
 }
@@ -136,32 +131,30 @@ fn is_same(program: &[u8]) -> bool {
     outcomes(program, b"text").is_some_and(|(got, plain)| got == plain)
 }
 
-/// Whether an operation gives the same on both machines with each of these numbers as its second operand.
+/// Whether what is tried gives the same on both machines with each of these numbers as its second operand.
 fn is_same_by_register(
     alloc: Global,
-    opcode: u8,
-    offset: i16,
+    tried: Tried,
     a: u64,
     operands: &[u64],
 ) -> Result<bool, AllocError> {
     for b in operands {
-        if !is_same(&operation(alloc, opcode, offset, 0, a, *b)?) {
+        if !is_same(&program_of(alloc, tried, 0, a, *b)?) {
             return Ok(false);
         }
     }
     Ok(true)
 }
 
-/// Whether an operation gives the same on both machines with each of these immediates.
+/// Whether what is tried gives the same on both machines with each of these immediates.
 fn is_same_by_immediate(
     alloc: Global,
-    opcode: u8,
-    offset: i16,
+    tried: Tried,
     a: u64,
     immediates: &[i32],
 ) -> Result<bool, AllocError> {
     for immediate in immediates {
-        if !is_same(&operation(alloc, opcode, offset, *immediate, a, 5)?) {
+        if !is_same(&program_of(alloc, tried, *immediate, a, 5)?) {
             return Ok(false);
         }
     }
@@ -187,10 +180,14 @@ fn is_same_at_offsets(
     offsets: &[i16],
 ) -> Result<bool, AllocError> {
     for offset in offsets {
+        let tried = Tried::Operation {
+            opcode,
+            offset: *offset,
+        };
         let same = if register {
-            is_same_by_register(alloc, opcode, *offset, a, &OPERANDS)?
+            is_same_by_register(alloc, tried, a, &OPERANDS)?
         } else {
-            is_same_by_immediate(alloc, opcode, *offset, a, &IMMEDIATES)?
+            is_same_by_immediate(alloc, tried, a, &IMMEDIATES)?
         };
         if !same {
             return Ok(false);
@@ -201,70 +198,28 @@ fn is_same_at_offsets(
 
 /// Whether an opcode, if it is arithmetic of any kind, gives the same on both machines.
 fn is_same_arithmetic(alloc: Global, opcode: u8, a: u64) -> Result<bool, AllocError> {
+    let plain = Tried::Operation { opcode, offset: 0 };
     match kind_of(opcode) {
         Kind::Arithmetic {
             code,
             bits,
             register,
         } => is_same_at_offsets(alloc, opcode, register, a, offsets_of(code, bits, register)),
-        Kind::Negation { .. } => Ok(is_same(&operation(alloc, opcode, 0, 0, a, 5)?)),
-        Kind::ByteOrder => is_same_in_widths(alloc, opcode, a, &[16, 32, 64]),
+        Kind::Negation { .. } => is_same_by_immediate(alloc, plain, a, &[0]),
+        // The immediate says how many bits are put in the other order.
+        Kind::ByteOrder => is_same_by_immediate(alloc, plain, a, &[16, 32, 64]),
         _ => Ok(true),
     }
-}
-
-/// Whether a conversion of the order of bytes gives the same on both machines with each of these widths.
-fn is_same_in_widths(
-    alloc: Global,
-    opcode: u8,
-    a: u64,
-    widths: &[i32],
-) -> Result<bool, AllocError> {
-    for bits in widths {
-        if !is_same(&operation(alloc, opcode, 0, *bits, a, 5)?) {
-            return Ok(false);
-        }
-    }
-    Ok(true)
 }
 
 /// Whether an opcode, if it is a comparison, gives the same on both machines, by a register and by an immediate.
 fn is_same_compared(alloc: Global, opcode: u8, a: u64) -> Result<bool, AllocError> {
+    let tried = Tried::Comparison { opcode };
     match kind_of(opcode) {
-        Kind::Comparison { register: true, .. } => {
-            is_same_compared_with(alloc, opcode, a, &OPERANDS)
-        }
-        Kind::Comparison { .. } => is_same_compared_at(alloc, opcode, a, &IMMEDIATES),
+        Kind::Comparison { register: true, .. } => is_same_by_register(alloc, tried, a, &OPERANDS),
+        Kind::Comparison { .. } => is_same_by_immediate(alloc, tried, a, &IMMEDIATES),
         _ => Ok(true),
     }
-}
-
-fn is_same_compared_with(
-    alloc: Global,
-    opcode: u8,
-    a: u64,
-    operands: &[u64],
-) -> Result<bool, AllocError> {
-    for b in operands {
-        if !is_same(&comparison(alloc, opcode, 0, a, *b)?) {
-            return Ok(false);
-        }
-    }
-    Ok(true)
-}
-
-fn is_same_compared_at(
-    alloc: Global,
-    opcode: u8,
-    a: u64,
-    immediates: &[i32],
-) -> Result<bool, AllocError> {
-    for immediate in immediates {
-        if !is_same(&comparison(alloc, opcode, *immediate, a, 5)?) {
-            return Ok(false);
-        }
-    }
-    Ok(true)
 }
 
 /// The first opcode that does not give the same on both machines, as an operation or as a comparison of these numbers with others.

@@ -1,6 +1,5 @@
 ghost use Rattle.std.specs.Prelude.{◌≡◌};
 
-use crate::devices::{FailingReader, FailingWriter};
 use crate::lines::{QUEUE_OF_ONE, QUEUE_OF_ONE_REPLIES};
 use hub_sessions::conversation::{SessionFault, session};
 use ingest_workers::hub::Hub;
@@ -11,6 +10,7 @@ use std::sync::Wait;
 use std::sync::ledger::{Blank, Ledger};
 use std::test::Fail;
 use std::thread::Threads;
+use test_inputs::devices::{FailingReader, FailingWriter};
 use verifier::verify::Verified;
 use version_history::published::{Naming, Published};
 

@@ -31,7 +31,7 @@ rows_from start [] = []
 rows_from start (span ∷ spans) =
     let end = start + length span.text in record { start = start; end = end; format = span.format } ∷ rows_from end spans
 
--- the spans are laid out as one text and rows that stand end to end
+-- the spans are laid out as one text and a row (start, end, format) for each, end to end
 pub record IsLayout (spans : List Span) (text : List ℕ) (rows : List Row) : Type 0 where
   pub whole : text ≡ joined spans
   pub end_to_end : rows ≡ rows_from 0 spans

@@ -12,7 +12,7 @@ pub struct SpanView<'a> {
     /// The span's text.
     pub text: &'a str,
     pub format: &'a Format,
-    /// The span's place among those of the version, from 0.
+    /// The span's index among those of the version, from 0.
     pub index: usize,
     /// The number of spans of the version.
     pub count: usize,
@@ -31,7 +31,7 @@ impl<'a> Model for SpanView<'a> {
     ghost invariant = { λ v. IsWithinLimits (length v.text.now) v.index v.count };
 }
 
-/// The span at this place of the version, if there is one.
+/// The span with this index in the version, if there is one.
 pub fn view<'a>(version: &'a Version, index: usize) -> Option<SpanView<'a>>
     ensures { result ≡ view_at version.now index }
 {

@@ -1,13 +1,22 @@
+ghost use Rattle.std.specs.Prelude.{◌≡◌};
+
+use crate::many_spans::{compared_on_few_spans, compared_on_many_spans};
+use crate::queue_calls::{full_and_late, taken_singly};
+use crate::schedules::{overlapped, vanished_and_late};
 use batches::batch::Batch;
 use batches::item::Finding;
 use bpf_words::words::Words;
 use ingest_workers::hub::Hub;
 use ingest_workers::ingest::ingest;
 use ingest_workers::share::Share;
+use span_flatten::version::Version;
 use std::alloc::Global;
+use std::marker::Brand;
+use std::process::Abort;
 use std::sync::Wait;
-use std::sync::ledger::Ledger;
+use std::sync::ledger::{Blank, Ledger};
 use std::test::Fail;
+use std::thread::Threads;
 use subscriber_queues::ends::{Subscription, queue};
 use test_inputs::lines::lines;
 use verifier::verify::{Verified, verify};
@@ -47,6 +56,62 @@ pub static FIVE: [Finding; 5] = [
         spans: 1,
     },
 ];
+
+/// What is tried on a new hub.
+#[derive(Clone, Copy)]
+pub enum Trial {
+    QueueOfOne,
+    FullQueueAndLateBatch,
+    OverlappingWorkers,
+    VanishedAndLateWorkers,
+    ManySpans,
+    /// The changes after which there are few spans, the hits of strong flag on them, and how many they are.
+    FewSpans {
+        changes: &'static [&'static str],
+        hits: usize,
+        spans: usize,
+    },
+}
+
+/// Tries this on a new hub with one share. What is tried is named by an enum, since the impls of a trait whose methods name the hub
+/// get no proof.
+pub fn on_new_hub<R: Threads + Wait + Abort + Copy + Send + Sync>(
+    rt: R,
+    alloc: Global,
+    trial: Trial,
+) -> Result<(), Fail> {
+    let versions = boxcar::Vec::new(alloc)?;
+    let programs = boxcar::Vec::new(alloc)?;
+    on_lists::<Brand, _>(rt, alloc, Blank::new(1), &versions, &programs, trial)
+}
+
+fn on_lists<N: Naming + Ledger + Send + Sync, R: Threads + Wait + Abort + Copy + Send + Sync>(
+    rt: R,
+    alloc: Global,
+    blank: Blank,
+    versions: &boxcar::Vec<Version>,
+    programs: &boxcar::Vec<Verified>,
+    trial: Trial,
+) -> Result<(), Fail>
+    requires named { (versions.now ≡ N.versions) × (programs.now ≡ N.programs) }
+    requires blank { (blank.name ≡ N.name) × (blank.parts ≡ N.parts) × (N.parts ≡ 1) }
+{
+    let published = Published::<N>::new(versions, programs);
+    let (hub, mut shares) = Hub::new(&rt, alloc, blank, &published, 1)?;
+    let share = &mut shares[0];
+    match trial {
+        Trial::QueueOfOne => taken_singly(&rt, alloc, &hub, &published, share),
+        Trial::FullQueueAndLateBatch => full_and_late(&rt, alloc, &hub, &published, share),
+        Trial::OverlappingWorkers => overlapped(rt, alloc, &hub, &published, share),
+        Trial::VanishedAndLateWorkers => vanished_and_late(rt, alloc, &hub, &published, share),
+        Trial::ManySpans => compared_on_many_spans(&rt, alloc, &hub, &published, share),
+        Trial::FewSpans {
+            changes,
+            hits,
+            spans,
+        } => compared_on_few_spans(&rt, alloc, &hub, &published, share, changes, hits, spans),
+    }
+}
 
 fn verified_program(alloc: Global, digits: &str) -> Result<Verified, Fail> {
     let bytes = hex::decode(alloc, digits)?;

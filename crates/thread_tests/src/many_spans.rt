@@ -1,21 +1,16 @@
-ghost use Rattle.std.specs.Prelude.{◌≡◌};
-
-use crate::fixture::{STRONG_FLAG, ingest_all, is_same, subscribed};
+use crate::fixture::{STRONG_FLAG, Trial, ingest_all, is_same, on_new_hub, subscribed};
 use batches::batch::Batch;
 use batches::item::{Finding, Item};
 use filter_workers::filter::filter;
 use ingest_workers::hub::Hub;
 use ingest_workers::ingest::ingest;
 use ingest_workers::share::Share;
-use span_flatten::version::Version;
 use std::alloc::{AllocError, Global};
-use std::marker::Brand;
 use std::process::Abort;
 use std::sync::Wait;
-use std::sync::ledger::{Blank, Ledger};
+use std::sync::ledger::Ledger;
 use std::test::*;
 use std::thread::Threads;
-use verifier::verify::Verified;
 use version_history::published::{Naming, Published};
 
 /// Strong flag after 500 moves, so that a version's spans are worth several threads.
@@ -117,73 +112,60 @@ fn agree<N: Naming + Ledger, R: Threads + Wait + Abort + Copy + Sync>(
 
 #[test]
 fn five_thousand_spans(rt: HostRuntime) -> Result<(), Fail> {
-    let versions = boxcar::Vec::new(rt.alloc())?;
-    let programs = boxcar::Vec::new(rt.alloc())?;
-    long::<Brand, _>(rt, rt.alloc(), Blank::new(1), &versions, &programs)
+    on_new_hub(rt, rt.alloc(), Trial::ManySpans)
 }
 
-fn long<N: Naming + Ledger, R: Threads + Wait + Abort + Copy + Sync>(
-    rt: R,
+pub fn compared_on_many_spans<N: Naming + Ledger, R: Threads + Wait + Abort + Copy + Sync>(
+    rt: &R,
     alloc: Global,
-    blank: Blank,
-    versions: &boxcar::Vec<Version>,
-    programs: &boxcar::Vec<Verified>,
-) -> Result<(), Fail>
-    requires named { (versions.now ≡ N.versions) × (programs.now ≡ N.programs) }
-    requires blank { (blank.name ≡ N.name) × (blank.parts ≡ N.parts) × (N.parts ≡ 1) }
-{
-    let published = Published::<N>::new(versions, programs);
-    let (hub, mut shares) = Hub::new(&rt, alloc, blank, &published, 1)?;
-    ingest_many(&rt, alloc, &hub, &mut shares[0])?;
+    hub: &Hub<'_, N, R>,
+    published: &Published<'_, N>,
+    share: &mut Share<N>,
+) -> Result<(), Fail> {
+    ingest_many(rt, alloc, hub, share)?;
     let digits = long_strong_flag(alloc)?;
-    agree(&rt, alloc, &hub, &published, &digits, 2_500, 5_000)
+    agree(rt, alloc, hub, published, &digits, 2_500, 5_000)
 }
 
-/// Changes after which there is no span, one, and two of which the first is strong; the hits of strong flag and the spans.
-static SHORT: [(&[&str], usize, usize); 3] = [
-    (&[], 0, 0),
-    (&["change 1 1 / i 1@1 - 61"], 0, 1),
-    (
-        &["change 1 4 / i 1@1 - 61 / i 2@1 1@1 62 / i 3@1 2@1 63 / m 4@1 strong - <1@1 <3@1"],
-        1,
-        2,
-    ),
+/// No span, one, and two of which the first is strong.
+static FEW_SPANS: [Trial; 3] = [
+    Trial::FewSpans {
+        changes: &[],
+        hits: 0,
+        spans: 0,
+    },
+    Trial::FewSpans {
+        changes: &["change 1 1 / i 1@1 - 61"],
+        hits: 0,
+        spans: 1,
+    },
+    Trial::FewSpans {
+        changes: &[
+            "change 1 4 / i 1@1 - 61 / i 2@1 1@1 62 / i 3@1 2@1 63 / m 4@1 strong - <1@1 <3@1",
+        ],
+        hits: 1,
+        spans: 2,
+    },
 ];
 
 #[test]
 fn no_span_one_and_two(rt: HostRuntime) -> Result<(), Fail> {
-    for (changes, hits, spans) in &SHORT {
-        let versions = boxcar::Vec::new(rt.alloc())?;
-        let programs = boxcar::Vec::new(rt.alloc())?;
-        short::<Brand, _>(
-            rt,
-            rt.alloc(),
-            Blank::new(1),
-            &versions,
-            &programs,
-            changes,
-            *hits,
-            *spans,
-        )?;
+    for trial in &FEW_SPANS {
+        on_new_hub(rt, rt.alloc(), *trial)?;
     }
     Ok(())
 }
 
-fn short<N: Naming + Ledger, R: Threads + Wait + Abort + Copy + Sync>(
-    rt: R,
+pub fn compared_on_few_spans<N: Naming + Ledger, R: Threads + Wait + Abort + Copy + Sync>(
+    rt: &R,
     alloc: Global,
-    blank: Blank,
-    versions: &boxcar::Vec<Version>,
-    programs: &boxcar::Vec<Verified>,
+    hub: &Hub<'_, N, R>,
+    published: &Published<'_, N>,
+    share: &mut Share<N>,
     changes: &[&str],
     hits: usize,
     spans: usize,
-) -> Result<(), Fail>
-    requires named { (versions.now ≡ N.versions) × (programs.now ≡ N.programs) }
-    requires blank { (blank.name ≡ N.name) × (blank.parts ≡ N.parts) × (N.parts ≡ 1) }
-{
-    let published = Published::<N>::new(versions, programs);
-    let (hub, mut shares) = Hub::new(&rt, alloc, blank, &published, 1)?;
-    ingest_all(&rt, alloc, &hub, &mut shares[0], changes)?;
-    agree(&rt, alloc, &hub, &published, STRONG_FLAG, hits, spans)
+) -> Result<(), Fail> {
+    ingest_all(rt, alloc, hub, share, changes)?;
+    agree(rt, alloc, hub, published, STRONG_FLAG, hits, spans)
 }

@@ -1,22 +1,18 @@
-ghost use Rattle.std.specs.Prelude.{◌≡◌};
-
 use crate::fixture::{
-    CONSTANT_ONE, FIVE, LETTERS, STRONG_FLAG, commit_next, ingest_all, subscribed, takes, takes_all,
+    CONSTANT_ONE, FIVE, LETTERS, STRONG_FLAG, Trial, commit_next, ingest_all, on_new_hub,
+    subscribed, takes, takes_all,
 };
 use batches::batch::Batch;
 use batches::item::Finding;
 use hub_core::error::{CommitError, NoSubscriber};
 use ingest_workers::hub::Hub;
 use ingest_workers::share::Share;
-use span_flatten::version::Version;
 use std::alloc::Global;
-use std::marker::Brand;
 use std::process::Abort;
 use std::sync::Wait;
-use std::sync::ledger::{Blank, Ledger};
+use std::sync::ledger::Ledger;
 use std::test::*;
 use subscriber_queues::ends::Subscription;
-use verifier::verify::Verified;
 use version_history::published::{Naming, Published};
 
 /// `abc` with strong from before a to before c, and then strong taken off from before b on.
@@ -30,25 +26,7 @@ static ANOTHER: [&str; 1] = ["change 2 1 / i 3@2 - 63"];
 
 #[test]
 fn a_queue_of_one(rt: HostRuntime) -> Result<(), Fail> {
-    let versions = boxcar::Vec::new(rt.alloc())?;
-    let programs = boxcar::Vec::new(rt.alloc())?;
-    one_at_a_time::<Brand, _>(&rt, rt.alloc(), Blank::new(1), &versions, &programs)
-}
-
-fn one_at_a_time<N: Naming + Ledger, R: Wait + Abort + Copy>(
-    rt: &R,
-    alloc: Global,
-    blank: Blank,
-    versions: &boxcar::Vec<Version>,
-    programs: &boxcar::Vec<Verified>,
-) -> Result<(), Fail>
-    requires named { (versions.now ≡ N.versions) × (programs.now ≡ N.programs) }
-    requires blank { (blank.name ≡ N.name) × (blank.parts ≡ N.parts) × (N.parts ≡ 1) }
-{
-    let published = Published::<N>::new(versions, programs);
-    let (hub, mut shares) = Hub::new(rt, alloc, blank, &published, 1)?;
-    ingest_all(rt, alloc, &hub, &mut shares[0], &STRONG)?;
-    taken_singly(rt, alloc, &hub, &published)
+    on_new_hub(rt, rt.alloc(), Trial::QueueOfOne)
 }
 
 /// The items of strong flag on the version of `STRONG`.
@@ -79,12 +57,14 @@ fn committed_once<N: Naming + Ledger, R: Wait + Copy>(
 }
 
 /// A queue of one item holds one at a time, and a second commit of a batch comes too late.
-fn taken_singly<N: Naming + Ledger, R: Wait + Abort + Copy>(
+pub fn taken_singly<N: Naming + Ledger, R: Wait + Abort + Copy>(
     rt: &R,
     alloc: Global,
     hub: &Hub<'_, N, R>,
     published: &Published<'_, N>,
+    share: &mut Share<N>,
 ) -> Result<(), Fail> {
+    ingest_all(rt, alloc, hub, share, &STRONG)?;
     let (id, mut subscription) = subscribed(rt, alloc, hub, published, STRONG_FLAG, 1)?;
     let again = committed_once(rt, alloc, hub, published)?;
     assert_eq!(rt; hub.pump(rt, id), Ok(1));
@@ -97,26 +77,18 @@ fn taken_singly<N: Naming + Ledger, R: Wait + Abort + Copy>(
 
 #[test]
 fn a_full_queue_and_a_late_batch(rt: HostRuntime) -> Result<(), Fail> {
-    let versions = boxcar::Vec::new(rt.alloc())?;
-    let programs = boxcar::Vec::new(rt.alloc())?;
-    full_and_late::<Brand, _>(&rt, rt.alloc(), Blank::new(1), &versions, &programs)
+    on_new_hub(rt, rt.alloc(), Trial::FullQueueAndLateBatch)
 }
 
-fn full_and_late<N: Naming + Ledger, R: Wait + Abort + Copy>(
+pub fn full_and_late<N: Naming + Ledger, R: Wait + Abort + Copy>(
     rt: &R,
     alloc: Global,
-    blank: Blank,
-    versions: &boxcar::Vec<Version>,
-    programs: &boxcar::Vec<Verified>,
-) -> Result<(), Fail>
-    requires named { (versions.now ≡ N.versions) × (programs.now ≡ N.programs) }
-    requires blank { (blank.name ≡ N.name) × (blank.parts ≡ N.parts) × (N.parts ≡ 1) }
-{
-    let published = Published::<N>::new(versions, programs);
-    let (hub, mut shares) = Hub::new(rt, alloc, blank, &published, 1)?;
-    one_by_one(rt, alloc, &hub, &published, &mut shares[0])?;
-    closed_before_the_commit(rt, alloc, &hub, &published, &mut shares[0])?;
-    Ok(())
+    hub: &Hub<'_, N, R>,
+    published: &Published<'_, N>,
+    share: &mut Share<N>,
+) -> Result<(), Fail> {
+    one_by_one(rt, alloc, hub, published, share)?;
+    closed_before_the_commit(rt, alloc, hub, published, share)
 }
 
 /// Pumps and takes by turns; a second pump before a take sends nothing.

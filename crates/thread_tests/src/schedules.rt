@@ -1,23 +1,18 @@
-ghost use Rattle.std.specs.Prelude.{◌≡◌};
-
-use crate::fixture::{CONSTANT_ONE, FIVE, LETTERS, ingest_all, subscribed, takes_all};
+use crate::fixture::{
+    CONSTANT_ONE, FIVE, LETTERS, Trial, ingest_all, on_new_hub, subscribed, takes_all,
+};
 use batches::item::Job;
-use filter_workers::filter::filter;
 use filter_workers::gate::{Gate, Open};
 use filter_workers::work::work;
-use hub_core::error::CommitError;
 use ingest_workers::hub::Hub;
 use ingest_workers::share::Share;
-use span_flatten::version::Version;
 use std::alloc::Global;
-use std::marker::Brand;
 use std::process::Abort;
 use std::sync::Wait;
 use std::sync::atomic::{AtomicU64, Ordering};
-use std::sync::ledger::{Blank, Ledger};
+use std::sync::ledger::Ledger;
 use std::test::*;
 use std::thread::{Threads, yield_now};
-use verifier::verify::Verified;
 use version_history::published::{Naming, Published};
 
 /// Holds version 1 back until version 2 is done, or notes that this took too long.
@@ -50,30 +45,23 @@ impl<N: Naming> Gate<N> for SecondFirst {
 
 #[test]
 fn workers_overlap(rt: HostRuntime) -> Result<(), Fail> {
-    let versions = boxcar::Vec::new(rt.alloc())?;
-    let programs = boxcar::Vec::new(rt.alloc())?;
-    overlapped::<Brand, _>(rt, rt.alloc(), Blank::new(1), &versions, &programs)
+    on_new_hub(rt, rt.alloc(), Trial::OverlappingWorkers)
 }
 
-fn overlapped<N: Naming + Ledger + Send + Sync, R: Threads + Wait + Abort + Copy + Send + Sync>(
+pub fn overlapped<N: Naming + Ledger + Send + Sync, R: Threads + Wait + Abort + Copy + Send + Sync>(
     rt: R,
     alloc: Global,
-    blank: Blank,
-    versions: &boxcar::Vec<Version>,
-    programs: &boxcar::Vec<Verified>,
-) -> Result<(), Fail>
-    requires named { (versions.now ≡ N.versions) × (programs.now ≡ N.programs) }
-    requires blank { (blank.name ≡ N.name) × (blank.parts ≡ N.parts) × (N.parts ≡ 1) }
-{
-    let published = Published::<N>::new(versions, programs);
-    let (hub, mut shares) = Hub::new(&rt, alloc, blank, &published, 1)?;
-    let (_, mut subscription) = subscribed(&rt, alloc, &hub, &published, CONSTANT_ONE, 8)?;
-    ingest_all(&rt, alloc, &hub, &mut shares[0], &LETTERS)?;
+    hub: &Hub<'_, N, R>,
+    published: &Published<'_, N>,
+    share: &mut Share<N>,
+) -> Result<(), Fail> {
+    let (_, mut subscription) = subscribed(&rt, alloc, hub, published, CONSTANT_ONE, 8)?;
+    ingest_all(&rt, alloc, hub, share, &LETTERS)?;
     let gate = SecondFirst {
         second_is_done: AtomicU64::new(0),
         failures: AtomicU64::new(0),
     };
-    assert_eq!(rt; work(&rt, alloc, &hub, &published, &gate, 2, 8)?, 3);
+    assert_eq!(rt; work(&rt, alloc, hub, published, &gate, 2, 8)?, 3);
     assert_eq!(rt; gate.failures.load(Ordering::SeqCst), 0);
     assert!(rt; takes_all(&mut subscription, &FIVE));
     Ok(())
@@ -81,29 +69,21 @@ fn overlapped<N: Naming + Ledger + Send + Sync, R: Threads + Wait + Abort + Copy
 
 #[test]
 fn a_worker_vanishes_and_one_is_late(rt: HostRuntime) -> Result<(), Fail> {
-    let versions = boxcar::Vec::new(rt.alloc())?;
-    let programs = boxcar::Vec::new(rt.alloc())?;
-    vanished_and_late::<Brand, _>(rt, rt.alloc(), Blank::new(1), &versions, &programs)
+    on_new_hub(rt, rt.alloc(), Trial::VanishedAndLateWorkers)
 }
 
-fn vanished_and_late<
+pub fn vanished_and_late<
     N: Naming + Ledger + Send + Sync,
     R: Threads + Wait + Abort + Copy + Send + Sync,
 >(
     rt: R,
     alloc: Global,
-    blank: Blank,
-    versions: &boxcar::Vec<Version>,
-    programs: &boxcar::Vec<Verified>,
-) -> Result<(), Fail>
-    requires named { (versions.now ≡ N.versions) × (programs.now ≡ N.programs) }
-    requires blank { (blank.name ≡ N.name) × (blank.parts ≡ N.parts) × (N.parts ≡ 1) }
-{
-    let published = Published::<N>::new(versions, programs);
-    let (hub, mut shares) = Hub::new(&rt, alloc, blank, &published, 1)?;
-    vanished(rt, alloc, &hub, &published, &mut shares[0])?;
-    closed_at_three(rt, alloc, &hub, &published, &mut shares[0])?;
-    late(rt, alloc, &hub, &published)
+    hub: &Hub<'_, N, R>,
+    published: &Published<'_, N>,
+    share: &mut Share<N>,
+) -> Result<(), Fail> {
+    vanished(rt, alloc, hub, published, share)?;
+    closed_at_three(rt, alloc, hub, published, share)
 }
 
 /// A job is taken and dropped. Nothing can be sent before its version's batch, until it is handed out again.
@@ -172,20 +152,5 @@ fn closed_at_three<
     };
     assert_eq!(rt; work(&rt, alloc, hub, published, &gate, 1, 8)?, 1);
     assert!(rt; takes_all(&mut subscription, &FIVE[3..]));
-    Ok(())
-}
-
-/// The same, by calls.
-fn late<N: Naming + Ledger + Send + Sync, R: Threads + Wait + Abort + Copy + Send + Sync>(
-    rt: R,
-    alloc: Global,
-    hub: &Hub<'_, N, R>,
-    published: &Published<'_, N>,
-) -> Result<(), Fail> {
-    let (id, _subscription) = subscribed(&rt, alloc, hub, published, CONSTANT_ONE, 8)?;
-    let job = hub.take_job(&rt).ok_or("there is no job")?;
-    assert_eq!(rt; hub.close(&rt, id), Ok(()));
-    let batch = filter(&rt, alloc, published, &job)?;
-    assert_eq!(rt; hub.commit(&rt, batch), Err(CommitError::NoSubscriber));
     Ok(())
 }

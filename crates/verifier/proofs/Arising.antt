@@ -3,11 +3,12 @@ use Rattle.std.proofs.Common.{◌≡◌, ℕ, ◌+◌, ◌<◌, ◌≤◌, inl, 
 use Rattle.std.specs.Prelude.{ℤ, pos}
 use Rattle.std.specs.List.{slice_get}
 use Rattle.std.specs.Result.{IfErr, IsErrAnd}
+use Rattle.verifier.specs.declared.refusal.StructureFault.TheVariants.{JumpIntoWide}
 use Rattle.verifier.specs.declared.refusal.VerifyError.{VerifyError}
 use Rattle.verifier.specs.declared.refusal.VerifyError.TheVariants.{OutOfMemory}
 use Rattle.std.specs.declared.alloc.Global.{Global}
 use Rattle.std.proofs.lemmas.Bool.{cases_eq}
-use Rattle.std.proofs.lemmas.Option.{same_Some}
+use Rattle.std.proofs.lemmas.Option.{same_Some, slice_get_within}
 use Rattle.bpf_words.specs.declared.instruction.Insn.{Insn}
 use Rattle.bpf_words.specs.declared.instruction.Insn.TheVariants.{Compute, Negate, Extend, Convert, Jump, JumpLong, Branch, Load, LoadSigned, Store, LoadWide, Exit}
 use Rattle.bpf_words.specs.Flow.{StartsAt, IsPaired, jump_of, slots_of, falls_through}
@@ -55,6 +56,24 @@ arise_taken program states slot empty within none all other a e =
 
 pub read_arises : (program : Program) (states : States) (slot : ℕ) (read taken : Option (Box AbsState Global)) (a : AbsState) → slot < length states → read ≡ get_or states slot read → taken ≡ read → AllArise program states → unboxed taken ≡ Some a → IsTarget program slot × Arises program slot a
 read_arises program states slot read taken a within is same all e = all slot a (read_waiting states slot read taken within is same ∙ e)
+
+empty_of : (o : Option AbsState) → ((a : AbsState) → o ≡ Some a → ⊥) → o ≡ None
+empty_of None never = refl
+empty_of (Some a) never = absurd (never a refl)
+
+-- a structured program's jumps don't lead to the second slot of an instruction, so nothing waits there
+pub nothing_waits : (program : Program) (slot : ℕ) (waiting : States) → IsStructured program → slice_get program slot ≡ Some None → AllArise program waiting → waiting_at waiting slot ≡ None
+nothing_waits program slot waiting structured second all =
+    empty_of (waiting_at waiting slot)
+    (λ a e.
+    let target = (all slot a e).0 in
+    let there : slice_get program (target.from + 1 + target.distance) ≡ Some None = subst (λ k. slice_get program k ≡ Some None) target.there second in
+    structured target.from target.insn (slice_get_within program target.from (Some target.insn) target.starts) target.starts JumpIntoWide (pos target.distance, target.jumps, (target.distance, refl, there)))
+
+pub read_nothing : (states : States) (slot : ℕ) (read taken : Option (Box AbsState Global)) (boxed : Box AbsState Global) → slot < length states → read ≡ get_or states slot read → taken ≡ read → taken ≡ Some boxed → waiting_at states slot ≡ None → ⊥
+read_nothing states slot read taken boxed within is same found none =
+    let both : None ≡ Some boxed.value = sym none ∙ read_waiting states slot read taken within is same ∙ ap unboxed found in
+    absurd (cc)
 
 -- ---- an instruction's edges
 straight_falls : (insn : Insn) → IsStraight insn → falls_through insn ≡ true
@@ -124,6 +143,11 @@ falls_here program slot insn falling starts falls a e =
     let both : Some (Some insn) ≡ Some None = sym starts ∙ none in
     absurd (cc))
     (cases_eq to slot)
+
+pub here_falls : (program : Program) (slot : ℕ) (insn : Insn) (known : Option AbsState) → StartsAt program slot insn → ArisesAt program slot known → FallsAs program slot known
+here_falls program slot insn known starts arises a e =
+    let none : Between program slot slot = λ k low high. absurd (omega arith) in
+    (slot, (insn, (omega arith), none, starts, arises a e))
 
 pub falls_next : (program : Program) (slot : ℕ) (insn : Insn) (falling : Option AbsState) → IsPaired program → IsStructured program → StartsAt program slot insn → FallsFrom program slot insn falling → FallsAs program (slot + 1) falling
 falls_next program slot insn falling paired structured starts falls a e =

@@ -9,3 +9,4 @@ pub mod Arising
 pub mod PlainRuns
 pub mod GuardRuns
 pub mod Reaching
+pub mod Enough

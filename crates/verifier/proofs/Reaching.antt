@@ -21,6 +21,7 @@ use Rattle.verifier.specs.declared.refusal.StructureFault.TheVariants.{BackwardJ
 use Rattle.verifier.specs.declared.refusal.VerifyError.{VerifyError}
 use Rattle.verifier.specs.declared.refusal.VerifyError.TheVariants.{Structure, State as StateRefused, OutOfMemory}
 use Rattle.verifier.specs.Structure.{IsStructured}
+use Rattle.verifier.specs.Arises.{ArisesAt}
 use Rattle.verifier.specs.Waiting.{States, waiting_at}
 use Rattle.verifier.specs.Walk.{Between, IsAwaited, Advances, Keeps}
 use Rattle.verifier.specs.Reaches.{Reaches, at_start, by_step, ContainsRuns, Enters, from_start, from_below, Covers, IsStateBelow, IsBefore}
@@ -32,7 +33,7 @@ landed : (program : Program) (mid next : State) (to : ℕ) (within : Bool) → (
 landed program mid next to true e = cc
 landed program mid next to false e = absurd (cc)
 
-lands_at : (program : Program) (mid next : State) (n : ℕ) → land program (On mid (pos n)) ≡ Ok (Next next) → next ≡ record mid { slot = mid.slot + 1 + n }
+pub lands_at : (program : Program) (mid next : State) (n : ℕ) → land program (On mid (pos n)) ≡ Ok (Next next) → next ≡ record mid { slot = mid.slot + 1 + n }
 lands_at program mid next n e = landed program mid next (mid.slot + 1 + n) (nat_lt (mid.slot + 1 + n) (length program)) e
 
 moves_forward : (program : Program) (s next : State) (insn : Insn) (m : Moved) → IsStructured program → StartsAt program s.slot insn → StaysAt s.slot (jump_of insn) m → then_with m (land program) ≡ Ok (Next next) → s.slot < next.slot
@@ -135,6 +136,26 @@ contain_more program slot known states size here below at less =
     let under : at < slot = omega arith in
     let is : get_or (states ++ known ∷ []) at None ≡ get_or states at None = get_or-append states (known ∷ []) None at (omega arith) in
     subst (λ o. ContainsRuns program at o) (sym is) (below at under))
+    (cases_eq at slot)
+
+abbrev pub AriseBelow : Program → ℕ → List (Option AbsState) → Type 0
+AriseBelow program count states = (slot : ℕ) (insn : Insn) → slot < count → StartsAt program slot insn → ArisesAt program slot (get_or states slot None)
+
+pub arise_none : (program : Program) (states : List (Option AbsState)) → AriseBelow program 0 states
+arise_none program states slot insn less = absurd (omega arith)
+
+pub arise_more : (program : Program) (slot : ℕ) (known : Option AbsState) (states : List (Option AbsState)) → length states ≡ slot → ((insn : Insn) → StartsAt program slot insn → ArisesAt program slot known) → AriseBelow program slot states → AriseBelow program (slot + 1) (states ++ known ∷ [])
+arise_more program slot known states size here below at insn less starts =
+    ⊎_elim
+    (λ (last : at ≡ slot).
+    let end : at ≡ length states = last ∙ sym size in
+    let is : get_or (states ++ known ∷ []) at None ≡ known = ap (λ k. get_or (states ++ known ∷ []) k None) end ∙ get_or-append_seam states known [] None in
+    let there : ArisesAt program slot known = here insn (subst (λ k. StartsAt program k insn) last starts) in
+    subst (λ k. ArisesAt program k (get_or (states ++ known ∷ []) at None)) (sym last) (subst (λ o. ArisesAt program slot o) (sym is) there))
+    (λ (apart : at ≡ slot → ⊥).
+    let under : at < slot = omega arith in
+    let is : get_or (states ++ known ∷ []) at None ≡ get_or states at None = get_or-append states (known ∷ []) None at (omega arith) in
+    subst (λ o. ArisesAt program at o) (sym is) (below at insn under starts))
     (cases_eq at slot)
 
 -- ---- one turn of the walk

@@ -22,7 +22,7 @@ use Rattle.verifier.specs.Walk.{Between}
 pub data Guards (a : AbsState) : Insn → ℕ → Type 0 where
   behind : (left right n high low2 high2 t : ℕ) (tail : Option ℕ) (distance : ℤ) → left ≢ right → Holds (TextIn n high tail) (register_at a.registers left) → Holds (TextIn low2 high2 (Some t)) (register_at a.registers right) → Guards a (Branch Full Greater left (Source right) distance) n
 
--- what is never refused: what reads numbers alone, and the rows of a guarded read of the text
+-- what is never refused: what reads numbers alone, and the steps of a guarded read of the text
 pub data IsGranted (a : AbsState) (insn : Insn) : Type 0 where
   of_numbers : ReadsNumbers a insn → IsGranted a insn
   of_row : (register : ℕ) (fact : Fact) → Yields a insn register fact → IsGranted a insn

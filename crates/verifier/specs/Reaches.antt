@@ -1,5 +1,7 @@
 -- The states that the runs of a program come to, and what is known of them.
 use Rattle.std.specs.Prelude.{◌≡◌, ℕ, ◌<◌, ◌≤◌, List, length, Option, None, Ok, slice_index_or}
+use Rattle.bpf_words.specs.declared.instruction.Insn.{Insn}
+use Rattle.bpf_words.specs.Flow.{StartsAt}
 use Rattle.meaning.specs.State.{State, start}
 use Rattle.meaning.specs.Step.{Program, Next, step}
 use Rattle.abstract_state.specs.declared.state.AbsState.{AbsState}
@@ -8,6 +10,7 @@ use Rattle.verifier.specs.declared.refusal.VerifyError.{VerifyError}
 use Rattle.verifier.specs.declared.refusal.VerifyError.TheVariants.{Structure, State as StateRefused, OutOfMemory}
 use Rattle.verifier.specs.Waiting.{States}
 use Rattle.verifier.specs.Walk.{IsAwaited}
+use Rattle.verifier.specs.Arises.{ArisesAt}
 
 -- the run on a span comes to a state
 pub data Reaches (program : Program) (span : Span) : State → Type 0 where
@@ -21,6 +24,10 @@ ContainsRuns program slot known = (span : Span) (s : State) → Reaches program 
 -- so does what is known before each slot
 abbrev pub ContainAllRuns : Program → List (Option AbsState) → Type 0
 ContainAllRuns program states = (slot : ℕ) → slot < length program → ContainsRuns program slot (slice_index_or states slot None)
+
+-- each state that is known arises from the program's steps
+abbrev pub AriseEverywhere : Program → List (Option AbsState) → Type 0
+AriseEverywhere program states = (slot : ℕ) (insn : Insn) → StartsAt program slot insn → ArisesAt program slot (slice_index_or states slot None)
 
 -- a refusal for what is known at a slot below, or for want of memory
 abbrev pub IsStateBelow : ℕ → VerifyError → Type 0

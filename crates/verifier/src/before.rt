@@ -7,7 +7,7 @@ ghost use Rattle.verifier.specs.Arises.{ArisesAt};
 ghost use Rattle.verifier.specs.Plain.{IsPlain};
 ghost use Rattle.verifier.specs.Guard.{IsGuard};
 ghost use Rattle.verifier.specs.Structure.{FirstFault};
-ghost use Rattle.verifier.specs.Reaches.{ContainsRuns, ContainAllRuns, IsBefore};
+ghost use Rattle.verifier.specs.Reaches.{ContainsRuns, ContainAllRuns, AriseEverywhere, IsBefore};
 ghost use Rattle.verifier.specs.declared.refusal.StructureFault.{StructureFault};
 
 use crate::refusal::VerifyError;
@@ -18,7 +18,7 @@ use bpf_words::words::Words;
 use std::alloc::Global;
 
 /// What `verify` knows of the machine before a slot: it contains each state that a run comes to there, on any context and text that
-/// fit, and it is nothing where no run comes there. Refused is what `verify` refuses for its structure or at a slot below.
+/// fit, and it is nothing only where no run comes there. Refused is what `verify` refuses for its structure or at a slot below.
 pub fn state_before(
     alloc: Global,
     words: &Words<'_>,
@@ -46,7 +46,11 @@ pub fn state_before(
 pub fn states_before(alloc: Global, words: &Words<'_>) -> Result<Vec<Option<AbsState>>, VerifyError>
     ensures size { IfOk result (λ states. length states.items ≡ length (program_of words.now)) }
     ensures contains { IfOk result (λ states. ContainAllRuns (program_of words.now) states.items) }
+    ensures arises { IfOk result (λ states. AriseEverywhere (program_of words.now) states.items) }
     ensures structure { (at : ℕ) (fault : StructureFault) → (result ≡ Err (VerifyError.Structure at fault)) ↔ FirstFault (program_of words.now) at fault }
+    ensures plain { IfErr result (λ e. IsPlain (program_of words.now) → e ≡ VerifyError.OutOfMemory) }
+    ensures guard { IfErr result (λ e. IsGuard (program_of words.now) → e ≡ VerifyError.OutOfMemory) }
+    ensures before { IfErr result (IsBefore (length (program_of words.now))) }
 {
     if let Err(wrong) = check(words) {
         return Err(VerifyError::Structure {

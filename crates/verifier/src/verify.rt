@@ -1,10 +1,11 @@
 //! The verifier, and the programs that it accepts.
-ghost use Rattle.std.specs.Prelude.{◌≡◌, ◌↔◌, ℕ, Err, IfOk, IfErr};
+ghost use Rattle.std.specs.Prelude.{◌≡◌, ◌↔◌, ℕ, length, Err, IfOk, IfErr};
 ghost use Rattle.bpf_words.specs.Words.{program_of};
 ghost use Rattle.meaning.specs.Safe.{Safe};
 ghost use Rattle.verifier.specs.Plain.{IsPlain};
 ghost use Rattle.verifier.specs.Guard.{IsGuard};
-ghost use Rattle.verifier.specs.Structure.{FirstFault};
+ghost use Rattle.verifier.specs.Structure.{IsStructured, FirstFault};
+ghost use Rattle.verifier.specs.Reaches.{IsBefore};
 ghost use Rattle.verifier.specs.declared.refusal.StructureFault.{StructureFault};
 
 use crate::refusal::VerifyError;
@@ -55,9 +56,11 @@ impl Verified {
 pub fn verify(alloc: Global, words: &Words<'_>) -> Result<Verified, VerifyError>
     ensures same { IfOk result (λ verified. verified ≡ program_of words.now) }
     ensures safe { IfOk result (λ verified. Safe verified) }
+    ensures structured { IfOk result (λ _. IsStructured (program_of words.now)) }
     ensures structure { (slot : ℕ) (fault : StructureFault) → (result ≡ Err (VerifyError.Structure slot fault)) ↔ FirstFault (program_of words.now) slot fault }
     ensures plain { IfErr result (λ e. IsPlain (program_of words.now) → e ≡ VerifyError.OutOfMemory) }
     ensures guard { IfErr result (λ e. IsGuard (program_of words.now) → e ≡ VerifyError.OutOfMemory) }
+    ensures before { IfErr result (IsBefore (length (program_of words.now))) }
 {
     if let Err(wrong) = check(words) {
         return Err(VerifyError::Structure {

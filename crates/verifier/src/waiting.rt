@@ -79,6 +79,8 @@ impl Waiting {
         ensures falls { (lengths : Lengths) (s : State) → WithinState (after flow state.old) lengths s → WithinState (after result state.new) lengths s }
         ensures arrives { (lengths : Lengths) (s : State) → WithinState (waiting_at self.old slot) lengths s → WithinState (after result state.new) lengths s }
         ensures others { (other : ℕ) → other ≢ slot → waiting_at self.new other ≡ waiting_at self.old other }
+        ensures alone { waiting_at self.old slot ≡ None → after result state.new ≡ after flow state.old }
+        ensures waits { (program : Program) → AllArise program self.old → AllArise program self.new }
         ensures arises { (program : Program) → AllArise program self.old → ArisesAt program slot (after flow state.old) → AllArise program self.new × ArisesAt program slot (after result state.new) }
     {
         let Some(waiting) = self.states[slot].take() else {

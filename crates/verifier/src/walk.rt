@@ -12,7 +12,7 @@ ghost use Rattle.verifier.specs.Structure.{IsOfState, IsStructured};
 ghost use Rattle.verifier.specs.Arises.{Arises, ArisesAt, AllArise, IsTarget, IsGranted, IsCause, FallsAs, FallsFrom};
 ghost use Rattle.verifier.specs.Waiting.{waiting_at};
 ghost use Rattle.verifier.specs.Walk.{Advances, Follows, JumpsWithin, Keeps};
-ghost use Rattle.verifier.specs.Reaches.{ContainsRuns, ContainAllRuns, Covers, IsStateBelow};
+ghost use Rattle.verifier.specs.Reaches.{ContainsRuns, ContainAllRuns, AriseEverywhere, Covers, IsStateBelow};
 
 use crate::refusal::VerifyError;
 use crate::waiting::Waiting;
@@ -202,13 +202,14 @@ pub fn walk(alloc: Global, words: &Words<'_>) -> Result<(), VerifyError>
     requires { IsStructured (program_of words.now) }
     ensures safe { IfOk result (λ _. Safe (program_of words.now)) }
     ensures states { IfErr result IsOfState }
+    ensures below { IfErr result (IsStateBelow (length (program_of words.now))) }
     ensures floor { IfErr result (IsCause (program_of words.now)) }
 {
     walk_to(alloc, words, words.len())?;
     Ok(())
 }
 
-/// What is known before a slot, from all edges into it; nothing where no run comes there.
+/// What is known before a slot, from all edges into it; nothing only where no run comes there.
 pub fn walk_before(
     alloc: Global,
     words: &Words<'_>,
@@ -232,12 +233,14 @@ pub fn walk_before(
     }
 }
 
-/// What is known before each slot, from all edges into it; nothing where no run comes there.
+/// What is known before each slot, from all edges into it; nothing only where no run comes there.
 pub fn walk_each(alloc: Global, words: &Words<'_>) -> Result<Vec<Option<AbsState>>, VerifyError>
     requires { IsStructured (program_of words.now) }
     ensures size { IfOk result (λ states. length states.items ≡ length (program_of words.now)) }
     ensures contains { IfOk result (λ states. ContainAllRuns (program_of words.now) states.items) }
+    ensures arises { IfOk result (λ states. AriseEverywhere (program_of words.now) states.items) }
     ensures below { IfErr result (IsStateBelow (length (program_of words.now))) }
+    ensures floor { IfErr result (IsCause (program_of words.now)) }
 {
     let mut states = Vec::with_capacity(alloc, words.len())?;
     let mut waiting = Waiting::new(alloc, words.len())?;

@@ -23,7 +23,7 @@ impl Naming for Brand {
     ghost programs = { record { tag = []; buckets = [] } };
 }
 
-/// Shows that a version stands in the list of the hub `N`, at its place, for good.
+/// Shows that a version stands in the list of the hub `N`, at its index, for good.
 #[derive(Drop)]
 pub struct VersionToken<N: Naming> {
     at: Pushed<Version>,
@@ -54,7 +54,7 @@ impl<N: Naming> VersionToken<N> {
     }
 }
 
-/// Shows that a program, of which every run ends with a number, stands in the list of the hub `N`, at its place, for good.
+/// Shows that a program, of which every run ends with a number, stands in the list of the hub `N`, at its index, for good.
 #[derive(Drop)]
 pub struct ProgramToken<N: Naming> {
     at: Pushed<Verified>,
@@ -105,7 +105,7 @@ pub struct Published<'p, N: Naming> {
 }
 
 impl<'p, N: Naming> Published<'p, N> {
-    /// Works on these two lists, which `N` names.
+    /// Works on these two lists, which are those of `N`.
     pub fn new(
         versions: &'p boxcar::Vec<Version>,
         programs: &'p boxcar::Vec<Verified>,
@@ -147,7 +147,7 @@ impl<'p, N: Naming> Published<'p, N> {
         self.versions.value(&token.at)
     }
 
-    /// Whether two tokens are of one place, and so of one version.
+    /// Whether two tokens have one index, and so one version.
     pub fn is_same(&self, a: &VersionToken<N>, b: &VersionToken<N>) -> bool
         ensures { IsTrue result ↔ (a.now ≡ b.now) }
     {
@@ -184,7 +184,7 @@ impl<'p, N: Naming> Published<'p, N> {
         self.programs.value(&token.at)
     }
 
-    /// Whether two tokens are of one place, and so of one program.
+    /// Whether two tokens have one index, and so one program.
     pub fn is_same_program(&self, token: &ProgramToken<N>, other: &ProgramToken<N>) -> bool
         ensures { IsTrue result ↔ (token.now ≡ other.now) }
     {

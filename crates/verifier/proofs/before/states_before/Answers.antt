@@ -1,7 +1,15 @@
 use Rattle.bpf_words.specs.Words.{program_of}
-use Rattle.std.proofs.Common.{length}
+use Rattle.std.proofs.Common.{◌≡◌, length}
+use Rattle.verifier.specs.declared.refusal.VerifyError.TheVariants.{OutOfMemory}
+use Rattle.verifier.specs.Plain.{IsPlain}
+use Rattle.verifier.specs.Guard.{IsGuard}
+use Rattle.verifier.specs.Arises.{IsCause}
+use Rattle.verifier.specs.Reaches.{IsStateBelow, IsBefore}
 use Rattle.verifier.proofs.Refusals.{no_fault, named}
-use Rattle.verifier.proofs.Reaching.{none_of_structure}
+use Rattle.verifier.proofs.Arising.{only_memory}
+use Rattle.verifier.proofs.PlainRuns.{plain_grants}
+use Rattle.verifier.proofs.GuardRuns.{guard_structured, guard_grants}
+use Rattle.verifier.proofs.Reaching.{err_more, is_before, none_of_structure}
 use Rattle.verifier.proofs.before.states_before.Goals as goal
 
 pub returns-in-Err-clause-structure : goal.returns-in-Err-clause-structure
@@ -12,3 +20,22 @@ returns-clause-structure c = λ at fault. (
   λ is. absurd (none_of_structure c.walk_each.result (length (program_of c.args.words.now)) at fault c.walk_each.ensures.below is),
   λ first. absurd (no_fault _ at fault c.in_default.ensures first),
 )
+
+pub returns-in-Err-clause-plain : goal.returns-in-Err-clause-plain
+returns-in-Err-clause-plain c = λ plain. absurd (no_fault _ _ _ plain.structured c.in-Err.ensures)
+
+pub returns-in-Err-clause-guard : goal.returns-in-Err-clause-guard
+returns-in-Err-clause-guard c = λ guard. absurd (no_fault _ _ _ (guard_structured _ guard) c.in-Err.ensures)
+
+pub returns-clause-plain : goal.returns-clause-plain
+returns-clause-plain c =
+    err_more c.walk_each.result (IsCause (program_of c.args.words.now)) (λ e. IsPlain (program_of c.args.words.now) → e ≡ OutOfMemory)
+    (λ e cause. only_memory (program_of c.args.words.now) e (IsPlain (program_of c.args.words.now)) (plain_grants (program_of c.args.words.now)) cause) c.walk_each.ensures.floor
+
+pub returns-clause-guard : goal.returns-clause-guard
+returns-clause-guard c =
+    err_more c.walk_each.result (IsCause (program_of c.args.words.now)) (λ e. IsGuard (program_of c.args.words.now) → e ≡ OutOfMemory)
+    (λ e cause. only_memory (program_of c.args.words.now) e (IsGuard (program_of c.args.words.now)) (guard_grants (program_of c.args.words.now)) cause) c.walk_each.ensures.floor
+
+pub returns-clause-before : goal.returns-clause-before
+returns-clause-before c = err_more c.walk_each.result (IsStateBelow (length (program_of c.args.words.now))) (IsBefore (length (program_of c.args.words.now))) (is_before (length (program_of c.args.words.now))) c.walk_each.ensures.below

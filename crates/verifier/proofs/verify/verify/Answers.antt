@@ -1,9 +1,11 @@
-use Rattle.std.proofs.Common.{◌≡◌}
+use Rattle.std.proofs.Common.{◌≡◌, length}
 use Rattle.bpf_words.specs.Words.{program_of}
 use Rattle.verifier.specs.declared.refusal.VerifyError.TheVariants.{OutOfMemory}
 use Rattle.verifier.proofs.Refusals.{no_fault, named, not_named}
 use Rattle.verifier.specs.Plain.{IsPlain}
 use Rattle.verifier.specs.Guard.{IsGuard}
+use Rattle.verifier.specs.Reaches.{IsBefore}
+use Rattle.verifier.proofs.Reaching.{is_before}
 use Rattle.verifier.proofs.Arising.{passed_on, only_memory}
 use Rattle.verifier.proofs.PlainRuns.{plain_grants}
 use Rattle.verifier.proofs.GuardRuns.{guard_structured, guard_grants}
@@ -38,3 +40,8 @@ returns-in-Err-clause-plain c = λ plain. absurd (no_fault _ _ _ plain.structure
 
 pub returns-in-Err-clause-guard : goal.returns-in-Err-clause-guard
 returns-in-Err-clause-guard c = λ guard. absurd (no_fault _ _ _ (guard_structured _ guard) c.in-Err.ensures)
+
+pub returns-in_err-walk-clause-before : goal.returns-in_err-walk-clause-before
+returns-in_err-walk-clause-before c =
+    passed_on c.from_residual.result c.in_err-walk.field-0.0 (IsBefore (length (program_of c.args.words.now))) c.from_residual.ensures.1
+    (is_before (length (program_of c.args.words.now)) c.in_err-walk.field-0.0 c.in_err-walk.ensures.below)

@@ -1,22 +1,33 @@
-use Rattle.std.proofs.Common.{◌≡◌, ◌+◌, ◌<◌, List, [], ◌∷◌, ◌++◌, length, ◌∙◌, subst, sym, ap, rules}
+use Rattle.std.proofs.Common.{◌≡◌, ◌+◌, ◌<◌, None, Some, [], ◌∷◌, ◌++◌, length, ◌∙◌, subst, sym, ap, rules}
 use Rattle.bpf_words.specs.Words.{program_of}
 use Rattle.bpf_words.proofs.Paired.{program_of-paired}
 use Rattle.abstract_state.specs.Steps.{after}
 use Rattle.verifier.specs.Walk.{JumpsWithin}
 use Rattle.verifier.specs.declared.refusal.StructureFault.TheVariants.{WriteR10}
+use Rattle.std.proofs.lemmas.Option.{slice_get_within}
+use Rattle.bpf_words.specs.declared.instruction.Insn.{Insn}
+use Rattle.bpf_words.specs.Flow.{StartsAt}
+use Rattle.verifier.specs.Waiting.{waiting_at}
+use Rattle.verifier.specs.Arises.{ArisesAt, AllArise, FallsAs, IsCause}
 use Rattle.verifier.specs.Reaches.{ContainsRuns, Covers}
+use Rattle.verifier.proofs.Arising.{entry_falls, falls_here, here_falls, second_falls, nothing_waits, passed_on}
 use Rattle.verifier.proofs.Walking.{jumps_within}
-use Rattle.verifier.proofs.Reaching.{ContainRunsBelow, all_joined, contain_none, contain_more, count_more, covers_begin, covers_over, covers_arrived}
+use Rattle.verifier.proofs.Reaching.{ContainRunsBelow, AriseBelow, all_joined, contain_none, contain_more, arise_none, arise_more, count_more, covers_begin, covers_over, covers_arrived}
 use Rattle.verifier.proofs.walk.walk_each.Goals.{in-Some+in_ok-flow, in_default}
 use Rattle.verifier.proofs.walk.walk_each.Goals as goal
 
 pub loop-slot-init : goal.loop-slot-init
-loop-slot-init c = record {
-  size = search rules;
-  covers = covers_begin (program_of c.args.words.now) c.entry-state.result c.in_ok-waiting.waiting c.entry-state.ensures.contains;
-  count = search rules;
-  contains = contain_none (program_of c.args.words.now) c.in_ok-states.states.items;
-}
+loop-slot-init c =
+    let some : 0 < length (program_of c.args.words.now) = search rules in
+    record {
+      size = search rules;
+      covers = covers_begin (program_of c.args.words.now) c.entry-state.result c.in_ok-waiting.waiting c.entry-state.ensures.contains;
+      count = search rules;
+      contains = contain_none (program_of c.args.words.now) c.in_ok-states.states.items;
+      waits = λ slot a e. let none = c.in_ok-waiting.ensures.nothing slot in absurd (cc);
+      falls = entry_falls (program_of c.args.words.now) c.entry-state.result some (program_of-paired c.args.words.now c.len.ensures.sound) c.entry-state.ensures.context;
+      arises = arise_none (program_of c.args.words.now) c.in_ok-states.states.items;
+    }
 
 pub visit-requires-clause-jumps : goal.visit-requires-clause-jumps
 visit-requires-clause-jumps c =
@@ -45,22 +56,38 @@ loop-slot-preserved c =
     let count : length c.push.new.self.items ≡ slot + 1 = ap length items ∙ count_more slot joined c.loop-slot.states.items counted in
     let contains : ContainRunsBelow program (slot + 1) c.push.new.self.items =
     subst (λ states. ContainRunsBelow program (slot + 1) states) (sym items) (contain_more program slot joined c.loop-slot.states.items counted here c.loop-slot.invariant.contains) in
+    let waits : AllArise program c.arrive-flow.new.self = c.arrive-flow.ensures.waits program c.loop-slot.invariant.waits in
+    let known : (insn : Insn) → StartsAt program slot insn → ArisesAt program slot joined = λ insn starts.
+    (c.arrive-flow.ensures.arises program c.loop-slot.invariant.waits (falls_here program slot insn falling starts c.loop-slot.invariant.falls)).1 in
+    let arises : AriseBelow program (slot + 1) c.push.new.self.items =
+    subst (λ states. AriseBelow program (slot + 1) states) (sym items) (arise_more program slot joined c.loop-slot.states.items counted known c.loop-slot.invariant.arises) in
     elim c.match-insn.branch [
       | in-Some+in_ok-flow w ↦
+          let step = w.in_ok-flow.ensures.floor program (program_of-paired c.args.words.now c.len.ensures.sound) c.requires w.in-Some.ensures.value waits
+          (here_falls program slot w.in-Some.insn joined w.in-Some.ensures.value (known w.in-Some.insn w.in-Some.ensures.value)) in
           rw (w.waiting-is, w.state-is, w.flow-is)
           (record {
             size = w.in_ok-flow.ensures.size ∙ size;
             covers = w.in_ok-flow.ensures.covers program (program_of-paired c.args.words.now c.len.ensures.sound) c.requires w.in-Some.ensures.value covers;
             count = count;
             contains = contains;
+            waits = step.1.0;
+            falls = step.1.1;
+            arises = arises;
           })
       | in_default w ↦
+          let nothing : waiting_at c.loop-slot.waiting slot ≡ None = nothing_waits program slot c.loop-slot.waiting c.requires w.in_default.ensures.value c.loop-slot.invariant.waits in
+          let alone : joined ≡ falling = c.arrive-flow.ensures.alone nothing in
+          let falls : FallsAs program slot joined = subst (λ o. FallsAs program slot o) (sym alone) c.loop-slot.invariant.falls in
           rw (w.waiting-is, w.state-is, w.flow-is)
           (record {
             size = size;
             covers = covers_over program slot joined c.arrive-flow.new.self w.in_default.ensures.value covers;
             count = count;
             contains = contains;
+            waits = waits;
+            falls = second_falls program slot joined w.in_default.ensures.value falls;
+            arises = arises;
           })
     ]
 
@@ -68,3 +95,21 @@ pub returns-clause-contains : goal.returns-clause-contains
 returns-clause-contains c =
     let last : c.loop-slot.slot ≡ length (program_of c.args.words.now) = search rules in
     subst (λ n. ContainRunsBelow (program_of c.args.words.now) n c.loop-slot.states.items) last c.loop-slot.invariant.contains
+
+pub returns-clause-arises : goal.returns-clause-arises
+returns-clause-arises c = λ at insn starts.
+    let last : c.loop-slot.slot ≡ length (program_of c.args.words.now) = search rules in
+    let below : at < c.loop-slot.slot = subst (λ n. at < n) (sym last) (slice_get_within (program_of c.args.words.now) at (Some insn) starts) in
+    c.loop-slot.invariant.arises at insn below starts
+
+pub returns-in_err-flow-clause-floor : goal.returns-in_err-flow-clause-floor
+returns-in_err-flow-clause-floor c =
+    let program = program_of c.args.words.now in
+    let joined = after c.arrive-flow.result c.arrive-flow.new.state in
+    let falling = after c.loop-slot.flow c.loop-slot.state in
+    let waits : AllArise program c.arrive-flow.new.self = c.arrive-flow.ensures.waits program c.loop-slot.invariant.waits in
+    let known : ArisesAt program c.loop-slot.slot joined =
+    (c.arrive-flow.ensures.arises program c.loop-slot.invariant.waits (falls_here program c.loop-slot.slot c.in-Some.insn falling c.in-Some.ensures.value c.loop-slot.invariant.falls)).1 in
+    passed_on c.from_residual-in_err-flow.result c.in_err-flow.field-0.0 (IsCause program) c.from_residual-in_err-flow.ensures.1
+    (c.in_err-flow.ensures.floor program (program_of-paired c.args.words.now c.len.ensures.sound) c.requires c.in-Some.ensures.value waits
+    (here_falls program c.loop-slot.slot c.in-Some.insn joined c.in-Some.ensures.value known)).0

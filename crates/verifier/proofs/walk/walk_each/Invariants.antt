@@ -1,8 +1,9 @@
 use Rattle.std.proofs.Common.{◌≡◌, length}
 use Rattle.bpf_words.specs.Words.{program_of}
 use Rattle.abstract_state.specs.Steps.{after}
+use Rattle.verifier.specs.Arises.{AllArise, FallsAs}
 use Rattle.verifier.specs.Reaches.{Covers}
-use Rattle.verifier.proofs.Reaching.{ContainRunsBelow}
+use Rattle.verifier.proofs.Reaching.{ContainRunsBelow, AriseBelow}
 use Rattle.verifier.proofs.walk.walk_each.Given as goal
 
 abbrev pub invariant-loop-slot : goal.invariant-loop-slot
@@ -11,4 +12,7 @@ invariant-loop-slot l = record {
   covers : Covers (program_of l.words) l.slot (after l.flow l.state) l.waiting;
   count : length l.states.items ≡ l.slot;
   contains : ContainRunsBelow (program_of l.words) l.slot l.states.items;
+  waits : AllArise (program_of l.words) l.waiting;
+  falls : FallsAs (program_of l.words) l.slot (after l.flow l.state);
+  arises : AriseBelow (program_of l.words) l.slot l.states.items;
 }

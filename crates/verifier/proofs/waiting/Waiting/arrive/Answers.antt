@@ -1,4 +1,4 @@
-use Rattle.std.proofs.Common.{◌<◌, length, refl, sym, ap, subst, rules}
+use Rattle.std.proofs.Common.{◌≡◌, ◌<◌, None, length, refl, sym, ap, subst, rules}
 use Rattle.abstract_state.specs.State.{Contains, WithinState}
 use Rattle.abstract_state.specs.Steps.{after}
 use Rattle.verifier.specs.Waiting.{waiting_at}
@@ -6,7 +6,7 @@ use Rattle.verifier.proofs.Waits.{within_some, waited}
 use Rattle.verifier.proofs.waiting.Waiting.arrive.Goals as goal
 use Rattle.verifier.specs.Arises.{Arises, AllArise, joined}
 use Rattle.verifier.specs.Waiting.{unboxed}
-use Rattle.verifier.proofs.Arising.{arise_taken, read_arises, at_one}
+use Rattle.verifier.proofs.Arising.{arise_taken, read_arises, read_nothing, at_one}
 
 pub returns-clause-falls : goal.returns-clause-falls
 returns-clause-falls c = λ lengths s falls.
@@ -52,3 +52,30 @@ returns-in_default-clause-arises c = λ program all falls.
     let within : c.args.slot < length c.self.inside.states.items = search rules in
     let every = subst (λ v. AllArise program v) (sym c.self.view_is) all in
     (arise_taken program c.self.inside.states.items c.args.slot c.take.new.self within c.take.ensures.after every, falls)
+
+pub returns-clause-alone : goal.returns-clause-alone
+returns-clause-alone c = λ none.
+    let within : c.args.slot < length c.self.inside.states.items = search rules in
+    absurd (read_nothing c.self.inside.states.items c.args.slot c.index_mut.result.now c.take.result c.in-Some.waiting within c.index_mut.ensures.value c.take.ensures.value c.in-Some.is
+    (subst (λ v. waiting_at v c.args.slot ≡ None) (sym c.self.view_is) none))
+
+pub returns-in_default-flow-clause-alone : goal.returns-in_default-flow-clause-alone
+returns-in_default-flow-clause-alone c = λ none.
+    let within : c.args.slot < length c.self.inside.states.items = search rules in
+    absurd (read_nothing c.self.inside.states.items c.args.slot c.index_mut.result.now c.take.result c.in-Some.waiting within c.index_mut.ensures.value c.take.ensures.value c.in-Some.is
+    (subst (λ v. waiting_at v c.args.slot ≡ None) (sym c.self.view_is) none))
+
+pub returns-clause-waits : goal.returns-clause-waits
+returns-clause-waits c = λ program all.
+    let within : c.args.slot < length c.self.inside.states.items = search rules in
+    arise_taken program c.self.inside.states.items c.args.slot c.take.new.self within c.take.ensures.after (subst (λ v. AllArise program v) (sym c.self.view_is) all)
+
+pub returns-in_default-flow-clause-waits : goal.returns-in_default-flow-clause-waits
+returns-in_default-flow-clause-waits c = λ program all.
+    let within : c.args.slot < length c.self.inside.states.items = search rules in
+    arise_taken program c.self.inside.states.items c.args.slot c.take.new.self within c.take.ensures.after (subst (λ v. AllArise program v) (sym c.self.view_is) all)
+
+pub returns-in_default-clause-waits : goal.returns-in_default-clause-waits
+returns-in_default-clause-waits c = λ program all.
+    let within : c.args.slot < length c.self.inside.states.items = search rules in
+    arise_taken program c.self.inside.states.items c.args.slot c.take.new.self within c.take.ensures.after (subst (λ v. AllArise program v) (sym c.self.view_is) all)

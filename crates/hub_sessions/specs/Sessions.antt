@@ -1,0 +1,135 @@
+-- A session from its first line to its end: what came, and what was printed for it.
+use Rattle.std.specs.Prelude.{◌≡◌, ◌⊎◌, ℕ, ◌+◌, ◌≤◌, List, [], ◌∷◌, ◌++◌, Option, Result, Ok, Err, ⊤}
+use Rattle.std.specs.List.{flat_map}
+use Rattle.std.specs.Io.KnownBytes.{Appends, Keeps}
+use Rattle.change_ops.specs.Changes.{Edit}
+use Rattle.ingest_workers.specs.Holdings.{InOneHolding, Ingests}
+use Rattle.refusals.specs.declared.reason.Reason.TheVariants as reason
+use Rattle.session_lines.specs.Replies.{reply_text, reason_of}
+use Rattle.session_lines.specs.Requests.{IsNext}
+use Rattle.session_lines.specs.declared.reply.Reply.{Reply}
+use Rattle.session_lines.specs.declared.reply.Reply.TheVariants as reply
+use Rattle.session_lines.specs.declared.request.Next.{Next}
+use Rattle.session_lines.specs.declared.request.Next.TheVariants as next
+use Rattle.session_lines.specs.declared.request.SessionRequest.{SessionRequest}
+use Rattle.session_lines.specs.declared.request.SessionRequest.TheVariants as asked
+use Rattle.hub_sessions.specs.Holding.{Watched, Adds, Closes, PullsAny}
+use Rattle.hub_sessions.specs.declared.conversation.SessionFault.{SessionFault}
+use Rattle.hub_sessions.specs.declared.conversation.SessionFault.TheVariants as fault
+use Rattle.hub_sessions.specs.declared.replaying.ReplayError.{ReplayError}
+use Rattle.hub_sessions.specs.declared.replaying.ReplayError.TheVariants as replay
+use Rattle.hub_sessions.specs.declared.conversation.Turn.{Turn}
+use Rattle.hub_sessions.specs.declared.conversation.Turn.TheVariants.{More, Last}
+use Rattle.hub_sessions.specs.declared.conversation.TurnFault.{TurnFault}
+use Rattle.hub_sessions.specs.declared.conversation.TurnFault.TheVariants as turn_fault
+
+-- how many of its changes were accepted, and the subscribers that it holds
+pub record Standing : Type 0 where
+  pub count : ℕ
+  pub held : List Watched
+
+-- a change is submitted to the hub, and counted where it is accepted
+abbrev pub Submits : Edit → ℕ → Reply → ℕ → Type 0
+Submits change count (reply.Version number) count' =
+    (count' ≡ count + 1) × (count' ≤ number) × InOneHolding (λ old new. Ingests old change (Ok number) new)
+Submits change count (reply.Refused (reason.Unaccepted error)) count' =
+    (count' ≡ count) × InOneHolding (λ old new. Ingests old change (Err error) new)
+Submits change count _ count' = ⊥
+
+-- what is done for a request, the lines of items that are printed, and the reply after them
+abbrev pub Answers : SessionRequest → Standing → List ℕ → List ℕ → Reply → Standing → Type 0
+Answers (asked.Change change) s out out' answer s' = Submits change s.count answer s'.count × (s'.held ≡ s.held) × (out' ≡ out)
+Answers (asked.Subscribe capacity program) s out out' answer s' = Adds capacity program.items s.held answer s'.held × (s'.count ≡ s.count) × (out' ≡ out)
+Answers (asked.Pull id count) s out out' answer s' = PullsAny id count s.held s'.held out out' answer × (s'.count ≡ s.count)
+Answers (asked.Close id) s out out' answer s' = Closes s.held id answer s'.held × (s'.count ≡ s.count) × (out' ≡ out)
+
+-- a request is answered, or what is none is refused and changes nothing
+abbrev pub Meets : Next → Standing → List ℕ → List ℕ → Reply → Standing → Type 0
+Meets (next.Request request) s out out' answer s' = Answers request s out out' answer s'
+Meets (next.Refused refusal) s out out' answer s' = (answer ≡ reply.Refused (reason_of refusal)) × (s' ≡ s) × (out' ≡ out)
+Meets next.TooLong s out out' answer s' = ⊥
+Meets next.End s out out' answer s' = ⊥
+
+-- one came next of the input, and was met; what is left of the input, and how the session then stands
+pub record Exchange : Type 0 where
+  pub came : Next
+  pub items : List ℕ
+  pub answer : Reply
+  pub left : Option (List ℕ)
+  pub stands : Standing
+
+-- the line of a reply, with its LF
+abbrev pub reply_line : Reply → List ℕ
+reply_line answer = reply_text answer ++ 10 ∷ []
+
+-- what is printed of it: the lines of items, and one line more
+abbrev pub printed : Exchange → List ℕ
+printed e = e.items ++ reply_line e.answer
+
+pub record IsExchange (s : Standing) (left : Option (List ℕ)) (e : Exchange) : Type 0 where
+  pub next : IsNext left e.came e.left
+  pub met : Meets e.came s [] e.items e.answer e.stands
+
+-- each begins where the one before it ended
+abbrev pub Follow : Standing → Option (List ℕ) → List Exchange → Standing → Option (List ℕ) → Type 0
+Follow s left [] s' left' = (s' ≡ s) × (left' ≡ left)
+Follow s left (e ∷ more) s' left' = IsExchange s left e × Follow e.stands e.left more s' left'
+
+-- these were printed, one after another, after what a writer had
+pub record Converses (s : Standing) (left old : Option (List ℕ)) (s' : Standing) (left' new : Option (List ℕ)) : Type 0 where
+  pub exchanges : List Exchange
+  pub follow : Follow s left exchanges s' left'
+  pub written : Appends old new (flat_map printed exchanges)
+
+-- nothing comes after it: the input's end, which prints nothing, or a line that is too long
+abbrev pub IsLast : Option (List ℕ) → Option (List ℕ) → List ℕ → Type 0
+IsLast left left' text = (IsNext left next.End left' × (text ≡ [])) ⊎ (IsNext left next.TooLong left' × (text ≡ reply_line (reply.Refused reason.LineTooLong)))
+
+-- an exchange, or what ends the session
+abbrev pub TakesTurn : Turn → Standing → Option (List ℕ) → List ℕ → Standing → Option (List ℕ) → Type 0
+TakesTurn More s left text s' left' = (e : Exchange) × IsExchange s left e × (text ≡ printed e) × (s' ≡ e.stands) × (left' ≡ e.left)
+TakesTurn Last s left text s' left' = IsLast left left' text × (s' ≡ s)
+
+-- a turn whose read failed changed and printed nothing
+abbrev pub BreaksTurn : TurnFault → Standing → List ℕ → Standing → Type 0
+BreaksTurn turn_fault.Read s text s' = (s' ≡ s) × (text ≡ [])
+BreaksTurn turn_fault.Memory s text s' = ⊤
+
+-- after its exchanges the session came to its end, by what came or for want of memory
+pub record EndsAfter (s : Standing) (left old : Option (List ℕ)) (count : ℕ) (new : Option (List ℕ)) : Type 0 where
+  pub stands : Standing
+  pub rest : Option (List ℕ)
+  pub before : Option (List ℕ)
+  pub converses : Converses s left old stands rest before
+  pub over : Option (List ℕ)
+  pub text : List ℕ
+  pub last : IsLast rest over text
+  pub written : Appends before new text
+  pub counted : count ≡ stands.count
+
+pub record EndsShort (s : Standing) (left old new : Option (List ℕ)) : Type 0 where
+  pub stands : Standing
+  pub rest : Option (List ℕ)
+  pub before : Option (List ℕ)
+  pub converses : Converses s left old stands rest before
+  pub part : List ℕ
+  pub written : Appends before new (part ++ reply_line (reply.Refused reason.OutOfMemory))
+
+-- or a read failed after them
+pub record BreaksAfter (s : Standing) (left old : Option (List ℕ)) (count : ℕ) (new : Option (List ℕ)) : Type 0 where
+  pub stands : Standing
+  pub rest : Option (List ℕ)
+  pub converses : Converses s left old stands rest new
+  pub counted : count ≡ stands.count
+
+-- how a session ended; nothing is said of what was written before a write failed
+abbrev pub Ends : Result ⊤ SessionFault → Standing → Option (List ℕ) → Option (List ℕ) → ℕ → Option (List ℕ) → Type 0
+Ends (Ok done) s left old count new = EndsAfter s left old count new ⊎ EndsShort s left old new
+Ends (Err fault.Read) s left old count new = BreaksAfter s left old count new
+Ends (Err fault.Write) s left old count new = ⊤
+
+-- a session on a hub of its own, which has no change yet; or no memory was found for the hub, and nothing was printed
+abbrev pub Replays : Result ⊤ ReplayError → Option (List ℕ) → Option (List ℕ) → Option (List ℕ) → Type 0
+Replays (Ok done) left old new = (count : ℕ) × Ends (Ok done) (record { count = 0; held = [] }) left old count new
+Replays (Err (replay.Session why)) left old new = (count : ℕ) × Ends (Err why) (record { count = 0; held = [] }) left old count new
+Replays (Err replay.OutOfMemory) left old new = Keeps old new
