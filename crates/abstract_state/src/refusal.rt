@@ -5,7 +5,7 @@
 pub enum Refusal {
     /// A register that is read may be unset.
     UnsetRegister,
-    /// Arithmetic with an address that is none of: a move, a number added to or taken from an address in the text, a constant
+    /// Arithmetic with an address that is none of: a 64-bit move, a number added to or taken from an address in the text, a constant
     /// added to or taken from one in the context or the stack that stays there.
     PointerArithmetic,
     /// A comparison with an address that isn't one of two addresses in the text by 64 bits, for equality or order without sign.

@@ -102,7 +102,7 @@ drafted changes xs change added draft same alone e few h = record {
 pub refused_change : (changes xs : List Edit) (change : Edit) (added : List Op) (error : SubmitError) → changes ≡ xs → added ≡ change.operations → length changes < 4096 → IsNotApplied (operations_of xs) added error → IsRefused xs change error
 refused_change changes xs change added submit.HistoryFull same e few h = absurd h
 refused_change changes xs change added (submit.Refused index refusal) same e few h = (omega (arith, ap length same), subst (λ (ops : List Op). FirstRefused (operations_of xs) ops index refusal) e h)
-refused_change changes xs change added submit.OutOfMemory same e few h = tt
+refused_change changes xs change added submit.OutOfMemory same e few h = omega (arith, ap length same)
 
 -- a draft put in place
 pub put_in_place : {E : Type 0} (r : Result (Unit {0}) E) (done : Unit {0}) (changes xs added new : List Edit) (change : Edit) → changes ≡ xs → added ≡ change ∷ [] → r ≡ Ok done → new ≡ (if is_ok r then changes ++ added else changes) → new ≡ xs ++ change ∷ []
@@ -170,6 +170,8 @@ pub not_applied : (r : Result Parts SubmitError) (ops added : List Op) (error : 
 not_applied (Ok p) ops added error same why = absurd same
 not_applied (Err e) ops added error same why = subst (IsNotApplied ops added) (sym same) why
 
-pub no_memory : (r : Result Draft SubmitError) (changes : List Edit) (change : Edit) → IsErrAnd r (λ e. e ≡ submit.OutOfMemory) → MatchResult r (IsDraft changes change) (IsRefused changes change)
-no_memory (Ok d) changes change same = absurd same
-no_memory (Err e) changes change same = subst (IsRefused changes change) (sym same) tt
+pub no_memory : (r : Result Draft SubmitError) (changes xs : List Edit) (change : Edit) → changes ≡ xs → length changes < 4096 → IsErrAnd r (λ e. e ≡ submit.OutOfMemory) → MatchResult r (IsDraft xs change) (IsRefused xs change)
+no_memory (Ok d) changes xs change along few same = absurd same
+no_memory (Err e) changes xs change along few same =
+    let room : length xs < 4096 = omega (arith, ap length along) in
+    subst (IsRefused xs change) (sym same) room

@@ -47,12 +47,12 @@ pub record IsAccepted (changes : List Edit) (change : Edit) : Type 0 where
   pub room : length changes < 4096
   pub follow : AllFollow (operations_of changes) change.operations (length change.operations)
 
--- why a change is refused after these; want of memory is no fault of a change
+-- why a change is refused after these; want of memory is no fault of a change, but a full history is told as such
 abbrev pub IsRefused : List Edit → Edit → SubmitError → Type 0
 IsRefused changes change HistoryFull = 4096 ≤ length changes
 IsRefused changes change (Refused index refusal) =
     (length changes < 4096) × FirstRefused (operations_of changes) change.operations index refusal
-IsRefused changes change OutOfMemory = Unit {0}
+IsRefused changes change OutOfMemory = length changes < 4096
 
 -- each of the changes was accepted after those before it
 abbrev pub AreAccepted : List Edit → Type 0

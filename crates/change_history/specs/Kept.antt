@@ -36,7 +36,7 @@ refusal_of sequence.DocumentFull = refusal.DocumentFull
 abbrev pub Applied : List Op → Op → Parts → Result (Unit {0}) ApplyError → Type 0
 Applied ops op new (Ok done) = MayFollow ops op × Keeps (ops ++ op ∷ []) new
 Applied ops op new (Err (apply.Refused refusal)) = MayNotFollow ops op refusal
-Applied ops op new (Err apply.OutOfMemory) = Unit {0}
+Applied ops op new (Err apply.OutOfMemory) = MayFollow ops op
 
 -- the error of an operation as one of its change
 abbrev pub error_at : ℕ → ApplyError → SubmitError

@@ -6,8 +6,8 @@ use std::alloc::{AllocError, Global};
 const STATUSES: &str =
     "The exit status is 0 if the command is done; 1 if its input is refused, or the
 program that is run meets a fault or runs out of steps; 2 if the command line is
-wrong; 3 if a read or a write fails. A refusal is printed as `refused <number>
-<Name>`, with its place behind it (docs/REFUSALS.md).";
+wrong; 3 if a read, a write, a bind or an accept fails. A refusal is printed as
+`refused <number> <Name>`, with its place behind it (docs/REFUSALS.md).";
 
 /// The options of `run` whose fields have 32 bits, with their defaults and what they say of the span.
 static FIELDS: [(&str, &str, &str); 6] = [

@@ -17,7 +17,7 @@ one_turn turns count more Committed before turned is = record {
   jobs = before.jobs ++ turned.0 ∷ [];
   counted = omega (arith, length-append before.jobs (turned.0 ∷ []), before.counted, is);
   few = omega (arith, before.few, is);
-  each = All-push IsCommitted before.jobs turned.0 before.each (turned.1, turned.2);
+  each = All-push IsCommitted before.jobs turned.0 before.each (turned.1, turned.2, turned.3);
 }
 one_turn turns count more Refused before turned is = record {
   jobs = before.jobs;

@@ -1,8 +1,10 @@
 -- What workers do to a hub.
-use Rattle.std.specs.Prelude.{◌≡◌, ◌≤◌, ℕ, Bool, true, false, Ok, Err, Option, Some, None, List, All, length}
+use Rattle.std.specs.Prelude.{◌≡◌, ◌≤◌, ℕ, Bool, true, false, Result, Ok, Err, Option, Some, None, List, All, length}
 use Rattle.batches.specs.Batches.{Slip}
-use Rattle.hub_core.specs.Machine.{TakesJob, Misses, Commits}
+use Rattle.hub_core.specs.Machine.{TakesJob, Misses, Commits, Pumps}
 use Rattle.hub_core.specs.declared.error.CommitError.{CommitError}
+use Rattle.hub_core.specs.declared.error.NoSubscriber.{NoSubscriber}
+use Rattle.subscriber_queues.specs.Queue.{was_sent, IsFull}
 use Rattle.ingest_workers.specs.Holdings.{InOneHolding}
 use Rattle.filter_workers.specs.declared.work.TurnEnd.{TurnEnd}
 use Rattle.filter_workers.specs.declared.work.TurnEnd.TheVariants.{Committed, Refused}
@@ -12,9 +14,14 @@ abbrev pub Ends : Slip → TurnEnd → Type 0
 Ends job Committed = InOneHolding (λ old new. Commits old job (Ok tt) new)
 Ends job Refused = (e : CommitError) × InOneHolding (λ old new. Commits old job (Err e) new)
 
--- a job was taken in one holding of the lock, and its batch committed or refused in another; or there was none to take
+-- what could be sent to this subscriber was sent, in one holding of the lock
+abbrev pub IsPumped : ℕ → Type 0
+IsPumped subscriber = (sent : Result ℕ NoSubscriber) × InOneHolding (λ old new. Pumps was_sent IsFull old subscriber sent new)
+
+-- a job was taken in one holding of the lock, its batch committed or refused in another, and its subscriber sent what could be in a third; or there
+-- was none to take
 abbrev pub Turns : Option TurnEnd → Type 0
-Turns (Some end) = (job : Slip) × InOneHolding (λ old new. TakesJob old (Some job) new) × Ends job end
+Turns (Some end) = (job : Slip) × InOneHolding (λ old new. TakesJob old (Some job) new) × Ends job end × IsPumped job.subscriber
 Turns None = InOneHolding (λ old new. TakesJob old None new)
 
 -- the job of the first version that a subscriber waited for was found in one holding of the lock, and its batch committed or refused in another; or it
@@ -29,9 +36,10 @@ abbrev pub batches_of : TurnEnd → ℕ
 batches_of Committed = 1
 batches_of Refused = 0
 
--- a job was taken in one holding of the lock, and its batch committed in another
+-- a job was taken in one holding of the lock, its batch committed in another, and its subscriber sent what could be in a third
 abbrev pub IsCommitted : Slip → Type 0
-IsCommitted job = InOneHolding (λ old new. TakesJob old (Some job) new) × InOneHolding (λ old new. Commits old job (Ok tt) new)
+IsCommitted job =
+    InOneHolding (λ old new. TakesJob old (Some job) new) × InOneHolding (λ old new. Commits old job (Ok tt) new) × IsPumped job.subscriber
 
 -- the batches of so many jobs were committed, in at most so many turns
 pub record AreCommitted (turns count : ℕ) : Type 0 where

@@ -66,14 +66,18 @@ fn turn<N: Naming + Ledger, R: Threads + Wait + Copy + Sync, G: Gate<N>>(
         return Ok(None);
     };
     gate.before(&job);
-    let end = answer(rt, alloc, hub, published, &job, workers);
-    if end.is_ok() {
-        let _ = hub.pump(rt, job.subscriber);
-    } else {
-        let _ = hub.reissue(rt, job.subscriber);
+    match answer(rt, alloc, hub, published, &job, workers) {
+        Ok(end) => {
+            let _ = hub.pump(rt, job.subscriber);
+            gate.after(&job);
+            Ok(Some(end))
+        }
+        Err(error) => {
+            let _ = hub.reissue(rt, job.subscriber);
+            gate.after(&job);
+            Err(error)
+        }
     }
-    gate.after(&job);
-    Ok(Some(end?))
 }
 
 /// A worker's turns, until there is no job or no memory was found. It answers how many batches it committed.

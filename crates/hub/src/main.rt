@@ -1,7 +1,7 @@
 //! The program: its command, on the words that it was called with and the standard streams.
 #![tactic(auto)]
 
-use hub_program::command;
+use hub_program::{command, complain};
 use std::alloc::AllocError;
 use std::process::ExitCode;
 use std::{env, io};
@@ -10,11 +10,6 @@ use std::{env, io};
 fn words(rt: &HostRuntime) -> io::Result<Vec<String>> {
     let words: Result<Vec<String>, AllocError> = env::args(rt)?.collect(rt.alloc());
     Ok(words?)
-}
-
-/// Says on standard error what went wrong; where that fails too, the exit status still tells it.
-fn complain(rt: &HostRuntime, fault: &str) {
-    let _ = eprintln!(rt; "hub: {fault}");
 }
 
 fn main(rt: HostRuntime) -> ExitCode {

@@ -72,9 +72,9 @@ abbrev pub FindsAt : {S : Type 0} → State S → ℕ → Option ℕ → Type 0
 FindsAt {S} s id (Some n) = (a : Sub S) × IsOpen s id a × IsNext (length s.changes) a n
 FindsAt {S} s id None = (a : Sub S) → IsOpen s id a → (n : ℕ) → ¬ IsDue (length s.changes) a n
 
--- an open subscriber that has a job, and its version; or none has one
+-- the first open subscriber that has a job, and its version; or none has one
 abbrev pub FindsJob : {S : Type 0} → State S → Option (ℕ × ℕ) → Type 0
-FindsJob s (Some found) = FindsAt s found.0 (Some found.1)
+FindsJob s (Some found) = FindsAt s found.0 (Some found.1) × ((id : ℕ) → id < found.0 → FindsAt s id None)
 FindsJob s None = (id : ℕ) → FindsAt s id None
 
 -- a batch that its subscriber waits for is held

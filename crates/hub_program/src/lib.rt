@@ -70,7 +70,7 @@ pub fn command<
 }
 
 /// Says on standard error what went wrong; where that fails too, the exit status still tells it.
-fn complain<H: Eprint>(rt: &H, fault: &str) {
+pub fn complain<H: Eprint>(rt: &H, fault: &str) {
     let _ = eprintln!(rt; "hub: {fault}");
 }
 

@@ -1,14 +1,17 @@
 -- Where a subscriber is, and what is taken of it.
-use Rattle.std.proofs.Common.{◌≡◌, ℕ, ◌<◌, ◌==◌, List, [], Result, Ok, Err, length, set, get_or, refl, inl, inr}
+use Rattle.std.proofs.Common.{◌≡◌, ℕ, ◌<◌, ◌==◌, List, [], Result, Ok, Err, length, set, get_or, refl, subst, inl, inr}
 use Rattle.std.specs.Prelude.{Some, None, IfOk, Bool, IsTrue, ◌↔◌}
 use Rattle.std.proofs.lemmas.List.Quantifiers.{position-Some}
 use Rattle.std.proofs.lemmas.Option.{slice_get_read}
+use Rattle.bpf_words.specs.Words.{IsProgram, program_of}
+use Rattle.meaning.specs.Step.{Program}
+use Rattle.meaning.specs.Safe.{Safe}
 use Rattle.batches.specs.Batches.{Entry}
 use Rattle.ingest_workers.specs.Holdings.{InOneHolding}
 use Rattle.refusals.specs.declared.reason.Reason.TheVariants as reason
 use Rattle.session_lines.specs.declared.reply.Reply.{Reply}
 use Rattle.session_lines.specs.declared.reply.Reply.TheVariants.{Refused}
-use Rattle.hub_sessions.specs.Holding.{Watched, place_in, Pulls, PullsAny}
+use Rattle.hub_sessions.specs.Holding.{Watched, place_in, AreSafe, Pulls, PullsAny}
 
 pub place_within : (held : List Watched) (id place : ℕ) → place_in held id ≡ Some place → place < length held
 place_within held id place there = (position-Some (λ one. one.id == id) held place (record { id = 0; taken = [] }) there).0
@@ -36,3 +39,7 @@ none_pulled id count held out none = inr (record { none = none; same = refl; pri
 -- what a test of a full hub found
 pub full : (test : Bool) → IsTrue test → InOneHolding (λ old new. (new ≡ old) × (IsTrue test ↔ (length old.subs ≡ 64))) → InOneHolding (λ old new. (new ≡ old) × (length old.subs ≡ 64))
 full test is found = (found.0, found.1, (found.2.0, found.2.1.0 is), found.3)
+
+-- the bytes of a program that was accepted
+pub safe_bytes : (program : Program) (bytes : List ℕ) → IsProgram bytes × (program ≡ program_of bytes) × Safe program → AreSafe bytes
+safe_bytes program bytes h = (h.0, subst Safe h.1 h.2)

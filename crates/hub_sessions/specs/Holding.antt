@@ -33,13 +33,17 @@ pub record IsSubscribed (capacity : ℕ) (bytes : List ℕ) (id : ℕ) : Type 0 
   pub same : token.value ≡ program_of bytes
   pub holding : InOneHolding (λ old new. Subscribes old (length old.changes) token (record { sent = []; capacity = capacity }) (Ok id) new)
 
+-- the bytes are a program, each run of which ends with a number
+abbrev pub AreSafe : List ℕ → Type 0
+AreSafe bytes = IsProgram bytes × Safe (program_of bytes)
+
 -- why it was not
 abbrev pub IsNotSubscribed : ℕ → List ℕ → Reason → Type 0
 IsNotSubscribed capacity bytes (reason.Words error) = IsRefused bytes error
 IsNotSubscribed capacity bytes (reason.Unverified error) = IsProgram bytes
-IsNotSubscribed capacity bytes reason.BadCapacity = ¬ IsCapacity capacity
-IsNotSubscribed capacity bytes reason.SubscribersFull = InOneHolding (λ old new. (new ≡ old) × (length old.subs ≡ 64))
-IsNotSubscribed capacity bytes reason.OutOfMemory = ⊤
+IsNotSubscribed capacity bytes reason.BadCapacity = AreSafe bytes × (¬ IsCapacity capacity)
+IsNotSubscribed capacity bytes reason.SubscribersFull = AreSafe bytes × InOneHolding (λ old new. (new ≡ old) × (length old.subs ≡ 64))
+IsNotSubscribed capacity bytes reason.OutOfMemory = AreSafe bytes
 IsNotSubscribed capacity bytes _ = ⊥
 
 -- one more is held, of which nothing was taken; or the same as before

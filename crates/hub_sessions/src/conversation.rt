@@ -22,8 +22,8 @@ use std::sync::ledger::Ledger;
 use std::thread::Threads;
 use version_history::published::{Naming, Published};
 
-/// The most bytes of the lines that answer one request.
-const REPLY_ROOM: usize = 72_000;
+/// The most bytes of the lines that answer one request: 1,024 items of at most 36, and one line more.
+const REPLY_ROOM: usize = 37_000;
 
 /// Why a session ended before its end.
 #[derive(Clone, Copy, Debug, PartialEq, Eq)]

@@ -1,7 +1,7 @@
 ghost use Rattle.std.specs.Prelude.{◌≡◌, ℕ, List, [], IfOk, IfErr};
 ghost use Rattle.bpf_words.specs.Words.{IsProgram, program_of};
 ghost use Rattle.meaning.specs.Safe.{Safe};
-ghost use Rattle.hub_sessions.specs.Holding.{IsNotSubscribed, Adds, Closes};
+ghost use Rattle.hub_sessions.specs.Holding.{AreSafe, IsNotSubscribed, Adds, Closes};
 
 use crate::desk::{Desk, Held, place_of};
 use bpf_words::words::Words;
@@ -22,7 +22,7 @@ fn ends<N: Naming, R: Wait + Copy>(
     capacity: usize,
 ) -> Result<(QueueSink<N, R>, Subscription<N, R>), Reason>
     ensures ok { IfOk result (λ q. (q.0 ≡ record { sent = []; capacity = capacity }) × (q.1 ≡ [])) }
-    ensures err { IfErr result (λ why. (bytes : List ℕ) → IsNotSubscribed capacity bytes why) }
+    ensures err { IfErr result (λ why. (bytes : List ℕ) → AreSafe bytes → IsNotSubscribed capacity bytes why) }
 {
     match queue(rt, alloc, capacity) {
         Ok(ends) => Ok(ends),

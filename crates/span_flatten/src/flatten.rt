@@ -67,6 +67,7 @@ pub fn flatten(
     let mut text = String::new(alloc);
     let mut rows = Vec::new(alloc);
     let mut cursor = sequence.visible_from_start();
+    // Its contract bounds the characters, and so the spans, which the proof needs.
     let _count = sequence.len();
     for range in ranges {
         take_in(&mut text, &mut rows, &mut cursor, range)?;

@@ -78,8 +78,9 @@ impl<N: Naming, R: Wait + Copy> Sink<Item<N>> for QueueSink<N, R> {
 }
 
 impl<N: Naming, R: Wait + Copy> Subscription<N, R> {
-    /// Takes the item that waits longest; None where none waits. What was taken is a beginning of what was sent: the batches of
-    /// one program on versions in their order, the last perhaps unfinished.
+    /// Takes the item that waits longest; None where none waits. What was taken so far are the batches of one program on versions
+    /// in their order, the last perhaps unfinished. That the items are those of this queue's other end is the queue's promise, and
+    /// not said of the two values here.
     pub fn take(&mut self) -> Option<Item<N>>
         ensures some { IfSome result (λ item. self.new ≡ self.old ++ item ∷ []) }
         ensures none { IfNone result (self.new ≡ self.old) }

@@ -52,7 +52,8 @@ impl Verified {
 }
 
 /// Accepts a program of which every run ends with a number. The places and targets of all instructions are looked at first, and
-/// then what is known of the machine before each; the first slot at fault is named.
+/// then what is known of the machine before each; the first slot at fault is named (of the second kind of fault the clauses say
+/// only that it is a slot of the program).
 pub fn verify(alloc: Global, words: &Words<'_>) -> Result<Verified, VerifyError>
     ensures same { IfOk result (λ verified. verified ≡ program_of words.now) }
     ensures safe { IfOk result (λ verified. Safe verified) }

@@ -9,13 +9,13 @@ returns-in_default g c = (refl, c.in_default.ensures)
 
 pub index_mut-sub-requires : goal.index_mut-sub-requires
 index_mut-sub-requires g c =
-    let found = c.in-Some.ensures in
+    let found = c.in-Some.ensures.0 in
     let within : c.in-Some.id < length c.args.self.now.subs = slice_get_within c.args.self.now.subs c.in-Some.id found.0 found.1.0 in
     omega (arith, ap (λ (z : State g.row.S.Denot). length z.subs) c.self.view_is)
 
 pub invariant_of-self : goal.invariant_of-self
 invariant_of-self g c =
-    let found = c.in-Some.ensures in
+    let found = c.in-Some.ensures.0 in
     let there : c.in-Some.id < length c.args.self.now.subs = slice_get_within c.args.self.now.subs c.in-Some.id found.0 found.1.0 in
     let within : c.in-Some.id < length c.self.inside.subs.items = omega (arith, ap (λ (z : State g.row.S.Denot). length z.subs) c.self.view_is) in
     sound_handed g.S.Sink.sent g.S.Sink.full _ c.in-Some.id _ c.index_mut-sub.result.now c.hand_out.new.self c.self.invariant within c.index_mut-sub.ensures.value c.hand_out.ensures.handed
@@ -23,4 +23,4 @@ invariant_of-self g c =
 pub returns : goal.returns
 returns g c =
     job_taken c.args.self.now _ c.hand_out.result c.in-Some.id c.in-Some.number c.index_mut-sub.result.now c.hand_out.new.self c.as_slice.result.now c.self.view_is
-    c.in-Some.ensures c.index_mut-sub.ensures.value c.hand_out.ensures.handed c.hand_out.ensures.of c.hand_out.ensures.version c.as_slice.ensures.value
+    c.in-Some.ensures.0 c.index_mut-sub.ensures.value c.hand_out.ensures.handed c.hand_out.ensures.of c.hand_out.ensures.version c.as_slice.ensures.value

@@ -1,4 +1,4 @@
-use Rattle.std.proofs.Common.{[], refl, subst, ap, ◌∙◌, ◌++◌, string_bytes, inr}
+use Rattle.std.proofs.Common.{[], refl, subst, string_bytes, inr}
 use Rattle.refusals.specs.declared.reason.Reason.TheVariants as reason
 use Rattle.session_lines.specs.Replies.{reason_of}
 use Rattle.session_lines.specs.Requests.{IsNext}
