@@ -81,3 +81,20 @@ hit 10 0 1
 end 10 1
 ok items 17
 ";
+
+/// Two subscribers whose verdict is 1 on each span, a change, and a pull of the second.
+pub const TWO_SUBSCRIBERS: &str = "sub 1 b7000000010000009500000000000000
+sub 2 b7000000010000009500000000000000
+change 1 1
+i 1@1 - 61
+pull 1 5
+";
+
+pub const TWO_SUBSCRIBERS_REPLIES: &str = "ok sub 0
+ok sub 1
+ok version 1
+end 0 0
+hit 1 0 1
+end 1 1
+ok items 3
+";

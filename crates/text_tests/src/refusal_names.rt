@@ -1,5 +1,6 @@
 use change_history::refusal::{Refusal, SubmitError};
 use change_ops::refusal::ChangeError;
+use char_sequence::sequence::SequenceError;
 use std::alloc::{AllocError, Global};
 use std::fmt::Display;
 use std::test::Fail;
@@ -54,5 +55,16 @@ fn refusals_of_acceptance_have_their_numbers(rt: HostRuntime) -> Result<(), Fail
         (SubmitError::HistoryFull, "50 HistoryFull"),
     ];
     assert_eq!(rt; first_wrong(rt.alloc(), &accepted)?, None);
+    Ok(())
+}
+
+#[test]
+fn refusals_of_a_sequence_have_their_numbers(rt: HostRuntime) -> Result<(), Fail> {
+    let refused = [
+        (SequenceError::StaleCounter, "46 StaleCounter"),
+        (SequenceError::UnknownRef, "47 UnknownRef"),
+        (SequenceError::DocumentFull, "48 DocumentFull"),
+    ];
+    assert_eq!(rt; first_wrong(rt.alloc(), &refused)?, None);
     Ok(())
 }

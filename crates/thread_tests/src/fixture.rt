@@ -1,8 +1,10 @@
 ghost use Rattle.std.specs.Prelude.{◌≡◌};
 
+use crate::ingests::told_refusals;
 use crate::many_spans::{compared_on_few_spans, compared_on_many_spans};
 use crate::queue_calls::{full_and_late, taken_singly};
 use crate::schedules::{overlapped, vanished_and_late};
+use crate::turns::{came_too_late, caught_up, worked_off};
 use batches::batch::Batch;
 use batches::item::Finding;
 use bpf_words::words::Words;
@@ -64,6 +66,10 @@ pub enum Trial {
     FullQueueAndLateBatch,
     OverlappingWorkers,
     VanishedAndLateWorkers,
+    TurnsForJobs,
+    CatchingUp,
+    StaleBatch,
+    RefusedTexts,
     ManySpans,
     /// The changes after which there are few spans, the hits of strong flag on them, and how many they are.
     FewSpans {
@@ -104,6 +110,10 @@ fn on_lists<N: Naming + Ledger + Send + Sync, R: Threads + Wait + Abort + Copy +
         Trial::FullQueueAndLateBatch => full_and_late(&rt, alloc, &hub, &published, share),
         Trial::OverlappingWorkers => overlapped(rt, alloc, &hub, &published, share),
         Trial::VanishedAndLateWorkers => vanished_and_late(rt, alloc, &hub, &published, share),
+        Trial::TurnsForJobs => worked_off(rt, alloc, &hub, &published, share),
+        Trial::CatchingUp => caught_up(&rt, alloc, &hub, &published, share),
+        Trial::StaleBatch => came_too_late(rt, alloc, &hub, &published, share),
+        Trial::RefusedTexts => told_refusals(&rt, alloc, &hub, share),
         Trial::ManySpans => compared_on_many_spans(&rt, alloc, &hub, &published, share),
         Trial::FewSpans {
             changes,

@@ -7,10 +7,16 @@ mod capacities;
 #[cfg(test)]
 mod fixture;
 #[cfg(test)]
+mod ingests;
+#[cfg(test)]
 mod many_spans;
 #[cfg(test)]
 mod queue_calls;
 #[cfg(test)]
+mod refusal_names;
+#[cfg(test)]
 mod schedules;
+#[cfg(test)]
+mod turns;
 #[cfg(test)]
 mod two_threads;

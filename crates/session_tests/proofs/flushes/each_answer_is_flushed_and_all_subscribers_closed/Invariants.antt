@@ -1,0 +1,7 @@
+use Rattle.session_tests.proofs.flushes.each_answer_is_flushed_and_all_subscribers_closed.Given as goal
+
+abbrev pub ghosts-two_subscribed-N-Naming : goal.ghosts-two_subscribed-N-Naming
+ghosts-two_subscribed-N-Naming g a = record { versions = a.versions.now; programs = a.programs.now }
+
+abbrev pub ghosts-two_subscribed-N-Ledger : goal.ghosts-two_subscribed-N-Ledger
+ghosts-two_subscribed-N-Ledger g a = record { name = a.blank.name; parts = a.blank.parts }

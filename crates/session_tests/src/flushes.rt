@@ -1,0 +1,80 @@
+ghost use Rattle.std.specs.Prelude.{◌≡◌};
+
+use crate::lines::{TWO_SUBSCRIBERS, TWO_SUBSCRIBERS_REPLIES};
+use hub_sessions::conversation::session;
+use ingest_workers::hub::Hub;
+use span_flatten::version::Version;
+use std::alloc::Global;
+use std::io;
+use std::marker::Brand;
+use std::process::Abort;
+use std::sync::Wait;
+use std::sync::ledger::{Blank, Ledger};
+use std::test::*;
+use std::thread::Threads;
+use verifier::verify::Verified;
+use version_history::published::{Naming, Published};
+
+/// After how many bytes each of the answers to `TWO_SUBSCRIBERS` ends.
+static ENDS: [usize; 4] = [9, 18, 31, 68];
+
+/// A writer that notes how many bytes it had at each flush.
+#[derive(Drop)]
+struct FlushNotes {
+    bytes: Vec<u8>,
+    flushed: Vec<usize>,
+}
+
+impl io::Write for FlushNotes {
+    fn write(&mut self, buf: &[u8]) -> io::Result<usize> {
+        for byte in buf {
+            self.bytes.push(*byte)?;
+        }
+        Ok(buf.len())
+    }
+
+    fn flush(&mut self) -> io::Result<()> {
+        self.flushed.push(self.bytes.len())?;
+        Ok(())
+    }
+}
+
+#[test]
+fn each_answer_is_flushed_and_all_subscribers_closed(rt: HostRuntime) -> Result<(), Fail> {
+    let versions = boxcar::Vec::new(rt.alloc())?;
+    let programs = boxcar::Vec::new(rt.alloc())?;
+    two_subscribed::<Brand, _>(&rt, rt.alloc(), Blank::new(1), &versions, &programs)
+}
+
+fn two_subscribed<N: Naming + Ledger + Send + Sync, R: Threads + Wait + Abort + Copy + Send + Sync>(
+    rt: &R,
+    alloc: Global,
+    blank: Blank,
+    versions: &boxcar::Vec<Version>,
+    programs: &boxcar::Vec<Verified>,
+) -> Result<(), Fail>
+    requires named { (versions.now ≡ N.versions) × (programs.now ≡ N.programs) }
+    requires blank { (blank.name ≡ N.name) × (blank.parts ≡ N.parts) × (N.parts ≡ 1) }
+{
+    let published = Published::<N>::new(versions, programs);
+    let (hub, mut shares) = Hub::new(rt, alloc, blank, &published, 1)?;
+    let mut writer = FlushNotes {
+        bytes: Vec::new(alloc),
+        flushed: Vec::new(alloc),
+    };
+    let ended = session(
+        rt,
+        alloc,
+        &hub,
+        &published,
+        &mut shares[0],
+        TWO_SUBSCRIBERS.as_bytes(),
+        &mut writer,
+        1,
+    );
+    assert_eq!(rt; ended, Ok(()));
+    assert_eq!(rt; writer.bytes.as_slice(), TWO_SUBSCRIBERS_REPLIES.as_bytes());
+    assert_eq!(rt; writer.flushed.as_slice(), ENDS.as_slice());
+    assert!(rt; hub.pump(rt, 0).is_err() && hub.pump(rt, 1).is_err());
+    Ok(())
+}
