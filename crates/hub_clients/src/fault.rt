@@ -11,6 +11,8 @@ pub enum Fault {
     Connection(io::ErrorKind),
     /// The server didn't write the line of its port first, or wrote more.
     Port,
+    /// The server is there at another address than 127.0.0.1 too.
+    Address,
     /// A client was answered otherwise than it should be.
     Reply,
     /// The numbers of the versions aren't each number once, or don't rise within a session.
@@ -45,6 +47,7 @@ impl Display for Fault {
             Fault::Memory => f.write_str("no memory"),
             Fault::Connection(kind) => write!(f, "a connection failed: {kind:?}"),
             Fault::Port => f.write_str("not just the line of the port"),
+            Fault::Address => f.write_str("served at another address"),
             Fault::Reply => f.write_str("a wrong reply"),
             Fault::Versions => f.write_str("wrong numbers of versions"),
             Fault::Subscribers => f.write_str("wrong numbers of subscribers"),

@@ -2,7 +2,7 @@ use crate::client::{Client, answered, connect};
 use crate::fault::Fault;
 use std::alloc::Global;
 use std::io::{Read, Write};
-use std::net::{Net, TcpStream};
+use std::net::{Ipv4Addr, Net, TcpStream};
 use std::thread::{Threads, join};
 
 /// A subscriber whose program's verdict is 1 on every span, and a pull of its first items.
@@ -56,12 +56,21 @@ fn two_at_once<H: Threads + Net<Stream = TcpStream>>(
     }
 }
 
+/// No connection to another address of the same machine is accepted.
+fn refused_elsewhere<H: Net<Stream = TcpStream>>(rt: &H, port: u16) -> Result<(), Fault> {
+    match TcpStream::connect(rt, (Ipv4Addr::new(127, 0, 0, 2), port)) {
+        Ok(_) => Err(Fault::Address),
+        Err(_) => Ok(()),
+    }
+}
+
 /// When the two have ended a third is told of the version that both made.
 pub fn three<H: Threads + Net<Stream = TcpStream>>(
     rt: &H,
     alloc: Global,
     port: u16,
 ) -> Result<(), Fault> {
+    refused_elsewhere(rt, port)?;
     two_at_once(rt, alloc, port)?;
     expect_session(
         rt,
