@@ -14,17 +14,17 @@ use std::test::Fail;
 use verifier::verify::Verified;
 use version_history::published::{Naming, Published};
 
-/// How many subscribers a new core takes, and why it refuses the next.
+/// How many subscribers a new core takes, each with a program published for it, and why it refuses the next.
 fn subscribers<N: Naming, R: Wait>(
     rt: &R,
     alloc: Global,
     published: &Published<'_, N>,
 ) -> Result<(usize, Option<SubscribeError>), Fail> {
     let mut core: Core<'_, N, ListSink<N>> = Core::new(rt, alloc, published)?;
-    let program = program(rt, alloc, published, CONSTANT_ONE)?;
     for id in 0..100usize {
+        let program = program(rt, alloc, published, CONSTANT_ONE)?;
         let sink = ListSink::new(alloc, 1)?;
-        if let Err(error) = core.subscribe(program.again(), sink) {
+        if let Err(error) = core.subscribe(program, sink) {
             return Ok((id, Some(error)));
         }
     }
@@ -62,9 +62,12 @@ fn are_limits_kept<N: Naming, R: Wait>(
 {
     let published = Published::<N>::new(versions, programs);
     let subscribers = subscribers(rt, alloc, &published)?;
+    let before = versions.count();
     let changes = changes(rt, alloc, &published)?;
     let few = subscribers == (64, Some(SubscribeError::SubscribersFull));
-    Ok(few && changes == (4096, Some(SubmitError::HistoryFull)))
+    // Each version is published once, version 0 too.
+    let once = versions.count() == before.saturating_add(4097);
+    Ok(few && once && changes == (4096, Some(SubmitError::HistoryFull)))
 }
 
 #[test]
