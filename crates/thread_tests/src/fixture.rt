@@ -2,7 +2,7 @@ ghost use Rattle.std.specs.Prelude.{◌≡◌};
 
 use crate::ingests::told_refusals;
 use crate::many_spans::{compared_on_few_spans, compared_on_many_spans};
-use crate::queue_calls::{full_and_late, taken_singly};
+use crate::queue_calls::{full_and_late, taken_singly, taken_without_a_hub};
 use crate::schedules::{overlapped, vanished_and_late};
 use crate::turns::{came_too_late, caught_up, worked_off};
 use batches::batch::Batch;
@@ -64,6 +64,7 @@ pub static FIVE: [Finding; 5] = [
 pub enum Trial {
     QueueOfOne,
     FullQueueAndLateBatch,
+    HubIsGone,
     OverlappingWorkers,
     VanishedAndLateWorkers,
     TurnsForJobs,
@@ -108,6 +109,7 @@ fn on_lists<N: Naming + Ledger + Send + Sync, R: Threads + Wait + Abort + Copy +
     match trial {
         Trial::QueueOfOne => taken_singly(&rt, alloc, &hub, &published, share),
         Trial::FullQueueAndLateBatch => full_and_late(&rt, alloc, &hub, &published, share),
+        Trial::HubIsGone => taken_without_a_hub(&rt, alloc, hub, &published, share),
         Trial::OverlappingWorkers => overlapped(rt, alloc, &hub, &published, share),
         Trial::VanishedAndLateWorkers => vanished_and_late(rt, alloc, &hub, &published, share),
         Trial::TurnsForJobs => worked_off(rt, alloc, &hub, &published, share),
@@ -171,6 +173,20 @@ pub fn subscribed<N: Naming + Ledger, R: Wait + Copy>(
     let (sink, subscription) = queue(*rt, alloc, capacity)?;
     let id = hub.subscribe(rt, program, sink)?;
     Ok((id, subscription))
+}
+
+/// Subscribes constant one with a queue in which so many items may wait, and ingests `LETTERS` then.
+pub fn subscribed_to_letters<N: Naming + Ledger, R: Wait + Copy>(
+    rt: &R,
+    alloc: Global,
+    hub: &Hub<'_, N, R>,
+    published: &Published<'_, N>,
+    share: &mut Share<N>,
+    capacity: usize,
+) -> Result<(usize, Subscription<N, R>), Fail> {
+    let subscribed = subscribed(rt, alloc, hub, published, CONSTANT_ONE, capacity)?;
+    ingest_all(rt, alloc, hub, share, &LETTERS)?;
+    Ok(subscribed)
 }
 
 /// Takes a job, and commits its batch.

@@ -1,6 +1,6 @@
 use crate::fixture::{
-    CONSTANT_ONE, FIVE, LETTERS, STRONG_FLAG, Trial, commit_next, ingest_all, on_new_hub,
-    subscribed, takes, takes_all,
+    CONSTANT_ONE, FIVE, STRONG_FLAG, Trial, commit_next, ingest_all, on_new_hub, subscribed,
+    subscribed_to_letters, takes, takes_all,
 };
 use batches::batch::Batch;
 use batches::item::Finding;
@@ -99,8 +99,7 @@ fn one_by_one<N: Naming + Ledger, R: Wait + Abort + Copy>(
     published: &Published<'_, N>,
     share: &mut Share<N>,
 ) -> Result<(), Fail> {
-    let (id, mut subscription) = subscribed(rt, alloc, hub, published, CONSTANT_ONE, 1)?;
-    ingest_all(rt, alloc, hub, share, &LETTERS)?;
+    let (id, mut subscription) = subscribed_to_letters(rt, alloc, hub, published, share, 1)?;
     for _ in 0..3usize {
         commit_next(rt, alloc, hub, published)?;
     }
@@ -152,5 +151,28 @@ fn commit_after_close<N: Naming + Ledger, R: Wait + Abort + Copy>(
     let batch = Batch::compute(alloc, published, &job)?;
     assert_eq!(rt; hub.close(rt, id), Ok(()));
     assert_eq!(rt; hub.commit(rt, batch), Err(CommitError::NoSubscriber));
+    Ok(())
+}
+
+#[test]
+fn what_was_sent_outlives_the_hub(rt: HostRuntime) -> Result<(), Fail> {
+    on_new_hub(rt, rt.alloc(), Trial::HubIsGone)
+}
+
+/// What was sent can be taken once the hub, and with it the queue's other end, is gone.
+pub fn taken_without_a_hub<N: Naming + Ledger, R: Wait + Abort + Copy>(
+    rt: &R,
+    alloc: Global,
+    hub: Hub<'_, N, R>,
+    published: &Published<'_, N>,
+    share: &mut Share<N>,
+) -> Result<(), Fail> {
+    let (id, mut subscription) = subscribed_to_letters(rt, alloc, &hub, published, share, 8)?;
+    for _ in 0..3usize {
+        commit_next(rt, alloc, &hub, published)?;
+    }
+    assert_eq!(rt; hub.pump(rt, id), Ok(5));
+    drop(hub);
+    assert!(rt; takes_all(&mut subscription, &FIVE));
     Ok(())
 }

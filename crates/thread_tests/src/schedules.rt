@@ -1,5 +1,5 @@
 use crate::fixture::{
-    CONSTANT_ONE, FIVE, LETTERS, Trial, ingest_all, on_new_hub, subscribed, takes_all,
+    CONSTANT_ONE, FIVE, Trial, ingest_all, on_new_hub, subscribed, subscribed_to_letters, takes_all,
 };
 use batches::item::Job;
 use filter_workers::gate::{Gate, Open};
@@ -55,8 +55,7 @@ pub fn overlapped<N: Naming + Ledger + Send + Sync, R: Threads + Wait + Abort + 
     published: &Published<'_, N>,
     share: &mut Share<N>,
 ) -> Result<(), Fail> {
-    let (_, mut subscription) = subscribed(&rt, alloc, hub, published, CONSTANT_ONE, 8)?;
-    ingest_all(&rt, alloc, hub, share, &LETTERS)?;
+    let (_, mut subscription) = subscribed_to_letters(&rt, alloc, hub, published, share, 8)?;
     let gate = SecondFirst {
         second_is_done: AtomicU64::new(0),
         failures: AtomicU64::new(0),
@@ -94,8 +93,7 @@ fn vanished<N: Naming + Ledger + Send + Sync, R: Threads + Wait + Abort + Copy +
     published: &Published<'_, N>,
     share: &mut Share<N>,
 ) -> Result<(), Fail> {
-    let (id, mut subscription) = subscribed(&rt, alloc, hub, published, CONSTANT_ONE, 8)?;
-    ingest_all(&rt, alloc, hub, share, &LETTERS)?;
+    let (id, mut subscription) = subscribed_to_letters(&rt, alloc, hub, published, share, 8)?;
     let _dropped = hub.take_job(&rt).map(|job| job.number);
     assert_eq!(rt; work(&rt, alloc, hub, published, &Open, 1, 0)?, 0);
     assert_eq!(rt; work(&rt, alloc, hub, published, &Open, 1, 8)?, 2);

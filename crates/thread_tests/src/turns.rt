@@ -1,5 +1,5 @@
 use crate::fixture::{
-    CONSTANT_ONE, FIVE, LETTERS, Trial, ingest_all, on_new_hub, subscribed, takes_all,
+    CONSTANT_ONE, FIVE, Trial, on_new_hub, subscribed, subscribed_to_letters, takes_all,
 };
 use batches::batch::Batch;
 use batches::item::Job;
@@ -28,8 +28,7 @@ pub fn worked_off<N: Naming + Ledger + Send + Sync, R: Threads + Wait + Abort + 
     published: &Published<'_, N>,
     share: &mut Share<N>,
 ) -> Result<(), Fail> {
-    let (_, mut subscription) = subscribed(&rt, alloc, hub, published, CONSTANT_ONE, 8)?;
-    ingest_all(&rt, alloc, hub, share, &LETTERS)?;
+    let (_, mut subscription) = subscribed_to_letters(&rt, alloc, hub, published, share, 8)?;
     assert_eq!(rt; work(&rt, alloc, hub, published, &Open, 1, 1)?, 1);
     assert_eq!(rt; work(&rt, alloc, hub, published, &Open, 1, 2)?, 2);
     assert!(rt; hub.take_job(&rt).is_none());
@@ -77,8 +76,7 @@ fn caught_up_beside<N: Naming + Ledger, R: Threads + Wait + Abort + Copy + Sync>
     published: &Published<'_, N>,
     share: &mut Share<N>,
 ) -> Result<(), Fail> {
-    let (id, mut subscription) = subscribed(rt, alloc, hub, published, CONSTANT_ONE, 8)?;
-    ingest_all(rt, alloc, hub, share, &LETTERS)?;
+    let (id, mut subscription) = subscribed_to_letters(rt, alloc, hub, published, share, 8)?;
     assert_eq!(rt; hub.take_job(rt).map(|job| job.number), Some(0));
     assert_eq!(rt; hub.take_job(rt).map(|job| job.number), Some(1));
     assert_eq!(rt; catch_up(rt, alloc, hub, published, id, 1)?, true);
@@ -130,8 +128,7 @@ pub fn came_too_late<
     published: &Published<'_, N>,
     share: &mut Share<N>,
 ) -> Result<(), Fail> {
-    let (id, mut subscription) = subscribed(&rt, alloc, hub, published, CONSTANT_ONE, 8)?;
-    ingest_all(&rt, alloc, hub, share, &LETTERS)?;
+    let (id, mut subscription) = subscribed_to_letters(&rt, alloc, hub, published, share, 8)?;
     let _dropped = hub.take_job(&rt).map(|job| job.number);
     let gate = CommitsFirst {
         rt,
