@@ -119,7 +119,13 @@ fn served_beside<H: Net<Stream = TcpStream>>(
     )
 }
 
-/// While a client is silent in the middle of a line, another vanishes, and two more are served beside them: the change
+/// A client that sends on though its session has ended, behind a line that is too long, has its reply.
+fn sends_on<H: Net<Stream = TcpStream>>(rt: &H, alloc: Global, port: u16) -> Result<(), Fault> {
+    let line = "a".repeat(alloc, 2_000_000)?;
+    expect_session(rt, alloc, port, line.as_str(), "no 61 LineTooLong\n")
+}
+
+/// While a client is silent in the middle of a line, another vanishes, and three more are served beside them: the change
 /// that was answered stands, and the subscription is closed. Then the silent one is served too.
 pub fn silent_and_vanishing<H: Net<Stream = TcpStream>>(
     rt: &H,
@@ -130,6 +136,7 @@ pub fn silent_and_vanishing<H: Net<Stream = TcpStream>>(
     silent.send("change 1 1\ni 1@1")?;
     vanish(rt, port)?;
     served_beside(rt, alloc, port)?;
+    sends_on(rt, alloc, port)?;
     let told = silent.answered(alloc, " - 61\n")?;
     expect(told.as_str(), "ok version 3\n")
 }

@@ -14,7 +14,7 @@ use std::thread::{Threads, join};
 pub enum Trial {
     /// Two clients at once, and then a third.
     Three,
-    /// One that is silent in the middle of a line, one that vanishes, and others beside them.
+    /// One that is silent in the middle of a line, one that vanishes, one that sends on at its end, and others beside them.
     SilentAndVanishing,
     /// Eight at once, with 1,000 changes together.
     Many,
@@ -24,7 +24,7 @@ impl Trial {
     pub fn name(self) -> &'static str {
         match self {
             Trial::Three => "three clients",
-            Trial::SilentAndVanishing => "a silent client and one that vanishes",
+            Trial::SilentAndVanishing => "a silent client, one that vanishes, one that sends on",
             Trial::Many => "eight clients with 1,000 changes",
         }
     }
@@ -32,7 +32,7 @@ impl Trial {
     fn sessions(self) -> &'static str {
         match self {
             Trial::Three => "3",
-            Trial::SilentAndVanishing => "4",
+            Trial::SilentAndVanishing => "5",
             Trial::Many => "8",
         }
     }

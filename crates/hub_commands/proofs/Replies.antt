@@ -1,6 +1,6 @@
 -- Steps from what the calls of a command give to what the command answers.
 use Rattle.std.proofs.Common.{◌≡◌, ◌↔◌, ℕ, ◌<◌, ◌≤◌, List, length, take, Option, Some, None, Result, Ok, Err, IfOk, inl, inr, refl, sym, ap, subst, ◌∙◌, arith}
-use Rattle.std.specs.Prelude.{IfSome, IfErr, MatchOption}
+use Rattle.std.specs.Prelude.{IfSome, IfErr}
 use Rattle.std.specs.Result.{result_err}
 use Rattle.std.specs.Str.{IsUtf8}
 use Rattle.std.proofs.lemmas.List.{take_all, length-take}
@@ -18,7 +18,8 @@ use Rattle.meaning.specs.Safe.{Safe}
 use Rattle.verifier.specs.declared.refusal.StructureFault.{StructureFault}
 use Rattle.verifier.specs.declared.refusal.VerifyError.{VerifyError}
 use Rattle.verifier.specs.declared.refusal.VerifyError.TheVariants.{Structure, State, OutOfMemory}
-use Rattle.verifier.specs.Structure.{FirstFault}
+use Rattle.verifier.specs.Structure.{IsStructured, FirstFault}
+use Rattle.verifier.specs.Reaches.{IsBefore}
 use Rattle.verifier.specs.Plain.{IsPlain}
 use Rattle.verifier.specs.Guard.{IsGuard}
 use Rattle.assembler.specs.declared.fault.AsmError.{AsmError}
@@ -28,7 +29,7 @@ use Rattle.refusals.specs.declared.reason.Reason.TheVariants.{BadHex, Words, Sou
 use Rattle.hub_commands.specs.Answers.{Reply, done}
 use Rattle.hub_commands.specs.Hexadecimal.{slot_lines}
 use Rattle.hub_commands.specs.Reasons.{refusal}
-use Rattle.hub_commands.specs.Programs.{IsAsmReply, no_source, assembled, IsProgramReply, no_hex, no_program, program, HasNoFault, Rejects, facts_of, outcome_reply, IsSpanReply, no_text, ran}
+use Rattle.hub_commands.specs.Programs.{IsAsmReply, no_source, assembled, IsProgramReply, no_hex, no_program, program, HasNoFault, Rejects, IsJudged, facts_of, outcome_reply, IsSpanReply, no_text, ran}
 
 -- what holds of an answer, by what it was said to be
 pub mapped : {A E : Type 0} (P Q : A → Type 0) (result : Result A E) → IfOk result P → ((x : A) → P x → Q x) → IfOk result Q
@@ -77,20 +78,21 @@ module _ (Replies : List ℕ → Reply → Type 0) (digits lent : List ℕ) (sam
 abbrev Names : Program → Result Program VerifyError → Type 0
 Names code given = (slot : ℕ) (fault : StructureFault) → (given ≡ Err (Structure slot fault)) ↔ FirstFault code slot fault
 
-rejects : (code : Program) (error : VerifyError) → Names code (Err error) → (IsPlain code → error ≡ OutOfMemory) → (IsGuard code → error ≡ OutOfMemory) → Rejects code error
-rejects code (Structure slot fault) names plain guard = (names slot fault).0 refl
-rejects code (State slot fault) names plain guard =
+rejects : (code : Program) (error : VerifyError) → Names code (Err error) → (IsPlain code → error ≡ OutOfMemory) → (IsGuard code → error ≡ OutOfMemory)
+    → IsBefore (length code) error → Rejects code error
+rejects code (Structure slot fault) names plain guard before = (names slot fault).0 refl
+rejects code (State slot fault) names plain guard before =
     let sound : HasNoFault code = λ other wrong first. (let bad : Err (State slot fault) ≡ Err (Structure other wrong) = (names other wrong).1 first in absurd cc) in
-    (sound, λ right. (let bad : State slot fault ≡ OutOfMemory = plain right in absurd cc), λ right. (let bad : State slot fault ≡ OutOfMemory = guard right in absurd cc))
-rejects code OutOfMemory names plain guard = λ other wrong first. (let bad : Err OutOfMemory ≡ Err (Structure other wrong) = (names other wrong).1 first in absurd cc)
+    (sound, before, λ right. (let bad : State slot fault ≡ OutOfMemory = plain right in absurd cc), λ right. (let bad : State slot fault ≡ OutOfMemory = guard right in absurd cc))
+rejects code OutOfMemory names plain guard before = λ other wrong first. (let bad : Err OutOfMemory ≡ Err (Structure other wrong) = (names other wrong).1 first in absurd cc)
 
-pub verified : (code : Program) (given : Result Program VerifyError) (left : Option VerifyError) → left ≡ result_err given → IfOk given (λ same. same ≡ code) → IfOk given Safe
-    → Names code given → IfErr given (λ error. IsPlain code → error ≡ OutOfMemory) → IfErr given (λ error. IsGuard code → error ≡ OutOfMemory) → MatchOption left (HasNoFault code × Safe code) (Rejects code)
-verified code (Ok same) left e is safe names plain guard =
+pub judged : (code : Program) (given : Result Program VerifyError) (left : Option VerifyError) → left ≡ result_err given → IfOk given (λ same. same ≡ code) → IfOk given Safe
+    → IfOk given (λ _. IsStructured code) → Names code given → IfErr given (λ error. IsPlain code → error ≡ OutOfMemory) → IfErr given (λ error. IsGuard code → error ≡ OutOfMemory)
+    → IfErr given (IsBefore (length code)) → IsJudged code left
+judged code (Ok same) left e is safe structured names plain guard before =
     let sound : HasNoFault code = λ slot fault first. (let bad : Ok same ≡ Err (Structure slot fault) = (names slot fault).1 first in absurd cc) in
-    subst (λ (o : Option VerifyError). MatchOption o (HasNoFault code × Safe code) (Rejects code)) (sym e) (sound, subst Safe is safe)
-verified code (Err error) left e is safe names plain guard =
-    subst (λ (o : Option VerifyError). MatchOption o (HasNoFault code × Safe code) (Rejects code)) (sym e) (rejects code error names plain guard)
+    subst (IsJudged code) (sym e) (structured, sound, subst Safe is safe)
+judged code (Err error) left e is safe structured names plain guard before = subst (IsJudged code) (sym e) (rejects code error names plain guard before)
 
 pub span_ran : {E : Type 0} (options : SpanOptions) (bytes input text lent context : List ℕ) (facts : Facts) (given : Outcome) (result : Result Reply E)
     → text ≡ input → IsUtf8 input → length text ≤ 131072 → facts ≡ facts_of options text → context ≡ context_bytes facts → lent ≡ text

@@ -1,5 +1,5 @@
 -- What the commands on programs answer: `asm`, `check`, `dis` and `run`.
-use Rattle.std.specs.Prelude.{◌≡◌, ℕ, ◌≤◌, List, ◌++◌, length, codes, Ok, Err}
+use Rattle.std.specs.Prelude.{◌≡◌, ℕ, ◌<◌, ◌≤◌, List, ◌++◌, length, codes, Option, Some, None, Ok, Err}
 use Rattle.std.specs.Fmt.{decimal}
 use Rattle.std.specs.Str.{IsUtf8, chars}
 use Rattle.hex.specs.Hex.{decode_of}
@@ -18,7 +18,7 @@ use Rattle.meaning.specs.Safe.{Safe}
 use Rattle.verifier.specs.declared.refusal.StructureFault.{StructureFault}
 use Rattle.verifier.specs.declared.refusal.VerifyError.{VerifyError}
 use Rattle.verifier.specs.declared.refusal.VerifyError.TheVariants.{Structure, State, OutOfMemory}
-use Rattle.verifier.specs.Structure.{FirstFault}
+use Rattle.verifier.specs.Structure.{IsStructured, FirstFault}
 use Rattle.verifier.specs.Plain.{IsPlain}
 use Rattle.verifier.specs.Guard.{IsGuard}
 use Rattle.assembler.specs.declared.fault.AsmError.{AsmError}
@@ -52,11 +52,16 @@ abbrev pub HasNoFault : Program → Type 0
 HasNoFault code = (slot : ℕ) (fault : StructureFault) → ¬ (FirstFault code slot fault)
 
 -- what a refusal says of a program: the first fault in its structure; or that this has none, and no plain program and no guard
--- program is refused but for want of memory
+-- program is refused at a slot, which is one of the program, but only for want of memory
 abbrev pub Rejects : Program → VerifyError → Type 0
 Rejects code (Structure slot fault) = FirstFault code slot fault
-Rejects code (State slot fault) = HasNoFault code × ¬ (IsPlain code) × ¬ (IsGuard code)
+Rejects code (State slot fault) = HasNoFault code × (slot < length code) × ¬ (IsPlain code) × ¬ (IsGuard code)
 Rejects code OutOfMemory = HasNoFault code
+
+-- why a program isn't accepted; none: its structure has no fault, and every run of it ends with a number
+abbrev pub IsJudged : Program → Option VerifyError → Type 0
+IsJudged code None = IsStructured code × HasNoFault code × Safe code
+IsJudged code (Some error) = Rejects code error
 
 -- of a program: how many slots it has, where every run of it ends with a number; or why it isn't accepted
 pub data IsAcceptanceReply (bytes : List ℕ) (reply : Reply) : Type 0 where
@@ -68,12 +73,16 @@ pub data IsAcceptanceReply (bytes : List ℕ) (reply : Reply) : Type 0 where
 unfoldable pub IsCheckReply : List ℕ → Reply → Type 0
 IsCheckReply input reply = IsProgramReply IsAcceptanceReply (without_blanks input) reply
 
--- `check --explain`: what `check` answers, with further text behind it
-pub record IsExplainReply (input : List ℕ) (reply : Reply) : Type 0 where
+-- of a program: what `check` answers, with further text behind it
+pub record IsExplainedReply (bytes : List ℕ) (reply : Reply) : Type 0 where
   pub first : Reply
-  pub checks : IsCheckReply input first
+  pub judged : IsAcceptanceReply bytes first
   pub more : List ℕ
   pub is : reply ≡ record first { text = first.text ++ more }
+
+-- `check --explain`: what `check` answers, and behind it what is known of a program
+unfoldable pub IsExplainReply : List ℕ → Reply → Type 0
+IsExplainReply input reply = IsProgramReply IsExplainedReply (without_blanks input) reply
 
 -- a text that a span may have
 pub record IsSpanText (text : List ℕ) : Type 0 where

@@ -1,8 +1,7 @@
-ghost use Rattle.std.specs.Prelude.{IfOk, MatchOption};
+ghost use Rattle.std.specs.Prelude.{IfOk};
 ghost use Rattle.bpf_words.specs.Words.{program_of};
-ghost use Rattle.meaning.specs.Safe.{Safe};
 ghost use Rattle.hub_commands.specs.Answers.{IsAnswered};
-ghost use Rattle.hub_commands.specs.Programs.{HasNoFault, Rejects, IsAcceptanceReply, IsCheckReply};
+ghost use Rattle.hub_commands.specs.Programs.{IsJudged, IsAcceptanceReply, IsCheckReply};
 
 use crate::answer::Answer;
 use crate::failure::Failure;
@@ -17,17 +16,22 @@ use verifier::refusal::VerifyError;
 use verifier::verify::verify;
 
 /// Why a program isn't accepted, unless it is.
-fn rejection(alloc: Global, words: &Words<'_>) -> Option<VerifyError>
-    ensures { MatchOption result (HasNoFault (program_of words.now) × Safe (program_of words.now)) (Rejects (program_of words.now)) }
+pub fn rejection(alloc: Global, words: &Words<'_>) -> Option<VerifyError>
+    ensures { IsJudged (program_of words.now) result }
 {
     verify(alloc, words).err()
 }
 
-/// What is answered to a program: the number of its slots where it is accepted.
-fn acceptance_answer(alloc: Global, words: &Words<'_>) -> Result<Answer, AllocError>
+/// What is answered to a program, by why it isn't accepted: the number of its slots where it is.
+pub fn acceptance_answer(
+    alloc: Global,
+    words: &Words<'_>,
+    rejection: Option<VerifyError>,
+) -> Result<Answer, AllocError>
+    requires { IsJudged (program_of words.now) rejection }
     ensures { IfOk result (λ answer. IsAcceptanceReply words.now answer) }
 {
-    if let Some(error) = rejection(alloc, words) {
+    if let Some(error) = rejection {
         return Answer::refused(alloc, &Reason::Unverified(error));
     }
     let slots = words.len();
@@ -44,7 +48,7 @@ pub fn check_answer(alloc: Global, input: &[u8]) -> Result<Answer, AllocError>
         return Answer::refused(alloc, &Reason::BadHex);
     };
     match Words::new(&bytes) {
-        Ok(words) => acceptance_answer(alloc, &words),
+        Ok(words) => acceptance_answer(alloc, &words, rejection(alloc, &words)),
         Err(error) => Answer::refused(alloc, &Reason::Words(error)),
     }
 }

@@ -7,10 +7,10 @@ ghost use Rattle.meaning.specs.Outcomes.{outcome, outcome_from};
 ghost use Rattle.meaning.specs.Safe.{IsSpan, Safe};
 ghost use Rattle.verifier.specs.Structure.{IsStructured};
 ghost use Rattle.hub_commands.specs.Answers.{IsAnswered};
-ghost use Rattle.hub_commands.specs.Programs.{IsExplainReply};
+ghost use Rattle.hub_commands.specs.Programs.{Rejects, IsJudged, IsExplainedReply, IsExplainReply};
 
 use crate::answer::Answer;
-use crate::check::check_answer;
+use crate::check::{acceptance_answer, rejection};
 use crate::failure::Failure;
 use crate::hexadecimal::{decode_hex, without_blanks};
 use crate::input::read_input;
@@ -20,11 +20,11 @@ use crate::reads::push_reads;
 use bpf_words::instruction::Insn;
 use bpf_words::words::Words;
 use disassembler::line::Line;
+use refusals::reason::Reason;
 use std::alloc::{AllocError, Global};
 use std::io::{Read, Write};
 use verifier::before::state_before;
 use verifier::refusal::VerifyError;
-use verifier::verify::verify;
 
 /// Appends the instruction of a slot.
 fn push_instruction(text: &mut String, words: &Words<'_>, slot: usize) -> Result<(), AllocError>
@@ -123,45 +123,74 @@ fn most_steps(alloc: Global, words: &Words<'_>) -> Result<usize, AllocError>
     Ok(steps[0])
 }
 
-/// What is known of a program: of an accepted one its greatest number of steps and what it can read of a span, and of one that is
-/// refused at a slot the instruction there, and the state before it where the instruction is refused for that.
-fn program_explanation(alloc: Global, words: &Words<'_>) -> Result<String, AllocError> {
+/// Appends the instruction at which a program is refused, and the state before it where the instruction is refused for that.
+fn push_refused(
+    alloc: Global,
+    text: &mut String,
+    words: &Words<'_>,
+    error: VerifyError,
+) -> Result<(), AllocError>
+    requires { Rejects (program_of words.now) error }
+{
+    match error {
+        VerifyError::Structure { slot, .. } => push_instruction(text, words, slot),
+        VerifyError::State { slot, .. } => {
+            push_instruction(text, words, slot)?;
+            push_state_before(alloc, text, words, slot)
+        }
+        VerifyError::OutOfMemory => Ok(()),
+    }
+}
+
+/// Appends the greatest number of steps of an accepted program, and what it can read of a span.
+fn push_accepted(alloc: Global, text: &mut String, words: &Words<'_>) -> Result<(), AllocError>
+    requires structured { IsStructured (program_of words.now) }
+    requires safe { Safe (program_of words.now) }
+{
+    writeln!(text, "steps <= {}", most_steps(alloc, words)?)?;
+    push_reads(alloc, text, words)
+}
+
+/// What is known of a program, by why it isn't accepted.
+fn explanation(
+    alloc: Global,
+    words: &Words<'_>,
+    rejection: Option<VerifyError>,
+) -> Result<String, AllocError>
+    requires { IsJudged (program_of words.now) rejection }
+{
     let mut text = String::new(alloc);
-    match verify(alloc, words) {
-        Ok(_) => {
-            writeln!(text, "steps <= {}", most_steps(alloc, words)?)?;
-            push_reads(alloc, &mut text, words)?;
-        }
-        Err(VerifyError::Structure { slot, .. }) => push_instruction(&mut text, words, slot)?,
-        Err(VerifyError::State { slot, .. }) => {
-            push_instruction(&mut text, words, slot)?;
-            push_state_before(alloc, &mut text, words, slot)?;
-        }
-        Err(VerifyError::OutOfMemory) => {}
+    match rejection {
+        Some(error) => push_refused(alloc, &mut text, words, error)?,
+        None => push_accepted(alloc, &mut text, words)?,
     }
     Ok(text)
 }
 
-/// What is known of a program in hexadecimal; nothing where it is no program.
-fn explanation(alloc: Global, input: &[u8]) -> Result<String, AllocError> {
-    let digits = without_blanks(alloc, input)?;
-    let Some(bytes) = decode_hex(alloc, &digits)? else {
-        return Ok(String::new(alloc));
-    };
-    match Words::new(&bytes) {
-        Ok(words) => program_explanation(alloc, &words),
-        Err(_) => Ok(String::new(alloc)),
-    }
-}
-
-/// What `check` answers to a program in hexadecimal, and what is known of the program behind it.
-fn explained_answer(alloc: Global, input: &[u8]) -> Result<Answer, AllocError>
-    ensures { IfOk result (λ answer. IsExplainReply input.now answer) }
+/// What `check` answers to a program, and behind it what is known of the program. The verifier is asked once, so that both are of one
+/// answer of it where memory is short.
+fn explained_answer(alloc: Global, words: &Words<'_>) -> Result<Answer, AllocError>
+    ensures { IfOk result (λ answer. IsExplainedReply words.now answer) }
 {
-    let Answer { ending, mut text } = check_answer(alloc, input)?;
-    let explanation = explanation(alloc, input)?;
+    let rejection = rejection(alloc, words);
+    let Answer { ending, mut text } = acceptance_answer(alloc, words, rejection)?;
+    let explanation = explanation(alloc, words, rejection)?;
     text.push_str(explanation.as_str())?;
     Ok(Answer { ending, text })
+}
+
+/// What `check --explain` answers to a program in hexadecimal.
+pub fn explain_answer(alloc: Global, input: &[u8]) -> Result<Answer, AllocError>
+    ensures { IfOk result (λ answer. IsExplainReply input.now answer) }
+{
+    let digits = without_blanks(alloc, input)?;
+    let Some(bytes) = decode_hex(alloc, &digits)? else {
+        return Answer::refused(alloc, &Reason::BadHex);
+    };
+    match Words::new(&bytes) {
+        Ok(words) => explained_answer(alloc, &words),
+        Err(error) => Answer::refused(alloc, &Reason::Words(error)),
+    }
 }
 
 /// The command `check --explain`: whether a program in hexadecimal is accepted, and what the verifier knows of it.
@@ -174,6 +203,6 @@ pub fn explain<R: Read, W: Write>(
         (W.contents writer.old) (W.contents writer.new) status) }
 {
     let input = read_input(alloc, reader)?;
-    let answer = explained_answer(alloc, &input)?;
+    let answer = explain_answer(alloc, &input)?;
     write_answer(writer, &answer)
 }

@@ -7,11 +7,16 @@ use std::thread::Threads;
 use test_inputs::devices::{FailingReader, FailingWriter};
 
 /// The command lines and inputs that the devices are tried with.
-static LINES: [(&str, &str, u8); 8] = [
+static LINES: [(&str, &str, u8); 9] = [
     ("hub run b7000000010000009500000000000000", "text", 0),
     ("hub run 9500000000000000", "", 1),
     ("hub asm", "mov r0, 1\nexit\n", 0),
     ("hub check", "b7000000010000009500000000000000\n", 0),
+    (
+        "hub check --explain",
+        "b7000000010000009500000000000000\n",
+        0,
+    ),
     ("hub dis", "b7000000010000009500000000000000\n", 0),
     ("hub spans", "change 1 1\ni 1@1 - 61\n", 0),
     ("hub spans", "change 1 1\ni 1@1 - d800\n", 1),
@@ -107,5 +112,17 @@ fn first_untold<
 #[test]
 fn a_failed_read_or_write_is_told(rt: HostRuntime) -> Result<(), Fail> {
     assert_eq!(rt; first_untold(&rt, &LINES)?, None);
+    Ok(())
+}
+
+/// `run` reads one byte past the longest text, and nothing where the bytes are no program.
+#[test]
+fn run_reads_no_more_than_it_needs(rt: HostRuntime) -> Result<(), Fail> {
+    let input = "a".repeat(rt.alloc(), 131_080)?;
+    let line = "hub run b7000000010000009500000000000000";
+    let long = status_where_fails(&rt, line, input.as_str(), 131_073, usize::MAX)?;
+    assert_eq!(rt; long, (1, false));
+    let refused = status_where_fails(&rt, "hub run 9", "text", 0, usize::MAX)?;
+    assert_eq!(rt; refused, (1, false));
     Ok(())
 }

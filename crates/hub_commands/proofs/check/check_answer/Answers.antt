@@ -1,4 +1,4 @@
-use Rattle.std.proofs.Common.{◌≡◌, ◌∙◌, Ok, rules}
+use Rattle.std.proofs.Common.{◌≡◌, ◌∙◌, Ok}
 use Rattle.hex.specs.Hex.{decode_of}
 use Rattle.refusals.specs.declared.reason.Reason.TheVariants.{BadHex, Words}
 use Rattle.hub_commands.specs.Answers.{Reply}

@@ -1,6 +1,7 @@
 use Rattle.bpf_words.specs.Words.{program_of}
-use Rattle.hub_commands.proofs.Replies.{verified}
+use Rattle.hub_commands.proofs.Replies.{judged}
 use Rattle.hub_commands.proofs.check.rejection.Goals as goal
 
 pub returns : goal.returns
-returns c = verified (program_of c.args.words.now) c.verify.result c.err.result c.err.ensures.value c.verify.ensures.same c.verify.ensures.safe c.verify.ensures.structure c.verify.ensures.plain c.verify.ensures.guard
+returns c = judged (program_of c.args.words.now) c.verify.result c.err.result c.err.ensures.value c.verify.ensures.same c.verify.ensures.safe c.verify.ensures.structured
+    c.verify.ensures.structure c.verify.ensures.plain c.verify.ensures.guard c.verify.ensures.before
