@@ -51,8 +51,8 @@ IsDisReply input reply = IsProgramReply (λ bytes given. given ≡ done (canonic
 abbrev pub HasNoFault : Program → Type 0
 HasNoFault code = (slot : ℕ) (fault : StructureFault) → ¬ (FirstFault code slot fault)
 
--- what a refusal says of a program: the first fault in its structure; or that this has none, and no plain program and no guard
--- program is refused at a slot, which is one of the program, but only for want of memory
+-- what a refusal says of a program: the first fault in its structure; or that this has none, and then, where a slot is named, that
+-- the program has it and is neither plain nor a guard program
 abbrev pub Rejects : Program → VerifyError → Type 0
 Rejects code (Structure slot fault) = FirstFault code slot fault
 Rejects code (State slot fault) = HasNoFault code × (slot < length code) × ¬ (IsPlain code) × ¬ (IsGuard code)
