@@ -1,5 +1,5 @@
 -- Numbers that are addresses, and what moves them.
-use Rattle.std.proofs.Common.{◌≡◌, ℕ, ◌+◌, ◌-◌, ◌%◌, ◌^◌, ◌<◌, ◌≤◌, Option, Some, None, sym, ◌∙◌, ap, subst, arith}
+use Rattle.std.proofs.Common.{◌≡◌, ℕ, ◌+◌, ◌-◌, ◌%◌, ◌^◌, ◌<◌, ◌≤◌, Option, Some, sym, ◌∙◌, ap, subst, arith}
 use Rattle.bpf_words.specs.declared.instruction.Width.{Width}
 use Rattle.bpf_words.specs.declared.instruction.Width.TheVariants.{Full}
 use Rattle.bpf_words.specs.declared.instruction.Arithmetic.{Arithmetic}
@@ -42,9 +42,6 @@ known_fits (Lent p) lengths n (x, e, c) =
 
 pub known_at : (o : Option Known) (k : Known) (lengths : Lengths) (n : ℕ) → o ≡ Some k → WithinKnown o lengths n → ContainsKnown k lengths n
 known_at o k lengths n is (j, e, c) = let same : j ≡ k = cc in subst (λ (v : Known). ContainsKnown v lengths n) same c
-
-pub known_none : (o : Option Known) (lengths : Lengths) (n : ℕ) → o ≡ None → WithinKnown o lengths n → ⊥
-known_none o lengths n is (j, e, c) = cc
 
 -- the sum of an address in a lent region and a number, and the other way round
 pub lent_sum : (region : Region) (x y : ℕ) → (base_of region + (x + y) % 2 ^ 64) % 2 ^ 64 ≡ (base_of region + x + y) % 2 ^ 64

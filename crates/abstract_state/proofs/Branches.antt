@@ -59,9 +59,6 @@ pair_left o p lengths m n is (t, e, l, r) = let same : t ≡ p = cc in subst (λ
 pub pair_right : (o : Option Pair) (p : Pair) (lengths : Lengths) (m n : ℕ) → o ≡ Some p → WithinPair o lengths m n → ContainsKnown p.right lengths n
 pair_right o p lengths m n is (t, e, l, r) = let same : t ≡ p = cc in subst (λ (v : Pair). ContainsKnown v.right lengths n) same r
 
-pub pair_none : (o : Option Pair) (lengths : Lengths) (m n : ℕ) → o ≡ None → WithinPair o lengths m n → ⊥
-pair_none o lengths m n is (t, e, l, r) = cc
-
 -- a register is written with what it holds
 read_there : (registers : List (Option ℕ)) (r n : ℕ) → register_of (record { slot = 0; registers = registers; stack = [] }) r ≡ Ok n → slice_get registers r ≡ Some (Some n)
 read_there registers r n e = found (slice_get registers r) refl e

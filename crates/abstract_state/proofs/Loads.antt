@@ -1,8 +1,7 @@
 -- Loads and stores of the machine, region by region, and byte by byte on the stack.
-use Rattle.std.proofs.Common.{◌≡◌, ℕ, ℤ, pos, negsuc, zero, suc, ◌+◌, ◌-◌, ◌*◌, ◌/◌, ◌%◌, ◌^◌, ◌<◌, ◌≤◌, ◌+ℤ◌, true, false, List, ◌++◌, length, map, take, drop, get_or, Option, Some, None, Ok, refl, sym, ◌∙◌, ap, subst, arith, length-append, length-drop}
+use Rattle.std.proofs.Common.{◌≡◌, ℕ, zero, suc, ◌+◌, ◌-◌, ◌*◌, ◌/◌, ◌%◌, ◌^◌, ◌<◌, ◌≤◌, true, false, List, ◌++◌, length, map, take, drop, get_or, Option, Some, None, Ok, refl, sym, ◌∙◌, ap, subst, arith, length-append, length-drop}
 use Rattle.std.proofs.lemmas.Bool.Decides.{nat_tests}
 use Rattle.std.proofs.lemmas.Grind.{common_steps}
-use Rattle.std.proofs.lemmas.Int.{ints}
 use Rattle.std.proofs.lemmas.Nat.{mod-pow-add, shr-shr}
 use Rattle.std.proofs.lemmas.List.{get_or-take, get_or-drop, get_or_append_left, get_or-append-add}
 use Rattle.std.proofs.Math.Nat.{pow-succ'}
@@ -12,13 +11,8 @@ use Rattle.std.proofs.lemmas.List.{length-map}
 use Rattle.byteorder.specs.Endian.{little_number, little_bytes}
 use Rattle.byteorder.specs.Numbers.{length-bytes_low_first}
 use Rattle.bpf_words.specs.Context.{context_base, text_base}
-use Rattle.meaning.specs.Memory.{address_of, in_context, in_text, in_stack, stack_base, load, store, stored, stack_number, or_unset}
+use Rattle.meaning.specs.Memory.{in_context, in_text, in_stack, stack_base, load, store, stored, stack_number, or_unset}
 use Rattle.abstract_state.specs.State.{bytes_of, HasByte}
-
--- a place moved by an offset
-pub moved_is : (base x place a : ℕ) (o : ℤ) → pos a ≡ pos place +ℤ o → place ≤ x → base + x < 2 ^ 63 → a ≤ place + 2 ^ 16 → place ≤ a + 2 ^ 16 → address_of (base + x) o ≡ base + (a + (x - place))
-moved_is base x place a (pos n) e lo small above below = let same : a ≡ place + n = cc in omega arith
-moved_is base x place a (negsuc n) e lo small above below = let same : a + suc n ≡ place = omega (arith, ints) in omega arith
 
 -- ---- which region
 pub loads_context : (context text : List ℕ) (stack : List (Option ℕ)) (place count : ℕ) → length context ≡ 56 → place + count ≤ 56 → load context text stack (context_base + place) count ≡ Ok (little_number count (drop place context))

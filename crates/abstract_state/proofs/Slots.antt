@@ -1,11 +1,10 @@
 -- Slots of the stack, one by one.
-use Rattle.std.proofs.Common.{◌≡◌, ℕ, ◌+◌, ◌*◌, ◌<◌, ◌≤◌, Bool, true, false, ◌&&◌, ◌||◌, nat_le, nat_lt, List, length, get_or, set, sym, ◌∙◌, ap, subst, ⊎_elim, arith}
+use Rattle.std.proofs.Common.{◌≡◌, ℕ, ◌+◌, ◌*◌, ◌<◌, ◌≤◌, Bool, true, false, ◌&&◌, ◌||◌, nat_le, nat_lt, List, length, get_or, set, sym, ◌∙◌, subst, ⊎_elim, arith}
 use Rattle.std.proofs.lemmas.Bool.{cases_lt, cases_Bool}
 use Rattle.std.proofs.lemmas.Grind.{common_steps}
 use Rattle.std.proofs.lemmas.Bool.Decides.{nat_tests}
 use Rattle.abstract_state.specs.declared.slot.Slot.{Slot}
 use Rattle.abstract_state.specs.declared.slot.Slot.TheVariants.{Marks, Spilled}
-use Rattle.abstract_state.proofs.Registers.{any_default}
 use Rattle.abstract_state.specs.Lent.{Lengths}
 use Rattle.abstract_state.specs.State.{Bytes, HasByte, ContainsSlot, Spares, Fills}
 
@@ -14,14 +13,6 @@ same_read slots i k v d h e = grind (arith, common_steps)
 
 other_read : (slots : List Slot) (i k : ℕ) (v d : Slot) → k < i → get_or (set slots i v) k d ≡ get_or slots k d
 other_read slots i k v d h = grind (arith, common_steps)
-
--- what holds of all slots below i and of the one that is written, holds of all up to it
-pub written_slot : (slots : List Slot) (i k : ℕ) (v d : Slot) (P : Slot → Type 0) → i < length slots → k < i + 1 → (k ≡ i → P v) → (k < i → P (get_or slots k d)) → P (get_or (set slots i v) k d)
-written_slot slots i k v d P within h here below =
-    ⊎_elim
-    (λ (less : k < i). subst P (sym (other_read slots i k v d less)) (below less))
-    (λ (most : i ≤ k). let same : k ≡ i = omega arith in subst P (sym (same_read slots i k v d within same)) (here same))
-    (cases_lt k i)
 
 pub byte_kept : (old new : Bytes) (k : ℕ) → new k ≡ old k → HasByte old k → HasByte new k
 byte_kept old new k e (v, is, small) = (v, e ∙ is, small)
@@ -56,10 +47,6 @@ stored_byte old new was first place count i j at before spares fills marked =
     let marked_before : was ≡ true = bool_cases (was ≡ true) was (λ e. e) (λ e. absurd (let again = or_cases was inside marked e in cc)) in
     byte_kept old new (8 * i + j) kept (before marked_before))
 
--- the slot that was read at a place is what stands there
-pub slot_read : (slots : List Slot) (i k : ℕ) (v d : Slot) → v ≡ get_or slots i v → i < length slots → k ≡ i → get_or slots k d ≡ v
-slot_read slots i k v d e within same = ap (λ (j : ℕ). get_or slots j d) same ∙ any_default slots i d v within ∙ sym e
-
 bool_here : (marks : List Bool) (j k : ℕ) (v d : Bool) → j < length marks → k ≡ j → get_or (set marks j v) k d ≡ v
 bool_here marks j k v d h e = grind (arith, common_steps)
 
@@ -72,7 +59,3 @@ written_mark marks j k v d P within h here below =
     (λ (less : k < j). subst P (sym (bool_below marks j k v d less)) (below less))
     (λ (most : j ≤ k). let same : k ≡ j = omega arith in subst P (sym (bool_here marks j k v d within same)) (here same))
     (cases_lt k j)
-
--- a slot at equal places, whatever is read past the end
-pub slot_again : (slots : List Slot) (i k : ℕ) (d e : Slot) → i < length slots → k ≡ i → get_or slots k d ≡ get_or slots i e
-slot_again slots i k d e within same = ap (λ (j : ℕ). get_or slots j d) same ∙ any_default slots i d e within

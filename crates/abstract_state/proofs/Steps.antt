@@ -1,5 +1,5 @@
 -- What an instruction does, from what its parts give.
-use Rattle.std.proofs.Common.{◌≡◌, ◌≢◌, ℕ, zero, suc, ℤ, pos, ◌%◌, ◌^◌, ◌<◌, false, nat_eq, List, get_or, Option, Some, Ok, refl, sym, ◌∙◌, subst, arith}
+use Rattle.std.proofs.Common.{◌≡◌, ◌≢◌, ℕ, zero, suc, ℤ, pos, ◌^◌, ◌<◌, false, nat_eq, List, get_or, Option, Some, Ok, refl, sym, ◌∙◌, subst, arith}
 use Rattle.std.proofs.lemmas.Bool.Decides.{nat_tests}
 use Rattle.std.specs.Int.{cast_signed, w8, w16, w32, bytes_low_first, byte_at}
 use borrow.Author.Gap.{read_sfits}
@@ -11,7 +11,6 @@ use Rattle.bpf_words.specs.declared.instruction.Arithmetic.{Arithmetic}
 use Rattle.bpf_words.specs.declared.instruction.Arithmetic.TheVariants.{Mov}
 use Rattle.bpf_words.specs.declared.instruction.Operand.{Operand}
 use Rattle.bpf_words.specs.declared.instruction.Extension.{Extension}
-use Rattle.bpf_words.specs.declared.instruction.Extension.TheVariants.{FromByte, FromHalf, FromWord, NarrowFromByte, NarrowFromHalf}
 use Rattle.bpf_words.specs.declared.instruction.Conversion.{Conversion}
 use Rattle.bpf_words.specs.declared.instruction.Conversion.TheVariants.{ToLittleEndian, ToBigEndian, Swap}
 use Rattle.bpf_words.specs.declared.instruction.ConvertedBits.{ConvertedBits}
@@ -79,21 +78,6 @@ returns_r0 span s v e = simp e
 pub negated_fits : (w : Width) (x : ℕ) → Fits w (negated w x)
 negated_fits Narrow x = omega arith
 negated_fits Full x = omega arith
-
-pub full_from_byte : (a : ℕ) → Fits Full (extended FromByte a)
-full_from_byte a = unsigned_fits Full (cast_signed w8 (a % 2 ^ 8)) (omega (arith, (read_sfits w8 (a % 2 ^ 8)).sfits))
-
-pub full_from_half : (a : ℕ) → Fits Full (extended FromHalf a)
-full_from_half a = unsigned_fits Full (cast_signed w16 (a % 2 ^ 16)) (omega (arith, (read_sfits w16 (a % 2 ^ 16)).sfits))
-
-pub full_from_word : (a : ℕ) → Fits Full (extended FromWord a)
-full_from_word a = unsigned_fits Full (cast_signed w32 (a % 2 ^ 32)) (omega (arith, (read_sfits w32 (a % 2 ^ 32)).sfits))
-
-pub narrow_from_byte : (a : ℕ) → Fits Narrow (extended NarrowFromByte a)
-narrow_from_byte a = unsigned_fits Narrow (cast_signed w8 (a % 2 ^ 8)) (omega (arith, (read_sfits w8 (a % 2 ^ 8)).sfits))
-
-pub narrow_from_half : (a : ℕ) → Fits Narrow (extended NarrowFromHalf a)
-narrow_from_half a = unsigned_fits Narrow (cast_signed w16 (a % 2 ^ 16)) (omega (arith, (read_sfits w16 (a % 2 ^ 16)).sfits))
 
 pub sign_fits : (size : SignedSize) (n : ℕ) → Fits Full (with_sign size n)
 sign_fits SignedByte n = unsigned_fits Full (cast_signed w8 n) (omega (arith, (read_sfits w8 n).sfits))

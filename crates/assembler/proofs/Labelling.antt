@@ -62,17 +62,6 @@ labels_more lines i old new word lt some h defines name =
     defines name ∙ ap (λ (o : Option Definition). either o (if bytes_eq word name then Some (defined_at lines i) else None)) (h name)
     ∙ sym (ap (option_map (defined_at lines)) longer ∙ mapped)
 
--- what a table has at a name that it has
-kept_on : (b : Bool) (o : Option Definition) (d : Definition) → (b ≡ true → is_some o ≡ true) → o ≡ either o (if b then Some d else None)
-kept_on b (Some x) d h = refl
-kept_on true None d h = absurd (let e = h refl in cc)
-kept_on false None d h = refl
-
-pub defines_kept : (labels : Table) (word : List ℕ) (d : Definition) → is_some (held labels word) ≡ true → Defines labels labels word d
-defines_kept labels word d some other =
-    kept_on (bytes_eq word other) (held labels other) d
-    (λ same. subst (λ (w : List ℕ). is_some (held labels w) ≡ true) ((bytes_eq-Decides word other).0 same) some)
-
 set_on : (b : Bool) (o : Option Definition) (d : Definition) → (b ≡ true → is_some o ≡ false) → (if b then Some d else o) ≡ either o (if b then Some d else None)
 set_on true None d h = refl
 set_on true (Some x) d h = absurd (let e = h refl in cc)

@@ -1,5 +1,5 @@
 -- How a history goes on from one accepted change to the next.
-use Rattle.std.proofs.Common.{◌≡◌, ℕ, zero, suc, ◌+◌, ◌-◌, ◌<◌, ◌≤◌, List, [], ◌∷◌, ◌++◌, Option, Some, None, Result, Ok, Err, IfOk, IsOk, is_ok, OnOk, IsErrAnd, MatchResult, if◌then◌else◌, refl, sym, ap, ◌∙◌, subst, ◌⊎◌, inl, inr, ⊎_elim, arith, rules, length, get_or, take, append_assoc, add-one, length-take}
+use Rattle.std.proofs.Common.{◌≡◌, ℕ, zero, suc, ◌+◌, ◌-◌, ◌<◌, ◌≤◌, List, [], ◌∷◌, ◌++◌, Option, Some, None, Result, Ok, Err, IfOk, is_ok, OnOk, IsErrAnd, MatchResult, if◌then◌else◌, refl, sym, ap, ◌∙◌, subst, ◌⊎◌, inl, inr, ⊎_elim, arith, rules, length, get_or, take, append_assoc, add-one, length-take}
 use Rattle.std.specs.List.{slice_get}
 use Rattle.std.proofs.lemmas.List.{length_push, take_at}
 use Rattle.std.proofs.lemmas.Option.{none-some, same_Some, slice_get_within, slice_get_read, slice_get-get_or}
@@ -7,7 +7,7 @@ use Rattle.std.proofs.Math.Seq.{take-length}
 use Rattle.change_ops.specs.declared.operation.Op.{Op}
 use Rattle.change_ops.specs.Changes.{Edit}
 use Rattle.change_history.specs.declared.parts.Parts.{Parts}
-use Rattle.change_history.specs.Accepted.{operations_of, MayFollow, AllFollow, FirstRefused, IsAccepted, IsRefused, AreAccepted}
+use Rattle.change_history.specs.Accepted.{operations_of, MayFollow, AllFollow, IsAccepted, IsRefused, AreAccepted}
 use Rattle.change_history.specs.declared.refusal.ApplyError.{ApplyError}
 use Rattle.change_history.specs.declared.refusal.SubmitError.{SubmitError}
 use Rattle.change_history.specs.declared.refusal.ApplyError.TheVariants as apply
@@ -83,9 +83,6 @@ applied_all ops added count new whole h = record {
   kept = subst (λ (ts : List Op). Keeps (ops ++ ts) new) (ap (λ k. take k added) whole ∙ take-length added) h.1;
 }
 
-pub applied_none : (ops added : List Op) (parts : Parts) → Keeps ops parts → AllFollow ops added 0 × Keeps (ops ++ []) parts
-applied_none ops added parts k = (follow_none ops added, subst (λ (xs : List Op). Keeps xs parts) (search rules) k)
-
 -- ---- a change more
 -- the operations of the change were all applied
 pub drafted : (changes xs : List Edit) (change : Edit) (added : List Op) (draft : Draft) → changes ≡ xs → draft.added ≡ change ∷ [] → added ≡ change.operations → length changes < 4096 → AreApplied (operations_of xs) added draft.parts → IsDraft xs change draft
@@ -97,12 +94,6 @@ drafted changes xs change added draft same alone e few h = record {
   };
   kept = subst (λ (ops : List Op). Keeps ops draft.parts) (ap (λ (ops : List Op). operations_of xs ++ ops) e ∙ sym (operations_of-push xs change)) h.kept;
 }
-
--- one of them is refused
-pub refused_change : (changes xs : List Edit) (change : Edit) (added : List Op) (error : SubmitError) → changes ≡ xs → added ≡ change.operations → length changes < 4096 → IsNotApplied (operations_of xs) added error → IsRefused xs change error
-refused_change changes xs change added submit.HistoryFull same e few h = absurd h
-refused_change changes xs change added (submit.Refused index refusal) same e few h = (omega (arith, ap length same), subst (λ (ops : List Op). FirstRefused (operations_of xs) ops index refusal) e h)
-refused_change changes xs change added submit.OutOfMemory same e few h = omega (arith, ap length same)
 
 -- a draft put in place
 pub put_in_place : {E : Type 0} (r : Result (Unit {0}) E) (done : Unit {0}) (changes xs added new : List Edit) (change : Edit) → changes ≡ xs → added ≡ change ∷ [] → r ≡ Ok done → new ≡ (if is_ok r then changes ++ added else changes) → new ≡ xs ++ change ∷ []

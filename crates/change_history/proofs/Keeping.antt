@@ -1,5 +1,5 @@
 -- How the parts go on from one accepted operation to the next.
-use Rattle.std.proofs.Common.{◌≡◌, ℕ, ◌<◌, ◌≤◌, ◌&&◌, ◌↔◌, List, [], ◌∷◌, ◌++◌, Bool, true, false, Option, Some, MatchOption, Result, Ok, Err, IfOk, IsTrue, refl, sym, ap, ◌∙◌, subst, inl, arith, rules, length, nat_le, cond}
+use Rattle.std.proofs.Common.{◌≡◌, ℕ, ◌<◌, ◌≤◌, ◌&&◌, ◌↔◌, List, [], ◌∷◌, ◌++◌, Bool, true, false, Option, Some, MatchOption, Result, Ok, Err, IfOk, IsTrue, sym, ap, ◌∙◌, subst, inl, arith, rules, length, nat_le, cond}
 use Rattle.std.proofs.lemmas.Bool.{false≢true}
 use Rattle.std.proofs.lemmas.Bool.Decides.{nat_tests}
 use Rattle.std.specs.List.{filter, count_by, Contains}
@@ -33,9 +33,6 @@ filter_push_no p xs y fails = filter-append p xs (y ∷ []) ∙ ap (λ b. filter
 -- ---- what a check tells
 pub unused_by : (ops : List Op) (op : Op) (id : OpId) → id ≡ id_of op → IsTrue false ↔ Used ops id → Used ops (id_of op) → ⊥
 unused_by ops op id e iff used = absurd (false≢true (iff.1 (subst (λ (i : OpId). Used ops i) (sym e) used)))
-
-pub used_by : (ops : List Op) (op : Op) (id : OpId) → id ≡ id_of op → IsTrue true ↔ Used ops id → Used ops (id_of op)
-used_by ops op id e iff = subst (λ (i : OpId). Used ops i) e (iff.0 refl)
 
 pub too_many : (ops : List Op) (op : Op) (marks : List Op) → marks ≡ filter is_mark ops → (is_mark op && nat_le 4096 (length marks)) ≡ true → IsMarkTooMany ops op
 too_many ops op marks e h =

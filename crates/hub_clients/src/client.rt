@@ -66,6 +66,27 @@ pub fn answered<H: Net<Stream = TcpStream>>(
     client.answered(alloc, lines)
 }
 
+/// Whether this is what was to be answered.
+pub fn expect(got: &str, want: &str) -> Result<(), Fault> {
+    if got == want {
+        Ok(())
+    } else {
+        Err(Fault::Reply)
+    }
+}
+
+/// A whole session of these lines, which is to be answered this.
+pub fn expect_session<H: Net<Stream = TcpStream>>(
+    rt: &H,
+    alloc: Global,
+    port: u16,
+    lines: &str,
+    want: &str,
+) -> Result<(), Fault> {
+    let got = answered(rt, alloc, port, lines)?;
+    expect(got.as_str(), want)
+}
+
 /// The number behind the words, where the line has nothing else.
 pub fn number_behind(line: &str, words: &str) -> Option<usize> {
     line.strip_prefix(words)?.strip_suffix("\n")?.parse().ok()

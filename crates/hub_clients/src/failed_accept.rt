@@ -1,6 +1,6 @@
 ghost use Rattle.std.specs.Prelude.{◌≡◌};
 
-use crate::client::answered;
+use crate::client::{answered, expect_session};
 use crate::fault::Fault;
 use hub_sessions::server::serve_shares;
 use ingest_workers::hub::Hub;
@@ -41,10 +41,13 @@ fn one_is_served<H: Net<Stream = TcpStream>>(
     alloc: Global,
     port: u16,
 ) -> Result<(), Fault> {
-    let told = answered(rt, alloc, port, "change 1 1\ni 1@1 - 61\n")?;
-    if told.as_str() != "ok version 1\n" {
-        return Err(Fault::Reply);
-    }
+    expect_session(
+        rt,
+        alloc,
+        port,
+        "change 1 1\ni 1@1 - 61\n",
+        "ok version 1\n",
+    )?;
     match answered(rt, alloc, port, "change 2 1\ni 1@2 - 62\n") {
         Ok(_) => Err(Fault::Sessions),
         Err(_) => Ok(()),

@@ -1,4 +1,4 @@
-use crate::client::{Client, answered, connect};
+use crate::client::{Client, connect, expect, expect_session};
 use crate::fault::Fault;
 use std::alloc::Global;
 use std::io::{Read, Write};
@@ -15,26 +15,6 @@ const CHANGE_AND_SUBSCRIBE: &str =
 /// A subscriber of that program, a pull of its first items, and one of a subscriber that is closed.
 const SUBSCRIBE_AND_PULL_TWICE: &str =
     "sub 8 b7000000010000009500000000000000\npull 1 9\npull 0 9\n";
-
-fn expect(got: &str, want: &str) -> Result<(), Fault> {
-    if got == want {
-        Ok(())
-    } else {
-        Err(Fault::Reply)
-    }
-}
-
-/// A whole session of these lines, which is to be answered this.
-fn expect_session<H: Net<Stream = TcpStream>>(
-    rt: &H,
-    alloc: Global,
-    port: u16,
-    lines: &str,
-    want: &str,
-) -> Result<(), Fault> {
-    let got = answered(rt, alloc, port, lines)?;
-    expect(got.as_str(), want)
-}
 
 /// Two clients send a change each, at once, and are answered in some order.
 fn two_at_once<H: Threads + Net<Stream = TcpStream>>(

@@ -89,9 +89,7 @@ rejects code OutOfMemory names plain guard before = λ other wrong first. (let b
 pub judged : (code : Program) (given : Result Program VerifyError) (left : Option VerifyError) → left ≡ result_err given → IfOk given (λ same. same ≡ code) → IfOk given Safe
     → IfOk given (λ _. IsStructured code) → Names code given → IfErr given (λ error. IsPlain code → error ≡ OutOfMemory) → IfErr given (λ error. IsGuard code → error ≡ OutOfMemory)
     → IfErr given (IsBefore (length code)) → IsJudged code left
-judged code (Ok same) left e is safe structured names plain guard before =
-    let sound : HasNoFault code = λ slot fault first. (let bad : Ok same ≡ Err (Structure slot fault) = (names slot fault).1 first in absurd cc) in
-    subst (IsJudged code) (sym e) (structured, sound, subst Safe is safe)
+judged code (Ok same) left e is safe structured names plain guard before = subst (IsJudged code) (sym e) (structured, subst Safe is safe)
 judged code (Err error) left e is safe structured names plain guard before = subst (IsJudged code) (sym e) (rejects code error names plain guard before)
 
 pub span_ran : {E : Type 0} (options : SpanOptions) (bytes input text lent context : List ℕ) (facts : Facts) (given : Outcome) (result : Result Reply E)

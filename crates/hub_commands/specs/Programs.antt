@@ -58,14 +58,14 @@ Rejects code (Structure slot fault) = FirstFault code slot fault
 Rejects code (State slot fault) = HasNoFault code × (slot < length code) × ¬ (IsPlain code) × ¬ (IsGuard code)
 Rejects code OutOfMemory = HasNoFault code
 
--- why a program isn't accepted; none: its structure has no fault, and every run of it ends with a number
+-- why a program isn't accepted; none: it is structured, and every run of it ends with a number
 abbrev pub IsJudged : Program → Option VerifyError → Type 0
-IsJudged code None = IsStructured code × HasNoFault code × Safe code
+IsJudged code None = IsStructured code × Safe code
 IsJudged code (Some error) = Rejects code error
 
--- of a program: how many slots it has, where every run of it ends with a number; or why it isn't accepted
+-- of a program: how many slots it has, where it is structured and every run of it ends with a number; or why it isn't accepted
 pub data IsAcceptanceReply (bytes : List ℕ) (reply : Reply) : Type 0 where
-  accepted : HasNoFault (program_of bytes) → Safe (program_of bytes) → reply ≡ done (line (codes "accepted " ++ decimal (length (program_of bytes))))
+  accepted : IsStructured (program_of bytes) → Safe (program_of bytes) → reply ≡ done (line (codes "accepted " ++ decimal (length (program_of bytes))))
       → IsAcceptanceReply bytes reply
   rejected : (error : VerifyError) → Rejects (program_of bytes) error → reply ≡ refusal (Unverified error) → IsAcceptanceReply bytes reply
 

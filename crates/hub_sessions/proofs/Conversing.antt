@@ -7,13 +7,12 @@ use Rattle.std.proofs.KnownBytes.{Appends-nil, Appends-trans}
 use Rattle.refusals.specs.declared.reason.Reason.{Reason}
 use Rattle.refusals.specs.declared.reason.Reason.TheVariants as reason
 use Rattle.session_lines.specs.declared.reply.Reply.TheVariants as reply
-use Rattle.hub_sessions.specs.Sessions.{Standing, Exchange, IsExchange, Follow, Converses, TakesTurn, BreaksTurn, Ends, EndsAfter, EndsShort, BreaksAfter, printed, reply_line}
+use Rattle.hub_sessions.specs.Sessions.{Standing, Exchange, IsExchange, Follow, Converses, TakesTurn, Ends, EndsAfter, EndsShort, printed, reply_line}
 use Rattle.hub_sessions.specs.declared.conversation.SessionFault.{SessionFault}
 use Rattle.hub_sessions.specs.declared.conversation.SessionFault.TheVariants as fault
 use Rattle.hub_sessions.specs.declared.conversation.Turn.{Turn}
 use Rattle.hub_sessions.specs.declared.conversation.Turn.TheVariants.{More, Last}
 use Rattle.hub_sessions.specs.declared.conversation.TurnFault.{TurnFault}
-use Rattle.hub_sessions.specs.declared.conversation.TurnFault.TheVariants.{Read}
 
 printed_both : (one more : List Exchange) → flat_map printed (one ++ more) ≡ flat_map printed one ++ flat_map printed more
 printed_both [] more = refl
@@ -64,19 +63,6 @@ short s left old s' left' mid part middle new c a b = record {
   converses = c;
   part = part;
   written = Appends-trans mid middle new _ _ a b;
-}
-
-pub broken : (s : Standing) (left old : Option (List ℕ)) (s' : Standing) (left' mid : Option (List ℕ)) (text : List ℕ) (s'' : Standing) (new : Option (List ℕ))
-    → Converses s left old s' left' mid → BreaksTurn Read s' text s'' → Appends mid new text → BreaksAfter s left old s''.count new
-broken s left old s' left' mid text s'' new c t a = record {
-  stands = s';
-  rest = left';
-  converses = record {
-    exchanges = c.exchanges;
-    follow = c.follow;
-    written = subst (Appends old new) (append-nil (flat_map printed c.exchanges)) (Appends-trans old mid new _ _ c.written (subst (Appends mid new) t.1 a));
-  };
-  counted = ap (λ z. z.count) t.0;
 }
 
 -- an error that is passed on

@@ -14,13 +14,6 @@ append_none : (l : List ℕ) → l ++ [] ≡ l
 append_none [] = refl
 append_none (x ∷ l) = ap (λ m. x ∷ m) (append_none l)
 
-items_none : (l : List Entry) → l ++ [] ≡ l
-items_none [] = refl
-items_none (x ∷ l) = ap (λ m. x ∷ m) (items_none l)
-
-pub none_taken : (taken : List Entry) (out : List ℕ) → Takes 0 taken taken out out
-none_taken taken out = record { items = []; next = sym (items_none taken); printed = sym (append_none out); many = refl }
-
 pub taken_both : (n m k : ℕ) (a b c : List Entry) (out out' out'' : List ℕ) → k ≡ n + m → Takes n a b out out' → Takes m b c out' out'' → Takes k a c out out''
 taken_both n m k a b c out out' out'' is one two = record {
   items = one.items ++ two.items;

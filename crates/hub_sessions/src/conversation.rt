@@ -1,6 +1,7 @@
-ghost use Rattle.std.specs.Prelude.{◌≡◌, ◌≤◌, [], IfOk, IfErr, OnOk, string_bytes};
+ghost use Rattle.std.specs.Prelude.{◌≡◌, ◌≤◌, ◌↔◌, [], IfOk, IfErr, OnOk, string_bytes};
 ghost use Rattle.std.specs.Io.KnownBytes.{Appends};
 ghost use Rattle.refusals.specs.declared.reason.Reason.TheVariants as why;
+ghost use Rattle.session_lines.specs.declared.fault.ReadFault.TheVariants as read_fault;
 ghost use Rattle.session_lines.specs.declared.reply.Reply.TheVariants as told;
 ghost use Rattle.hub_sessions.specs.Sessions.{Submits, Answers, TakesTurn, BreaksTurn, Ends, reply_line};
 ghost use Rattle.hub_sessions.specs.declared.conversation.TurnFault.TheVariants as turn_fault;
@@ -57,6 +58,8 @@ impl From<AllocError> for TurnFault {
 }
 
 impl From<ReadFault> for TurnFault {
+    ghost from_gives = { λ from fault. (fault ≡ turn_fault.Memory) ↔ (from ≡ read_fault.Memory) };
+
     fn from(fault: ReadFault) -> TurnFault {
         match fault {
             ReadFault::Device => TurnFault::Read,

@@ -1,4 +1,5 @@
 ghost use Rattle.std.specs.Prelude.{◌≡◌, ◌≤◌};
+ghost use Rattle.hub_sessions.specs.declared.server.ServeError.TheVariants as serve_error;
 
 use crate::conversation::session;
 use crate::listening::listen;
@@ -39,6 +40,8 @@ pub enum ServeError {
 }
 
 impl From<AllocError> for ServeError {
+    ghost from_gives = { λ _ error. error ≡ serve_error.OutOfMemory };
+
     fn from(_error: AllocError) -> ServeError {
         ServeError::OutOfMemory
     }

@@ -1,10 +1,10 @@
 -- Reading a number of 64 bits digit by digit.
-use Rattle.std.proofs.Common.{◌≡◌, ℕ, suc, ◌+◌, ◌*◌, ◌-◌, ◌^◌, ◌<◌, ◌≤◌, Bool, true, false, cond, ltb, List, [], ◌∷◌, length, get_or, drop, inl, inr, add-one, Option, Some, None, refl, sym, ap, ◌∙◌, arith, drop-cons}
+use Rattle.std.proofs.Common.{◌≡◌, ℕ, suc, ◌+◌, ◌*◌, ◌-◌, ◌^◌, ◌<◌, ◌≤◌, Bool, true, false, cond, ltb, List, [], ◌∷◌, length, get_or, drop, inl, inr, add-one, Some, None, refl, arith, drop-cons}
 use Rattle.std.proofs.lemmas.Bool.{cases_lt, lt-ltb, le-ltb, ltb-true}
 use Rattle.std.proofs.lemmas.List.{drop_all}
 use Rattle.change_ops.specs.Words.{digit_of, digits_after}
 use Rattle.change_ops.specs.Reading.{◌>>=◌}
-use Rattle.session_lines.specs.Reading.{small, small_number, with_digit}
+use Rattle.session_lines.specs.Reading.{small, with_digit}
 
 -- a number past the limit stays so
 past : (n : ℕ) (bs : List ℕ) → 2 ^ 64 ≤ n → small (digits_after 10 n bs) ≡ None

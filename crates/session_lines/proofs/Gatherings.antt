@@ -1,6 +1,6 @@
 -- How the lines of a change are gathered, and what comes of them.
-use Rattle.std.proofs.Common.{◌≡◌, ℕ, ◌+◌, ◌<◌, ◌≤◌, true, false, List, [], ◌∷◌, ◌++◌, length, map, Option, Some, None, Result, Ok, Err, All, refl, sym, ap, subst, ◌∙◌, arith, length-append, append_assoc}
-use Rattle.std.specs.Prelude.{IsTrue, flat_map}
+use Rattle.std.proofs.Common.{◌≡◌, ℕ, ◌+◌, ◌<◌, List, [], ◌∷◌, ◌++◌, length, map, Option, Result, All, refl, sym, ap, subst, ◌∙◌, arith, length-append, append_assoc}
+use Rattle.std.specs.Prelude.{IsTrue}
 use Rattle.std.specs.Io.KnownBytes.{Consumes}
 use Rattle.std.proofs.KnownBytes.{Consumes-nil, Consumes-trans}
 use Rattle.std.proofs.lemmas.List.{append-nil, map-append}
@@ -8,10 +8,10 @@ use Rattle.std.proofs.lemmas.List.Concat.{flat_map-append}
 use Rattle.std.proofs.lemmas.List.Elements.{All-push, All-cons}
 use Rattle.change_ops.specs.Changes.{Edit}
 use Rattle.change_ops.specs.declared.refusal.ChangeError.{ChangeError}
-use Rattle.session_lines.specs.Lines.{Input, IsLine, IsRemainder, IsTooLong, Arrives, joined}
+use Rattle.session_lines.specs.Lines.{Input, IsLine, Arrives, joined}
 use Rattle.session_lines.specs.Changes.{is_header, right_header, followers, legible, text_of}
-use Rattle.session_lines.specs.Gathering.{Gathers, Ends}
-use Rattle.session_lines.specs.Requests.{changed, IsRead, ChangeLines, IsNext, change, cut, long_within, GoesOn}
+use Rattle.session_lines.specs.Gathering.{Gathers}
+use Rattle.session_lines.specs.Requests.{changed, IsRead, ChangeLines, change, cut, long_within, GoesOn}
 use Rattle.session_lines.proofs.Lining.{over_since}
 use Rattle.session_lines.specs.declared.reader.Arrival.TheVariants as arrival
 use Rattle.session_lines.specs.declared.request.Gathered.TheVariants.{AllThere, Cut, TooLong}

@@ -5,11 +5,11 @@ use Rattle.std.proofs.KnownBytes.{Consumes-nil, Consumes-trans, Consumes-kept}
 use Rattle.std.proofs.lemmas.Bool.{cases_lt, ne_eqb}
 use Rattle.std.proofs.lemmas.List.{take_all, take_more}
 use Rattle.change_ops.specs.Refusals.{IsUnended}
-use Rattle.session_lines.specs.Lines.{Input, IsLine, IsRemainder, IsTooLong, IsOver, Takes, Arrives}
+use Rattle.session_lines.specs.Lines.{IsLine, IsRemainder, IsTooLong, IsOver, Takes, Arrives}
 use Rattle.session_lines.specs.Parts.{Appended, IsBegun, Stands}
 use Rattle.session_lines.specs.declared.reader.Arrival.{Arrival}
 use Rattle.session_lines.specs.declared.reader.Arrival.TheVariants.{Whole, Unended, TooLong, End}
-use Rattle.session_lines.proofs.Unended.{unended_each, each_unended, unended_append, unended_take}
+use Rattle.session_lines.proofs.Unended.{unended_each, each_unended}
 
 -- all but the last byte, where the bytes before the last part have no LF, and none of that but perhaps its last
 all_but_last : (had part : List ℕ) → IsUnended had → IsUnended (take (length part - 1) part) → IsUnended (take (length (had ++ part) - 1) (had ++ part))

@@ -1,5 +1,5 @@
 -- Where a line is split at its first space.
-use Rattle.std.proofs.Common.{◌≡◌, ℕ, ◌+◌, ◌-◌, ◌<◌, ◌≤◌, Bool, true, false, cond, ltb, eqb, List, length, take, drop, get_or, Some, None, refl, sym, ap, ◌∙◌, arith, inl, inr, length-drop}
+use Rattle.std.proofs.Common.{◌≡◌, ℕ, ◌+◌, ◌-◌, ◌≤◌, Bool, eqb, List, length, take, drop, Some, None, refl, sym, ap, arith, inl, inr, length-drop}
 use Rattle.std.specs.Prelude.{position}
 use Rattle.std.specs.List.{position_or_len, before_first}
 use Rattle.std.proofs.lemmas.Bool.{cases_lt, lt-ltb, le-ltb}

@@ -1,5 +1,5 @@
 -- The lines of a change in a session, and the text that they are read as.
-use Rattle.std.specs.Prelude.{ℕ, ◌+◌, ◌==◌, Bool, if◌then◌else◌, List, [], ◌∷◌, Option, Some, None, codes, map, option_and_then}
+use Rattle.std.specs.Prelude.{ℕ, ◌==◌, Bool, if◌then◌else◌, List, [], Option, Some, None, codes, map, option_and_then}
 use Rattle.std.specs.List.{before_first}
 use Rattle.std.specs.Str.{bytes_eq, is_utf8}
 use Rattle.change_ops.specs.Reading.{header_at}

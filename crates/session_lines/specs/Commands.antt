@@ -5,9 +5,9 @@ use Rattle.hex.specs.Hex.{decode_of}
 use Rattle.hex.specs.declared.error.FromHexError.{FromHexError}
 use Rattle.change_ops.specs.Forms.{Numeral, Word, ◌⎵◌}
 use Rattle.session_lines.specs.declared.request.SessionRequest.{SessionRequest}
-use Rattle.session_lines.specs.declared.request.SessionRequest.TheVariants.{Change, Subscribe, Pull, Close}
+use Rattle.session_lines.specs.declared.request.SessionRequest.TheVariants.{Subscribe, Pull, Close}
 use Rattle.session_lines.specs.declared.fault.LineRefusal.{LineRefusal}
-use Rattle.session_lines.specs.declared.fault.LineRefusal.TheVariants.{BadCommand, BadCapacity, BadHex, BadChange, OutOfMemory}
+use Rattle.session_lines.specs.declared.fault.LineRefusal.TheVariants.{BadCommand, BadCapacity, BadHex, OutOfMemory}
 
 -- what a line says
 pub data Command : Type 0 where

@@ -1,5 +1,5 @@
 -- Each step keeps the rule of a subscriber's queue, whatever orderly means: only that a beginning of an orderly list is orderly.
-use Rattle.std.proofs.Common.{◌≡◌, ◌≢◌, ℕ, ◌≤◌, ◌<◌, zero, suc, Bool, true, false, true≢false, List, [], ◌∷◌, ◌++◌, length, set, sym, refl, ap, ◌∙◌, subst, ⊎_elim, append_assoc, arith, length-append}
+use Rattle.std.proofs.Common.{◌≡◌, ◌≢◌, ℕ, ◌≤◌, zero, suc, true, false, true≢false, List, [], ◌∷◌, ◌++◌, length, set, sym, refl, ap, ◌∙◌, subst, ⊎_elim, append_assoc, arith, length-append}
 use mathlib.Core.Option.{some, some-ne-none}
 use lib.ListN.{get_elem?}
 use Rattle.crossbeam_queue.specs.Fifo.{Pushes, Pops, Forks, Learns}

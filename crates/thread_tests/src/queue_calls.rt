@@ -91,6 +91,19 @@ pub fn full_and_late<N: Naming + Ledger, R: Wait + Abort + Copy>(
     closed_before_the_commit(rt, alloc, hub, published, share)
 }
 
+/// Takes and commits the three jobs of a subscriber to `LETTERS`.
+fn commit_three<N: Naming + Ledger, R: Wait + Copy>(
+    rt: &R,
+    alloc: Global,
+    hub: &Hub<'_, N, R>,
+    published: &Published<'_, N>,
+) -> Result<(), Fail> {
+    for _ in 0..3usize {
+        commit_next(rt, alloc, hub, published)?;
+    }
+    Ok(())
+}
+
 /// Pumps and takes by turns; a second pump before a take sends nothing.
 fn one_by_one<N: Naming + Ledger, R: Wait + Abort + Copy>(
     rt: &R,
@@ -100,9 +113,7 @@ fn one_by_one<N: Naming + Ledger, R: Wait + Abort + Copy>(
     share: &mut Share<N>,
 ) -> Result<(), Fail> {
     let (id, mut subscription) = subscribed_to_letters(rt, alloc, hub, published, share, 1)?;
-    for _ in 0..3usize {
-        commit_next(rt, alloc, hub, published)?;
-    }
+    commit_three(rt, alloc, hub, published)?;
     for finding in &FIVE {
         assert!(rt; pumps_one_and_takes(rt, hub, id, &mut subscription, *finding));
     }
@@ -159,6 +170,20 @@ fn what_was_sent_outlives_the_hub(rt: HostRuntime) -> Result<(), Fail> {
     on_new_hub(rt, rt.alloc(), Trial::HubIsGone)
 }
 
+/// A subscriber to `LETTERS` that was sent all items.
+fn sent_all<N: Naming + Ledger, R: Wait + Abort + Copy>(
+    rt: &R,
+    alloc: Global,
+    hub: &Hub<'_, N, R>,
+    published: &Published<'_, N>,
+    share: &mut Share<N>,
+) -> Result<Subscription<N, R>, Fail> {
+    let (id, subscription) = subscribed_to_letters(rt, alloc, hub, published, share, 8)?;
+    commit_three(rt, alloc, hub, published)?;
+    assert_eq!(rt; hub.pump(rt, id), Ok(5));
+    Ok(subscription)
+}
+
 /// What was sent can be taken once the hub, and with it the queue's other end, is gone.
 pub fn taken_without_a_hub<N: Naming + Ledger, R: Wait + Abort + Copy>(
     rt: &R,
@@ -167,11 +192,7 @@ pub fn taken_without_a_hub<N: Naming + Ledger, R: Wait + Abort + Copy>(
     published: &Published<'_, N>,
     share: &mut Share<N>,
 ) -> Result<(), Fail> {
-    let (id, mut subscription) = subscribed_to_letters(rt, alloc, &hub, published, share, 8)?;
-    for _ in 0..3usize {
-        commit_next(rt, alloc, &hub, published)?;
-    }
-    assert_eq!(rt; hub.pump(rt, id), Ok(5));
+    let mut subscription = sent_all(rt, alloc, &hub, published, share)?;
     drop(hub);
     assert!(rt; takes_all(&mut subscription, &FIVE));
     Ok(())

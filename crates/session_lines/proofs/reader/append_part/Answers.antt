@@ -1,5 +1,5 @@
-use Rattle.std.proofs.Common.{◌≡◌, ◌-◌, ◌+◌, take, length, refl, sym, ap, subst, ◌∙◌, rules, arith, length-take-le}
-use Rattle.std.specs.Io.BufRead.{FillKeeps, DropsConsumable}
+use Rattle.std.proofs.Common.{◌-◌, take, length, subst, length-take-le}
+use Rattle.std.specs.Io.BufRead.{FillKeeps}
 use Rattle.std.proofs.BufReadLemmas.{Consumes_shown, zero_unless_positive}
 use Rattle.session_lines.proofs.Unended.{unended_short}
 use Rattle.session_lines.proofs.reader.append_part.Goals as goal

@@ -1,5 +1,4 @@
-use Rattle.std.proofs.Common.{◌≡◌, ◌≤◌, ◌+◌, ◌∷◌, ◌++◌, ℕ, List, [], Some, length, refl, sym, ap, ◌∙◌, subst, rules, arith, append_assoc, string_bytes, vec_len}
-use Rattle.std.specs.List.{slice_get}
+use Rattle.std.proofs.Common.{◌≡◌, ◌≤◌, ◌+◌, ◌∷◌, ◌++◌, ℕ, List, [], length, refl, sym, ap, ◌∙◌, subst, rules, arith, append_assoc, string_bytes, vec_len}
 use Rattle.std.specs.Vec.Iter.{into_iter_items}
 use Rattle.std.proofs.lemmas.List.{length_push}
 use Rattle.change_ops.specs.declared.operation.Op.{Op}

@@ -1,6 +1,6 @@
 use Rattle.std.proofs.Common.{◌≡◌, ◌<◌, ◌++◌, ◌∷◌, [], List, Some, length, arith, ap, refl, sym, subst}
 use Rattle.change_ops.specs.Changes.{Edit}
-use Rattle.change_history.specs.Kept.{IsDraft, IsHistory, IsSpare}
+use Rattle.change_history.specs.Kept.{IsDraft, IsSpare}
 use Rattle.change_history.proofs.Chronicle.{put_in_place, history_put, spare_after}
 use Rattle.change_history.proofs.history.History.put.Goals as goal
 
