@@ -1,7 +1,7 @@
 /// Why an instruction is refused. Of several reasons the first stands, in this order: an unset register, then what the
 /// instruction does with addresses, then what a load or a store meets (not an address, a store to what is read only, a field of
 /// the context, the stack, the text).
-#[derive(Clone, Copy, Debug, PartialEq, Eq)]
+#[derive(Clone, Copy)]
 pub enum Refusal {
     /// A register that is read may be unset.
     UnsetRegister,

@@ -7,7 +7,7 @@ use bpf_words::context::{TEXT, TEXT_LIMIT};
 use intervals::Range;
 
 /// Memory that a run is lent to read, of a length that differs from run to run.
-#[derive(Clone, Copy, PartialEq, Eq)]
+#[derive(Clone, Copy)]
 pub enum Region {
     Text,
 }

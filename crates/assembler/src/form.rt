@@ -3,7 +3,7 @@ use bpf_words::instruction::{
 };
 
 /// The form of an instruction, which its mnemonic names: all but its registers, numbers and distance.
-#[derive(Clone, Copy, Debug, PartialEq, Eq)]
+#[derive(Clone, Copy)]
 pub enum Form {
     Compute(Width, Arithmetic),
     Negate(Width),

@@ -13,7 +13,7 @@ use std::alloc::{AllocError, Global};
 use std::collections::BTreeMap;
 
 /// The line that defines a label, by its index, and the slot that the label stands for.
-#[derive(Clone, Copy, Debug, PartialEq, Eq)]
+#[derive(Clone, Copy)]
 pub(crate) struct Definition {
     pub(crate) index: usize,
     pub(crate) slot: usize,

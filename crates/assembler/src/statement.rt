@@ -3,7 +3,7 @@ use bpf_words::instruction::{Comparison, Insn, Operand, Width};
 use bpf_words::register::Register;
 
 /// A jump whose distance is still open: by 16 bits, by 32 bits, or on a comparison.
-#[derive(Clone, Copy, Debug, PartialEq, Eq)]
+#[derive(Clone, Copy)]
 pub(crate) enum Jump {
     Short,
     Long,
@@ -16,7 +16,7 @@ pub(crate) enum Jump {
 }
 
 /// What a line says: nothing, a label, an instruction, or a jump to a label.
-#[derive(Clone, Copy, Debug)]
+#[derive(Clone, Copy)]
 pub(crate) enum Statement<'a> {
     Blank,
     Label(&'a [u8]),
@@ -25,21 +25,21 @@ pub(crate) enum Statement<'a> {
 }
 
 /// A second operand as it is written: a register by its name, or a number.
-#[derive(Clone, Copy, Debug)]
+#[derive(Clone, Copy)]
 pub(crate) enum Value<'a> {
     Named(&'a [u8]),
     Constant(SignedNumeral),
 }
 
 /// Where a jump goes, as it is written: to a label, or by a number of slots.
-#[derive(Clone, Copy, Debug)]
+#[derive(Clone, Copy)]
 pub(crate) enum Target<'a> {
     AtLabel(&'a [u8]),
     Distance(SignedNumeral),
 }
 
 /// An address as it is written: a base register by its name, and an offset.
-#[derive(Clone, Copy, Debug)]
+#[derive(Clone, Copy)]
 pub(crate) struct Address<'a> {
     pub(crate) base: &'a [u8],
     pub(crate) offset: SignedNumeral,

@@ -1,5 +1,5 @@
 /// A sign that is a token by itself.
-#[derive(Clone, Copy, Debug, PartialEq, Eq)]
+#[derive(Clone, Copy)]
 pub enum Sign {
     Comma,
     Open,
@@ -10,7 +10,7 @@ pub enum Sign {
 }
 
 /// A token of a line: a sign, a word by its bytes, or a character that is of no token.
-#[derive(Clone, Copy, Debug)]
+#[derive(Clone, Copy)]
 pub(crate) enum Token<'a> {
     Mark(Sign),
     Word(&'a [u8]),
@@ -18,21 +18,21 @@ pub(crate) enum Token<'a> {
 }
 
 /// What stands at the front of a line: a token and what follows it, or nothing more.
-#[derive(Clone, Copy, Debug)]
+#[derive(Clone, Copy)]
 pub(crate) enum Next<'a> {
     Found(Token<'a>, &'a [u8]),
     End,
 }
 
 /// A number as it is written. Its value is `None` from 2^64 on, which is out of every range.
-#[derive(Clone, Copy, Debug, PartialEq, Eq)]
+#[derive(Clone, Copy)]
 pub struct Numeral {
     pub hexadecimal: bool,
     pub value: Option<u64>,
 }
 
 /// A token of a line on which every token is right: a sign, a name, or a number.
-#[derive(Clone, Copy, Debug)]
+#[derive(Clone, Copy)]
 pub(crate) enum Term<'a> {
     Symbol(Sign),
     Name(&'a [u8]),
@@ -40,7 +40,7 @@ pub(crate) enum Term<'a> {
 }
 
 /// A number with its sign before it.
-#[derive(Clone, Copy, Debug, PartialEq, Eq)]
+#[derive(Clone, Copy)]
 pub struct SignedNumeral {
     pub negative: bool,
     pub numeral: Numeral,

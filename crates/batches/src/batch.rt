@@ -13,10 +13,15 @@ use verifier::verify::Verified;
 use version_history::published::{Naming, Published};
 
 /// A job with the items of its program on its version.
-#[derive(Drop)]
 pub struct Batch<N: Naming> {
     job: Job<N>,
     items: Vec<Item<N>>,
+}
+
+impl<N: Naming> Drop for Batch<N> {
+    fn drop(self) {
+        let Batch { job: _, items: _ } = self;
+    }
 }
 
 impl<N: Naming> Model for Batch<N> {

@@ -20,11 +20,20 @@ pub enum Finding {
 }
 
 /// A finding with the tokens of the program and the version that it is of.
-#[derive(Drop)]
 pub struct Item<N: Naming> {
     pub what: Finding,
     pub program: ProgramToken<N>,
     pub version: VersionToken<N>,
+}
+
+impl<N: Naming> Drop for Item<N> {
+    fn drop(self) {
+        let Item {
+            what: _,
+            program: _,
+            version: _,
+        } = self;
+    }
 }
 
 impl<N: Naming> Model for Item<N> {
@@ -49,7 +58,6 @@ impl<N: Naming> Item<N> {
 }
 
 /// A version that a subscriber's program is to be run on.
-#[derive(Drop)]
 pub struct Job<N: Naming> {
     /// The subscriber's id.
     pub subscriber: usize,
@@ -57,6 +65,17 @@ pub struct Job<N: Naming> {
     pub number: u64,
     pub program: ProgramToken<N>,
     pub version: VersionToken<N>,
+}
+
+impl<N: Naming> Drop for Job<N> {
+    fn drop(self) {
+        let Job {
+            subscriber: _,
+            number: _,
+            program: _,
+            version: _,
+        } = self;
+    }
 }
 
 impl<N: Naming> Model for Job<N> {

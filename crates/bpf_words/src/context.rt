@@ -25,7 +25,7 @@ pub fn regions()
 {}
 
 /// What a program may learn of a span beside its text.
-#[derive(Clone, Copy, Debug, PartialEq, Eq)]
+#[derive(Clone, Copy)]
 pub struct Facts {
     /// In bytes.
     pub text_len: u32,

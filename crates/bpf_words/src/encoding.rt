@@ -10,7 +10,7 @@ use crate::instruction::{
 use byteorder::{ByteOrder, LittleEndian};
 
 /// The bytes of an instruction: 8, or 16 of a wide load (RFC 9669, section 3).
-#[derive(Clone, Copy, Debug, PartialEq, Eq)]
+#[derive(Clone, Copy)]
 pub enum Encoded {
     OneSlot([u8; 8]),
     TwoSlots([u8; 16]),

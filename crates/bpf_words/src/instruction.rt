@@ -1,14 +1,14 @@
 use crate::register::Register;
 
 /// Whether an instruction works on all 64 bits, or on the low 32 (RFC 9669, section 4.1).
-#[derive(Clone, Copy, Debug, PartialEq, Eq)]
+#[derive(Clone, Copy)]
 pub enum Width {
     Narrow,
     Full,
 }
 
 /// An operation on the destination and one operand (RFC 9669, section 4.1).
-#[derive(Clone, Copy, Debug, PartialEq, Eq)]
+#[derive(Clone, Copy)]
 pub enum Arithmetic {
     Add,
     Sub,
@@ -28,7 +28,7 @@ pub enum Arithmetic {
 
 /// A sign-extending move: which low bits of the source it takes, to 64 bits, or to 32 with zeros above
 /// (RFC 9669, section 4.1).
-#[derive(Clone, Copy, Debug, PartialEq, Eq)]
+#[derive(Clone, Copy)]
 pub enum Extension {
     FromByte,
     FromHalf,
@@ -38,7 +38,7 @@ pub enum Extension {
 }
 
 /// What is done with the order of bytes (RFC 9669, section 4.2).
-#[derive(Clone, Copy, Debug, PartialEq, Eq)]
+#[derive(Clone, Copy)]
 pub enum Conversion {
     ToLittleEndian,
     ToBigEndian,
@@ -46,7 +46,7 @@ pub enum Conversion {
 }
 
 /// How many low bits a conversion of the order of bytes keeps (RFC 9669, section 4.2).
-#[derive(Clone, Copy, Debug, PartialEq, Eq)]
+#[derive(Clone, Copy)]
 pub enum ConvertedBits {
     Bits16,
     Bits32,
@@ -54,7 +54,7 @@ pub enum ConvertedBits {
 }
 
 /// A test of two numbers (RFC 9669, section 4.3).
-#[derive(Clone, Copy, Debug, PartialEq, Eq)]
+#[derive(Clone, Copy)]
 pub enum Comparison {
     Equal,
     Greater,
@@ -70,7 +70,7 @@ pub enum Comparison {
 }
 
 /// How many bytes a load or a store moves: 1, 2, 4 or 8 (RFC 9669, section 5).
-#[derive(Clone, Copy, Debug, PartialEq, Eq)]
+#[derive(Clone, Copy)]
 pub enum Size {
     Byte,
     Half,
@@ -79,7 +79,7 @@ pub enum Size {
 }
 
 /// How many bytes a sign-extending load moves: 1, 2 or 4 (RFC 9669, section 5.2).
-#[derive(Clone, Copy, Debug, PartialEq, Eq)]
+#[derive(Clone, Copy)]
 pub enum SignedSize {
     SignedByte,
     SignedHalf,
@@ -87,7 +87,7 @@ pub enum SignedSize {
 }
 
 /// The second operand: the immediate, or a register (RFC 9669, section 4).
-#[derive(Clone, Copy, Debug, PartialEq, Eq)]
+#[derive(Clone, Copy)]
 pub enum Operand {
     Immediate(i32),
     Source(Register),
@@ -95,7 +95,7 @@ pub enum Operand {
 
 /// An instruction of the groups base32, base64, divmul32 and divmul64 (RFC 9669, sections 3 to 5), without
 /// calls and wide loads of maps and variables, and no other. A distance counts slots from the slot after the instruction.
-#[derive(Clone, Copy, Debug, PartialEq, Eq)]
+#[derive(Clone, Copy)]
 pub enum Insn {
     Compute {
         width: Width,

@@ -5,7 +5,7 @@ use crate::instruction::{Arithmetic, Comparison, Conversion, SignedSize, Size, W
 
 /// What an opcode byte names (RFC 9669, sections 3 to 5). `by_register`: the second operand is a register.
 /// `LeftOut` is defined there and not taken here (calls, atomic and packet instructions), `Undefined` names nothing.
-#[derive(Clone, Copy, Debug, PartialEq, Eq)]
+#[derive(Clone, Copy)]
 pub enum Opcode {
     Computing {
         width: Width,

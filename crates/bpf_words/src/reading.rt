@@ -13,7 +13,7 @@ use crate::refusal::SlotFault;
 use crate::register::Register;
 
 /// What the offset of an arithmetic instruction chooses.
-#[derive(Clone, Copy, Debug, PartialEq, Eq)]
+#[derive(Clone, Copy)]
 pub enum Chosen {
     Plain(Arithmetic),
     Extending(Extension),

@@ -19,7 +19,7 @@ pub enum Refusal {
 }
 
 /// Why an operation was not applied.
-#[derive(Clone, Copy, Debug, PartialEq, Eq)]
+#[derive(Clone, Copy)]
 pub enum ApplyError {
     Refused(Refusal),
     OutOfMemory,

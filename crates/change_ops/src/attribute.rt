@@ -12,9 +12,14 @@ use std::alloc::{AllocError, Global};
 use std::marker::Model;
 
 /// The target of a link: 1 to 1,024 bytes of 0x21 to 0x7e.
-#[derive(Debug, Drop)]
 pub struct Link {
     target: String,
+}
+
+impl Drop for Link {
+    fn drop(self) {
+        let Link { target: _ } = self;
+    }
 }
 
 impl Model for Link {
@@ -96,7 +101,7 @@ impl Link {
 }
 
 /// A color: three bytes, red, green and blue, 0 to 0xffffff.
-#[derive(Clone, Copy, Debug, PartialEq, Eq)]
+#[derive(Clone, Copy, PartialEq, Eq)]
 pub struct Color {
     rgb: u32,
 }
@@ -135,7 +140,7 @@ impl Color {
 }
 
 /// The number of a comment, 1 to 4,294,967,295.
-#[derive(Clone, Copy, Debug, PartialEq, Eq, PartialOrd, Ord)]
+#[derive(Clone, Copy, PartialEq, Eq, PartialOrd, Ord)]
 pub struct CommentNumber {
     number: u32,
 }
@@ -195,13 +200,22 @@ pub enum Key {
 }
 
 /// A key with its value, as a mark adds it.
-#[derive(Clone, Drop)]
+#[derive(Clone)]
 pub enum Attribute {
     Strong,
     Em,
     Link(Link),
     Color(Color),
     Comment(CommentNumber),
+}
+
+impl Drop for Attribute {
+    fn drop(self) {
+        match self {
+            Attribute::Link(_) => {}
+            Attribute::Strong | Attribute::Em | Attribute::Color(_) | Attribute::Comment(_) => {}
+        }
+    }
 }
 
 impl Attribute {

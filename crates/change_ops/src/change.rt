@@ -18,10 +18,18 @@ use std::marker::Model;
 
 /// The operations of one peer, which are accepted together: 1 to 256, the id of each with the peer's
 /// node.
-#[derive(Drop)]
 pub struct Change {
     node: u16,
     operations: SmallVec<Op, 4>,
+}
+
+impl Drop for Change {
+    fn drop(self) {
+        let Change {
+            node: _,
+            operations: _,
+        } = self;
+    }
 }
 
 impl Model for Change {

@@ -4,7 +4,7 @@ ghost use Rattle.change_ops.specs.Ids.{is_character, checked};
 use std::marker::Model;
 
 /// A character of a text: a Unicode scalar value other than U+0000.
-#[derive(Clone, Copy, Debug, PartialEq, Eq)]
+#[derive(Clone, Copy)]
 pub struct Character {
     value: char,
 }

@@ -10,7 +10,7 @@ use std::marker::Model;
 
 /// The name of an operation: a counter, 1 to 2^48 - 1, and the node of its peer, 1 to 65,535.
 /// Ids are ordered by counter, then by node (Peritext, CSCW 2022: operation ids as Lamport timestamps).
-#[derive(Clone, Copy, Debug, PartialEq, Eq, Hash)]
+#[derive(Clone, Copy, PartialEq, Eq, Hash)]
 pub struct OpId {
     counter: u64,
     node: u16,

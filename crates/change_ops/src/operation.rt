@@ -16,7 +16,6 @@ pub enum Anchor {
 }
 
 /// One operation (Peritext, CSCW 2022).
-#[derive(Drop)]
 pub enum Op {
     /// A character after its parent, or at the start.
     Insert {
@@ -43,6 +42,31 @@ pub enum Op {
         start: Anchor,
         end: Anchor,
     },
+}
+
+impl Drop for Op {
+    fn drop(self) {
+        match self {
+            Op::Insert {
+                id: _,
+                parent: _,
+                character: _,
+            } => {}
+            Op::Remove { id: _, target: _ } => {}
+            Op::AddMark {
+                id: _,
+                attribute: _,
+                start: _,
+                end: _,
+            } => {}
+            Op::RemoveMark {
+                id: _,
+                key: _,
+                start: _,
+                end: _,
+            } => {}
+        }
+    }
 }
 
 /// The at most two characters that an operation names.

@@ -58,13 +58,22 @@ fn floor_of(elements: &[Element]) -> OpId
 }
 
 /// From 1 to 64 consecutive elements, of which none is taken out, with memory for 64.
-#[derive(Drop)]
 pub(crate) struct Chunk {
     items: Vec<Element>,
     // Their visible text, so that the text of many chunks is copied chunk by chunk.
     text: String,
     // No id is less, so that a walk past greater ids takes one look at a chunk.
     floor: OpId,
+}
+
+impl Drop for Chunk {
+    fn drop(self) {
+        let Chunk {
+            items: _,
+            text: _,
+            floor: _,
+        } = self;
+    }
 }
 
 impl Model for Chunk {

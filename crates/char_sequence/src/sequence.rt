@@ -13,7 +13,7 @@ use std::marker::Model;
 use thiserror::Error;
 
 /// A character of the text, with the id of the operation that inserted it.
-#[derive(Clone, Copy, Debug, PartialEq, Eq)]
+#[derive(Clone, Copy)]
 pub struct Element {
     pub id: OpId,
     pub character: Character,

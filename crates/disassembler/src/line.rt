@@ -9,7 +9,7 @@ use bpf_words::instruction::Insn;
 use std::fmt;
 
 /// What stands behind the mnemonic of an instruction.
-#[derive(Clone, Copy, Debug, PartialEq, Eq)]
+#[derive(Clone, Copy)]
 struct Arguments(Insn);
 
 impl fmt::Display for Arguments {
@@ -66,7 +66,7 @@ impl fmt::Display for Arguments {
 }
 
 /// An instruction as its canonical line, without the LF.
-#[derive(Clone, Copy, Debug, PartialEq, Eq)]
+#[derive(Clone, Copy)]
 pub struct Line(pub Insn);
 
 impl fmt::Display for Line {

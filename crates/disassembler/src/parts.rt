@@ -7,7 +7,7 @@ use bpf_words::register::Register;
 use std::fmt;
 
 /// A register by its name.
-#[derive(Clone, Copy, Debug, PartialEq, Eq)]
+#[derive(Clone, Copy)]
 pub(crate) struct Name(pub(crate) Register);
 
 impl fmt::Display for Name {
@@ -19,7 +19,7 @@ impl fmt::Display for Name {
 }
 
 /// A register, or an immediate with a sign where it is negative.
-#[derive(Clone, Copy, Debug, PartialEq, Eq)]
+#[derive(Clone, Copy)]
 pub(crate) struct Value(pub(crate) Operand);
 
 impl fmt::Display for Value {
@@ -34,7 +34,7 @@ impl fmt::Display for Value {
 }
 
 /// A number that always has its sign.
-#[derive(Clone, Copy, Debug, PartialEq, Eq)]
+#[derive(Clone, Copy)]
 pub(crate) struct Signed(pub(crate) i32);
 
 impl fmt::Display for Signed {
@@ -46,7 +46,7 @@ impl fmt::Display for Signed {
 }
 
 /// A base register and an offset, in brackets.
-#[derive(Clone, Copy, Debug, PartialEq, Eq)]
+#[derive(Clone, Copy)]
 pub(crate) struct Address {
     pub(crate) base: Register,
     pub(crate) offset: i16,

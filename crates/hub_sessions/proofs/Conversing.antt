@@ -65,11 +65,6 @@ short s left old s' left' mid part middle new c a b = record {
   written = Appends-trans mid middle new _ _ a b;
 }
 
--- an error that is passed on
-pub passed_on : {T E : Type 0} (r : Result T E) (e : E) (P : E → Type 0) → IsErrAnd r (λ y. y ≡ e) → P e → IfErr r P
-passed_on (Ok t) e P is p = tt
-passed_on (Err y) e P is p = subst P (sym is) p
-
 -- a write that failed
 pub write_failed : (r : Result ⊤ SessionFault) (e : SessionFault) (s : Standing) (left old : Option (List ℕ)) (count : ℕ) (new : Option (List ℕ))
     → IsErrAnd r (λ y. y ≡ e) → e ≡ fault.Write → Ends r s left old count new

@@ -1,3 +1,1 @@
-pub mod Takings
-pub mod Holdings
 pub mod Conversing

@@ -13,7 +13,7 @@ use Rattle.session_lines.specs.declared.request.Next.{Next}
 use Rattle.session_lines.specs.declared.request.Next.TheVariants as next
 use Rattle.session_lines.specs.declared.request.SessionRequest.{SessionRequest}
 use Rattle.session_lines.specs.declared.request.SessionRequest.TheVariants as asked
-use Rattle.hub_sessions.specs.Holding.{Watched, Adds, Closes, PullsAny}
+use Rattle.session_subscribers.specs.Holding.{Watched, Adds, Closes, PullsAny}
 use Rattle.hub_sessions.specs.declared.conversation.SessionFault.{SessionFault}
 use Rattle.hub_sessions.specs.declared.conversation.SessionFault.TheVariants as fault
 use Rattle.hub_sessions.specs.declared.replaying.ReplayError.{ReplayError}

@@ -6,7 +6,6 @@ ghost use Rattle.session_lines.specs.declared.reply.Reply.TheVariants as told;
 ghost use Rattle.hub_sessions.specs.Sessions.{Submits, Answers, TakesTurn, BreaksTurn, Ends, reply_line};
 ghost use Rattle.hub_sessions.specs.declared.conversation.TurnFault.TheVariants as turn_fault;
 
-use crate::desk::{Desk, Held};
 use change_ops::change::Change;
 use ingest_workers::hub::Hub;
 use ingest_workers::ingest::ingest_change;
@@ -16,6 +15,7 @@ use session_lines::fault::ReadFault;
 use session_lines::reader::LineReader;
 use session_lines::reply::Reply;
 use session_lines::request::{Next, SessionRequest, next_request};
+use session_subscribers::session_hub::{Held, SessionHub};
 use std::alloc::{AllocError, Global};
 use std::io::{Read, Write};
 use std::sync::Wait;
@@ -27,7 +27,7 @@ use version_history::published::{Naming, Published};
 const REPLY_ROOM: usize = 37_000;
 
 /// Why a session ended before its end.
-#[derive(Clone, Copy, Debug, PartialEq, Eq)]
+#[derive(Clone, Copy)]
 pub enum SessionFault {
     /// A read failed.
     Read,
@@ -106,105 +106,113 @@ fn change<N: Naming + Ledger, R: Wait + Copy>(
     }
 }
 
-impl<N: Naming + Ledger + Send + Sync, R: Threads + Wait + Copy + Send + Sync> Desk<'_, '_, N, R> {
-    /// Does what is asked, appends the lines of items, and answers the line after them.
-    fn answer(
-        &self,
-        share: &mut Share<N>,
-        held: &mut Vec<Held<N, R>>,
-        request: SessionRequest,
-        out: &mut String,
-    ) -> Result<Reply, AllocError>
-        ensures answers { IfOk result (λ answer. Answers request (record { count = share.old; held = held.old.items }) (string_bytes out.old) (string_bytes out.new)
-            answer (record { count = share.new; held = held.new.items })) }
-        ensures share { share.old ≤ share.new }
-    {
-        match request {
-            SessionRequest::Change(asked) => Ok(change(&self.rt, self.hub, share, asked)),
-            SessionRequest::Subscribe { capacity, program } => {
-                Ok(self.subscribe(held, capacity, &program))
-            }
-            SessionRequest::Pull { subscriber, count } => self.pull(held, subscriber, count, out),
-            SessionRequest::Close { subscriber } => Ok(self.close(held, subscriber)),
+/// Does what is asked, appends the lines of items, and answers the line after them.
+fn answer<N: Naming + Ledger + Send + Sync, R: Threads + Wait + Copy + Send + Sync>(
+    hub: &SessionHub<'_, '_, N, R>,
+    share: &mut Share<N>,
+    held: &mut Vec<Held<N, R>>,
+    request: SessionRequest,
+    out: &mut String,
+) -> Result<Reply, AllocError>
+    ensures answers { IfOk result (λ answer. Answers request (record { count = share.old; held = held.old.items }) (string_bytes out.old) (string_bytes out.new)
+        answer (record { count = share.new; held = held.new.items })) }
+    ensures share { share.old ≤ share.new }
+{
+    match request {
+        SessionRequest::Change(asked) => Ok(change(&hub.rt, hub.hub, share, asked)),
+        SessionRequest::Subscribe { capacity, program } => {
+            Ok(hub.subscribe(held, capacity, &program))
+        }
+        SessionRequest::Pull { subscriber, count } => hub.pull(held, subscriber, count, out),
+        SessionRequest::Close { subscriber } => Ok(hub.close(held, subscriber)),
+    }
+}
+
+/// Reads a request, does what it asks, and puts the lines of the reply in place of those of the one before.
+fn take_turn<N: Naming + Ledger + Send + Sync, R: Threads + Wait + Copy + Send + Sync, I: Read>(
+    hub: &SessionHub<'_, '_, N, R>,
+    share: &mut Share<N>,
+    held: &mut Vec<Held<N, R>>,
+    lines: &mut LineReader<I>,
+    out: &mut String,
+) -> Result<Turn, TurnFault>
+    ensures ok { IfOk result (λ turn. TakesTurn turn (record { count = share.old; held = held.old.items }) lines.old.left (string_bytes out.new)
+        (record { count = share.new; held = held.new.items }) lines.new.left) }
+    ensures err { IfErr result (λ fault. BreaksTurn fault (record { count = share.old; held = held.old.items }) (string_bytes out.new)
+        (record { count = share.new; held = held.new.items })) }
+    ensures share { share.old ≤ share.new }
+{
+    out.clear();
+    match next_request(hub.alloc, lines)? {
+        Next::Request(request) => {
+            answer(hub, share, held, request, out)?.push_line(out)?;
+            Ok(Turn::More)
+        }
+        Next::Refused(refusal) => {
+            Reply::Refused(Reason::from(refusal)).push_line(out)?;
+            Ok(Turn::More)
+        }
+        Next::TooLong => {
+            Reply::Refused(Reason::LineTooLong).push_line(out)?;
+            Ok(Turn::Last)
+        }
+        Next::End => Ok(Turn::Last),
+    }
+}
+
+/// Answers one request after another.
+fn converse<
+    N: Naming + Ledger + Send + Sync,
+    R: Threads + Wait + Copy + Send + Sync,
+    I: Read,
+    O: Write,
+>(
+    hub: &SessionHub<'_, '_, N, R>,
+    share: &mut Share<N>,
+    held: &mut Vec<Held<N, R>>,
+    lines: &mut LineReader<I>,
+    out: &mut String,
+    writer: &mut O,
+) -> Result<(), SessionFault>
+    ensures ends { Ends result (record { count = share.old; held = held.old.items }) lines.old.left (O.contents writer.old) share.new (O.contents writer.new) }
+    ensures share { share.old ≤ share.new }
+{
+    for _ in hub.rt.forever() {
+        let turn = take_turn(hub, share, held, lines, out);
+        write_reply(writer, out.as_str())?;
+        match turn {
+            Ok(Turn::More) => {}
+            Ok(Turn::Last) => return Ok(()),
+            Err(TurnFault::Read) => return Err(SessionFault::Read),
+            Err(TurnFault::Memory) => return write_no_memory(writer),
         }
     }
+    unreachable!()
+}
 
-    /// Reads a request, does what it asks, and puts the lines of the reply in place of those of the one before.
-    fn turn<I: Read>(
-        &self,
-        share: &mut Share<N>,
-        held: &mut Vec<Held<N, R>>,
-        lines: &mut LineReader<I>,
-        out: &mut String,
-    ) -> Result<Turn, TurnFault>
-        ensures ok { IfOk result (λ turn. TakesTurn turn (record { count = share.old; held = held.old.items }) lines.old.left (string_bytes out.new)
-            (record { count = share.new; held = held.new.items }) lines.new.left) }
-        ensures err { IfErr result (λ fault. BreaksTurn fault (record { count = share.old; held = held.old.items }) (string_bytes out.new)
-            (record { count = share.new; held = held.new.items })) }
-        ensures share { share.old ≤ share.new }
-    {
-        out.clear();
-        match next_request(self.alloc, lines)? {
-            Next::Request(request) => {
-                self.answer(share, held, request, out)?.push_line(out)?;
-                Ok(Turn::More)
-            }
-            Next::Refused(refusal) => {
-                Reply::Refused(Reason::from(refusal)).push_line(out)?;
-                Ok(Turn::More)
-            }
-            Next::TooLong => {
-                Reply::Refused(Reason::LineTooLong).push_line(out)?;
-                Ok(Turn::Last)
-            }
-            Next::End => Ok(Turn::Last),
-        }
-    }
-
-    /// Answers one request after another.
-    fn converse<I: Read, O: Write>(
-        &self,
-        share: &mut Share<N>,
-        held: &mut Vec<Held<N, R>>,
-        lines: &mut LineReader<I>,
-        out: &mut String,
-        writer: &mut O,
-    ) -> Result<(), SessionFault>
-        ensures ends { Ends result (record { count = share.old; held = held.old.items }) lines.old.left (O.contents writer.old) share.new (O.contents writer.new) }
-        ensures share { share.old ≤ share.new }
-    {
-        for _ in self.rt.forever() {
-            let turn = self.turn(share, held, lines, out);
-            write_reply(writer, out.as_str())?;
-            match turn {
-                Ok(Turn::More) => {}
-                Ok(Turn::Last) => return Ok(()),
-                Err(TurnFault::Read) => return Err(SessionFault::Read),
-                Err(TurnFault::Memory) => return write_no_memory(writer),
-            }
-        }
-        unreachable!()
-    }
-
-    /// Makes the room for lines and replies, and answers one request after another.
-    fn begin<I: Read + Drop, O: Write>(
-        &self,
-        share: &mut Share<N>,
-        held: &mut Vec<Held<N, R>>,
-        reader: I,
-        writer: &mut O,
-    ) -> Result<(), SessionFault>
-        ensures ends { Ends result (record { count = share.old; held = held.old.items }) (I.remaining reader) (O.contents writer.old) share.new (O.contents writer.new) }
-        ensures share { share.old ≤ share.new }
-    {
-        let Ok(mut lines) = LineReader::new(self.alloc, reader) else {
-            return write_no_memory(writer);
-        };
-        let Ok(mut out) = String::with_capacity(self.alloc, REPLY_ROOM) else {
-            return write_no_memory(writer);
-        };
-        self.converse(share, held, &mut lines, &mut out, writer)
-    }
+/// Makes the room for lines and replies, and answers one request after another.
+fn begin<
+    N: Naming + Ledger + Send + Sync,
+    R: Threads + Wait + Copy + Send + Sync,
+    I: Read + Drop,
+    O: Write,
+>(
+    hub: &SessionHub<'_, '_, N, R>,
+    share: &mut Share<N>,
+    held: &mut Vec<Held<N, R>>,
+    reader: I,
+    writer: &mut O,
+) -> Result<(), SessionFault>
+    ensures ends { Ends result (record { count = share.old; held = held.old.items }) (I.remaining reader) (O.contents writer.old) share.new (O.contents writer.new) }
+    ensures share { share.old ≤ share.new }
+{
+    let Ok(mut lines) = LineReader::new(hub.alloc, reader) else {
+        return write_no_memory(writer);
+    };
+    let Ok(mut out) = String::with_capacity(hub.alloc, REPLY_ROOM) else {
+        return write_no_memory(writer);
+    };
+    converse(hub, share, held, &mut lines, &mut out, writer)
 }
 
 /// Runs one session on a hub, by its own share, over any reader and writer: each request is answered whole, and then flushed, before
@@ -229,7 +237,7 @@ pub fn session<
     ensures ends { Ends result (record { count = share.old; held = [] }) (I.remaining reader) (O.contents writer.old) share.new (O.contents writer.new) }
     ensures share { share.old ≤ share.new }
 {
-    let desk = Desk {
+    let session_hub = SessionHub {
         rt: *rt,
         alloc,
         hub,
@@ -237,7 +245,7 @@ pub fn session<
         workers,
     };
     let mut held = Vec::new(alloc);
-    let ended = desk.begin(share, &mut held, reader, writer);
+    let ended = begin(&session_hub, share, &mut held, reader, writer);
     for one in held {
         let _ = hub.close(rt, one.id);
     }

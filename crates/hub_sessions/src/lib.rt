@@ -2,9 +2,6 @@
 #![tactic(auto)]
 
 pub mod conversation;
-mod desk;
 mod listening;
-mod pulling;
 pub mod replaying;
 pub mod server;
-mod subscribing;

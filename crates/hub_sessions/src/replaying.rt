@@ -15,7 +15,7 @@ use verifier::verify::Verified;
 use version_history::published::{Naming, Published};
 
 /// Why a session on a hub of its own did not come to its end.
-#[derive(Clone, Copy, Debug, PartialEq, Eq)]
+#[derive(Clone, Copy)]
 pub enum ReplayError {
     /// A read or a write failed.
     Session(SessionFault),

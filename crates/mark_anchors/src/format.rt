@@ -14,13 +14,24 @@ use std::alloc::{AllocError, Global};
 use std::marker::Model;
 
 /// How a character is formatted: what holds of each key (Peritext, CSCW 2022).
-#[derive(Debug, Drop)]
 pub struct Format {
     pub(crate) strong: bool,
     pub(crate) em: bool,
     pub(crate) link: Option<Link>,
     pub(crate) color: Option<Color>,
     pub(crate) comments: SmallVec<CommentNumber, 4>,
+}
+
+impl Drop for Format {
+    fn drop(self) {
+        let Format {
+            strong: _,
+            em: _,
+            link: _,
+            color: _,
+            comments: _,
+        } = self;
+    }
 }
 
 impl Model for Format {

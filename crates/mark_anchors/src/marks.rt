@@ -13,7 +13,7 @@ use std::marker::Model;
 pub const MARK_LIMIT: usize = 4096;
 
 /// Why a mark operation was not added.
-#[derive(Clone, Copy, Debug, PartialEq, Eq)]
+#[derive(Clone, Copy)]
 pub enum MarksError {
     /// 4,096 mark operations are held.
     MarksFull,

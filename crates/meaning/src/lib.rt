@@ -5,7 +5,7 @@ ghost use Rattle.meaning.specs.Safe.{Safe};
 ghost use Rattle.meaning.specs.Samples.{returns_one, exit_alone};
 
 /// Why a run stops at an instruction.
-#[derive(Clone, Copy, Debug, PartialEq, Eq)]
+#[derive(Clone, Copy)]
 pub enum FaultKind {
     /// A register is read that nothing was written to.
     UnsetRegister,
@@ -24,7 +24,7 @@ pub enum FaultKind {
 }
 
 /// How a run ends.
-#[derive(Clone, Copy, Debug, PartialEq, Eq)]
+#[derive(Clone, Copy)]
 pub enum Outcome {
     /// An exit, with the number in r0.
     Done(u64),

@@ -4,19 +4,37 @@ use mark_anchors::format::Format;
 use std::marker::Model;
 
 /// A span: from `start` to `end` in the version's text, in bytes, all of one format.
-#[derive(Debug, Drop)]
 pub struct Row {
     pub start: usize,
     pub end: usize,
     pub format: Format,
 }
 
+impl Drop for Row {
+    fn drop(self) {
+        let Row {
+            start: _,
+            end: _,
+            format: _,
+        } = self;
+    }
+}
+
 /// A version of the text: its number, the visible text, and a row for each span.
-#[derive(Debug, Drop)]
 pub struct Version {
     pub(crate) number: u64,
     pub(crate) text: String,
     pub(crate) rows: Vec<Row>,
+}
+
+impl Drop for Version {
+    fn drop(self) {
+        let Version {
+            number: _,
+            text: _,
+            rows: _,
+        } = self;
+    }
 }
 
 impl Model for Version {

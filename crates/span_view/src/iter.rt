@@ -8,7 +8,7 @@ use std::iter::FusedIterator;
 use std::marker::Model;
 
 /// The spans of a version that are left, seen as their list.
-#[derive(Debug, Drop)]
+#[derive(Drop)]
 pub struct Spans<'a> {
     pub(crate) version: &'a Version,
     pub(crate) front: usize,

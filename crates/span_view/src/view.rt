@@ -7,7 +7,7 @@ use span_flatten::version::Version;
 use std::marker::Model;
 
 /// A span of a version, lent from it.
-#[derive(Debug, Drop)]
+#[derive(Drop)]
 pub struct SpanView<'a> {
     /// The span's text.
     pub text: &'a str,

@@ -17,11 +17,20 @@ use version_history::published::Naming;
 pub const CAPACITY_LIMIT: usize = 1024;
 
 /// The hub's end of a subscriber's queue. Contracts see what was sent, and the capacity.
-#[derive(Drop)]
 pub struct QueueSink<N: Naming, R: Wait + Copy> {
     rt: R,
     line: Arc<Line<N>, Global>,
     pass: Pass<Item<N>, Knows<N>>,
+}
+
+impl<N: Naming, R: Wait + Copy> Drop for QueueSink<N, R> {
+    fn drop(self) {
+        let QueueSink {
+            rt: _,
+            line: _,
+            pass: _,
+        } = self;
+    }
 }
 
 impl<N: Naming, R: Wait + Copy> Model for QueueSink<N, R> {
@@ -38,11 +47,20 @@ impl<N: Naming, R: Wait + Copy> Model for QueueSink<N, R> {
 }
 
 /// The subscriber's end of its queue. Contracts see what was taken.
-#[derive(Drop)]
 pub struct Subscription<N: Naming, R: Wait + Copy> {
     rt: R,
     line: Arc<Line<N>, Global>,
     pass: Pass<Item<N>, Knows<N>>,
+}
+
+impl<N: Naming, R: Wait + Copy> Drop for Subscription<N, R> {
+    fn drop(self) {
+        let Subscription {
+            rt: _,
+            line: _,
+            pass: _,
+        } = self;
+    }
 }
 
 impl<N: Naming, R: Wait + Copy> Model for Subscription<N, R> {

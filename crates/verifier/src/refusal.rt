@@ -5,7 +5,7 @@ use abstract_state::refusal::Refusal;
 use std::alloc::{AllocError, AllocFailed};
 
 /// What is wrong with an instruction's place or target, whatever is known of the machine.
-#[derive(Clone, Copy, Debug, PartialEq, Eq)]
+#[derive(Clone, Copy)]
 pub enum StructureFault {
     /// A jump back.
     BackwardJump,
@@ -20,7 +20,7 @@ pub enum StructureFault {
 }
 
 /// Why a program isn't accepted: the first slot at fault, counted from 0, or want of memory.
-#[derive(Clone, Copy, Debug, PartialEq, Eq)]
+#[derive(Clone, Copy)]
 pub enum VerifyError {
     Structure { slot: usize, fault: StructureFault },
     State { slot: usize, fault: Refusal },

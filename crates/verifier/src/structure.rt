@@ -50,7 +50,7 @@ fn falls_off(words: &Words<'_>, slot: usize, insn: &Insn) -> bool
     ensures { IsTrue result ↔ Faults (program_of words.now) slot insn.now StructureFault.FallOff }
 {
     let count = words.len();
-    slot + insn.slots() >= count && *insn != Insn::Exit
+    slot + insn.slots() >= count && !matches!(insn, Insn::Exit)
 }
 
 fn writes_r10(insn: &Insn) -> bool

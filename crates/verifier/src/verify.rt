@@ -17,9 +17,14 @@ use std::alloc::Global;
 use std::marker::Model;
 
 /// A program of which every run ends with a number: it meets no fault, and takes no more steps than the program has slots.
-#[derive(Drop)]
 pub struct Verified {
     rows: Rows,
+}
+
+impl Drop for Verified {
+    fn drop(self) {
+        let Verified { rows: _ } = self;
+    }
 }
 
 impl Model for Verified {

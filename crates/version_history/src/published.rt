@@ -24,10 +24,15 @@ impl Naming for Brand {
 }
 
 /// Shows that a version stands in the list of the hub `N`, at its index, for good.
-#[derive(Drop)]
 pub struct VersionToken<N: Naming> {
     at: Pushed<Version>,
     of: PhantomData<N>,
+}
+
+impl<N: Naming> Drop for VersionToken<N> {
+    fn drop(self) {
+        let VersionToken { at: _, of: _ } = self;
+    }
 }
 
 impl<N: Naming> Model for VersionToken<N> {
@@ -55,10 +60,15 @@ impl<N: Naming> VersionToken<N> {
 }
 
 /// Shows that a program, of which every run ends with a number, stands in the list of the hub `N`, at its index, for good.
-#[derive(Drop)]
 pub struct ProgramToken<N: Naming> {
     at: Pushed<Verified>,
     of: PhantomData<N>,
+}
+
+impl<N: Naming> Drop for ProgramToken<N> {
+    fn drop(self) {
+        let ProgramToken { at: _, of: _ } = self;
+    }
 }
 
 impl<N: Naming> Model for ProgramToken<N> {

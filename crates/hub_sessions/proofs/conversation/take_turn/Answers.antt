@@ -1,0 +1,49 @@
+use Rattle.std.proofs.Common.{[], refl, subst, string_bytes, inr}
+use Rattle.refusals.specs.declared.reason.Reason.TheVariants as reason
+use Rattle.session_lines.specs.Replies.{reason_of}
+use Rattle.session_lines.specs.Requests.{IsNext}
+use Rattle.session_lines.specs.declared.reply.Reply.TheVariants as reply
+use Rattle.session_lines.specs.declared.request.Next.TheVariants as next
+use Rattle.hub_sessions.specs.Sessions.{Standing, Exchange, Answers}
+use Rattle.hub_sessions.proofs.Conversing.{refused_line}
+use Rattle.hub_sessions.proofs.conversation.take_turn.Goals as goal
+
+pub returns-in_ok-push_line-in-Request-clause-ok : goal.returns-in_ok-push_line-in-Request-clause-ok
+returns-in_ok-push_line-in-Request-clause-ok g c =
+    let before : Standing = record { count = c.args.share.now; held = c.args.held.now.items } in
+    let now : Standing = record { count = c.answer.new.share; held = c.answer.new.held.items } in
+    let items = string_bytes c.answer.new.out in
+    let answer = c.in_ok-answer-in-Request.field-0 in
+    let exchange : Exchange = record { came = next.Request c.in-Request.request; items = items; answer = answer; left = c.next_request.new.reader.left; stands = now } in (
+      exchange,
+      record {
+        next = subst (λ n. IsNext c.args.lines.now.left n c.next_request.new.reader.left) c.in-Request.is c.in_ok-request.ensures;
+        met = subst (λ out. Answers c.in-Request.request before out items answer now) c.clear.ensures.bytes c.in_ok-answer-in-Request.ensures.answers;
+      },
+      c.in_ok-push_line-in-Request.ensures,
+      refl,
+      refl,
+    )
+
+pub returns-in_ok-push_line-in-Refused-clause-ok : goal.returns-in_ok-push_line-in-Refused-clause-ok
+returns-in_ok-push_line-in-Refused-clause-ok g c =
+    let before : Standing = record { count = c.args.share.now; held = c.args.held.now.items } in
+    let exchange : Exchange = record { came = next.Refused c.in-Refused.refusal; items = []; answer = reply.Refused (reason_of c.in-Refused.refusal); left = c.next_request.new.reader.left; stands = before } in (
+      exchange,
+      record {
+        next = subst (λ n. IsNext c.args.lines.now.left n c.next_request.new.reader.left) c.in-Refused.is c.in_ok-request.ensures;
+        met = (refl, refl, refl);
+      },
+      refused_line _ _ c.from.result _ c.in_ok-push_line-in-Refused.ensures c.clear.ensures.bytes c.from.ensures,
+      refl,
+      refl,
+    )
+
+pub returns-in_ok-push_line-in-TooLong-clause-ok : goal.returns-in_ok-push_line-in-TooLong-clause-ok
+returns-in_ok-push_line-in-TooLong-clause-ok g c = (
+  inr (
+    subst (λ n. IsNext c.args.lines.now.left n c.next_request.new.reader.left) c.in-TooLong.is c.in_ok-request.ensures,
+    refused_line _ _ reason.LineTooLong _ c.in_ok-push_line-in-TooLong.ensures c.clear.ensures.bytes refl,
+  ),
+  refl,
+)

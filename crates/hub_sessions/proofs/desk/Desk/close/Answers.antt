@@ -1,9 +1,0 @@
-use Rattle.std.proofs.Common.{refl, sym, ap, ◌∙◌}
-use Rattle.hub_sessions.specs.Holding.{place_in}
-use Rattle.hub_sessions.proofs.desk.Desk.close.Goals as goal
-
-pub returns-in_default : goal.returns-in_default
-returns-in_default g c = (refl, sym (c.in_default.ensures ∙ ap (λ l. place_in l c.args.id) c.as_slice.ensures.value), refl)
-
-pub returns : goal.returns
-returns g c = (refl, c.in-Some.place, sym (c.in-Some.ensures ∙ ap (λ l. place_in l c.args.id) c.as_slice.ensures.value), c.remove-one.ensures.items, (c.close.result, c.close.ensures))

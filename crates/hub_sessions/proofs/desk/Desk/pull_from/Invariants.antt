@@ -1,6 +1,0 @@
-use Rattle.std.proofs.Common.{◌≤◌, string_bytes}
-use Rattle.hub_sessions.specs.Items.{Takes}
-use Rattle.hub_sessions.proofs.desk.Desk.pull_from.Given as goal
-
-abbrev pub invariant-loop-round : goal.invariant-loop-round
-invariant-loop-round g l = Takes l.taken l.initial.items l.items (string_bytes l.initial.out) (string_bytes l.out) × (l.taken ≤ l.count)

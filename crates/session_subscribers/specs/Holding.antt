@@ -1,0 +1,90 @@
+-- The subscribers of a session, and what requests do to them.
+use Rattle.std.specs.Prelude.{◌≡◌, ◌≤◌, ◌⊎◌, ◌==◌, ℕ, Option, None, Some, Result, Ok, List, [], ◌∷◌, ◌++◌, length, position, slice_get, slice_set, ⊤}
+use Rattle.std.specs.List.{remove}
+use Rattle.bpf_words.specs.Words.{IsProgram, IsRefused, program_of}
+use Rattle.meaning.specs.Step.{Program}
+use Rattle.meaning.specs.Safe.{Safe}
+use Rattle.version_history.specs.Tokens.{Token}
+use Rattle.batches.specs.Batches.{Entry}
+use Rattle.hub_core.specs.Machine.{Subscribes, Closes as ClosesAtHub}
+use Rattle.hub_core.specs.declared.error.NoSubscriber.{NoSubscriber}
+use Rattle.subscriber_queues.specs.Queue.{IsCapacity}
+use Rattle.ingest_workers.specs.Holdings.{InOneHolding}
+use Rattle.refusals.specs.declared.reason.Reason.{Reason}
+use Rattle.refusals.specs.declared.reason.Reason.TheVariants as reason
+use Rattle.session_lines.specs.declared.reply.Reply.{Reply}
+use Rattle.session_lines.specs.declared.reply.Reply.TheVariants as reply
+use Rattle.session_subscribers.specs.Items.{Takes}
+
+-- a subscriber that a session holds: its id, and the items that the session took of it
+pub record Watched : Type 0 where
+  pub id : ℕ
+  pub taken : List Entry
+
+-- where the one with an id is among these
+abbrev pub place_in : List Watched → ℕ → Option ℕ
+place_in held id = position (λ one. one.id == id) held
+
+-- the program of these bytes, each run of which ends with a number, was subscribed under this id with an empty queue of this capacity
+pub record IsSubscribed (capacity : ℕ) (bytes : List ℕ) (id : ℕ) : Type 0 where
+  pub program : IsProgram bytes
+  pub safe : Safe (program_of bytes)
+  pub token : Token Program
+  pub same : token.value ≡ program_of bytes
+  pub holding : InOneHolding (λ old new. Subscribes old (length old.changes) token (record { sent = []; capacity = capacity }) (Ok id) new)
+
+-- the bytes are a program, each run of which ends with a number
+abbrev pub AreSafe : List ℕ → Type 0
+AreSafe bytes = IsProgram bytes × Safe (program_of bytes)
+
+-- why it was not
+abbrev pub IsNotSubscribed : ℕ → List ℕ → Reason → Type 0
+IsNotSubscribed capacity bytes (reason.Words error) = IsRefused bytes error
+IsNotSubscribed capacity bytes (reason.Unverified error) = IsProgram bytes
+IsNotSubscribed capacity bytes reason.BadCapacity = AreSafe bytes × (¬ IsCapacity capacity)
+IsNotSubscribed capacity bytes reason.SubscribersFull = AreSafe bytes × InOneHolding (λ old new. (new ≡ old) × (length old.subs ≡ 64))
+IsNotSubscribed capacity bytes reason.OutOfMemory = AreSafe bytes
+IsNotSubscribed capacity bytes _ = ⊥
+
+-- one more is held, of which nothing was taken; or the same as before
+abbrev pub Adds : ℕ → List ℕ → List Watched → Reply → List Watched → Type 0
+Adds capacity bytes held (reply.Subscribed id) held' = (held' ≡ held ++ record { id = id; taken = [] } ∷ []) × IsSubscribed capacity bytes id
+Adds capacity bytes held (reply.Refused why) held' = (held' ≡ held) × IsNotSubscribed capacity bytes why
+Adds capacity bytes held _ held' = ⊥
+
+-- the hub was asked to close this one; where the hub has it as closed, it is refused and stays so
+abbrev pub IsClosed : ℕ → Type 0
+IsClosed id = (found : Result ⊤ NoSubscriber) × InOneHolding (λ old new. ClosesAtHub old id found new)
+
+-- the one with the id is closed at the hub and held no more, and the others are; or none had it
+abbrev pub Closes : List Watched → ℕ → Reply → List Watched → Type 0
+Closes held id (reply.Closed closed) held' = (closed ≡ id) × (place : ℕ) × (place_in held id ≡ Some place) × (held' ≡ remove held place) × IsClosed id
+Closes held id (reply.Refused why) held' = (why ≡ reason.NoSubscriber) × (place_in held id ≡ None) × (held' ≡ held)
+Closes held id _ held' = ⊥
+
+-- items of one subscriber were taken, at most so many, and it is answered how many; or that no memory was found
+pub record Pulls (count : ℕ) (taken taken' : List Entry) (out out' : List ℕ) (answer : Reply) : Type 0 where
+  pub many : ℕ
+  pub most : many ≤ count
+  pub takes : Takes many taken taken' out out'
+  pub told : (answer ≡ reply.Items many) ⊎ (answer ≡ reply.Refused reason.OutOfMemory)
+
+-- items of the subscriber with the id were taken, and of no other
+pub record PullsHeld (id count : ℕ) (held held' : List Watched) (out out' : List ℕ) (answer : Reply) : Type 0 where
+  pub place : ℕ
+  pub there : place_in held id ≡ Some place
+  pub one : Watched
+  pub is : slice_get held place ≡ Some one
+  pub taken : List Entry
+  pub others : held' ≡ slice_set held place (record one { taken = taken })
+  pub pulls : Pulls count one.taken taken out out' answer
+
+-- or none had it, and nothing was done
+pub record PullsNone (id : ℕ) (held held' : List Watched) (out out' : List ℕ) (answer : Reply) : Type 0 where
+  pub none : place_in held id ≡ None
+  pub same : held' ≡ held
+  pub printed : out' ≡ out
+  pub told : answer ≡ reply.Refused reason.NoSubscriber
+
+abbrev pub PullsAny : ℕ → ℕ → List Watched → List Watched → List ℕ → List ℕ → Reply → Type 0
+PullsAny id count held held' out out' answer = PullsHeld id count held held' out out' answer ⊎ PullsNone id held held' out out' answer

@@ -1,0 +1,151 @@
+ghost use Rattle.std.specs.Prelude.{◌≡◌, ◌≤◌, IfOk, string_bytes};
+ghost use Rattle.session_subscribers.specs.Holding.{Pulls, PullsAny};
+ghost use Rattle.session_subscribers.specs.Items.{item_reply, Takes};
+
+use crate::session_hub::{Held, SessionHub, place_of};
+use batches::item::Finding;
+use filter_workers::gate::Open;
+use filter_workers::work::{catch_up, work};
+use refusals::reason::Reason;
+use session_lines::reply::Reply;
+use std::alloc::AllocError;
+use std::sync::Wait;
+use std::sync::ledger::Ledger;
+use std::thread::Threads;
+use subscriber_queues::ends::Subscription;
+use version_history::published::Naming;
+
+/// How many batches each worker computes in a round of a pull, for whichever subscribers they are due. A bound keeps a pull from
+/// working for others without end while they write.
+const ROUND_TURNS: u32 = 8;
+
+/// What is printed of an item.
+fn reply_of(what: Finding) -> Reply
+    ensures { result ≡ item_reply what }
+{
+    match what {
+        Finding::Hit {
+            version,
+            span,
+            verdict,
+        } => Reply::Hit {
+            version,
+            span,
+            verdict,
+        },
+        Finding::End { version, spans } => Reply::End { version, spans },
+    }
+}
+
+/// Takes the items that wait, at most so many, and appends their lines. It answers how many.
+fn take_waiting<N: Naming, R: Wait + Copy>(
+    items: &mut Subscription<N, R>,
+    most: usize,
+    out: &mut String,
+) -> Result<usize, AllocError>
+    ensures { IfOk result (λ taken. (taken ≤ most) × Takes taken items.old items.new (string_bytes out.old) (string_bytes out.new)) }
+{
+    for taken in 0..most {
+        let Some(item) = items.take() else {
+            return Ok(taken);
+        };
+        reply_of(item.what).push_line(out)?;
+    }
+    Ok(most)
+}
+
+impl<N: Naming + Ledger + Send + Sync, R: Threads + Wait + Copy + Send + Sync> SessionHub<
+    '_,
+    '_,
+    N,
+    R,
+> {
+    /// Has items sent and takes them, until so many are taken or none is left. It answers how many.
+    fn drain(
+        &self,
+        id: usize,
+        items: &mut Subscription<N, R>,
+        most: usize,
+        out: &mut String,
+    ) -> Result<usize, AllocError>
+        ensures { IfOk result (λ taken. (taken ≤ most) × Takes taken items.old items.new (string_bytes out.old) (string_bytes out.new)) }
+    {
+        let mut taken = 0;
+        for _round in 0..most {
+            let _ = self.hub.pump(&self.rt, id);
+            let more = take_waiting(items, most - taken, out)?;
+            taken += more;
+            if more == 0 {
+                break;
+            }
+        }
+        Ok(taken)
+    }
+
+    /// Computes some of the batches that no worker computes yet, of all subscribers, and then the first one that this subscriber
+    /// waits for, whoever else computes it. It answers whether the subscriber waited for one.
+    fn compute(&self, id: usize) -> Result<bool, AllocError> {
+        work(
+            &self.rt,
+            self.alloc,
+            self.hub,
+            self.published,
+            &Open,
+            self.workers,
+            ROUND_TURNS,
+        )?;
+        catch_up(
+            &self.rt,
+            self.alloc,
+            self.hub,
+            self.published,
+            id,
+            self.workers,
+        )
+    }
+
+    /// Computes and takes items, until so many are taken or none is due.
+    ///
+    /// In a round where the subscriber waited for a batch, at least one item is taken. Where it waited for none and no item came, all
+    /// items of the versions published before that round were taken.
+    fn pull_from(
+        &self,
+        id: usize,
+        items: &mut Subscription<N, R>,
+        count: usize,
+        out: &mut String,
+    ) -> Result<Reply, AllocError>
+        ensures { IfOk result (Pulls count items.old items.new (string_bytes out.old) (string_bytes out.new)) }
+    {
+        let mut taken = 0;
+        for _round in 0..count {
+            let computed = self.compute(id);
+            let more = self.drain(id, items, count - taken, out)?;
+            taken += more;
+            let Ok(waited) = computed else {
+                return Ok(Reply::Refused(Reason::OutOfMemory));
+            };
+            if taken == count || (more == 0 && !waited) {
+                break;
+            }
+        }
+        Ok(Reply::Items(taken))
+    }
+
+    /// Takes items of a subscriber of the session, appends their lines, and answers what is printed after them.
+    pub fn pull(
+        &self,
+        held: &mut Vec<Held<N, R>>,
+        id: usize,
+        count: usize,
+        out: &mut String,
+    ) -> Result<Reply, AllocError>
+        ensures { IfOk result (PullsAny id count held.old.items held.new.items (string_bytes out.old) (string_bytes out.new)) }
+    {
+        let Some(place) = place_of(held.as_slice(), id) else {
+            return Ok(Reply::Refused(Reason::NoSubscriber));
+        };
+        let one = &mut held[place];
+        self.pull_from(one.id, &mut one.items, count, out)
+    }
+}

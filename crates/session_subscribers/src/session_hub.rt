@@ -1,0 +1,51 @@
+ghost use Rattle.std.specs.Prelude.{◌≡◌, ◌≤◌, ◌==◌};
+ghost use Rattle.session_subscribers.specs.Holding.{place_in};
+
+use ingest_workers::hub::Hub;
+use std::alloc::Global;
+use std::marker::Model;
+use std::sync::Wait;
+use std::sync::ledger::Ledger;
+use subscriber_queues::ends::Subscription;
+use version_history::published::{Naming, Published};
+
+/// The hub as a session uses it.
+#[derive(Drop)]
+pub struct SessionHub<'s, 'p, N: Naming + Ledger, R: Wait + Copy> {
+    pub rt: R,
+    pub alloc: Global,
+    pub hub: &'s Hub<'p, N, R>,
+    pub published: &'s Published<'p, N>,
+    pub workers: usize,
+    ghost range: { (1 ≤ workers) × (workers ≤ 16) },
+}
+
+/// A subscriber that the session made and hasn't closed, and the session's end of its queue. Contracts see its id and what was
+/// taken.
+#[derive(Drop)]
+pub struct Held<N: Naming, R: Wait + Copy> {
+    pub id: usize,
+    pub items: Subscription<N, R>,
+}
+
+impl<N: Naming, R: Wait + Copy> Model for Held<N, R> {
+    ghost use Rattle.session_subscribers.specs.Holding.{Watched};
+
+    ghost Value = { Watched };
+
+    ghost view = { λ h. record { id = h.id; taken = h.items } };
+}
+
+/// Whether it has this id.
+fn has_id<N: Naming, R: Wait + Copy>(one: &Held<N, R>, id: usize) -> bool
+    ensures { result ≡ (one.now.id == id) }
+{
+    one.id == id
+}
+
+/// Where the subscriber of an id is among these.
+pub fn place_of<N: Naming, R: Wait + Copy>(held: &[Held<N, R>], id: usize) -> Option<usize>
+    ensures { result ≡ place_in held.now id }
+{
+    held.iter().position(|one| has_id(one, id))
+}
