@@ -1,5 +1,5 @@
 //! Runs the program's command on each case of the standard input, over readers and writers in memory, and prints each
-//! case's name, its exit status, and what the command printed.
+//! case's name, its exit status, and what the command printed; and then what clients of a server were told.
 //!
 //! Cases are separated by empty lines. A case is these lines, of which all but the first may be left out or repeated:
 //!
@@ -166,6 +166,7 @@ fn main(rt: HostRuntime) -> Result<()> {
         let case = Case::read(alloc, text)?;
         case.answer(&rt, alloc, &mut writer)?;
     }
+    hub_clients::trials(&rt, alloc, &mut writer)?;
     writer.flush()?;
     Ok(())
 }

@@ -245,6 +245,3 @@ impl Range {
         Range::new(self.low.max(other.low), self.high.min(other.high))
     }
 }
-
-#[cfg(test)]
-mod tests;

@@ -228,6 +228,3 @@ impl Bits {
         })
     }
 }
-
-#[cfg(test)]
-mod tests;

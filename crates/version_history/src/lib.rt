@@ -2,5 +2,3 @@
 #![tactic(auto)]
 
 pub mod published;
-#[cfg(test)]
-mod tests;
