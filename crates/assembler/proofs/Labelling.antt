@@ -9,9 +9,9 @@ use Rattle.std.proofs.lemmas.List.Sums.{sum_by_more, sum_by_more_le}
 use Rattle.std.proofs.lemmas.List.{take_all, take_more, length-take-le, get_or-map, length-map}
 use Rattle.std.proofs.lemmas.Slice.Eq.{bytes_eq-Decides}
 use Rattle.assembler.specs.declared.labels.Definition.{Definition}
-use Rattle.assembler.specs.Shapes.{either}
-use Rattle.assembler.specs.Places.{definition, has_label, label_of, place, slots}
-use Rattle.assembler.specs.Lending.{bytes_seen, lines_seen}
+use Rattle.assembler_lines.specs.Shapes.{either}
+use Rattle.assembler_lines.specs.Places.{definition, has_label, label_of, place, slots}
+use Rattle.assembler_lines.specs.Lending.{bytes_seen, lines_seen}
 use Rattle.assembler.specs.Labels.{Table, held, defined_at, HoldsLabels, HoldsAll, Defines}
 
 either_none : {A : Type 0} (o : Option A) → either o None ≡ o

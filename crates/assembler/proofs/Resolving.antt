@@ -4,11 +4,11 @@ use Rattle.std.proofs.Common.{pos, negsuc, ◌-ℤ◌, ◌-◌, ◌≡◌, ℕ, 
 use Rattle.std.specs.Option.{option_map}
 use Rattle.std.specs.List.{list_any}
 use Rattle.std.proofs.lemmas.Bool.{cases_lt, lt-ltb, le-ltb}
-use Rattle.assembler.specs.declared.fault.LineFault.TheVariants.{LabelTwice}
-use Rattle.assembler.specs.declared.fault.LineFault.{LineFault}
-use Rattle.assembler.specs.declared.statement.Jump.{Jump}
-use Rattle.assembler.specs.Statements.{Statement, Blank, Label, Plain, Onto, reach, jump_by, reading_of}
-use Rattle.assembler.specs.Places.{definition, has_label, place, insn_at, jump_between, jump_onto, resolved}
+use Rattle.assembler_lines.specs.declared.fault.LineFault.TheVariants.{LabelTwice}
+use Rattle.assembler_lines.specs.declared.fault.LineFault.{LineFault}
+use Rattle.assembler_lines.specs.declared.statement.Jump.{Jump}
+use Rattle.assembler_lines.specs.Statements.{Statement, Blank, Label, Plain, Onto, reach, jump_by, reading_of}
+use Rattle.assembler_lines.specs.Places.{definition, has_label, place, insn_at, jump_between, jump_onto, resolved}
 use Rattle.assembler.specs.Labels.{Table, defined_at, HoldsAll, onto_held, label_held, resolved_held}
 
 -- whether a line is before one

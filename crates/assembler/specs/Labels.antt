@@ -1,17 +1,17 @@
 -- What a table of labels holds.
 use Rattle.std.specs.Prelude.{◌≡◌, ℕ, List, Option, Some, None, option_map, take, nat_lt, if◌then◌else◌, Ok, Err}
 use Rattle.std.specs.Str.{bytes_eq}
-use Rattle.assembler.specs.Shapes.{either}
+use Rattle.assembler_lines.specs.Shapes.{either}
 use Rattle.std.specs.Borrow.{Bor}
 use Rattle.std.specs.Cmp.Lexicographic.{slice_cmp}
 use Rattle.std.specs.Ordering.{nat_cmp}
 use Rattle.std.specs.BTreeMap.{BTreeMap, get_by}
 use Rattle.assembler.specs.declared.labels.Definition.{Definition}
 use Rattle.bpf_words.specs.declared.instruction.Insn.{Insn}
-use Rattle.assembler.specs.declared.fault.LineFault.TheVariants.{UnknownLabel, LabelTwice}
-use Rattle.assembler.specs.declared.statement.Jump.{Jump}
-use Rattle.assembler.specs.Statements.{Statement, Blank, Label, Plain, Onto, Judged, ◌>>=◌}
-use Rattle.assembler.specs.Places.{definition, place, jump_between}
+use Rattle.assembler_lines.specs.declared.fault.LineFault.TheVariants.{UnknownLabel, LabelTwice}
+use Rattle.assembler_lines.specs.declared.statement.Jump.{Jump}
+use Rattle.assembler_lines.specs.Statements.{Statement, Blank, Label, Plain, Onto, Judged, ◌>>=◌}
+use Rattle.assembler_lines.specs.Places.{definition, place, jump_between}
 
 abbrev pub Table : Type 0
 Table = BTreeMap (Bor (List ℕ)) Definition

@@ -1,12 +1,2 @@
-pub mod Tokens
-pub mod Pieces
-pub mod Terms
-pub mod Mnemonics
-pub mod Shapes
-pub mod Grammar
-pub mod Statements
-pub mod Places
 pub mod Text
-pub mod Scanning
-pub mod Lending
 pub mod Labels

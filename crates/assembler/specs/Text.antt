@@ -3,11 +3,11 @@ use Rattle.std.specs.Prelude.{◌≡◌, ℕ, ◌+◌, ◌<◌, List, [], length
 use Rattle.std.specs.List.{range_with_len}
 use Rattle.bpf_words.specs.declared.instruction.Insn.{Insn}
 use Rattle.bpf_words.specs.Encoding.{encoded}
-use Rattle.assembler.specs.declared.fault.LineFault.{LineFault}
+use Rattle.assembler_lines.specs.declared.fault.LineFault.{LineFault}
 use Rattle.assembler.specs.declared.fault.AsmError.{AsmError}
 use Rattle.assembler.specs.declared.fault.AsmError.TheVariants.{Line, OutOfMemory}
-use Rattle.assembler.specs.Statements.{Judged}
-use Rattle.assembler.specs.Places.{lines_of, insn_at}
+use Rattle.assembler_lines.specs.Statements.{Judged}
+use Rattle.assembler_lines.specs.Places.{lines_of, insn_at}
 
 abbrev pub bytes_of : Judged (Option Insn) → List ℕ
 bytes_of (Ok (Some insn)) = encoded insn

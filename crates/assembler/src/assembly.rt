@@ -1,13 +1,14 @@
 ghost use Rattle.std.specs.Prelude.{◌≡◌, ℕ, ◌++◌, ◌<◌, ◌^◌, length, IfOk, IfErr, Ok, OnOk, sum_by};
 ghost use Rattle.assembler.specs.Labels.{held, HoldsAll, label_held, onto_held};
-ghost use Rattle.assembler.specs.Lending.{lines_seen};
-ghost use Rattle.assembler.specs.Places.{insn_at, jump_between, lines_of, place};
+ghost use Rattle.assembler_lines.specs.Lending.{lines_seen};
+ghost use Rattle.assembler_lines.specs.Places.{insn_at, jump_between, lines_of, place};
 ghost use Rattle.assembler.specs.Text.{bytes_of, AreRefused, AreTextOf, AsmFault, AsmText};
 
-use crate::fault::{AsmError, LineFault};
+use crate::fault::AsmError;
 use crate::labels::{Labels, labels, slots};
-use crate::reading::{jump_by, reach, reading};
-use crate::statement::{Jump, Statement};
+use assembler_lines::fault::LineFault;
+use assembler_lines::reading::{jump_by, reach, reading};
+use assembler_lines::statement::{Jump, Statement};
 use bpf_words::encoding::encode;
 use bpf_words::instruction::Insn;
 use std::alloc::{AllocError, Global};

@@ -1,14 +1,14 @@
 ghost use Rattle.std.specs.Prelude.{◌≡◌, ℕ, ◌+◌, ◌≤◌, ◌<◌, ◌^◌, length, option_map, IfOk, OnOk, sum_by};
-ghost use Rattle.assembler.specs.Lending.{bytes_seen, lines_seen};
+ghost use Rattle.assembler_lines.specs.Lending.{bytes_seen, lines_seen};
 ghost use Rattle.assembler.specs.Labels.{Defines, HoldsAll};
-ghost use Rattle.assembler.specs.Places.{slots, label_of};
+ghost use Rattle.assembler_lines.specs.Places.{slots, label_of};
 
-use crate::form::Form;
-use crate::mnemonics::mnemonic;
-use crate::reading::reading;
-use crate::scanner::next;
-use crate::statement::Statement;
-use crate::token::{Next, Sign, Token};
+use assembler_lines::form::Form;
+use assembler_lines::mnemonics::mnemonic;
+use assembler_lines::reading::reading;
+use assembler_lines::scanner::next;
+use assembler_lines::statement::Statement;
+use assembler_lines::token::{Next, Sign, Token};
 use std::alloc::{AllocError, Global};
 use std::collections::BTreeMap;
 

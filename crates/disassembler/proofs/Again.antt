@@ -7,17 +7,17 @@ use Rattle.bpf_words.specs.declared.instruction.Operand.{Operand}
 use Rattle.bpf_words.specs.declared.instruction.Operand.TheVariants.{Immediate, Source}
 use Rattle.bpf_words.specs.declared.instruction.Insn.{Insn}
 use Rattle.bpf_words.specs.declared.instruction.Insn.TheVariants.{Compute, Negate, Extend, Convert, Jump, JumpLong, Branch, Load, LoadSigned, Store, LoadWide, Exit}
-use Rattle.assembler.specs.declared.form.Form.TheVariants as form
-use Rattle.assembler.specs.Tokens.{Lexeme}
-use Rattle.assembler.specs.Pieces.{Piece, Sig, Text, BeginsApart, WellLaid, spell, lexemes}
-use Rattle.assembler.specs.Terms.{terms_of}
-use Rattle.assembler.specs.Shapes.{name_at, signed_at, constant_at, wide_at, value_at, target_at, address_at, lone_name, two_names, name_and_value, name_and_wide, name_and_address, address_and_constant, address_and_name, lone_target, name_value_and_target}
-use Rattle.assembler.specs.declared.fault.LineFault.TheVariants.{Syntax}
-use Rattle.assembler.specs.declared.token.Sign.TheVariants.{Plus, Minus, Close}
-use Rattle.assembler.specs.Statements.{◌>>=◌, Judged, Statement, Plain, demand, reading_of, statement_of, instruction_of, jump_to, jump_over, jump_by}
-use Rattle.assembler.specs.Statements.{operand as operand_of}
-use Rattle.assembler.proofs.Laws.{tokens_again}
-use Rattle.assembler.proofs.Naming.{form_again}
+use Rattle.assembler_lines.specs.declared.form.Form.TheVariants as form
+use Rattle.assembler_lines.specs.Tokens.{Lexeme}
+use Rattle.assembler_lines.specs.Pieces.{Piece, Sig, Text, BeginsApart, WellLaid, spell, lexemes}
+use Rattle.assembler_lines.specs.Terms.{terms_of}
+use Rattle.assembler_lines.specs.Shapes.{name_at, signed_at, constant_at, wide_at, value_at, target_at, address_at, lone_name, two_names, name_and_value, name_and_wide, name_and_address, address_and_constant, address_and_name, lone_target, name_value_and_target}
+use Rattle.assembler_lines.specs.declared.fault.LineFault.TheVariants.{Syntax}
+use Rattle.assembler_lines.specs.declared.token.Sign.TheVariants.{Plus, Minus, Close}
+use Rattle.assembler_lines.specs.Statements.{◌>>=◌, Judged, Statement, Plain, demand, reading_of, statement_of, instruction_of, jump_to, jump_over, jump_by}
+use Rattle.assembler_lines.specs.Statements.{operand as operand_of}
+use Rattle.assembler_lines.proofs.Laws.{tokens_again}
+use Rattle.assembler_lines.proofs.Naming.{form_again}
 use Rattle.disassembler.specs.Canonical.{register, immediate, signed, unsigned, operand, address, form_of, arguments, with_commas, behind_name, pieces}
 use Rattle.bpf_words.specs.Encoding.{IsOperand, IsInsn}
 use Rattle.disassembler.proofs.Numerals.{name_term, number_term, register_term, register_again, near_again, far_again, offset_again, immediate_again, name_laid, number_laid, register_laid}

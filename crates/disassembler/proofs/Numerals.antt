@@ -12,16 +12,16 @@ use Rattle.std.proofs.lemmas.Bool.{lt-ltb, le-leb, le-ltb}
 use Rattle.std.proofs.lemmas.Bool.Decides.{eqb_tells}
 use Rattle.std.proofs.lemmas.Fmt.{decimal_is_IsNumeral}
 use Rattle.std.proofs.lemmas.Str.Parse.{digit_from_value}
-use Rattle.assembler.specs.declared.form.Form.{Form}
-use Rattle.assembler.specs.declared.token.Numeral.{Numeral}
-use Rattle.assembler.specs.declared.token.SignedNumeral.{SignedNumeral}
-use Rattle.assembler.specs.Tokens.{is_word_byte}
-use Rattle.assembler.specs.Pieces.{Piece, Text, AreWordBytes, BeginsApart, WellLaid}
-use Rattle.assembler.specs.Terms.{Name, Number, bounded, are_digits, numeral_of, term_of_word}
-use Rattle.assembler.specs.Mnemonics.{name_of, all_forms, form_named}
-use Rattle.assembler.specs.Shapes.{signed}
-use Rattle.assembler.specs.Statements.{register, register_named, within, offset, immediate}
-use Rattle.assembler.proofs.Naming.{form_again}
+use Rattle.assembler_lines.specs.declared.form.Form.{Form}
+use Rattle.assembler_lines.specs.declared.token.Numeral.{Numeral}
+use Rattle.assembler_lines.specs.declared.token.SignedNumeral.{SignedNumeral}
+use Rattle.assembler_lines.specs.Tokens.{is_word_byte}
+use Rattle.assembler_lines.specs.Pieces.{Piece, Text, AreWordBytes, BeginsApart, WellLaid}
+use Rattle.assembler_lines.specs.Terms.{Name, Number, bounded, are_digits, numeral_of, term_of_word}
+use Rattle.assembler_lines.specs.Mnemonics.{name_of, all_forms, form_named}
+use Rattle.assembler_lines.specs.Shapes.{signed}
+use Rattle.assembler_lines.specs.Statements.{register, register_named, within, offset, immediate}
+use Rattle.assembler_lines.proofs.Naming.{form_again}
 
 -- a number without a sign, as the assembler reads it
 abbrev pub numeral : ℕ → Numeral

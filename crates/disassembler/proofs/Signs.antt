@@ -3,7 +3,7 @@ use Rattle.std.proofs.Common.{◌≡◌, ℕ, suc, ◌-◌, ◌^◌, Bool, false
 use Rattle.std.specs.Prelude.{if◌then◌else◌}
 use Rattle.std.specs.Fmt.{decimal, styled_signed_decimal, format_spec, padded_integral, char_count}
 use Rattle.std.proofs.lemmas.Bool.{le-ltb}
-use Rattle.assembler.specs.Pieces.{spell}
+use Rattle.assembler_lines.specs.Pieces.{spell}
 use Rattle.disassembler.specs.Canonical.{signed}
 
 shown : (negative : Bool) (digits : List ℕ) → padded_integral (format_spec 32 0 1 0 (2 ^ 64 - 1)) negative [] digits ≡ (if negative then 45 else 43) ∷ digits ++ []

@@ -6,12 +6,12 @@ use Rattle.std.proofs.lemmas.List.{append_assoc}
 use Rattle.std.proofs.lemmas.Bool.Decides.{eqb_tells}
 use Rattle.bpf_words.specs.declared.instruction.Insn.{Insn}
 use Rattle.bpf_words.specs.Encoding.{encoded}
-use Rattle.assembler.specs.declared.token.Sign.TheVariants.{Comma, Open, Close, Plus, Minus, Colon}
-use Rattle.assembler.specs.Tokens.{is_word_byte, tokens_of}
-use Rattle.assembler.specs.Terms.{terms_of}
-use Rattle.assembler.specs.Pieces.{Piece, Space, Sig, Text, AreWordBytes, WellLaid, spell}
-use Rattle.assembler.specs.Statements.{Judged, Statement, Blank, Plain, reading_of, statement_of}
-use Rattle.assembler.specs.Places.{lines_of, line_at, insn_at}
+use Rattle.assembler_lines.specs.declared.token.Sign.TheVariants.{Comma, Open, Close, Plus, Minus, Colon}
+use Rattle.assembler_lines.specs.Tokens.{is_word_byte, tokens_of}
+use Rattle.assembler_lines.specs.Terms.{terms_of}
+use Rattle.assembler_lines.specs.Pieces.{Piece, Space, Sig, Text, AreWordBytes, WellLaid, spell}
+use Rattle.assembler_lines.specs.Statements.{Judged, Statement, Blank, Plain, reading_of, statement_of}
+use Rattle.assembler_lines.specs.Places.{lines_of, line_at, insn_at}
 use Rattle.assembler.specs.Text.{AsmText, AreRight, bytes_of, bytes_before}
 use Rattle.disassembler.specs.Canonical.{pieces, canonical_line, canonical}
 use Rattle.disassembler.proofs.Fitting.{EachFits}

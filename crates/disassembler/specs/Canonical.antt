@@ -6,11 +6,11 @@ use Rattle.bpf_words.specs.declared.instruction.Operand.{Operand}
 use Rattle.bpf_words.specs.declared.instruction.Operand.TheVariants.{Immediate, Source}
 use Rattle.bpf_words.specs.declared.instruction.Insn.{Insn}
 use Rattle.bpf_words.specs.declared.instruction.Insn.TheVariants.{Compute, Negate, Extend, Convert, Jump, JumpLong, Branch, Load, LoadSigned, Store, LoadWide, Exit}
-use Rattle.assembler.specs.declared.form.Form.{Form}
-use Rattle.assembler.specs.declared.form.Form.TheVariants as form
-use Rattle.assembler.specs.declared.token.Sign.TheVariants.{Comma, Open, Close, Plus, Minus}
-use Rattle.assembler.specs.Mnemonics.{name_of}
-use Rattle.assembler.specs.Pieces.{Piece, Space, Sig, Text, spell}
+use Rattle.assembler_lines.specs.declared.form.Form.{Form}
+use Rattle.assembler_lines.specs.declared.form.Form.TheVariants as form
+use Rattle.assembler_lines.specs.declared.token.Sign.TheVariants.{Comma, Open, Close, Plus, Minus}
+use Rattle.assembler_lines.specs.Mnemonics.{name_of}
+use Rattle.assembler_lines.specs.Pieces.{Piece, Space, Sig, Text, spell}
 
 -- a register: `r` and its number
 abbrev pub register : ℕ → List Piece

@@ -1,7 +1,7 @@
 ghost use Rattle.std.specs.Prelude.{◌≡◌};
 ghost use Rattle.disassembler.specs.Canonical.{form_of, store_form};
 
-use assembler::form::Form;
+use assembler_lines::form::Form;
 use bpf_words::instruction::{Insn, Operand, Size};
 
 fn store_form(size: Size, value: Operand) -> Form

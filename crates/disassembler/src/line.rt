@@ -1,10 +1,10 @@
 ghost use Rattle.std.specs.declared.option.Option.TheVariants.{Some};
-ghost use Rattle.assembler.specs.Pieces.{spell};
+ghost use Rattle.assembler_lines.specs.Pieces.{spell};
 ghost use Rattle.disassembler.specs.Canonical.{arguments, behind_name, pieces};
 
 use crate::form::form;
 use crate::parts::{Address, Name, Signed, Value};
-use assembler::mnemonics::mnemonic;
+use assembler_lines::mnemonics::mnemonic;
 use bpf_words::instruction::Insn;
 use std::fmt;
 

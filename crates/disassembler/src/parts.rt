@@ -1,5 +1,5 @@
 ghost use Rattle.std.specs.declared.option.Option.TheVariants.{Some};
-ghost use Rattle.assembler.specs.Pieces.{spell};
+ghost use Rattle.assembler_lines.specs.Pieces.{spell};
 ghost use Rattle.disassembler.specs.Canonical.{register, operand, signed, address};
 
 use bpf_words::instruction::Operand;

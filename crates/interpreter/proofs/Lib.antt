@@ -5,4 +5,3 @@ pub mod Registers
 pub mod Covers
 pub mod Following
 pub mod Turning
-pub mod Regions

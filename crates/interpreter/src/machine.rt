@@ -6,8 +6,7 @@ ghost use Rattle.meaning.specs.Step.{Next, go_by, write_and_go, first_of, perfor
 ghost use Rattle.interpreter.specs.Progress.{move_of, result_of};
 ghost use Rattle.interpreter.specs.Running.{Run, Reads, Stays, state_of};
 
-use crate::arithmetic::{convert, extend, holds, negate, sign, value};
-use crate::memory::{Memory, size_read};
+use crate::memory::Memory;
 use bpf_words::context::{CONTEXT, FRAME};
 use bpf_words::instruction::{
     Arithmetic, Comparison, Conversion, ConvertedBits, Extension, Insn, Operand, SignedSize, Size,
@@ -17,6 +16,8 @@ use bpf_words::register::Register;
 use bpf_words::words::Words;
 use meaning::FaultKind;
 use std::marker::Model;
+use word_values::arithmetic::{convert, extend, holds, negate, sign, value};
+use word_values::bytes::size_read;
 
 /// The machine between two steps.
 #[derive(Drop)]

@@ -1,38 +1,13 @@
 ghost use Rattle.std.specs.Prelude.{◌≡◌, ℕ, ◌+◌, ◌<◌, ◌≤◌, ◌^◌, ◌++◌, length, map, take, drop, replicate, Some, None, IfSome, IfOk, OnOk, IfErr, Ok, Err};
 ghost use Rattle.byteorder.specs.Endian.{little_bytes, little_number};
 ghost use Rattle.interpreter.specs.Running.{Regions};
-ghost use Rattle.meaning.specs.Memory.{load as load_of, store as store_of, bytes_in, bytes_in_signed, lies_in, stack_number, stored};
+ghost use Rattle.meaning.specs.Memory.{load as load_of, store as store_of, bytes_in, lies_in, stack_number, stored};
 
-use bpf_words::context::{CONTEXT, FRAME, TEXT};
-use bpf_words::instruction::{SignedSize, Size};
-use byteorder::{ByteOrder, LittleEndian};
+use bpf_words::context::{CONTEXT, TEXT};
+use bpf_words::instruction::Size;
 use meaning::FaultKind;
 use std::marker::Model;
-
-/// The address at which the stack begins.
-pub const STACK: u64 = FRAME - 512;
-
-pub fn count(size: Size) -> usize
-    ensures { result ≡ bytes_in size }
-{
-    match size {
-        Size::Byte => 1,
-        Size::Half => 2,
-        Size::Word => 4,
-        Size::Double => 8,
-    }
-}
-
-/// How much a sign-extending load reads.
-pub fn size_read(size: SignedSize) -> Size
-    ensures { bytes_in result ≡ bytes_in_signed size }
-{
-    match size {
-        SignedSize::SignedByte => Size::Byte,
-        SignedSize::SignedHalf => Size::Half,
-        SignedSize::SignedWord => Size::Word,
-    }
-}
+use word_values::bytes::{STACK, count, number};
 
 pub fn is_in(base: u64, long: usize, address: u64, count: usize) -> bool
     requires few { base + long < 2 ^ 63 }
@@ -41,19 +16,6 @@ pub fn is_in(base: u64, long: usize, address: u64, count: usize) -> bool
 {
     let end = base + long as u64;
     address >= base && address <= end && end - address >= count as u64
-}
-
-pub fn number(bytes: &[u8], place: usize, size: Size) -> u64
-    requires { place + bytes_in size ≤ length bytes.now }
-    ensures value { result ≡ little_number (bytes_in size) (drop place bytes.now) }
-    ensures small { result < 256 ^ bytes_in size }
-{
-    match size {
-        Size::Byte => u64::from(bytes[place]),
-        Size::Half => u64::from(LittleEndian::read_u16(&bytes[place..])),
-        Size::Word => u64::from(LittleEndian::read_u32(&bytes[place..])),
-        Size::Double => LittleEndian::read_u64(&bytes[place..]),
-    }
 }
 
 #[tactic(auto, using(crate::proofs::Joined::joins))]
@@ -98,25 +60,6 @@ fn store_on_stack(stack: &mut [Option<u8>; 512], place: usize, size: Size, value
     let count = count(size);
     let bytes = set_bytes(value);
     stack[place..place + count].copy_from_slice(&bytes[..count]);
-}
-
-/// Writes as many of a number's low bytes as the size says, the lowest first.
-pub fn put_number(bytes: &mut [u8; 512], place: usize, size: Size, value: u64)
-    requires { place + bytes_in size ≤ 512 }
-    ensures { bytes.new ≡ take place bytes.old ++ little_bytes (bytes_in size) value ++ drop (place + bytes_in size) bytes.old }
-{
-    match size {
-        Size::Byte => bytes[place] = (value % 256) as u8,
-        Size::Half => LittleEndian::write_u16(
-            &mut bytes[place..place + 2],
-            (value % (1 << 16)) as u16,
-        ),
-        Size::Word => LittleEndian::write_u32(
-            &mut bytes[place..place + 4],
-            (value % (1 << 32)) as u32,
-        ),
-        Size::Double => LittleEndian::write_u64(&mut bytes[place..place + 8], value),
-    }
 }
 
 /// What addresses lead to: the context and the text of a span, and the run's stack.

@@ -1,5 +1,5 @@
 use crate::plain_table::{Fields, slot_bytes};
-use assembler::fault::LineFault;
+use assembler_lines::fault::LineFault;
 use std::alloc::{AllocError, Global};
 
 // What a line of assembler text stands for, by the pattern of its tokens.

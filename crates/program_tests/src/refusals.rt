@@ -1,6 +1,7 @@
 //! What errors show, against the numbers and names of docs/REFUSALS.md.
 
-use assembler::fault::{AsmError, LineFault};
+use assembler::fault::AsmError;
+use assembler_lines::fault::LineFault;
 use bpf_words::refusal::{SlotFault, WordError};
 use std::alloc::{AllocError, Global};
 use std::test::Fail;

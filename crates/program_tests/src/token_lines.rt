@@ -1,7 +1,8 @@
 use crate::plain_assembler::{Line, plain_line, push_line};
 use crate::plain_table::Fields;
 use assembler::assembly::assemble;
-use assembler::fault::{AsmError, LineFault};
+use assembler::fault::AsmError;
+use assembler_lines::fault::LineFault;
 use std::alloc::{AllocError, Global};
 use std::test::Fail;
 

@@ -6,8 +6,8 @@ use Rattle.abstract_state.specs.declared.refusal.Refusal.{Refusal as StateFault}
 use Rattle.abstract_state.specs.declared.refusal.Refusal.TheVariants.{UnsetRegister, PointerArithmetic, PointerCompare, ContextField, StackBounds, StackUnset, TextBounds, TextOffset, ReadOnlyStore, NotAnAddress, PointerStore, ReturnPointer}
 use Rattle.verifier.specs.declared.refusal.StructureFault.{StructureFault}
 use Rattle.verifier.specs.declared.refusal.StructureFault.TheVariants.{BackwardJump, JumpOut, JumpIntoWide, FallOff, WriteR10}
-use Rattle.assembler.specs.declared.fault.LineFault.{LineFault}
-use Rattle.assembler.specs.declared.fault.LineFault.TheVariants.{Syntax, UnknownName, NumberRange, UnknownLabel, LabelTwice, JumpRange}
+use Rattle.assembler_lines.specs.declared.fault.LineFault.{LineFault}
+use Rattle.assembler_lines.specs.declared.fault.LineFault.TheVariants.{Syntax, UnknownName, NumberRange, UnknownLabel, LabelTwice, JumpRange}
 use Rattle.change_history.specs.declared.refusal.Refusal.{Refusal}
 use Rattle.change_history.specs.declared.refusal.Refusal.TheVariants.{StaleCounter, UnknownRef, DocumentFull, MarksFull}
 

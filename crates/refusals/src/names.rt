@@ -3,7 +3,7 @@ ghost use Rattle.std.specs.Prelude.{◌≡◌};
 ghost use Rattle.refusals.specs.Names.{slot_fault, structure_fault, state_fault, line_fault, refusal_name};
 
 use abstract_state::refusal::Refusal as StateFault;
-use assembler::fault::LineFault;
+use assembler_lines::fault::LineFault;
 use bpf_words::refusal::SlotFault;
 use change_history::refusal::Refusal;
 use verifier::refusal::StructureFault;

@@ -1,5 +1,5 @@
 use Rattle.std.proofs.Common.{arith, ap, ◌∙◌}
-use Rattle.assembler.specs.Lending.{lines_seen}
+use Rattle.assembler_lines.specs.Lending.{lines_seen}
 use Rattle.assembler.proofs.Assembling.{room_of}
 use Rattle.assembler.proofs.assembly.assemble.Goals as goal
 

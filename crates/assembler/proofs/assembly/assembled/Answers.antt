@@ -1,7 +1,7 @@
 use Rattle.std.proofs.Common.{◌≡◌, ◌++◌, rules, Ok, get_or, [], arith, refl, sym, ◌∙◌}
-use Rattle.assembler.specs.Places.{place, insn_at}
+use Rattle.assembler_lines.specs.Places.{place, insn_at}
 use Rattle.assembler.specs.Text.{bytes_of, bytes_before}
-use Rattle.assembler.specs.Lending.{lines_seen}
+use Rattle.assembler_lines.specs.Lending.{lines_seen}
 use Rattle.assembler.proofs.Labelling.{place_more, line_seen, seen_within, room_for, fits_more}
 use Rattle.assembler.proofs.Assembling.{bytes_more, right_none, right_more}
 use Rattle.assembler.proofs.assembly.assembled.Goals as goal

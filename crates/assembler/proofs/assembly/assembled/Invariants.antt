@@ -1,8 +1,8 @@
 use Rattle.std.proofs.Common.{◌≡◌, ◌≤◌, take, length}
 use Rattle.std.specs.Prelude.{sum_by}
-use Rattle.assembler.specs.Places.{place}
+use Rattle.assembler_lines.specs.Places.{place}
 use Rattle.assembler.specs.Text.{AreRight, bytes_before}
-use Rattle.assembler.specs.Lending.{lines_seen}
+use Rattle.assembler_lines.specs.Lending.{lines_seen}
 use Rattle.assembler.proofs.assembly.assembled.Given as goal
 
 abbrev pub invariant-loop-index : goal.invariant-loop-index

@@ -1,6 +1,6 @@
 use Rattle.std.proofs.Common.{◌≡◌, [], get_or, Ok, Err, ◌∙◌}
-use Rattle.assembler.specs.Lending.{lines_seen}
-use Rattle.assembler.specs.Statements.{Blank, Label, Plain, Onto, reading_of}
+use Rattle.assembler_lines.specs.Lending.{lines_seen}
+use Rattle.assembler_lines.specs.Statements.{Blank, Label, Plain, Onto, reading_of}
 use Rattle.assembler.proofs.Labelling.{line_seen}
 use Rattle.assembler.proofs.Resolving.{here_same, fault_same}
 use Rattle.assembler.proofs.assembly.instruction_at.Goals as goal

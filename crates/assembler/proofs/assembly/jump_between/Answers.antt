@@ -2,7 +2,7 @@ use Rattle.std.proofs.Common.{◌≡◌, ℕ, ◌≤◌, ◌^◌, pos, negsuc, �
 use mir.Val.{to_z, of_z}
 use mir.Syntax.{w64}
 use Rattle.std.proofs.lemmas.Int.{ints, to_z-of_z}
-use Rattle.assembler.specs.Statements.{jump_by}
+use Rattle.assembler_lines.specs.Statements.{jump_by}
 use Rattle.assembler.proofs.Resolving.{back_same}
 use Rattle.assembler.proofs.assembly.jump_between.Goals as goal
 

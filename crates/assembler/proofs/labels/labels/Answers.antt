@@ -1,6 +1,6 @@
 use Rattle.std.proofs.Common.{get_or, [], arith, ◌+◌, subst, refl, ap, sym, ◌∙◌}
-use Rattle.assembler.specs.Places.{label_of, place}
-use Rattle.assembler.specs.Lending.{lines_seen}
+use Rattle.assembler_lines.specs.Places.{label_of, place}
+use Rattle.assembler_lines.specs.Lending.{lines_seen}
 use Rattle.assembler.specs.Labels.{Table, HoldsLabels}
 use Rattle.assembler.proofs.Labelling.{labels_more_at, labels_same, place_more, line_seen, seen_within, room_for, fits_more, labels_all, seen_all}
 use Rattle.assembler.proofs.labels.labels.Goals.{in-Some+in_ok-define, in_default}

@@ -1,7 +1,7 @@
 use Rattle.std.proofs.Common.{◌≡◌, ◌≤◌, take, length}
 use Rattle.std.specs.Prelude.{sum_by}
-use Rattle.assembler.specs.Places.{place}
-use Rattle.assembler.specs.Lending.{lines_seen}
+use Rattle.assembler_lines.specs.Places.{place}
+use Rattle.assembler_lines.specs.Lending.{lines_seen}
 use Rattle.assembler.specs.Labels.{HoldsLabels}
 use Rattle.assembler.proofs.labels.labels.Given as goal
 

@@ -1,6 +1,6 @@
 use Rattle.std.proofs.Common.{◌≡◌}
 use Rattle.std.specs.Fmt.{styled_signed_decimal}
-use Rattle.assembler.specs.Pieces.{spell}
+use Rattle.assembler_lines.specs.Pieces.{spell}
 use Rattle.disassembler.specs.Canonical.{signed}
 use Rattle.disassembler.proofs.parts.SignedDisplay.fmt.Goals as goal
 use Rattle.disassembler.proofs.Signs.{plus_text}

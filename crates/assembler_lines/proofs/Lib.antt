@@ -1,0 +1,7 @@
+pub mod Laws
+pub mod Naming
+pub mod Digits
+pub mod Listing
+pub mod Lengths
+pub mod Writing
+mod Examples

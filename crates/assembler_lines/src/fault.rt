@@ -1,0 +1,25 @@
+use thiserror::Error;
+
+/// Why a line isn't assembler text. No clause says which number and name `Display` shows: those of docs/REFUSALS.md, which a test of
+/// `program_tests` compares.
+#[derive(Clone, Copy, Debug, PartialEq, Eq, Error)]
+pub enum LineFault {
+    /// A character or number that is no token, or tokens that have not the shape of a line.
+    #[error("30 Syntax")]
+    Syntax,
+    /// A first word that is no mnemonic, or a name that is no register's where a register is asked for.
+    #[error("31 UnknownName")]
+    UnknownName,
+    /// An immediate, an offset or a wide load's number out of its range.
+    #[error("32 NumberRange")]
+    NumberRange,
+    /// A jump to a label that no line defines.
+    #[error("33 UnknownLabel")]
+    UnknownLabel,
+    /// A label that an earlier line defines.
+    #[error("34 LabelTwice")]
+    LabelTwice,
+    /// A distance that is more than the jump reaches.
+    #[error("35 JumpRange")]
+    JumpRange,
+}

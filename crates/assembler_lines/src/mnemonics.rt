@@ -1,0 +1,290 @@
+ghost use Rattle.std.specs.Prelude.{◌≡◌, Some};
+ghost use Rattle.assembler_lines.specs.declared.form.Form.TheVariants as Form;
+ghost use Rattle.assembler_lines.specs.Mnemonics.{name_of, form_named};
+
+use crate::form::Form;
+use bpf_words::instruction::{
+    Arithmetic, Comparison, Conversion, ConvertedBits, Extension, SignedSize, Size, Width,
+};
+
+/// Every form, once.
+const FORMS: [Form; 85] = [
+    Form::Compute(Width::Full, Arithmetic::Add),
+    Form::Compute(Width::Full, Arithmetic::Sub),
+    Form::Compute(Width::Full, Arithmetic::Mul),
+    Form::Compute(Width::Full, Arithmetic::Div),
+    Form::Compute(Width::Full, Arithmetic::Or),
+    Form::Compute(Width::Full, Arithmetic::And),
+    Form::Compute(Width::Full, Arithmetic::Lsh),
+    Form::Compute(Width::Full, Arithmetic::Rsh),
+    Form::Compute(Width::Full, Arithmetic::Mod),
+    Form::Compute(Width::Full, Arithmetic::Xor),
+    Form::Compute(Width::Full, Arithmetic::Mov),
+    Form::Compute(Width::Full, Arithmetic::Arsh),
+    Form::Compute(Width::Full, Arithmetic::SignedDiv),
+    Form::Compute(Width::Full, Arithmetic::SignedMod),
+    Form::Compute(Width::Narrow, Arithmetic::Add),
+    Form::Compute(Width::Narrow, Arithmetic::Sub),
+    Form::Compute(Width::Narrow, Arithmetic::Mul),
+    Form::Compute(Width::Narrow, Arithmetic::Div),
+    Form::Compute(Width::Narrow, Arithmetic::Or),
+    Form::Compute(Width::Narrow, Arithmetic::And),
+    Form::Compute(Width::Narrow, Arithmetic::Lsh),
+    Form::Compute(Width::Narrow, Arithmetic::Rsh),
+    Form::Compute(Width::Narrow, Arithmetic::Mod),
+    Form::Compute(Width::Narrow, Arithmetic::Xor),
+    Form::Compute(Width::Narrow, Arithmetic::Mov),
+    Form::Compute(Width::Narrow, Arithmetic::Arsh),
+    Form::Compute(Width::Narrow, Arithmetic::SignedDiv),
+    Form::Compute(Width::Narrow, Arithmetic::SignedMod),
+    Form::Negate(Width::Full),
+    Form::Negate(Width::Narrow),
+    Form::Extend(Extension::FromByte),
+    Form::Extend(Extension::FromHalf),
+    Form::Extend(Extension::FromWord),
+    Form::Extend(Extension::NarrowFromByte),
+    Form::Extend(Extension::NarrowFromHalf),
+    Form::Convert(Conversion::ToLittleEndian, ConvertedBits::Bits16),
+    Form::Convert(Conversion::ToLittleEndian, ConvertedBits::Bits32),
+    Form::Convert(Conversion::ToLittleEndian, ConvertedBits::Bits64),
+    Form::Convert(Conversion::ToBigEndian, ConvertedBits::Bits16),
+    Form::Convert(Conversion::ToBigEndian, ConvertedBits::Bits32),
+    Form::Convert(Conversion::ToBigEndian, ConvertedBits::Bits64),
+    Form::Convert(Conversion::Swap, ConvertedBits::Bits16),
+    Form::Convert(Conversion::Swap, ConvertedBits::Bits32),
+    Form::Convert(Conversion::Swap, ConvertedBits::Bits64),
+    Form::Jump,
+    Form::JumpLong,
+    Form::Branch(Width::Full, Comparison::Equal),
+    Form::Branch(Width::Full, Comparison::Greater),
+    Form::Branch(Width::Full, Comparison::GreaterOrEqual),
+    Form::Branch(Width::Full, Comparison::AnyBit),
+    Form::Branch(Width::Full, Comparison::NotEqual),
+    Form::Branch(Width::Full, Comparison::SignedGreater),
+    Form::Branch(Width::Full, Comparison::SignedGreaterOrEqual),
+    Form::Branch(Width::Full, Comparison::Less),
+    Form::Branch(Width::Full, Comparison::LessOrEqual),
+    Form::Branch(Width::Full, Comparison::SignedLess),
+    Form::Branch(Width::Full, Comparison::SignedLessOrEqual),
+    Form::Branch(Width::Narrow, Comparison::Equal),
+    Form::Branch(Width::Narrow, Comparison::Greater),
+    Form::Branch(Width::Narrow, Comparison::GreaterOrEqual),
+    Form::Branch(Width::Narrow, Comparison::AnyBit),
+    Form::Branch(Width::Narrow, Comparison::NotEqual),
+    Form::Branch(Width::Narrow, Comparison::SignedGreater),
+    Form::Branch(Width::Narrow, Comparison::SignedGreaterOrEqual),
+    Form::Branch(Width::Narrow, Comparison::Less),
+    Form::Branch(Width::Narrow, Comparison::LessOrEqual),
+    Form::Branch(Width::Narrow, Comparison::SignedLess),
+    Form::Branch(Width::Narrow, Comparison::SignedLessOrEqual),
+    Form::Load(Size::Byte),
+    Form::Load(Size::Half),
+    Form::Load(Size::Word),
+    Form::Load(Size::Double),
+    Form::LoadSigned(SignedSize::SignedByte),
+    Form::LoadSigned(SignedSize::SignedHalf),
+    Form::LoadSigned(SignedSize::SignedWord),
+    Form::StoreImmediate(Size::Byte),
+    Form::StoreImmediate(Size::Half),
+    Form::StoreImmediate(Size::Word),
+    Form::StoreImmediate(Size::Double),
+    Form::StoreRegister(Size::Byte),
+    Form::StoreRegister(Size::Half),
+    Form::StoreRegister(Size::Word),
+    Form::StoreRegister(Size::Double),
+    Form::LoadWide,
+    Form::Exit,
+];
+
+/// The mnemonic of an operation.
+#[tactic(auto, unfolding(crate::specs::Mnemonics::name_of))]
+fn arithmetic_name(width: Width, operation: Arithmetic) -> &'static str
+    ensures { result.now ≡ name_of (Form.Compute width operation) }
+{
+    match (width, operation) {
+        (Width::Full, Arithmetic::Add) => "add",
+        (Width::Full, Arithmetic::Sub) => "sub",
+        (Width::Full, Arithmetic::Mul) => "mul",
+        (Width::Full, Arithmetic::Div) => "div",
+        (Width::Full, Arithmetic::Or) => "or",
+        (Width::Full, Arithmetic::And) => "and",
+        (Width::Full, Arithmetic::Lsh) => "lsh",
+        (Width::Full, Arithmetic::Rsh) => "rsh",
+        (Width::Full, Arithmetic::Mod) => "mod",
+        (Width::Full, Arithmetic::Xor) => "xor",
+        (Width::Full, Arithmetic::Mov) => "mov",
+        (Width::Full, Arithmetic::Arsh) => "arsh",
+        (Width::Full, Arithmetic::SignedDiv) => "sdiv",
+        (Width::Full, Arithmetic::SignedMod) => "smod",
+        (Width::Narrow, Arithmetic::Add) => "add32",
+        (Width::Narrow, Arithmetic::Sub) => "sub32",
+        (Width::Narrow, Arithmetic::Mul) => "mul32",
+        (Width::Narrow, Arithmetic::Div) => "div32",
+        (Width::Narrow, Arithmetic::Or) => "or32",
+        (Width::Narrow, Arithmetic::And) => "and32",
+        (Width::Narrow, Arithmetic::Lsh) => "lsh32",
+        (Width::Narrow, Arithmetic::Rsh) => "rsh32",
+        (Width::Narrow, Arithmetic::Mod) => "mod32",
+        (Width::Narrow, Arithmetic::Xor) => "xor32",
+        (Width::Narrow, Arithmetic::Mov) => "mov32",
+        (Width::Narrow, Arithmetic::Arsh) => "arsh32",
+        (Width::Narrow, Arithmetic::SignedDiv) => "sdiv32",
+        (Width::Narrow, Arithmetic::SignedMod) => "smod32",
+    }
+}
+
+/// The mnemonic of a jump on a comparison.
+#[tactic(auto, unfolding(crate::specs::Mnemonics::name_of))]
+fn branch_name(width: Width, comparison: Comparison) -> &'static str
+    ensures { result.now ≡ name_of (Form.Branch width comparison) }
+{
+    match (width, comparison) {
+        (Width::Full, Comparison::Equal) => "jeq",
+        (Width::Full, Comparison::Greater) => "jgt",
+        (Width::Full, Comparison::GreaterOrEqual) => "jge",
+        (Width::Full, Comparison::AnyBit) => "jset",
+        (Width::Full, Comparison::NotEqual) => "jne",
+        (Width::Full, Comparison::SignedGreater) => "jsgt",
+        (Width::Full, Comparison::SignedGreaterOrEqual) => "jsge",
+        (Width::Full, Comparison::Less) => "jlt",
+        (Width::Full, Comparison::LessOrEqual) => "jle",
+        (Width::Full, Comparison::SignedLess) => "jslt",
+        (Width::Full, Comparison::SignedLessOrEqual) => "jsle",
+        (Width::Narrow, Comparison::Equal) => "jeq32",
+        (Width::Narrow, Comparison::Greater) => "jgt32",
+        (Width::Narrow, Comparison::GreaterOrEqual) => "jge32",
+        (Width::Narrow, Comparison::AnyBit) => "jset32",
+        (Width::Narrow, Comparison::NotEqual) => "jne32",
+        (Width::Narrow, Comparison::SignedGreater) => "jsgt32",
+        (Width::Narrow, Comparison::SignedGreaterOrEqual) => "jsge32",
+        (Width::Narrow, Comparison::Less) => "jlt32",
+        (Width::Narrow, Comparison::LessOrEqual) => "jle32",
+        (Width::Narrow, Comparison::SignedLess) => "jslt32",
+        (Width::Narrow, Comparison::SignedLessOrEqual) => "jsle32",
+    }
+}
+
+/// The mnemonic of a conversion of the order of bytes.
+#[tactic(auto, unfolding(crate::specs::Mnemonics::name_of))]
+fn conversion_name(conversion: Conversion, bits: ConvertedBits) -> &'static str
+    ensures { result.now ≡ name_of (Form.Convert conversion bits) }
+{
+    match (conversion, bits) {
+        (Conversion::ToLittleEndian, ConvertedBits::Bits16) => "le16",
+        (Conversion::ToLittleEndian, ConvertedBits::Bits32) => "le32",
+        (Conversion::ToLittleEndian, ConvertedBits::Bits64) => "le64",
+        (Conversion::ToBigEndian, ConvertedBits::Bits16) => "be16",
+        (Conversion::ToBigEndian, ConvertedBits::Bits32) => "be32",
+        (Conversion::ToBigEndian, ConvertedBits::Bits64) => "be64",
+        (Conversion::Swap, ConvertedBits::Bits16) => "swap16",
+        (Conversion::Swap, ConvertedBits::Bits32) => "swap32",
+        (Conversion::Swap, ConvertedBits::Bits64) => "swap64",
+    }
+}
+
+/// The mnemonic of a sign-extending move.
+#[tactic(auto, unfolding(crate::specs::Mnemonics::name_of))]
+fn extension_name(extension: Extension) -> &'static str
+    ensures { result.now ≡ name_of (Form.Extend extension) }
+{
+    match extension {
+        Extension::FromByte => "movsx8",
+        Extension::FromHalf => "movsx16",
+        Extension::FromWord => "movsx32",
+        Extension::NarrowFromByte => "mov32sx8",
+        Extension::NarrowFromHalf => "mov32sx16",
+    }
+}
+
+/// The mnemonic of a load.
+#[tactic(auto, unfolding(crate::specs::Mnemonics::name_of))]
+fn load_name(size: Size) -> &'static str
+    ensures { result.now ≡ name_of (Form.Load size) }
+{
+    match size {
+        Size::Byte => "ldxb",
+        Size::Half => "ldxh",
+        Size::Word => "ldxw",
+        Size::Double => "ldxdw",
+    }
+}
+
+/// The mnemonic of a sign-extending load.
+#[tactic(auto, unfolding(crate::specs::Mnemonics::name_of))]
+fn signed_load_name(size: SignedSize) -> &'static str
+    ensures { result.now ≡ name_of (Form.LoadSigned size) }
+{
+    match size {
+        SignedSize::SignedByte => "ldxsb",
+        SignedSize::SignedHalf => "ldxsh",
+        SignedSize::SignedWord => "ldxsw",
+    }
+}
+
+/// The mnemonic of a store of an immediate.
+#[tactic(auto, unfolding(crate::specs::Mnemonics::name_of))]
+fn immediate_store_name(size: Size) -> &'static str
+    ensures { result.now ≡ name_of (Form.StoreImmediate size) }
+{
+    match size {
+        Size::Byte => "stb",
+        Size::Half => "sth",
+        Size::Word => "stw",
+        Size::Double => "stdw",
+    }
+}
+
+/// The mnemonic of a store of a register.
+#[tactic(auto, unfolding(crate::specs::Mnemonics::name_of))]
+fn register_store_name(size: Size) -> &'static str
+    ensures { result.now ≡ name_of (Form.StoreRegister size) }
+{
+    match size {
+        Size::Byte => "stxb",
+        Size::Half => "stxh",
+        Size::Word => "stxw",
+        Size::Double => "stxdw",
+    }
+}
+
+/// The name of a form.
+#[tactic(auto, unfolding(crate::specs::Mnemonics::name_of))]
+fn name(form: Form) -> &'static str
+    ensures { result.now ≡ name_of form }
+{
+    match form {
+        Form::Compute(width, operation) => arithmetic_name(width, operation),
+        Form::Negate(Width::Full) => "neg",
+        Form::Negate(Width::Narrow) => "neg32",
+        Form::Extend(extension) => extension_name(extension),
+        Form::Convert(conversion, bits) => conversion_name(conversion, bits),
+        Form::Jump => "ja",
+        Form::JumpLong => "ja32",
+        Form::Branch(width, comparison) => branch_name(width, comparison),
+        Form::Load(size) => load_name(size),
+        Form::LoadSigned(size) => signed_load_name(size),
+        Form::StoreImmediate(size) => immediate_store_name(size),
+        Form::StoreRegister(size) => register_store_name(size),
+        Form::LoadWide => "lddw",
+        Form::Exit => "exit",
+    }
+}
+
+/// The mnemonic of a form, which names that form and no other.
+pub fn mnemonic(form: Form) -> &'static str
+    ensures value { result.now ≡ name_of form }
+    ensures reads_back { form_named result.now ≡ Some form }
+{
+    name(form)
+}
+
+/// The form that a mnemonic names.
+#[tactic(auto, unfolding(crate::specs::Mnemonics::form_named, crate::specs::Mnemonics::all_forms))]
+pub(crate) fn form_of(word: &[u8]) -> Option<Form>
+    ensures { result ≡ form_named word.now }
+{
+    FORMS
+        .iter()
+        .copied()
+        .find(|form| name(*form).as_bytes() == word)
+}
