@@ -1,3 +1,4 @@
+use crate::lines::lines;
 use change_history::history::History;
 use change_ops::change::read_change;
 use change_ops::id::OpId;
@@ -7,7 +8,6 @@ use span_view::context::context;
 use span_view::view::{SpanView, spans, view};
 use std::alloc::Global;
 use std::test::Fail;
-use test_inputs::lines::lines;
 
 /// `abc` with strong from before a to before c, and then strong taken off from before b on.
 static CHANGES: [&str; 2] = [

@@ -1,0 +1,16 @@
+//! Tests of what only a direct call shows: public calls that no command reaches, each once, with values found by hand.
+//! What commands reach is tested by the cases of `hub_cases`.
+#![tactic(auto)]
+
+#[cfg(test)]
+mod full_text;
+#[cfg(test)]
+mod lines;
+#[cfg(test)]
+mod marks_calls;
+#[cfg(test)]
+mod refusal_names;
+#[cfg(test)]
+mod sequence_calls;
+#[cfg(test)]
+mod view_calls;
