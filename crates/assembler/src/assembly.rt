@@ -24,7 +24,7 @@ fn lines(alloc: Global, source: &str) -> Result<Vec<&[u8]>, AllocError>
 }
 
 /// The jump at a slot to another.
-#[tactic(auto, unfolding(crate::specs::Places::jump_between))]
+#[tactic(auto, unfolding(assembler_lines::specs::Places::jump_between))]
 fn jump_between(jump: Jump, here: usize, target: usize) -> Result<Insn, LineFault>
     ensures { result ≡ jump_between jump here target }
 {

@@ -23,7 +23,7 @@ pub(crate) struct Definition {
 pub(crate) type Labels<'a> = BTreeMap<&'a [u8], Definition>;
 
 /// The slots that a line takes, right or at fault.
-#[tactic(auto, unfolding(crate::specs::Places::slots, crate::specs::Mnemonics::name_of))]
+#[tactic(auto, unfolding(assembler_lines::specs::Places::slots, assembler_lines::specs::Mnemonics::name_of))]
 pub(crate) fn slots(line: &[u8]) -> usize
     ensures value { result ≡ slots line.now }
     ensures bound { result ≤ length line.now }
@@ -45,7 +45,7 @@ pub(crate) fn slots(line: &[u8]) -> usize
 }
 
 /// The name of a line that is a label.
-#[tactic(auto, unfolding(crate::specs::Places::label_of))]
+#[tactic(auto, unfolding(assembler_lines::specs::Places::label_of))]
 fn label(line: &[u8]) -> Option<&[u8]>
     ensures { option_map bytes_seen result ≡ label_of line.now }
 {
