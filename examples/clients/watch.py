@@ -1,28 +1,65 @@
 #!/usr/bin/env python3
-"""Subscribes a filter to a hub, and prints its items as they come: watch.py PORT FILTER.hex"""
+"""Subscribes a filter to a hub, and prints its items as they come: watch.py PORT FILTER.hex [--from N]
+
+It begins with the hub's latest version, or with version N. Where the connection is lost it connects anew for half a minute, subscribes
+from the last version that it has whole, and goes on behind the last item that it printed: each item is printed once."""
+import argparse
+import itertools
 import signal
 import socket
 import sys
 import time
 
+parser = argparse.ArgumentParser(description=__doc__, formatter_class=argparse.RawDescriptionHelpFormatter)
+parser.add_argument("port", type=int)
+parser.add_argument("filter", help="a file with the program in hexadecimal")
+parser.add_argument("--from", dest="first", type=int, help="the first version")
+arguments = parser.parse_args()
 signal.signal(signal.SIGINT, signal.SIG_DFL)
-port, program = int(sys.argv[1]), open(sys.argv[2]).read().strip()
-with socket.create_connection(("127.0.0.1", port)) as connection:
-    lines = connection.makefile("rw", newline="\n")
+program = open(arguments.filter).read().strip()
+
+
+def items_from(lines, first):
+    """Subscribes from a version, or from the latest one, and gives the items without end."""
+
+    def line():
+        text = lines.readline()
+        if not text.endswith("\n"):
+            raise ConnectionError
+        return text.strip()
 
     def ask(request):
         """Sends a request, and gives the lines of its reply, of which the last begins with `ok` or `no`."""
         print(request, file=lines, flush=True)
-        reply = [next(lines).strip()]
+        reply = [line()]
         while reply[-1].split()[0] not in ("ok", "no"):
-            reply.append(next(lines).strip())
+            reply.append(line())
         return reply
 
-    subscribed = ask(f"sub 64 {program}")[0]
+    subscribed = ask(f"sub 64 {program}" + ("" if first is None else f" from {first}"))[0]
     print(subscribed, flush=True)
     if subscribed.startswith("no"):
         sys.exit(1)
     while True:
-        for item in ask(f"pull {subscribed.split()[2]} 64")[:-1]:
-            print(item, flush=True)
+        yield from ask(f"pull {subscribed.split()[2]} 64")[:-1]
         time.sleep(0.2)
+
+
+# The version to begin with, how many items from it on were printed, and how many of the version that has no end yet.
+first, printed, part = arguments.first, 0, 0
+tries = 0
+while tries < 30:
+    try:
+        with socket.create_connection(("127.0.0.1", arguments.port)) as connection:
+            tries = 0
+            for item in itertools.islice(items_from(connection.makefile("rw", newline="\n"), first), printed, None):
+                print(item, flush=True)
+                kind, version = item.split()[:2]
+                first = int(version) if first is None else first
+                printed, part = printed + 1, part + 1
+                if kind == "end":
+                    first, printed, part = int(version), part, 0
+    except OSError:
+        tries += 1
+        time.sleep(1)
+sys.exit("the connection is lost")

@@ -84,23 +84,23 @@ module _ {S : Type 0} (sent : S → List Entry) (full : S → Type 0) where
     fed = All-set (IsFed sent full s.versions) s.subs id b fed sound.fed;
   }
 
-  pub sound_subscribe : (s : State S) (p : Token Program) (sink : S) → IsSound sent full s → length s.subs < 64 → sent sink ≡ []
-      → IsSound sent full (record s { subs = s.subs ++ fresh p (length s.changes) sink ∷ [] })
-  sound_subscribe s p sink sound room none = record {
+  pub sound_subscribe : (s : State S) (p : Token Program) (first : ℕ) (sink : S) → IsSound sent full s → first ≤ length s.changes → length s.subs < 64 → sent sink ≡ []
+      → IsSound sent full (record s { subs = s.subs ++ fresh p first sink ∷ [] })
+  sound_subscribe s p first sink sound published room none = record {
     named = sound.named;
     few = sound.few;
-    few_subs = omega (arith, length-append s.subs (fresh p (length s.changes) sink ∷ []));
+    few_subs = omega (arith, length-append s.subs (fresh p first sink ∷ []));
     versions_are = sound.versions_are;
-    fed = All-push (IsFed sent full s.versions) s.subs (fresh p (length s.changes) sink) sound.fed (fresh_fed sent full s.versions p (length s.changes) sink (omega (arith, sound.named)) none);
+    fed = All-push (IsFed sent full s.versions) s.subs (fresh p first sink) sound.fed (fresh_fed sent full s.versions p first sink (omega (arith, sound.named, published)) none);
   }
 
   -- what the code has is the state with a subscriber more
-  pub sound_subscribed : (s : State S) (p : Token Program) (sink : S) (n : ℕ) (a : Sub S) (old subs : List (Sub S)) → IsSound sent full s → length s.subs < 64 → sent sink ≡ []
-      → a ≡ fresh p n sink → n ≡ length s.changes → old ≡ s.subs → subs ≡ old ++ a ∷ [] → IsSound sent full (record s { subs = subs })
-  sound_subscribed s p sink n a old subs sound room none made latest same is =
-      let now : subs ≡ s.subs ++ fresh p (length s.changes) sink ∷ [] =
-      is ∙ ap (λ (x : Sub S × List (Sub S)). x.1 ++ x.0 ∷ []) (λ i. (made i, same i)) ∙ ap (λ k. s.subs ++ fresh p k sink ∷ []) latest in
-      subst (λ (l : List (Sub S)). IsSound sent full (record s { subs = l })) (sym now) (sound_subscribe s p sink sound room none)
+  pub sound_subscribed : (s : State S) (p : Token Program) (sink : S) (n : ℕ) (a : Sub S) (old subs : List (Sub S)) → IsSound sent full s → n ≤ length s.changes → length s.subs < 64 → sent sink ≡ []
+      → a ≡ fresh p n sink → old ≡ s.subs → subs ≡ old ++ a ∷ [] → IsSound sent full (record s { subs = subs })
+  sound_subscribed s p sink n a old subs sound published room none made same is =
+      let now : subs ≡ s.subs ++ fresh p n sink ∷ [] =
+      is ∙ ap (λ (x : Sub S × List (Sub S)). x.1 ++ x.0 ∷ []) (λ i. (made i, same i)) in
+      subst (λ (l : List (Sub S)). IsSound sent full (record s { subs = l })) (sym now) (sound_subscribe s p n sink sound published room none)
 
   -- a subscriber that is read
   pub fed_at : (s : State S) (id : ℕ) (a : Sub S) → IsSound sent full s → id < length s.subs → a ≡ get_or s.subs id a → IsFed sent full s.versions a

@@ -46,12 +46,13 @@ Submits s c (Ok t) s' =
     × (s' ≡ record s { changes = s.changes ++ c ∷ []; versions = s.versions ++ t ∷ [] })
 Submits s c (Err e) s' = (s' ≡ s) × IsRefused s.changes c e
 
--- a program is subscribed, from this version on
+-- a program is subscribed, from this version on, which is the latest or an earlier one
 abbrev pub Subscribes : {S : Type 0} → State S → ℕ → Token Program → S → Result ℕ SubscribeError → State S → Type 0
 Subscribes s first p sink (Ok id) s' =
-    (length s.subs < 64) × (id ≡ length s.subs) × (s' ≡ record s { subs = s.subs ++ fresh p first sink ∷ [] })
+    (length s.subs < 64) × (first ≤ length s.changes) × (id ≡ length s.subs) × (s' ≡ record s { subs = s.subs ++ fresh p first sink ∷ [] })
 Subscribes s first p sink (Err subscribe.SubscribersFull) s' = (s' ≡ s) × (length s.subs ≡ 64)
-Subscribes s first p sink (Err subscribe.OutOfMemory) s' = (s' ≡ s) × (length s.subs < 64)
+Subscribes s first p sink (Err subscribe.NoVersion) s' = (s' ≡ s) × (length s.subs < 64) × (length s.changes < first)
+Subscribes s first p sink (Err subscribe.OutOfMemory) s' = (s' ≡ s) × (length s.subs < 64) × (first ≤ length s.changes)
 
 -- a job of any open subscriber that has one is handed out, or none has one
 abbrev pub TakesJob : {S : Type 0} → State S → Option Slip → State S → Type 0

@@ -28,6 +28,7 @@ module _ {S : Type 0} (sent : S → List Entry) (full : S → Type 0) where
   abbrev pub Happens : State S → List Slip → Event (Token Program) S → Reply (Token Snapshot) Slip → State S → Type 0
   Happens s jobs (event.Submit change) (reply.Submitted r) s' = Submits s change r s'
   Happens s jobs (event.Subscribe program sink) (reply.Subscribed r) s' = Subscribes s (length s.changes) program sink r s'
+  Happens s jobs (event.SubscribeFrom program sink first) (reply.Subscribed r) s' = Subscribes s first program sink r s'
   Happens s jobs event.TakeJob (reply.Handed r) s' = TakesJob s r s'
   Happens s jobs (event.Commit k) (reply.Committed r) s' = CommitsJob s (slice_get jobs k) r s'
   Happens s jobs (event.Pump id) (reply.Pumped r) s' = Pumps sent full s id r s'
@@ -51,4 +52,5 @@ module _ {S : Type 0} (sent : S → List Entry) (full : S → Type 0) where
 -- a sink that is subscribed was sent nothing
 abbrev pub IsFreshEvent : {S : Type 0} → (S → List Entry) → Event (Token Program) S → Type 0
 IsFreshEvent sent (event.Subscribe program sink) = sent sink ≡ []
+IsFreshEvent sent (event.SubscribeFrom program sink first) = sent sink ≡ []
 IsFreshEvent sent _ = Unit {0}

@@ -6,6 +6,9 @@ pub enum SubscribeError {
     /// 64 subscribers were added, closed ones counted.
     #[error("51 SubscribersFull")]
     SubscribersFull,
+    /// The first version is above the latest one.
+    #[error("55 NoVersion")]
+    NoVersion,
     /// No memory was found.
     #[error("45 OutOfMemory")]
     OutOfMemory,

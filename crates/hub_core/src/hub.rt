@@ -195,14 +195,38 @@ impl<'p, N: Naming, S: Sink<Item<N>>> Core<'p, N, S> {
         requires { S.sent sink ≡ [] }
         ensures { Subscribes self.old (length self.old.changes) program sink result self.new }
     {
+        let first = latest(&self.history);
+        self.subscribe_from(program, sink, first)
+    }
+
+    /// Whether no version has this number yet.
+    pub fn lacks_version(&self, number: u64) -> bool
+        ensures { IsTrue result ↔ (length self.now.changes < number) }
+    {
+        latest(&self.history) < number
+    }
+
+    /// Adds a subscriber, from the latest version or an earlier one on, to a sink that was sent nothing. Ids rise from 0.
+    pub fn subscribe_from(
+        &mut self,
+        program: ProgramToken<N>,
+        sink: S,
+        first: u64,
+    ) -> Result<usize, SubscribeError>
+        requires { S.sent sink ≡ [] }
+        ensures { Subscribes self.old first program sink result self.new }
+    {
         let id = self.subs.len();
         if id == SUBSCRIBER_LIMIT {
             return Err(SubscribeError::SubscribersFull);
         }
+        let newest = latest(&self.history);
+        if newest < first {
+            return Err(SubscribeError::NoVersion);
+        }
         if self.subs.reserve(1).is_err() {
             return Err(SubscribeError::OutOfMemory);
         }
-        let first = latest(&self.history);
         let Ok(subscriber) = Subscriber::new(self.alloc, program, first, sink) else {
             return Err(SubscribeError::OutOfMemory);
         };

@@ -18,6 +18,8 @@ use version_history::published::{Naming, ProgramToken, VersionToken};
 pub enum Event<P, S> {
     Submit(Change),
     Subscribe(P, S),
+    /// From a version on.
+    SubscribeFrom(P, S, u64),
     TakeJob,
     /// Computes the batch of the job that was handed out with this index among those of the run, from 0, and commits it.
     Commit(usize),
@@ -71,6 +73,9 @@ fn run_event<N: Naming, S: Sink<Item<N>>, R: Wait>(
     match event {
         Event::Submit(change) => Reply::Submitted(core.submit(rt, change)),
         Event::Subscribe(program, sink) => Reply::Subscribed(core.subscribe(program, sink)),
+        Event::SubscribeFrom(program, sink, first) => {
+            Reply::Subscribed(core.subscribe_from(program, sink, first))
+        }
         Event::TakeJob => take_job(core, jobs),
         Event::Commit(place) => Reply::Committed(core.commit_job(jobs.as_slice(), place)),
         Event::Pump(id) => Reply::Pumped(core.pump(id)),

@@ -79,6 +79,30 @@ impl<'p, N: Naming + Ledger, R: Wait + Copy> Books<'p, N, R> {
         self.core.is_full()
     }
 
+    /// Whether no version has this number yet.
+    pub fn lacks_version(&self, number: u64) -> bool
+        ensures lacks { IsTrue result ↔ (length self.now.changes < number) }
+        ensures consistent { IsConsistent was_sent IsFull self.now }
+    {
+        self.core.lacks_version(number)
+    }
+
+    /// Adds a subscriber, from the latest version or an earlier one on.
+    pub fn subscribe_from(
+        &mut self,
+        program: ProgramToken<N>,
+        sink: QueueSink<N, R>,
+        first: u64,
+    ) -> Result<usize, SubscribeError>
+        requires { sink.sent ≡ [] }
+        ensures event { Subscribes self.old first program sink result self.new }
+        ensures consistent { AreConsistent self.old self.new }
+    {
+        let id = self.core.subscribe_from(program, sink, first);
+        self.core.stays_consistent();
+        id
+    }
+
     /// Adds a subscriber, from the latest version on.
     pub fn subscribe(
         &mut self,

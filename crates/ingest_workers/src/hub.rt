@@ -1,4 +1,4 @@
-ghost use Rattle.std.specs.Prelude.{◌≡◌, ◌≤◌, ◌↔◌, [], Err, length, All, IsTrue, IfOk, vec_len};
+ghost use Rattle.std.specs.Prelude.{◌≡◌, ◌<◌, ◌≤◌, ◌↔◌, [], Err, length, All, IsTrue, IfOk, vec_len};
 ghost use Rattle.hub_core.specs.Machine.{Subscribes, TakesJob, Misses, Commits, Pumps, Reissues, Closes};
 ghost use Rattle.subscriber_queues.specs.Queue.{was_sent, IsFull};
 ghost use Rattle.ingest_workers.specs.Holdings.{InOneHolding};
@@ -64,6 +64,28 @@ impl<'p, N: Naming + Ledger, R: Wait + Copy> Hub<'p, N, R> {
         ensures { InOneHolding (λ old new. (new ≡ old) × (IsTrue result ↔ (length old.subs ≡ 64))) }
     {
         self.books.lock(rt).is_full()
+    }
+
+    /// Whether no version had this number yet. A version stays, so one that asks first need not publish a program for a version
+    /// that isn't there.
+    pub fn lacks_version(&self, rt: &R, number: u64) -> bool
+        ensures { InOneHolding (λ old new. (new ≡ old) × (IsTrue result ↔ (length old.changes < number))) }
+    {
+        self.books.lock(rt).lacks_version(number)
+    }
+
+    /// Adds a subscriber, from the latest version or an earlier one on.
+    pub fn subscribe_from(
+        &self,
+        rt: &R,
+        program: ProgramToken<N>,
+        sink: QueueSink<N, R>,
+        first: u64,
+    ) -> Result<usize, SubscribeError>
+        requires { sink.sent ≡ [] }
+        ensures { InOneHolding (λ old new. Subscribes old first program sink result new) }
+    {
+        self.books.lock(rt).subscribe_from(program, sink, first)
     }
 
     /// Adds a subscriber, from the latest version on.

@@ -31,6 +31,8 @@ pub enum Reason {
     NoSubscriber,
     /// A capacity that is not 1 to 1,024.
     BadCapacity,
+    /// A subscription from a version that isn't there yet.
+    NoVersion,
     /// A line of none of the forms.
     BadCommand,
     /// A line of more than 70,000 bytes.
@@ -185,6 +187,7 @@ impl Reason {
             Reason::SubscribersFull => "51 SubscribersFull",
             Reason::NoSubscriber => "52 NoSubscriber",
             Reason::BadCapacity => "54 BadCapacity",
+            Reason::NoVersion => "55 NoVersion",
             Reason::BadCommand => "60 BadCommand",
             Reason::LineTooLong => "61 LineTooLong",
             Reason::TextRefused => "62 TextRefused",

@@ -1,5 +1,5 @@
 -- What a line of a session asks for, other than a change's.
-use Rattle.std.specs.Prelude.{◌≡◌, ◌≢◌, ℕ, ◌^◌, ◌<◌, ◌≤◌, List, length, codes, Result, Ok, Err}
+use Rattle.std.specs.Prelude.{◌≡◌, ◌≢◌, ℕ, ◌^◌, ◌<◌, ◌≤◌, List, length, codes, Option, None, Some, Result, Ok, Err}
 use Rattle.std.specs.List.{AllByRecursion}
 use Rattle.hex.specs.Hex.{decode_of}
 use Rattle.hex.specs.declared.error.FromHexError.{FromHexError}
@@ -9,9 +9,9 @@ use Rattle.session_lines.specs.declared.request.SessionRequest.TheVariants.{Subs
 use Rattle.session_lines.specs.declared.fault.LineRefusal.{LineRefusal}
 use Rattle.session_lines.specs.declared.fault.LineRefusal.TheVariants.{BadCommand, BadCapacity, BadHex, OutOfMemory}
 
--- what a line says
+-- what a line says; a subscription is from the latest version on, or from the one that it names
 pub data Command : Type 0 where
-  subscribe : (capacity : ℕ) (digits : List ℕ) → Command
+  subscribe : (capacity : ℕ) (digits : List ℕ) (first : Option ℕ) → Command
   pull : (subscriber count : ℕ) → Command
   close : (subscriber : ℕ) → Command
 
@@ -37,16 +37,17 @@ pub record OneWord (digits word : List ℕ) : Type 0 where
 
 -- a line, without its LF
 abbrev pub CommandForm : Command → List ℕ → Type 0
-CommandForm (subscribe capacity digits) = Word (codes "sub") ⎵ Number capacity ⎵ OneWord digits
+CommandForm (subscribe capacity digits None) = Word (codes "sub") ⎵ Number capacity ⎵ OneWord digits
+CommandForm (subscribe capacity digits (Some first)) = Word (codes "sub") ⎵ Number capacity ⎵ OneWord digits ⎵ Word (codes "from") ⎵ Number first
 CommandForm (pull subscriber count) = Word (codes "pull") ⎵ Number subscriber ⎵ Count count
 CommandForm (close subscriber) = Word (codes "close") ⎵ Number subscriber
 
 -- What is asked for by what a line says, or why it is refused; the capacity is looked at before the digits.
 abbrev pub Grants : Command → Result SessionRequest LineRefusal → Type 0
-Grants (subscribe capacity digits) (Ok (Subscribe room program)) = (room ≡ capacity) × IsCount capacity × (decode_of digits ≡ Ok program.items)
-Grants (subscribe capacity digits) (Err BadCapacity) = ¬ (IsCount capacity)
-Grants (subscribe capacity digits) (Err BadHex) = IsCount capacity × ((error : FromHexError) × (decode_of digits ≡ Err error))
-Grants (subscribe capacity digits) (Err OutOfMemory) = IsCount capacity
+Grants (subscribe capacity digits first) (Ok (Subscribe room program from)) = (room ≡ capacity) × IsCount capacity × (decode_of digits ≡ Ok program.items) × (from ≡ first)
+Grants (subscribe capacity digits first) (Err BadCapacity) = ¬ (IsCount capacity)
+Grants (subscribe capacity digits first) (Err BadHex) = IsCount capacity × ((error : FromHexError) × (decode_of digits ≡ Err error))
+Grants (subscribe capacity digits first) (Err OutOfMemory) = IsCount capacity
 Grants (pull subscriber count) (Ok (Pull id most)) = (id ≡ subscriber) × (most ≡ count)
 Grants (close subscriber) (Ok (Close id)) = id ≡ subscriber
 Grants command answer = ⊥

@@ -28,15 +28,25 @@ is_one_word word = nat_le 1 (length word) && list_all (λ b. not (b == 32)) word
 
 -- what a line says, as it is read
 abbrev pub said : LentCommand → Command
-said (Subscribe capacity digits) = subscribe capacity digits.now
+said (Subscribe capacity digits first) = subscribe capacity digits.now first
 said (Pull subscriber count) = pull subscriber count
 said (Close subscriber) = close subscriber
+
+unfoldable pub from_at : ℕ → List ℕ → Option Command
+from_at capacity text = do
+  parts ← split 32 text
+  more ← split 32 parts.1
+  first ← small (number_in 10 more.1)
+  if is_one_word parts.0 && bytes_eq more.0 (codes "from") then Some (subscribe capacity parts.0 (Some first)) else None
+
+abbrev pub program_at : ℕ → List ℕ → Option Command
+program_at capacity text = if is_one_word text then Some (subscribe capacity text None) else from_at capacity text
 
 unfoldable pub subscribe_at : List ℕ → Option Command
 subscribe_at fields = do
   parts ← split 32 fields
   capacity ← small (number_in 10 parts.0)
-  if is_one_word parts.1 then Some (subscribe capacity parts.1) else None
+  program_at capacity parts.1
 
 unfoldable pub pull_at : List ℕ → Option Command
 pull_at fields = do

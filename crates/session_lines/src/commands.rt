@@ -4,7 +4,7 @@ ghost use Rattle.std.specs.Option.{option_map};
 ghost use Rattle.hex.specs.Hex.{decode_of};
 ghost use Rattle.hex.specs.declared.error.FromHexError.{FromHexError};
 ghost use Rattle.session_lines.specs.Commands.{subscribe, Grants, IsAsked};
-ghost use Rattle.session_lines.specs.Reading.{said, subscribe_at, pull_at, close_at, command_at, is_count};
+ghost use Rattle.session_lines.specs.Reading.{said, from_at, program_at, subscribe_at, pull_at, close_at, command_at, is_count};
 ghost use Rattle.session_lines.specs.declared.fault.LineRefusal.TheVariants as why;
 
 use crate::fault::LineRefusal;
@@ -14,6 +14,8 @@ use std::alloc::Global;
 
 const SUBSCRIBE: &[u8] = b"sub";
 
+const FROM: &[u8] = b"from";
+
 const PULL: &[u8] = b"pull";
 
 const CLOSE: &[u8] = b"close";
@@ -21,9 +23,18 @@ const CLOSE: &[u8] = b"close";
 /// What a line says.
 #[derive(Clone, Copy)]
 enum LentCommand<'a> {
-    Subscribe { capacity: u64, digits: &'a [u8] },
-    Pull { subscriber: u64, count: u64 },
-    Close { subscriber: u64 },
+    Subscribe {
+        capacity: u64,
+        digits: &'a [u8],
+        first: Option<u64>,
+    },
+    Pull {
+        subscriber: u64,
+        count: u64,
+    },
+    Close {
+        subscriber: u64,
+    },
 }
 
 /// Whether a number is 1 to 1,024.
@@ -33,17 +44,46 @@ fn is_count(number: u64) -> bool
     number >= 1 && number <= 1024
 }
 
+/// What follows the capacity of a subscription from a version on.
+#[tactic(auto, unfolding(crate::specs::Reading::from_at))]
+fn from_in(capacity: u64, text: &[u8]) -> Option<LentCommand<'_>>
+    ensures { option_map said result ≡ from_at capacity text.now }
+{
+    let (digits, rest) = word_of(text)?;
+    let (name, first) = word_of(rest)?;
+    let first = number(first)?;
+    if !is_one_word(digits) || name != FROM {
+        return None;
+    }
+    Some(LentCommand::Subscribe {
+        capacity,
+        digits,
+        first: Some(first),
+    })
+}
+
+/// What follows a subscription's capacity.
+fn program_in(capacity: u64, text: &[u8]) -> Option<LentCommand<'_>>
+    ensures { option_map said result ≡ program_at capacity text.now }
+{
+    if is_one_word(text) {
+        return Some(LentCommand::Subscribe {
+            capacity,
+            digits: text,
+            first: None,
+        });
+    }
+    from_in(capacity, text)
+}
+
 /// What follows `sub`.
 #[tactic(auto, unfolding(crate::specs::Reading::subscribe_at))]
 fn subscribe_in(fields: &[u8]) -> Option<LentCommand<'_>>
     ensures { option_map said result ≡ subscribe_at fields.now }
 {
-    let (capacity, digits) = word_of(fields)?;
+    let (capacity, text) = word_of(fields)?;
     let capacity = number(capacity)?;
-    if !is_one_word(digits) {
-        return None;
-    }
-    Some(LentCommand::Subscribe { capacity, digits })
+    program_in(capacity, text)
 }
 
 /// What follows `pull`.
@@ -99,8 +139,13 @@ fn program_of(alloc: Global, digits: &[u8]) -> Result<Vec<u8>, LineRefusal>
 }
 
 /// A subscription to a program; the capacity is looked at before the digits.
-fn subscription(alloc: Global, capacity: u64, digits: &[u8]) -> Result<SessionRequest, LineRefusal>
-    ensures { Grants (subscribe capacity digits.now) result }
+fn subscription(
+    alloc: Global,
+    capacity: u64,
+    digits: &[u8],
+    first: Option<u64>,
+) -> Result<SessionRequest, LineRefusal>
+    ensures { Grants (subscribe capacity digits.now first) result }
 {
     if !is_count(capacity) {
         return Err(LineRefusal::BadCapacity);
@@ -109,6 +154,7 @@ fn subscription(alloc: Global, capacity: u64, digits: &[u8]) -> Result<SessionRe
     Ok(SessionRequest::Subscribe {
         capacity: capacity as usize,
         program,
+        first,
     })
 }
 
@@ -117,7 +163,11 @@ fn request_of(alloc: Global, command: LentCommand<'_>) -> Result<SessionRequest,
     ensures { Grants (said command.entry) result }
 {
     match command {
-        LentCommand::Subscribe { capacity, digits } => subscription(alloc, capacity, digits),
+        LentCommand::Subscribe {
+            capacity,
+            digits,
+            first,
+        } => subscription(alloc, capacity, digits, first),
         LentCommand::Pull { subscriber, count } => Ok(SessionRequest::Pull {
             subscriber: subscriber as usize,
             count: count as usize,

@@ -22,12 +22,22 @@ use std::io::Read;
 pub enum SessionRequest {
     /// To accept a change.
     Change(Change),
-    /// To add a subscriber: with room for 1 to 1,024 items, and with bytes that are yet to be looked at as a program's.
-    Subscribe { capacity: usize, program: Vec<u8> },
+    /// To add a subscriber: with room for 1 to 1,024 items, with bytes that are yet to be looked at as a program's, and from the
+    /// latest version on, or from the one with this number.
+    Subscribe {
+        capacity: usize,
+        program: Vec<u8>,
+        first: Option<u64>,
+    },
     /// To take 1 to 1,024 items of a subscriber.
-    Pull { subscriber: usize, count: usize },
+    Pull {
+        subscriber: usize,
+        count: usize,
+    },
     /// To close a subscriber.
-    Close { subscriber: usize },
+    Close {
+        subscriber: usize,
+    },
 }
 
 /// What comes next of a session's input.

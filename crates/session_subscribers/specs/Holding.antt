@@ -1,14 +1,14 @@
 -- The subscribers of a session, and what requests do to them.
-use Rattle.std.specs.Prelude.{◌≡◌, ◌≤◌, ◌⊎◌, ◌==◌, ℕ, Option, None, Some, Result, Ok, List, [], ◌∷◌, ◌++◌, length, position, slice_get, slice_set, ⊤}
+use Rattle.std.specs.Prelude.{◌≡◌, ◌<◌, ◌≤◌, ◌⊎◌, ◌==◌, ℕ, Option, None, Some, Result, Ok, List, [], ◌∷◌, ◌++◌, length, position, slice_get, slice_set, ⊤}
 use Rattle.std.specs.List.{remove}
 use Rattle.bpf_words.specs.Words.{IsProgram, IsRefused, program_of}
 use Rattle.meaning.specs.Step.{Program}
 use Rattle.meaning.specs.Safe.{Safe}
 use Rattle.version_history.specs.Tokens.{Token}
 use Rattle.batches.specs.Batches.{Entry}
-use Rattle.hub_core.specs.Machine.{Subscribes, Closes as ClosesAtHub}
+use Rattle.hub_core.specs.Machine.{State, Subscribes, Closes as ClosesAtHub}
 use Rattle.hub_core.specs.declared.error.NoSubscriber.{NoSubscriber}
-use Rattle.subscriber_queues.specs.Queue.{IsCapacity}
+use Rattle.subscriber_queues.specs.Queue.{Sending, IsCapacity}
 use Rattle.ingest_workers.specs.Holdings.{InOneHolding}
 use Rattle.refusals.specs.declared.reason.Reason.{Reason}
 use Rattle.refusals.specs.declared.reason.Reason.TheVariants as reason
@@ -25,32 +25,39 @@ pub record Watched : Type 0 where
 abbrev pub place_in : List Watched → ℕ → Option ℕ
 place_in held id = position (λ one. one.id == id) held
 
--- the program of these bytes, each run of which ends with a number, was subscribed under this id with an empty queue of this capacity
-pub record IsSubscribed (capacity : ℕ) (bytes : List ℕ) (id : ℕ) : Type 0 where
+-- the first version of a subscription: the one that is named, or the latest
+abbrev pub first_of : Option ℕ → State Sending → ℕ
+first_of None s = length s.changes
+first_of (Some number) s = number
+
+-- the program of these bytes, each run of which ends with a number, was subscribed under this id with an empty queue of this capacity, from its
+-- first version on
+pub record IsSubscribed (capacity : ℕ) (bytes : List ℕ) (first : Option ℕ) (id : ℕ) : Type 0 where
   pub program : IsProgram bytes
   pub safe : Safe (program_of bytes)
   pub token : Token Program
   pub same : token.value ≡ program_of bytes
-  pub holding : InOneHolding (λ old new. Subscribes old (length old.changes) token (record { sent = []; capacity = capacity }) (Ok id) new)
+  pub holding : InOneHolding (λ old new. Subscribes old (first_of first old) token (record { sent = []; capacity = capacity }) (Ok id) new)
 
 -- the bytes are a program, each run of which ends with a number
 abbrev pub AreSafe : List ℕ → Type 0
 AreSafe bytes = IsProgram bytes × Safe (program_of bytes)
 
 -- why it was not
-abbrev pub IsNotSubscribed : ℕ → List ℕ → Reason → Type 0
-IsNotSubscribed capacity bytes (reason.Words error) = IsRefused bytes error
-IsNotSubscribed capacity bytes (reason.Unverified error) = IsProgram bytes
-IsNotSubscribed capacity bytes reason.BadCapacity = AreSafe bytes × (¬ IsCapacity capacity)
-IsNotSubscribed capacity bytes reason.SubscribersFull = AreSafe bytes × InOneHolding (λ old new. (new ≡ old) × (length old.subs ≡ 64))
-IsNotSubscribed capacity bytes reason.OutOfMemory = AreSafe bytes
-IsNotSubscribed capacity bytes _ = ⊥
+abbrev pub IsNotSubscribed : ℕ → List ℕ → Option ℕ → Reason → Type 0
+IsNotSubscribed capacity bytes first (reason.Words error) = IsRefused bytes error
+IsNotSubscribed capacity bytes first (reason.Unverified error) = IsProgram bytes
+IsNotSubscribed capacity bytes first reason.BadCapacity = AreSafe bytes × (¬ IsCapacity capacity)
+IsNotSubscribed capacity bytes first reason.SubscribersFull = AreSafe bytes × InOneHolding (λ old new. (new ≡ old) × (length old.subs ≡ 64))
+IsNotSubscribed capacity bytes (Some number) reason.NoVersion = AreSafe bytes × InOneHolding (λ old new. (new ≡ old) × (length old.changes < number))
+IsNotSubscribed capacity bytes first reason.OutOfMemory = AreSafe bytes
+IsNotSubscribed capacity bytes first _ = ⊥
 
 -- one more is held, of which nothing was taken; or the same as before
-abbrev pub Adds : ℕ → List ℕ → List Watched → Reply → List Watched → Type 0
-Adds capacity bytes held (reply.Subscribed id) held' = (held' ≡ held ++ record { id = id; taken = [] } ∷ []) × IsSubscribed capacity bytes id
-Adds capacity bytes held (reply.Refused why) held' = (held' ≡ held) × IsNotSubscribed capacity bytes why
-Adds capacity bytes held _ held' = ⊥
+abbrev pub Adds : ℕ → List ℕ → Option ℕ → List Watched → Reply → List Watched → Type 0
+Adds capacity bytes first held (reply.Subscribed id) held' = (held' ≡ held ++ record { id = id; taken = [] } ∷ []) × IsSubscribed capacity bytes first id
+Adds capacity bytes first held (reply.Refused why) held' = (held' ≡ held) × IsNotSubscribed capacity bytes first why
+Adds capacity bytes first held _ held' = ⊥
 
 -- the hub was asked to close this one; where the hub has it as closed, it is refused and stays so
 abbrev pub IsClosed : ℕ → Type 0

@@ -1,7 +1,9 @@
-ghost use Rattle.std.specs.Prelude.{◌≡◌, ℕ, List, [], IfOk, IfErr};
+ghost use Rattle.std.specs.Prelude.{◌≡◌, ℕ, List, Option, [], Ok, IfOk, IfErr};
 ghost use Rattle.bpf_words.specs.Words.{IsProgram, program_of};
 ghost use Rattle.meaning.specs.Safe.{Safe};
-ghost use Rattle.session_subscribers.specs.Holding.{AreSafe, IsNotSubscribed, Adds, Closes};
+ghost use Rattle.hub_core.specs.Machine.{Subscribes};
+ghost use Rattle.ingest_workers.specs.Holdings.{InOneHolding};
+ghost use Rattle.session_subscribers.specs.Holding.{AreSafe, first_of, IsNotSubscribed, Adds, Closes};
 
 use crate::session_hub::{Held, SessionHub, place_of};
 use bpf_words::words::Words;
@@ -22,7 +24,7 @@ fn ends<N: Naming, R: Wait + Copy>(
     capacity: usize,
 ) -> Result<(QueueSink<N, R>, Subscription<N, R>), Reason>
     ensures ok { IfOk result (λ q. (q.0 ≡ record { sent = []; capacity = capacity }) × (q.1 ≡ [])) }
-    ensures err { IfErr result (λ why. (bytes : List ℕ) → AreSafe bytes → IsNotSubscribed capacity bytes why) }
+    ensures err { IfErr result (λ why. (bytes : List ℕ) (first : Option ℕ) → AreSafe bytes → IsNotSubscribed capacity bytes first why) }
 {
     match queue(rt, alloc, capacity) {
         Ok(ends) => Ok(ends),
@@ -34,7 +36,7 @@ fn ends<N: Naming, R: Wait + Copy>(
 /// The accepted program of these bytes.
 fn accepted(alloc: Global, bytes: &[u8]) -> Result<Verified, Reason>
     ensures ok { IfOk result (λ program. IsProgram bytes.now × (program ≡ program_of bytes.now) × Safe program) }
-    ensures err { IfErr result (λ why. (capacity : ℕ) → IsNotSubscribed capacity bytes.now why) }
+    ensures err { IfErr result (λ why. (capacity : ℕ) (first : Option ℕ) → IsNotSubscribed capacity bytes.now first why) }
 {
     let words = match Words::new(bytes) {
         Ok(words) => words,
@@ -58,43 +60,95 @@ impl<N: Naming + Ledger, R: Wait + Copy> SessionHub<'_, '_, N, R> {
         }
     }
 
+    /// Refuses what the hub would refuse whatever the program is.
+    fn check(&self, first: Option<u64>) -> Result<(), Reason>
+        ensures { IfErr result (λ why. (capacity : ℕ) (bytes : List ℕ) → AreSafe bytes → IsNotSubscribed capacity bytes first why) }
+    {
+        if self.hub.is_full(&self.rt) {
+            return Err(Reason::SubscribersFull);
+        }
+        let Some(number) = first else {
+            return Ok(());
+        };
+        if self.hub.lacks_version(&self.rt, number) {
+            return Err(Reason::NoVersion);
+        }
+        Ok(())
+    }
+
+    /// Subscribes at the hub, from the version that is named or the latest one on.
+    fn subscribed(
+        &self,
+        token: ProgramToken<N>,
+        sink: QueueSink<N, R>,
+        first: Option<u64>,
+    ) -> Result<usize, SubscribeError>
+        requires { sink.sent ≡ [] }
+        ensures { InOneHolding (λ old new. Subscribes old (first_of first old) token sink result new) }
+    {
+        match first {
+            None => self.hub.subscribe(&self.rt, token, sink),
+            Some(number) => self.hub.subscribe_from(&self.rt, token, sink, number),
+        }
+    }
+
+    /// The id under which the hub has the subscriber, or why it has none.
+    fn id_at_hub(
+        &self,
+        token: ProgramToken<N>,
+        sink: QueueSink<N, R>,
+        first: Option<u64>,
+    ) -> Result<usize, Reason>
+        requires { sink.sent ≡ [] }
+        ensures ok { IfOk result (λ id. InOneHolding (λ old new. Subscribes old (first_of first old) token sink (Ok id) new)) }
+        ensures err { IfErr result (λ why. (capacity : ℕ) (bytes : List ℕ) → AreSafe bytes → IsNotSubscribed capacity bytes first why) }
+    {
+        match self.subscribed(token, sink, first) {
+            Ok(id) => Ok(id),
+            Err(SubscribeError::SubscribersFull) => Err(Reason::SubscribersFull),
+            Err(SubscribeError::NoVersion) => Err(Reason::NoVersion),
+            Err(SubscribeError::OutOfMemory) => Err(Reason::OutOfMemory),
+        }
+    }
+
     /// Adds a subscriber, and keeps it among those of the session.
     ///
     /// What is published stays for good, so the program is published last, and not at all once the hub is full, which it then
-    /// remains. Only where sessions race for the last place may each of them leave one program that no subscriber has.
+    /// remains, or where the first version isn't there yet. Only where sessions race for the last place may each of them leave
+    /// one program that no subscriber has.
     fn add(
         &self,
         held: &mut Vec<Held<N, R>>,
         capacity: usize,
         bytes: &[u8],
+        first: Option<u64>,
     ) -> Result<usize, Reason>
-        ensures ok { IfOk result (λ id. Adds capacity bytes.now held.old.items (Reply.Subscribed id) held.new.items) }
-        ensures err { IfErr result (λ why. Adds capacity bytes.now held.old.items (Reply.Refused why) held.new.items) }
+        ensures ok { IfOk result (λ id. Adds capacity bytes.now first held.old.items (Reply.Subscribed id) held.new.items) }
+        ensures err { IfErr result (λ why. Adds capacity bytes.now first held.old.items (Reply.Refused why) held.new.items) }
     {
         let program = accepted(self.alloc, bytes)?;
-        if self.hub.is_full(&self.rt) {
-            return Err(Reason::SubscribersFull);
-        }
+        self.check(first)?;
         if held.reserve(1).is_err() {
             return Err(Reason::OutOfMemory);
         }
         let (sink, items) = ends(self.rt, self.alloc, capacity)?;
         let token = self.publish(program)?;
-        match self.hub.subscribe(&self.rt, token, sink) {
-            Ok(id) => {
-                held.push_reserved(Held { id, items });
-                Ok(id)
-            }
-            Err(SubscribeError::SubscribersFull) => Err(Reason::SubscribersFull),
-            Err(SubscribeError::OutOfMemory) => Err(Reason::OutOfMemory),
-        }
+        let id = self.id_at_hub(token, sink, first)?;
+        held.push_reserved(Held { id, items });
+        Ok(id)
     }
 
-    /// Adds a subscriber: its program, and how many items may wait for it.
-    pub fn subscribe(&self, held: &mut Vec<Held<N, R>>, capacity: usize, bytes: &[u8]) -> Reply
-        ensures { Adds capacity bytes.now held.old.items result held.new.items }
+    /// Adds a subscriber: its program, how many items may wait for it, and its first version, the latest where none is named.
+    pub fn subscribe(
+        &self,
+        held: &mut Vec<Held<N, R>>,
+        capacity: usize,
+        bytes: &[u8],
+        first: Option<u64>,
+    ) -> Reply
+        ensures { Adds capacity bytes.now first held.old.items result held.new.items }
     {
-        match self.add(held, capacity, bytes) {
+        match self.add(held, capacity, bytes, first) {
             Ok(id) => Reply::Subscribed(id),
             Err(reason) => Reply::Refused(reason),
         }

@@ -1,18 +1,13 @@
-use Rattle.std.proofs.Common.{rules, ◌≡◌, [], ◌∷◌, ◌++◌, Ok, length, refl, sym, subst, ◌∙◌}
+use Rattle.std.proofs.Common.{rules, ◌≡◌, [], ◌∷◌, ◌++◌, Ok, refl, sym, subst, ◌∙◌}
 use Rattle.hub_core.specs.Machine.{Subscribes}
 use Rattle.ingest_workers.specs.Holdings.{InOneHolding}
-use Rattle.session_subscribers.specs.Holding.{IsNotSubscribed}
+use Rattle.session_subscribers.specs.Holding.{first_of, IsNotSubscribed}
 use Rattle.session_subscribers.proofs.Holdings.{safe_bytes, passed_on}
 use Rattle.session_subscribers.proofs.session_hub.SessionHub.add.Goals as goal
 
 pub returns-in_err-program-clause-err : goal.returns-in_err-program-clause-err
 returns-in_err-program-clause-err g c =
-    passed_on c.from_residual.result c.in_err-program.field-0.0 _ c.from_residual.ensures.1 (refl, c.in_err-program.ensures.err c.args.capacity)
-
-pub returns-then-is_full-clause-err : goal.returns-then-is_full-clause-err
-returns-then-is_full-clause-err g c =
-    let none : InOneHolding (λ old new. (new ≡ old) × (length old.subs ≡ 64)) = search rules in
-    (refl {a = c.args.held.now.items}, (safe_bytes c.in_ok-program.program c.args.bytes.now c.in_ok-program.ensures.ok, none))
+    passed_on c.from_residual.result c.in_err-program.field-0.0 _ c.from_residual.ensures.1 (refl, c.in_err-program.ensures.err c.args.capacity c.args.first)
 
 pub returns-then-is_err-clause-err : goal.returns-then-is_err-clause-err
 returns-then-is_err-clause-err g c =
@@ -21,17 +16,23 @@ returns-then-is_err-clause-err g c =
 pub returns-in_err-sink-clause-err : goal.returns-in_err-sink-clause-err
 returns-in_err-sink-clause-err g c =
     passed_on c.from_residual-in_err-sink.result c.in_err-sink.field-0.0 _ c.from_residual-in_err-sink.ensures.1
-    (c.reserve.ensures.items, c.in_err-sink.ensures.err c.args.bytes.now (safe_bytes c.in_ok-program.program c.args.bytes.now c.in_ok-program.ensures.ok))
+    (c.reserve.ensures.items, c.in_err-sink.ensures.err c.args.bytes.now c.args.first (safe_bytes c.in_ok-program.program c.args.bytes.now c.in_ok-program.ensures.ok))
 
 pub returns-in_err-token-clause-err : goal.returns-in_err-token-clause-err
 returns-in_err-token-clause-err g c =
     let safe = safe_bytes c.in_ok-program.program c.args.bytes.now c.in_ok-program.ensures.ok in
     passed_on c.from_residual-in_err-token.result c.in_err-token.field-0.0 _ c.from_residual-in_err-token.ensures.1
-    (c.reserve.ensures.items, subst (IsNotSubscribed c.args.capacity c.args.bytes.now) (sym c.in_err-token.ensures.err) safe)
+    (c.reserve.ensures.items, subst (IsNotSubscribed c.args.capacity c.args.bytes.now c.args.first) (sym c.in_err-token.ensures.err) safe)
 
-pub returns-in-Ok-clause-ok : goal.returns-in-Ok-clause-ok
-returns-in-Ok-clause-ok g c =
-    let one : c.push_reserved.new.self.items ≡ c.args.held.now.items ++ record { id = c.in-Ok.id; taken = [] } ∷ [] = search rules in
+pub returns-in_err-id-clause-err : goal.returns-in_err-id-clause-err
+returns-in_err-id-clause-err g c =
+    let safe = safe_bytes c.in_ok-program.program c.args.bytes.now c.in_ok-program.ensures.ok in
+    passed_on c.from_residual-in_err-id.result c.in_err-id.field-0.0 _ c.from_residual-in_err-id.ensures.1
+    (c.reserve.ensures.items, c.in_err-id.ensures.err c.args.capacity c.args.bytes.now safe)
+
+pub returns-clause-ok : goal.returns-clause-ok
+returns-clause-ok g c =
+    let one : c.push_reserved.new.self.items ≡ c.args.held.now.items ++ record { id = c.in_ok-id.id; taken = [] } ∷ [] = search rules in
     let safe = safe_bytes c.in_ok-program.program c.args.bytes.now c.in_ok-program.ensures.ok in (
       one,
       record {
@@ -39,15 +40,6 @@ returns-in-Ok-clause-ok g c =
         safe = safe.1;
         token = c.in_ok-token.token;
         same = c.in_ok-token.ensures.ok ∙ c.in_ok-program.ensures.ok.1;
-        holding = subst (λ queue. InOneHolding (λ old new. Subscribes old (length old.changes) c.in_ok-token.token queue (Ok c.in-Ok.id) new)) c.in_ok-sink.ensures.ok.0 c.in-Ok.ensures;
+        holding = subst (λ queue. InOneHolding (λ old new. Subscribes old (first_of c.args.first old) c.in_ok-token.token queue (Ok c.in_ok-id.id) new)) c.in_ok-sink.ensures.ok.0 c.in_ok-id.ensures.ok;
       },
     )
-
-pub returns-in-Err-SubscribersFull-clause-err : goal.returns-in-Err-SubscribersFull-clause-err
-returns-in-Err-SubscribersFull-clause-err g c =
-    let none : InOneHolding (λ old new. (new ≡ old) × (length old.subs ≡ 64)) = search rules in
-    (c.reserve.ensures.items, (safe_bytes c.in_ok-program.program c.args.bytes.now c.in_ok-program.ensures.ok, none))
-
-pub returns-clause-err : goal.returns-clause-err
-returns-clause-err g c =
-    (c.reserve.ensures.items, safe_bytes c.in_ok-program.program c.args.bytes.now c.in_ok-program.ensures.ok)
