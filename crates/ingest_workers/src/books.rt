@@ -1,4 +1,4 @@
-ghost use Rattle.std.specs.Prelude.{◌≡◌, ◌+◌, ◌≤◌, ◌↔◌, [], Some, Err, length, map, slice_get, IsTrue, OnOk, OnErr, MatchOption};
+ghost use Rattle.std.specs.Prelude.{◌≡◌, ◌+◌, ◌<◌, ◌≤◌, ◌↔◌, [], Some, Err, length, map, slice_get, IsTrue, OnOk, OnErr, MatchOption};
 ghost use Rattle.meaning.specs.Safe.{Safe};
 ghost use Rattle.batches.specs.Feed.{Sub};
 ghost use Rattle.change_history.specs.Accepted.{AreAccepted};
