@@ -317,8 +317,8 @@ def assembler_lines(cases, rng):
 
 
 def session_lines(text, color):
-    """A change that makes a text of one color, as version 1."""
-    lines = []
+    """A change that makes a text of one color, as version 1; the empty text has a character that is removed."""
+    lines = [] if text else ["i 1@1 - 61", "d 2@1 1@1"]
     for at, letter in enumerate(text):
         lines.append(f"i {at + 1}@1 {f'{at}@1' if at else '-'} {ord(letter):x}")
     if color is not None:
