@@ -57,11 +57,43 @@ fn on_lists<'p, N: Naming + Ledger + Send + Sync, R: Threads + Wait + Copy + Sen
 {
     let published = Published::<N>::new(versions, programs);
     let (hub, mut shares) = Hub::new(&rt, alloc, blank, &published, shares)?;
+    let subscriptions = play_machine(
+        rt,
+        alloc,
+        &hub,
+        &published,
+        shares.as_mut_slice(),
+        lines,
+        told,
+    )?;
+    let text = format!(in alloc; "settled: {}\n", settle(&rt, &hub, shares))?;
+    told.push_str(text.as_str())?;
+    drop(hub);
+    tell_queues(alloc, told, subscriptions)
+}
+
+/// Plays the events on a machine over the hub, and answers the subscribers' ends of their queues.
+fn play_machine<
+    'a,
+    'b,
+    'p,
+    'q,
+    N: Naming + Ledger + Send + Sync,
+    R: Threads + Wait + Copy + Send + Sync,
+>(
+    rt: R,
+    alloc: Global,
+    hub: &'a Hub<'p, N, R>,
+    published: &'b Published<'q, N>,
+    shares: &mut [Share<N>],
+    lines: &str,
+    told: &mut String,
+) -> Result<Vec<Subscription<N, R>>, AllocError> {
     let mut machine = Machine {
         rt,
         alloc,
-        hub: &hub,
-        published: &published,
+        hub,
+        published,
         kept: String::new(alloc),
         programs: Vec::new(alloc),
         jobs: Vec::new(alloc),
@@ -69,12 +101,8 @@ fn on_lists<'p, N: Naming + Ledger + Send + Sync, R: Threads + Wait + Copy + Sen
         subscriptions: Vec::new(alloc),
         found: Vec::new(alloc),
     };
-    play_lines(&mut machine, shares.as_mut_slice(), lines, told)?;
-    let subscriptions = machine.into_subscriptions();
-    let text = format!(in alloc; "settled: {}\n", settle(&rt, &hub, shares))?;
-    told.push_str(text.as_str())?;
-    drop(hub);
-    tell_queues(alloc, told, subscriptions)
+    play_lines(&mut machine, shares, lines, told)?;
+    Ok(machine.into_subscriptions())
 }
 
 /// Tells what still waits in each queue, if anything does, now that the hub is gone.
@@ -92,7 +120,7 @@ fn tell_queues<N: Naming, R: Wait + Copy>(
 }
 
 fn play_lines<N: Naming + Ledger + Send + Sync, R: Threads + Wait + Copy + Send + Sync>(
-    machine: &mut Machine<'_, '_, N, R>,
+    machine: &mut Machine<'_, '_, '_, '_, N, R>,
     shares: &mut [Share<N>],
     lines: &str,
     told: &mut String,
@@ -116,7 +144,7 @@ fn play_lines<N: Naming + Ledger + Send + Sync, R: Threads + Wait + Copy + Send 
 }
 
 fn answer<N: Naming + Ledger + Send + Sync, R: Threads + Wait + Copy + Send + Sync>(
-    machine: &mut Machine<'_, '_, N, R>,
+    machine: &mut Machine<'_, '_, '_, '_, N, R>,
     shares: &mut [Share<N>],
     key: &str,
     rest: &str,
@@ -141,7 +169,7 @@ fn answer<N: Naming + Ledger + Send + Sync, R: Threads + Wait + Copy + Send + Sy
 }
 
 fn by_share_or_workers<N: Naming + Ledger + Send + Sync, R: Threads + Wait + Copy + Send + Sync>(
-    machine: &mut Machine<'_, '_, N, R>,
+    machine: &mut Machine<'_, '_, '_, '_, N, R>,
     shares: &mut [Share<N>],
     key: &str,
     rest: &str,
@@ -159,7 +187,7 @@ fn by_share_or_workers<N: Naming + Ledger + Send + Sync, R: Threads + Wait + Cop
 }
 
 fn by_share<N: Naming + Ledger, R: Wait + Copy>(
-    machine: &mut Machine<'_, '_, N, R>,
+    machine: &mut Machine<'_, '_, '_, '_, N, R>,
     shares: &mut [Share<N>],
     place: usize,
     rest: &str,
@@ -171,7 +199,7 @@ fn by_share<N: Naming + Ledger, R: Wait + Copy>(
 }
 
 fn worked<N: Naming + Ledger + Send + Sync, R: Threads + Wait + Copy + Send + Sync>(
-    machine: &mut Machine<'_, '_, N, R>,
+    machine: &mut Machine<'_, '_, '_, '_, N, R>,
     trick: Trick,
     at: u64,
     workers: &str,

@@ -20,11 +20,11 @@ use version_history::published::{Naming, ProgramToken, Published};
 
 /// A hub, and what its callers hold.
 #[derive(Drop)]
-pub struct Machine<'a, 'p, N: Naming + Ledger, R: Wait + Copy> {
+pub struct Machine<'a, 'b, 'p, 'q, N: Naming + Ledger, R: Wait + Copy> {
     pub rt: R,
     pub alloc: Global,
     pub hub: &'a Hub<'p, N, R>,
-    pub published: &'a Published<'p, N>,
+    pub published: &'b Published<'q, N>,
     /// Text for a coming event.
     pub kept: String,
     pub programs: Vec<ProgramToken<N>>,
@@ -81,7 +81,7 @@ fn made_up_job<N: Naming>(jobs: &[Job<N>], rest: &str) -> Option<Job<N>> {
     })
 }
 
-impl<'a, 'p, N: Naming + Ledger, R: Wait + Copy> Machine<'a, 'p, N, R> {
+impl<'a, 'b, 'p, 'q, N: Naming + Ledger, R: Wait + Copy> Machine<'a, 'b, 'p, 'q, N, R> {
     /// The subscribers' ends of their queues.
     pub fn into_subscriptions(self) -> Vec<Subscription<N, R>> {
         let Machine {
@@ -201,7 +201,14 @@ impl<'a, 'p, N: Naming + Ledger, R: Wait + Copy> Machine<'a, 'p, N, R> {
     }
 }
 
-impl<'a, 'p, N: Naming + Ledger, R: Threads + Wait + Copy + Sync> Machine<'a, 'p, N, R> {
+impl<'a, 'b, 'p, 'q, N: Naming + Ledger, R: Threads + Wait + Copy + Sync> Machine<
+    'a,
+    'b,
+    'p,
+    'q,
+    N,
+    R,
+> {
     /// Computes the batch of a job that was taken by several threads.
     pub fn filter(&mut self, place: usize) -> Result<Answer, Fault> {
         let job = self.jobs.get(place).ok_or(Fault::Nothing)?;
@@ -215,12 +222,14 @@ impl<'a, 'p, N: Naming + Ledger, R: Threads + Wait + Copy + Sync> Machine<'a, 'p
     }
 }
 
-impl<'a, 'p, N: Naming + Ledger + Send + Sync, R: Threads + Wait + Copy + Send + Sync> Machine<
+impl<
     'a,
+    'b,
     'p,
-    N,
-    R,
-> {
+    'q,
+    N: Naming + Ledger + Send + Sync,
+    R: Threads + Wait + Copy + Send + Sync,
+> Machine<'a, 'b, 'p, 'q, N, R> {
     /// Has workers take turns, with a trick on the jobs of one version.
     pub fn work(&self, workers: usize, turns: u32, trick: Trick, at: u64) -> Result<Answer, Fault> {
         if workers < 1 || 16 < workers {

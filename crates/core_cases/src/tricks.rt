@@ -23,18 +23,18 @@ pub enum Trick {
 
 /// A gate that plays a trick on the jobs of one version.
 #[derive(Drop)]
-pub struct Tricks<'a, 'p, N: Naming + Ledger, R: Wait + Copy> {
+pub struct Tricks<'a, 'b, 'p, 'q, N: Naming + Ledger, R: Wait + Copy> {
     pub rt: R,
     pub alloc: Global,
     pub hub: &'a Hub<'p, N, R>,
-    pub published: &'a Published<'p, N>,
+    pub published: &'b Published<'q, N>,
     pub trick: Trick,
     pub at: u64,
     pub second_is_done: AtomicU64,
     pub is_late: AtomicU64,
 }
 
-impl<'a, 'p, N: Naming + Ledger, R: Wait + Copy> Tricks<'a, 'p, N, R> {
+impl<'a, 'b, 'p, 'q, N: Naming + Ledger, R: Wait + Copy> Tricks<'a, 'b, 'p, 'q, N, R> {
     fn wait_for_second(&self) {
         for _ in 0..1_000_000u32 {
             if self.second_is_done.load(Ordering::SeqCst) == 1 {
@@ -63,8 +63,8 @@ impl<'a, 'p, N: Naming + Ledger, R: Wait + Copy> Tricks<'a, 'p, N, R> {
     }
 }
 
-impl<'a, 'p, N: Naming + Ledger + Send + Sync, R: Wait + Copy + Send + Sync> Gate<N>
-    for Tricks<'a, 'p, N, R> {
+impl<'a, 'b, 'p, 'q, N: Naming + Ledger + Send + Sync, R: Wait + Copy + Send + Sync> Gate<N>
+    for Tricks<'a, 'b, 'p, 'q, N, R> {
     fn before(&self, job: &Job<N>) {
         if job.number == self.at {
             self.play(job);
