@@ -34,22 +34,30 @@ pub fn play_core<R: Wait>(
 ) -> Result<(), AllocError> {
     let versions = boxcar::Vec::new(alloc)?;
     let programs = boxcar::Vec::new(alloc)?;
+    let lines = String::from_str(alloc, lines)?;
     on_lists::<Brand, _>(rt, alloc, &versions, &programs, lines, told)
 }
 
-fn on_lists<'p, N: Naming, R: Wait>(
+fn on_lists<N: Naming, R: Wait>(
     rt: &R,
     alloc: Global,
-    versions: &'p boxcar::Vec<Version>,
-    programs: &'p boxcar::Vec<Verified>,
-    lines: &str,
+    versions: &boxcar::Vec<Version>,
+    programs: &boxcar::Vec<Verified>,
+    lines: String,
     told: &mut String,
 ) -> Result<(), AllocError>
     requires named { (versions.now ≡ N.versions) × (programs.now ≡ N.programs) }
 {
     let published = Published::<N>::new(versions, programs);
-    let tokens = published_programs(rt, alloc, &published, lines)?;
-    play_events(rt, alloc, &published, tokens.as_slice(), lines, told)?;
+    let tokens = published_programs(rt, alloc, &published, lines.as_str())?;
+    play_events(
+        rt,
+        alloc,
+        &published,
+        tokens.as_slice(),
+        lines.as_str(),
+        told,
+    )?;
     let text = format!(in alloc; "published: {} {}\n", versions.count(), programs.count())?;
     told.push_str(text.as_str())
 }

@@ -29,6 +29,7 @@ pub fn play_hub<R: Threads + Wait + Copy + Send + Sync>(
     let versions = boxcar::Vec::new(alloc)?;
     let programs = boxcar::Vec::new(alloc)?;
     let shares = shares.clamp(1, 64);
+    let lines = String::from_str(alloc, lines)?;
     on_lists::<Brand, _>(
         rt,
         alloc,
@@ -41,14 +42,14 @@ pub fn play_hub<R: Threads + Wait + Copy + Send + Sync>(
     )
 }
 
-fn on_lists<'p, N: Naming + Ledger + Send + Sync, R: Threads + Wait + Copy + Send + Sync>(
+fn on_lists<N: Naming + Ledger + Send + Sync, R: Threads + Wait + Copy + Send + Sync>(
     rt: R,
     alloc: Global,
     blank: Blank,
-    versions: &'p boxcar::Vec<Version>,
-    programs: &'p boxcar::Vec<Verified>,
+    versions: &boxcar::Vec<Version>,
+    programs: &boxcar::Vec<Verified>,
     shares: usize,
-    lines: &str,
+    lines: String,
     told: &mut String,
 ) -> Result<(), AllocError>
     requires named { (versions.now ≡ N.versions) × (programs.now ≡ N.programs) }
@@ -63,7 +64,7 @@ fn on_lists<'p, N: Naming + Ledger + Send + Sync, R: Threads + Wait + Copy + Sen
         &hub,
         &published,
         shares.as_mut_slice(),
-        lines,
+        lines.as_str(),
         told,
     )?;
     let text = format!(in alloc; "settled: {}\n", settle(&rt, &hub, shares))?;

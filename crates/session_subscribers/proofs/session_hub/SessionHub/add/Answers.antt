@@ -9,6 +9,11 @@ pub returns-in_err-program-clause-err : goal.returns-in_err-program-clause-err
 returns-in_err-program-clause-err g c =
     passed_on c.from_residual.result c.in_err-program.field-0.0 _ c.from_residual.ensures.1 (refl, c.in_err-program.ensures.err c.args.capacity c.args.first)
 
+pub returns-in_err-check-clause-err : goal.returns-in_err-check-clause-err
+returns-in_err-check-clause-err g c =
+    let safe = safe_bytes c.in_ok-program.program c.args.bytes.now c.in_ok-program.ensures.ok in
+    passed_on c.from_residual-in_err-check.result c.in_err-check.field-0.0 _ c.from_residual-in_err-check.ensures.1 (refl, c.in_err-check.ensures c.args.capacity c.args.bytes.now safe)
+
 pub returns-then-is_err-clause-err : goal.returns-then-is_err-clause-err
 returns-then-is_err-clause-err g c =
     (c.reserve.ensures.items, safe_bytes c.in_ok-program.program c.args.bytes.now c.in_ok-program.ensures.ok)
