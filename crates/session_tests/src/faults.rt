@@ -136,9 +136,9 @@ fn first_wrong_read<R: Threads + Wait + Copy + Send + Sync>(
     for reads in 0..1000usize {
         let outcome = tried(rt, alloc, reads, usize::MAX)?;
         let told = if outcome.unread {
-            outcome.ended == Err(SessionFault::Read)
+            matches!(outcome.ended, Err(SessionFault::Read))
         } else {
-            outcome.ended == Ok(()) && outcome.printed.len() == QUEUE_OF_ONE_REPLIES.len()
+            outcome.ended.is_ok() && outcome.printed.len() == QUEUE_OF_ONE_REPLIES.len()
         };
         if !told || !is_sound(alloc, &outcome)? {
             return Ok(Some(reads));
@@ -158,9 +158,9 @@ fn first_wrong_write<R: Threads + Wait + Copy + Send + Sync>(
     for writes in 0..1000usize {
         let outcome = tried(rt, alloc, usize::MAX, writes)?;
         let told = if outcome.unwritten {
-            outcome.ended == Err(SessionFault::Write)
+            matches!(outcome.ended, Err(SessionFault::Write))
         } else {
-            outcome.ended == Ok(()) && outcome.printed.len() == QUEUE_OF_ONE_REPLIES.len()
+            outcome.ended.is_ok() && outcome.printed.len() == QUEUE_OF_ONE_REPLIES.len()
         };
         if !told || !is_sound(alloc, &outcome)? {
             return Ok(Some(writes));

@@ -29,7 +29,7 @@ fn the_longest_program_comes_byte_by_byte(rt: HostRuntime) -> Result<(), Fail> {
     };
     let mut out = Vec::new(rt.alloc());
     let ended = replay(&rt, rt.alloc(), &mut reader, &mut out, 2);
-    assert_eq!(rt; ended, Ok(()));
+    assert!(rt; ended.is_ok());
     assert_eq!(rt; out.as_slice(), LONGEST_PROGRAM_REPLIES.as_bytes());
     Ok(())
 }
@@ -50,7 +50,7 @@ fn the_longest_links_are_one_change(rt: HostRuntime) -> Result<(), Fail> {
     let lines = longest_change(rt.alloc())?;
     let mut out = Vec::new(rt.alloc());
     let ended = replay(&rt, rt.alloc(), lines.as_bytes(), &mut out, 1);
-    assert_eq!(rt; ended, Ok(()));
+    assert!(rt; ended.is_ok());
     assert_eq!(rt; out.as_slice(), "ok version 1\n".as_bytes());
     Ok(())
 }
