@@ -1,7 +1,8 @@
 //! Runs the program's command on each case of the standard input, over readers and writers in memory, and prints each
-//! case's name, its exit status, and what the command printed; and then what clients of a server were told.
+//! case's name, its exit status, and what the command printed; plays each script of events (`core_cases`), and prints what the
+//! events answered; and then what clients of a server were told.
 //!
-//! Cases are separated by empty lines. A case is these lines, of which all but the first may be left out or repeated:
+//! Cases and scripts are separated by empty lines. A case is these lines, of which all but the first may be left out or repeated:
 //!
 //! | line | what it says |
 //! |---|---|
@@ -158,13 +159,24 @@ impl<'a> Case<'a> {
     }
 }
 
+/// Whether a block of the input is a case of the command; else it is a script of events.
+fn is_case(text: &str) -> bool {
+    text.lines().any(|line| line.starts_with("case "))
+}
+
 fn main(rt: HostRuntime) -> Result<()> {
     let alloc = rt.alloc();
     let cases = io::read_to_string(alloc, rt.reader())?;
     let mut writer = io::BufWriter::new(alloc, io::writer(&rt))?;
     for text in cases.as_str().split("\n\n") {
-        let case = Case::read(alloc, text)?;
-        case.answer(&rt, alloc, &mut writer)?;
+        if is_case(text) {
+            let case = Case::read(alloc, text)?;
+            case.answer(&rt, alloc, &mut writer)?;
+        } else {
+            let mut told = String::new(alloc);
+            core_cases::play(rt, alloc, text, &mut told)?;
+            writer.write_all(told.as_bytes())?;
+        }
     }
     hub_clients::trials(&rt, alloc, &mut writer)?;
     writer.flush()?;

@@ -1,7 +1,6 @@
-//! Plays each case of the standard input, events on a core or a hub of its own, and prints what each event answered.
+//! Plays a script, events on a core or a hub of its own, and tells what each event answered.
 //!
-//! Cases are separated by empty lines, and the lines of a case that begin with `#` say nothing. The first other line says what it is played
-//! on. It is printed as it stands.
+//! The lines of a script that begin with `#` say nothing. The first other line says what it is played on. It is told as it stands.
 //!
 //! | line | what it is played on |
 //! |---|---|
@@ -42,7 +41,7 @@
 //! | `count M N LINE` | a line for each number n from M to N, with n for `{n}` and n - 1 for `{n-1}`; told of in the same way |
 //!
 //! An item is told as `VERSION:SPAN=VERDICT` or `VERSION/SPANS`; where there are more than 12, how many they are, their digest, and the last. At the
-//! end of a case on a core, each sink that has items is told with them, and how many versions and programs were published. At the end
+//! end of a script on a core, each sink that has items is told with them, and how many versions and programs were published. At the end
 //! of one on a hub, the shares are settled, the hub is dropped, and what still waits in each queue is told.
 #![tactic(auto)]
 
@@ -60,21 +59,18 @@ use crate::core_case::play_core;
 use crate::hub_case::play_hub;
 use crate::script::{number, parted, written_out};
 use crate::two_threads::play_threads;
-use anyhow::Result;
 use std::alloc::{AllocError, Global};
-use std::io;
-use std::io::Write;
 use std::sync::Wait;
 use std::thread::Threads;
 
-/// Plays a case, and tells what its events answered.
-fn play<R: Threads + Wait + Copy + Send + Sync>(
+/// Plays a script, and tells what its events answered.
+pub fn play<R: Threads + Wait + Copy + Send + Sync>(
     rt: R,
     alloc: Global,
-    case: &str,
+    script: &str,
     told: &mut String,
 ) -> Result<(), AllocError> {
-    let lines = written_out(alloc, case)?;
+    let lines = written_out(alloc, script)?;
     let (head, lines) = lines.as_str().split_once('\n').unwrap_or(("", ""));
     let (kind, rest) = parted(head);
     let (_, count) = parted(rest);
@@ -87,15 +83,4 @@ fn play<R: Threads + Wait + Copy + Send + Sync>(
         "threads" => play_threads(&rt, alloc, count as u64, told),
         _ => told.push_str("no case\n"),
     }
-}
-
-fn main(rt: HostRuntime) -> Result<()> {
-    let alloc = rt.alloc();
-    let cases = io::read_to_string(alloc, rt.reader())?;
-    let mut told = String::new(alloc);
-    for case in cases.as_str().split("\n\n") {
-        play(rt, alloc, case, &mut told)?;
-    }
-    print!(rt; "{told}")?;
-    Ok(())
 }
