@@ -1,8 +1,8 @@
 #!/usr/bin/env python3
-"""A plain machine for the cases of crates/core_cases, apart from the code: what a hub's core, its queues and its workers are to answer.
+"""A plain machine for the scripts that crates/core_cases plays, apart from the code: what a hub's core, its queues and its workers are to answer.
 
-    core_events.py random             writes the random cases, whose seeds are fixed
-    core_events.py answers < stdin    writes what all cases are to answer
+    core_events.py random             writes the random scripts, whose seeds are fixed
+    core_events.py answers < stdin    writes what the scripts of crates/hub_cases/stdin are to answer
 
 A version is the list of the operations before it. Its spans are found the slow way: the characters in their order, and for each one the
 last mark that covers it. A program is known by what it says of a span. A subscriber is where it stands, how many items it was sent, and
@@ -652,8 +652,9 @@ def main():
     if sys.argv[1:] == ['random']:
         sys.stdout.write(random_cases())
     elif sys.argv[1:] == ['answers']:
-        for case in sys.stdin.read().rstrip('\n').split('\n\n'):
-            play(case)
+        for block in sys.stdin.read().rstrip('\n').split('\n\n'):
+            if not re.search('^case ', block, re.MULTILINE):
+                play(block)
     else:
         sys.exit(__doc__)
 
