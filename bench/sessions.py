@@ -1,6 +1,6 @@
 #!/usr/bin/env python3
 """Measures the built program: sessions on standard input, sessions over TCP, spans shared out among processors, and what
-versions take of memory. sessions.py HUB [replay|refusals|filter|memory|serve].. does those parts, and with no word all.
+versions take of memory. sessions.py HUB [replay|refusals|filter|memory|serve|catch].. does those parts, and with no word all.
 
 Times are by the clock, so other work on the machine shows in them."""
 
@@ -18,6 +18,10 @@ CHANGES = 4096
 STRONG = "611018000000000057000000010000009500000000000000"
 # Answers 0 on every span: `ldxw r0, [r1+24]`, `and r0, 32`, `exit`.
 NEVER = "611018000000000057000000200000009500000000000000"
+
+# Answers 1 on a span that ends with a question mark, in 9 slots.
+with open(os.path.join(os.path.dirname(os.path.abspath(__file__)), "../examples/filters/question.hex")) as hexadecimal:
+    QUESTION = hexadecimal.read().strip()
 
 
 def slot(opcode, registers, offset, immediate):
@@ -286,7 +290,119 @@ def measure_serve(hub):
             row("  99 of 100 waits are below", sorted(waits)[len(waits) * 99 // 100] * 1e6, "us")
 
 
-PARTS = {"replay": measure_replay, "refusals": measure_refusals, "filter": measure_filter, "memory": measure_memory, "serve": measure_serve}
+class Client:
+    """A session with a server, that waits for each reply."""
+
+    def __init__(self, port):
+        self.connection = socket.create_connection(("127.0.0.1", port))
+        self.connection.setsockopt(socket.IPPROTO_TCP, socket.TCP_NODELAY, 1)
+        self.replies = self.connection.makefile("rb")
+
+    def ask(self, request):
+        """The lines of the reply, and how long it took."""
+        start = time.perf_counter()
+        self.connection.sendall(request.encode())
+        lines = []
+        while not lines or not lines[-1].startswith("ok "):
+            lines.append(self.replies.readline().decode())
+            if not lines[-1].startswith(("ok ", "hit ", "end ")):
+                sys.exit(f"{request[:60]!r} was answered {lines[-1]!r}")
+        return lines, time.perf_counter() - start
+
+    def end(self):
+        self.connection.shutdown(socket.SHUT_WR)
+        self.replies.read()
+        self.connection.close()
+
+
+def catch_up(port, ready, go, found):
+    """Takes the items of all versions from 0 on, and looks whether each version ends once, in order."""
+    session = Client(port)
+    ready.release()
+    go.wait()
+    start = time.perf_counter()
+    reply, _ = session.ask(f"sub 1024 {QUESTION} from 0\n")
+    pull = f"pull {reply[-1].split()[2]} 1024\n"
+    items, ends = 0, []
+    while not ends or ends[-1] < CHANGES:
+        reply, _ = session.ask(pull)
+        items += len(reply) - 1
+        ends += [int(line.split()[1]) for line in reply if line.startswith("end ")]
+    took = time.perf_counter() - start
+    if ends != list(range(CHANGES + 1)):
+        sys.exit("a version was left out, or came twice")
+    session.end()
+    found.put(items / took)
+
+
+def write_beside(hub, count):
+    """How long a writer that has a subscriber of its own waits for its changes and its pulls while so many others catch up from
+    version 0, and how many items a second each of these gets. 2,048 versions are there when they begin."""
+    server = subprocess.Popen([hub, "serve", "--port", "0", "--sessions", str(count + 1)], stdout=subprocess.PIPE)
+    port = int(server.stdout.readline().split()[1])
+    ready, go, found = multiprocessing.Semaphore(0), multiprocessing.Event(), multiprocessing.Queue()
+    running = [multiprocessing.Process(target=catch_up, args=(port, ready, go, found)) for _ in range(count)]
+    for one in running:
+        one.start()
+    writer = Client(port)
+    changes = text_of(CHARACTERS, "3f") + removals(CHANGES - CHARACTERS // 256)
+    for change in changes[:2048]:
+        writer.ask(change)
+    writer.ask(f"sub 64 {QUESTION}\n")
+    for _ in running:
+        ready.acquire()
+    writing, pulling = [], []
+    go.set()
+    for change in changes[2048:]:
+        writing.append(writer.ask(change)[1])
+        pulling.append(writer.ask("pull 0 64\n")[1])
+    rates = [found.get() for _ in running]
+    writer.end()
+    for one in running:
+        one.join()
+    if server.wait() != 0:
+        sys.exit("the server failed")
+    return writing, pulling, rates
+
+
+def caught_up_alone(hub):
+    """How many items a second a session gets that catches up from version 0 when all versions are there."""
+    session = Replay(hub)
+    for change in text_of(CHARACTERS, "3f") + removals(CHANGES - CHARACTERS // 256):
+        session.ask(change)
+    start = time.perf_counter()
+    session.ask(f"sub 1024 {QUESTION} from 0\n")
+    items, reply = 0, []
+    while len(reply) != 1:
+        reply = session.ask("pull 0 1024\n")
+        items += len(reply) - 1
+    took = time.perf_counter() - start
+    session.end()
+    return items / took
+
+
+def measure_catching(hub):
+    print("\nCatching up over 4,096 versions of 32,768 characters with a filter of 9 slots; a hit and an end in each version")
+    row("alone, all versions there", caught_up_alone(hub), "items/s")
+    for count in (0, 1, 2):
+        writing, pulling, rates = write_beside(hub, count)
+        beside = f"beside {count} that catch up from version 0"
+        for what, waits in (("a change", writing), ("a pull of one version", pulling)):
+            row(f"{what}, {beside}: median wait", statistics.median(waits) * 1e6, "us")
+            row("  99 of 100 waits are below", sorted(waits)[len(waits) * 99 // 100] * 1e6, "us")
+            row("  the longest", max(waits) * 1e6, "us")
+        for rate in rates:
+            row("  one that catches up", rate, "items/s")
+
+
+PARTS = {
+    "replay": measure_replay,
+    "refusals": measure_refusals,
+    "filter": measure_filter,
+    "memory": measure_memory,
+    "serve": measure_serve,
+    "catch": measure_catching,
+}
 
 
 def main():

@@ -1,5 +1,6 @@
 /* Links whose text begins as an address does, but has another length than the link's target: 1. A link that shows one
- * address and leads to another of the same length isn't found: of the target a filter has the length alone. */
+ * address and leads to another of the same length isn't found: of the target, context 1 has the length alone (link_differs.c
+ * reads it in context 2). */
 #include "span.h"
 
 u64 filter(const struct span *span) {

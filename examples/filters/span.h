@@ -1,4 +1,4 @@
-/* What a filter is given: r1 points to these 56 bytes, and r0 is its verdict. See docs/PROGRAMS.md. */
+/* What a filter is given: r1 points to the context, and r0 is its verdict. See docs/PROGRAMS.md. */
 #ifndef SPAN_H
 #define SPAN_H
 
@@ -6,6 +6,7 @@ typedef __UINT8_TYPE__ u8;
 typedef __UINT32_TYPE__ u32;
 typedef __UINT64_TYPE__ u64;
 
+/* What `hub check` and `sub` let a filter read of the context: the first 56 bytes. */
 struct span {
     const u8 *text; /* 0: the text's first byte */
     const u8 *end;  /* 8: the place after its last byte */
@@ -23,9 +24,20 @@ struct span {
 _Static_assert(sizeof(struct span) == 56, "56 bytes");
 _Static_assert(__builtin_offsetof(struct span, version) == 48, "the version stands at 48");
 
+/* What `hub check --context 2` and `sub2` let a filter read: these bytes and the link. */
+struct linked_span {
+    struct span span;   /* 0: the same bytes */
+    const u8 *link;     /* 56: the link's first byte */
+    const u8 *link_end; /* 64: the place after its last byte; equal to `link` where there is none */
+};
+
+_Static_assert(sizeof(struct linked_span) == 72, "72 bytes");
+_Static_assert(__builtin_offsetof(struct linked_span, link) == 56, "the link stands at 56");
+
 enum { STRONG = 1, EM = 2, LINK = 4, COLOR = 8, COMMENT = 16 };
 
-/* The verdict: 0 says nothing, and any other number is sent to the subscriber. It is the one function of a file. */
+/* The verdict: 0 says nothing, and any other number is sent to the subscriber. A file has one of the two, and no other function. */
 u64 filter(const struct span *span);
+u64 link_filter(const struct linked_span *linked);
 
 #endif

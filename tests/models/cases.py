@@ -15,9 +15,10 @@ class Cases:
     def heading(self, text):
         self.headings.append("# " + text)
 
-    def add(self, name, words, printed, status=0, lines=(), text=None):
-        """A case with these words, input lines, and a last text without a line feed."""
+    def add(self, name, words, printed, status=0, lines=(), text=None, parts=()):
+        """A case with these words, a last word of parts (how often, text), input lines, and a last text without a line feed."""
         block = self.headings + [f"case {name}", "args " + " ".join(words)]
+        block += ["arg"] * bool(parts) + [f"more {count} {part}" for count, part in parts]
         block += ["line " + escaped(line) if line else "line" for line in lines]
         if text:
             block.append("text " + escaped(text))

@@ -99,6 +99,18 @@ class Document:
         return spans
 
 
+def lent(document, number):
+    """What a run is lent of each span of a version: its text, and what else its context says, with its link."""
+    spans, out = document.spans(), []
+    for index, (text, found) in enumerate(spans):
+        comments = sum(key.startswith("comment:") for key in found)
+        bits = [("strong", 1), ("em", 2), ("link", 4), ("color", 8)]
+        flags = sum(bit for key, bit in bits if key in found) + (16 if comments else 0)
+        out.append((text, dict(flags=flags, color=int(found.get("color", "0"), 16), link=found.get("link", ""), comments=comments,
+                               index=index, count=len(spans), number=number)))
+    return out
+
+
 def format_text(found):
     parts = [key for key in ("strong", "em") if key in found]
     parts += [f"{key}={found[key]}" for key in ("link", "color") if key in found]

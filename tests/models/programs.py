@@ -8,8 +8,9 @@ import sys
 
 from assembler import assembled
 from cases import Cases
-from machine import (ARITHMETIC, BYTE_ORDER, JUMPS, LOADS, MASK, OUT_OF_PROFILE, STORES, disassembled, has_width, kind_of,
-                     named, offset_is_width, refusal, run, slot)
+from document import Document, accepted, change_lines, lent
+from machine import (ARITHMETIC, BYTE_ORDER, JUMPS, LINK, LOADS, MASK, OUT_OF_PROFILE, STORES, TEXT, disassembled, has_width,
+                     kind_of, named, offset_is_width, refusal, run, slot)
 
 EXIT = slot(0x95)
 NUMBERS = [0, 1, 7, 0xffff_ffff_ffff_ffff, 0x8000_0000_0000_0000, 0x7fff_ffff_8000_0001, 0xffff_ffff_8000_0000,
@@ -77,8 +78,8 @@ def pairs_of(rng, is_register, count):
 def add_run(cases, name, data, text="", **options):
     status, printed = run(data, text.encode(), **options)
     words = ["run", data.hex()]
-    for option, number in options.items():
-        words += [f"--{option}", str(number)]
+    for option, value in options.items():
+        words += ["--link-text" if option == "link" else f"--{option}", str(value)]
     cases.add(name, words, [printed], status, text=text)
 
 
@@ -103,18 +104,18 @@ def operation_runs(cases, rng):
 # The numbers 0x0102030405060708 and so on in the four slots of the stack that are nearest to its top.
 STACKED = b"".join(wide(5, 0x0102_0304_0506_0708 + at * 0x7876_7574_7372_7170) + slot(0x7b, 10, 5, -8 * at - 8)
                    for at in range(4))
-OPTIONS = dict(flags=0x8000_0005, color=0xff_0080, link=11, comments=2, index=1, count=7, number=0xfedc_ba98_7654_3210)
+OPTIONS = dict(flags=0x8000_0005, color=0xff_0080, link="https://a.b", comments=2, index=1, count=7, number=0xfedc_ba98_7654_3210)
 FEW_OPTIONS = dict(flags=13, number=7 << 56)
 LETTERS = "aé\nz😀"
 
 
 def memory_runs(cases):
-    cases.heading("Each load at all places of the context, of the text and of four slots of the stack.")
-    ends = slot(0x79, 2, 1, 0) + STACKED + slot(0xb7, 0, 0, 0, 1)
+    cases.heading("Each load at all places of the context, of the text, of the link and of four slots of the stack.")
+    ends = slot(0x79, 2, 1, 0) + slot(0x79, 3, 1, 56) + STACKED + slot(0xb7, 0, 0, 0, 1)
     length = len(LETTERS.encode())
     for opcode, (name, size, _) in LOADS.items():
         body = b""
-        for base, low, high in ((1, 0, 56), (2, 0, length), (10, -32, 0)):
+        for base, low, high in ((1, 0, 72), (2, 0, length), (3, 0, 11), (10, -32, 0)):
             for offset in range(low, high - size + 1):
                 body += slot(opcode, 9, base, offset) + FOLD
         add_run(cases, f"all-{name}", ends + body + EXIT, LETTERS, **OPTIONS)
@@ -128,14 +129,15 @@ def memory_runs(cases):
                 body += slot(opcode, 10, 0, offset, -0x0102_0304 * (-offset))
         loads = b"".join(slot(0x79, 9, 10, offset) + FOLD for offset in (-32, -24, -16, -8))
         add_run(cases, f"all-{name}", ends + body + loads + EXIT, LETTERS)
-    cases.heading("Loads and stores of which a byte is past an end of the context, of the text or of the stack, and that aren't.")
+    cases.heading("Loads and stores of which a byte is past an end of the context, of the text, of the link or of the stack,")
+    cases.heading("and that aren't.")
     for opcode in list(LOADS) + list(STORES):
         size = LOADS[opcode][1] if opcode in LOADS else STORES[opcode][1]
-        for base, low, high in ((1, 0, 56), (2, 0, length), (10, -512, 0)):
+        for base, low, high in ((1, 0, 72), (2, 0, length), (3, 0, 11), (10, -512, 0)):
             for offset in (low - 1, low, high - size, high - size + 1):
                 access = slot(opcode, 0, base, offset) if opcode in LOADS else slot(opcode, base, 0, offset)
-                data = slot(0x79, 2, 1, 0) + slot(0xb7, 0) + access + EXIT
-                add_run(cases, f"end-{opcode:02x}-{base}-{offset}", data, LETTERS)
+                data = slot(0x79, 2, 1, 0) + slot(0x79, 3, 1, 56) + slot(0xb7, 0) + access + EXIT
+                add_run(cases, f"end-{opcode:02x}-{base}-{offset}", data, LETTERS, link="https://a.b")
 
 
 DESTINATIONS = [0, 0, 0, 0, 1, 2, 2, 2, 3, 3, 9, 10]
@@ -371,20 +373,20 @@ def number_sessions(cases, rng):
 
 
 # Programs that load from the text behind a test of its end, and what is said of them: a test that so many bytes are there, then
-# a load of the first ones. It is accepted exactly where the load ends at or before them.
-def guarded(rng):
+# a load of the first ones. It is accepted exactly where the load ends at or before them. With the link's fields they load from it.
+def guarded(rng, start=0, end=8):
     opcode = rng.choice(list(LOADS))
     size, there, offset = LOADS[opcode][1], rng.randrange(1, 13), rng.randrange(0, 9)
-    data = (slot(0x79, 2, 1, 0) + slot(0x79, 3, 1, 8) + slot(0xbf, 4, 2) + slot(0x07, 4, 0, 0, there) + slot(0xb7, 0)
+    data = (slot(0x79, 2, 1, start) + slot(0x79, 3, 1, end) + slot(0xbf, 4, 2) + slot(0x07, 4, 0, 0, there) + slot(0xb7, 0)
             + slot(0x2d, 4, 3, 1) + slot(opcode, 0, 2, offset) + EXIT)
     return data, None if offset + size <= there else "21 TextBounds slot 6"
 
 
-def masked(rng):
+def masked(rng, start=0, length=16):
     """A byte at the masked color, of a text that has so many bytes; accepted exactly where the last one is one of them."""
     opcode = rng.choice(list(LOADS))
     size, there, mask, more = LOADS[opcode][1], rng.randrange(4, 20), rng.choice([1, 3, 7]), rng.randrange(0, 6)
-    data = (slot(0x79, 2, 1, 0) + slot(0x61, 3, 1, 16) + slot(0x61, 4, 1, 28) + slot(0xb7, 0)
+    data = (slot(0x79, 2, 1, start) + slot(0x61, 3, 1, length) + slot(0x61, 4, 1, 28) + slot(0xb7, 0)
             + slot(0xa5, 3, 0, 4, there) + slot(0x57, 4, 0, 0, mask) + slot(0x07, 4, 0, 0, more) + slot(0x0f, 2, 4)
             + slot(opcode, 0, 2, 0) + EXIT)
     return data, None if mask + more + size <= there else "21 TextBounds slot 8"
@@ -401,6 +403,215 @@ def reader_cases(cases, rng):
                 add_run(cases, f"reader-{at + 1}-{number + 1}", data, text, **session_context(text, color))
 
 
+# The links of random runs, of 0, 1, 2 and 1,024 bytes: parts with how often they stand there.
+LINKS = [[], [(1, "x")], [(1, "~!")], [(146, "abcdefg"), (1, "hi")]]
+# r2 and r3 get the text's ends, r6 and r7 the link's, r8 the link's length.
+ENDS = (slot(0x79, 2, 1, 0) + slot(0x79, 3, 1, 8) + slot(0x79, 6, 1, 56) + slot(0x79, 7, 1, 64) + slot(0x61, 8, 1, 32)
+        + slot(0xb7, 0, 0, 0, 1))
+
+
+def whole(parts):
+    return "".join(part * count for count, part in parts)
+
+
+def folded(opcode, base, offset):
+    return slot(opcode, 9, base, offset) + FOLD
+
+
+def piece_behind_a_test(rng, base, end, length):
+    """Bytes that may end one behind those that were tested for."""
+    opcode = rng.choice(list(LOADS))
+    there = rng.choice([1, 2, length - 1, length, length + 1])
+    offset = max(0, there - LOADS[opcode][1]) + rng.choice([0, 0, 0, 1])
+    return slot(0xbf, 4, base) + slot(0x07, 4, 0, 0, there) + slot(0x2d, 4, end, 3) + folded(opcode, base, offset)
+
+
+def piece_at_an_end(rng, base, end, length):
+    """Bytes about the region's start or end, from either of its ends' addresses."""
+    opcode = rng.choice([0x71, 0x71, 0x91, 0x69] + list(LOADS))
+    offset = rng.choice([0, 0, -1, length - LOADS[opcode][1], length - LOADS[opcode][1] + 1])
+    return folded(opcode, base, offset) if rng.random() < 0.6 else folded(opcode, end, offset - length)
+
+
+def piece_at_a_mask(rng, base, _end, length):
+    mask = rng.choice([0, 1, 3, max(length - 1, 0), 1023])
+    from_length = slot(0xbf, 4, 8) if rng.random() < 0.5 else slot(0xb7, 4, 0, 0, rng.randrange(1 << 20))
+    return from_length + slot(0x57, 4, 0, 0, mask) + slot(0x0f, 4, base) + folded(rng.choice([0x71, 0x71, 0x69]), 4, 0)
+
+
+def piece_by_the_other_region(rng, _base, _end, length):
+    """A byte of the link, by the text's address, or one of the text by the link's."""
+    base, distance = rng.choice([(2, LINK - TEXT), (6, TEXT - LINK)])
+    return wide(4, distance & MASK[64]) + slot(0x0f, 4, base) + folded(0x71, 4, rng.choice([0, 0, 0, length]))
+
+
+def piece_of_addresses(rng, _base, _end, _length):
+    """Arithmetic on addresses, whole or by halves."""
+    opcode = rng.choice([0x1f, 0x1f, 0xaf, 0x3f, 0x9f, 0x2f, 0x0c, 0x1c, 0x4f])
+    return slot(0xbf, 9, rng.choice([7, 6, 3])) + slot(opcode, 9, rng.choice([6, 2, 7])) + FOLD
+
+
+def piece_of_a_comparison(rng, _base, _end, _length):
+    opcode = rng.choice(list(JUMPS)) << 4 | rng.choice([0xd, 0xe])
+    return slot(0x67, 0, 0, 0, 1) + slot(opcode, rng.choice([6, 7]), rng.choice([2, 3, 6, 7]), 1) + slot(0x47, 0, 0, 0, 1)
+
+
+def piece_of_the_context(rng, _base, _end, _length):
+    opcode = rng.choice(list(LOADS))
+    return folded(opcode, 1, rng.choice([52, 56, 57, 60, 64, 72 - LOADS[opcode][1], 72 - LOADS[opcode][1], 73 - LOADS[opcode][1]]))
+
+
+def piece_by_the_stack(rng, base, _end, _length):
+    """An address goes to the stack and back, whole or in part."""
+    back = rng.choice([slot(0x79, 5, 10, -8) + folded(0x71, 5, 0), folded(0x61, 10, rng.choice([-8, -4]))])
+    return slot(0x7b, 10, base, -8) + back
+
+
+def piece_that_stores(rng, base, _end, length):
+    opcode = rng.choice(list(STORES))
+    return slot(opcode, base, 0, rng.choice([0, 0, length - STORES[opcode][1], length - 1]))
+
+
+PIECES = [piece_behind_a_test, piece_behind_a_test, piece_at_an_end, piece_at_an_end, piece_at_a_mask, piece_by_the_other_region,
+          piece_of_addresses, piece_of_a_comparison, piece_of_the_context, piece_by_the_stack]
+
+
+def lent_program(rng, link, text):
+    """Up to four pieces, of which the last may be a store."""
+    pieces = rng.choices(PIECES, k=rng.randrange(1, 4))
+    if rng.random() < 0.2:
+        pieces.append(piece_that_stores)
+    data = ENDS
+    for piece in pieces:
+        base, end, length = rng.choice([(6, 7, len(link)), (6, 7, len(link)), (2, 3, len(text.encode()))])
+        data += piece(rng, base, end, length)
+    return data + EXIT
+
+
+def lent_runs(cases, rng):
+    cases.heading("Random programs over the text and a link of 0, 1, 2 or 1,024 bytes: of each 14 different verdicts, which hang on the")
+    cases.heading("link's bytes if there are any, 6 loads or stores past an end, and 3 stores into what is lent.")
+    number = 0
+    for parts in LINKS:
+        link = whole(parts)
+        other = "".join(chr(159 - ord(letter)) for letter in link)
+        left, verdicts = {"verdict": 14, "F2": 6, "F3": 3}, set()
+        while any(left.values()):
+            text = random_text(rng)
+            data = lent_program(rng, link, text)
+            status, printed = run(data, text.encode(), link)
+            end = ending(printed)
+            hangs_on_link = not link or printed != run(data, text.encode(), other)[1]
+            if not left.get(end) or end == "verdict" and (printed in verdicts or not hangs_on_link):
+                continue
+            left[end] -= 1
+            verdicts.add(printed)
+            number += 1
+            words = ["run", data.hex()] + (["--link-text"] if parts else [])
+            cases.add(f"lent-{number}", words, [printed], status, text=text, parts=parts)
+
+
+# Programs that load from the link, or from both: as those that may they are accepted where it is said with each, as others they
+# are refused with 18 at the first load of the link's start.
+def before_the_end(rng):
+    """Bytes before the link's end behind a test that so many are there; accepted exactly where they are among these."""
+    opcode = rng.choice(list(LOADS))
+    size, there, back = LOADS[opcode][1], rng.randrange(1, 13), rng.randrange(0, 13)
+    data = (slot(0x79, 2, 1, 56) + slot(0x79, 3, 1, 64) + slot(0xbf, 4, 2) + slot(0x07, 4, 0, 0, there) + slot(0xb7, 0)
+            + slot(0x2d, 4, 3, 1) + slot(opcode, 0, 3, -back) + EXIT)
+    return data, None if size <= back <= there else "21 TextBounds slot 6"
+
+
+def at_the_color(rng):
+    """Bytes at the color, which is below the link's length, or behind it; accepted exactly where that is the one byte at it."""
+    opcode, offset = rng.choice([0x71, 0x91, 0x71, 0x91, 0x69]), rng.choice([0, 0, 0, 1])
+    data = (slot(0x79, 2, 1, 56) + slot(0x61, 3, 1, 32) + slot(0x61, 4, 1, 28) + slot(0xb7, 0) + slot(0x3d, 4, 3, 2)
+            + slot(0x0f, 2, 4) + slot(opcode, 0, 2, offset) + EXIT)
+    return data, None if offset + LOADS[opcode][1] <= 1 else "21 TextBounds slot 6"
+
+
+def of_both(rng):
+    """The first bytes of the text and of the link, behind a test of each; accepted exactly where both loads end within."""
+    first, second = rng.choice([0x71, 0x71, 0x91, 0x69]), rng.choice(list(LOADS))
+    there, offset = rng.randrange(1, 4), rng.randrange(0, 2)
+    link_there, link_offset = rng.randrange(1, 13), rng.randrange(0, 4)
+    data = (slot(0x79, 2, 1, 0) + slot(0x79, 3, 1, 8) + slot(0x79, 6, 1, 56) + slot(0x79, 7, 1, 64) + slot(0xb7, 0)
+            + slot(0xbf, 4, 2) + slot(0x07, 4, 0, 0, there) + slot(0x2d, 4, 3, 7)
+            + slot(0xbf, 4, 6) + slot(0x07, 4, 0, 0, link_there) + slot(0x2d, 4, 7, 4)
+            + slot(first, 0, 2, offset) + folded(second, 6, link_offset) + EXIT)
+    if offset + LOADS[first][1] > there:
+        return data, "21 TextBounds slot 11"
+    return data, None if link_offset + LOADS[second][1] <= link_there else "21 TextBounds slot 12"
+
+
+def lent_reader(rng):
+    shape = rng.choice([guarded, masked, before_the_end, at_the_color, of_both])
+    if shape is guarded:
+        return guarded(rng, 56, 64)
+    return masked(rng, 56, 32) if shape is masked else shape(rng)
+
+
+def linked_change(rng, links):
+    """The operations of a text with a span for each of these links, of which "" is none; some spans have a color."""
+    ops, marks, last = [], [], None
+    for link in links:
+        first = len(ops) + 1
+        for _ in range(rng.randrange(1, 10)):
+            ops.append(("i", (len(ops) + 1, 1), last, ord(rng.choice("abcdefé😀"))))
+            last = ops[-1][1]
+        anchors = ("<", (first, 1)), (">", last)
+        if link:
+            marks.append(("link", link) + anchors)
+        if rng.random() < 0.7:
+            marks.append(("color", f"{rng.choice([0, 1, 2, 3, 5, 8, 1023, 0xffffff]):06x}") + anchors)
+    return ops + [("m", (len(ops) + at, 1)) + mark for at, mark in enumerate(marks, 1)]
+
+
+def lent_items(document, data):
+    """What a program's subscriber is sent of version 1."""
+    spans, items = lent(document, 1), []
+    for index, (text, options) in enumerate(spans):
+        status, verdict = run(data, text.encode(), **options)
+        if status:
+            sys.exit(f"no run of an accepted program: {data.hex()}")
+        if verdict != "verdict 0":
+            items.append(f"hit 1 {index} {verdict.split()[1]}")
+    return items + [f"end 1 {len(spans)}"]
+
+
+def lent_sessions(cases, rng):
+    cases.heading("Loads from the link behind tests, accepted or refused by the rules, by hand, over spans with links of several lengths")
+    cases.heading("and without one: 16 programs, of which up to 4 are refused and up to 3 say nothing of any span. Each fourth is sent as")
+    cases.heading("one that mayn't read the link too.")
+    long = whole(LINKS[3])
+    lists = [["", "x"], ["ab", "", "https://a.b"], ["abcdefghi", "~!", ""], [long, "", "!"], ["abcd", "abce", "", "abcdefgh"],
+             ["https://a.b/c", "", long]]
+    for at, links in enumerate(lists):
+        document, ops = Document(), linked_change(rng, links)
+        if accepted(document, ops):
+            sys.exit("a change that should be accepted isn't")
+        lines, printed, subs = change_lines(1, ops), ["ok version 1"], 0
+        sent, left = 0, {"refused": 4, "silent": 3, "heard": 16}
+        while sent < 16:
+            data, refused = lent_reader(rng)
+            items = [] if refused else lent_items(document, data)
+            end = "refused" if refused else "heard" if len(items) > 1 else "silent"
+            if not left[end]:
+                continue
+            if sent % 4 == 0:
+                lines.append(f"sub 8 {data.hex()}")
+                printed.append(f"no 18 ContextField slot {[data[place] for place in range(2, len(data), 8)].index(56)}")
+            sent, left[end] = sent + 1, left[end] - 1
+            lines.append(f"sub2 8 {data.hex()}")
+            if refused:
+                printed.append(f"no {refused}")
+                continue
+            lines.append(f"pull {subs} 64")
+            printed += [f"ok sub {subs}"] + items + [f"ok items {len(items)}"]
+            subs += 1
+        cases.add(f"session-of-lent-readers-{at + 1}", ["replay"], printed, lines=lines)
+
+
 def main():
     cases = Cases()
     rng = random.Random(9669)
@@ -411,6 +622,8 @@ def main():
     assembler_lines(cases, rng)
     number_sessions(cases, rng)
     reader_cases(cases, rng)
+    lent_runs(cases, rng)
+    lent_sessions(cases, rng)
     cases.write(sys.argv[1], "programs")
 
 

@@ -4,7 +4,7 @@ import random
 import sys
 
 from cases import Cases
-from document import NAMES, Document, accepted, change_lines, named, printed
+from document import NAMES, Document, accepted, change_lines, lent, named, printed
 from machine import run, slot
 
 CODES = [0x61, 0x62, 0x63, 0x7a, 0x20, 0x5c, 0xa, 0xe9, 0x20ac, 0x1f600, 0x10ffff]
@@ -136,13 +136,8 @@ READ_ALL = (slot(0xb7, 0) + b"".join(slot(0x27, 0, 0, 0, 31) + slot(opcode, 2, 1
 
 
 def hits(document, number):
-    spans, out = document.spans(), []
-    for index, (text, found) in enumerate(spans):
-        comments = sum(key.startswith("comment:") for key in found)
-        bits = [("strong", 1), ("em", 2), ("link", 4), ("color", 8)]
-        flags = sum(bit for key, bit in bits if key in found) + (16 if comments else 0)
-        color, link = int(found.get("color", "0"), 16), len(found.get("link", ""))
-        options = dict(flags=flags, color=color, link=link, comments=comments, index=index, count=len(spans), number=number)
+    spans, out = lent(document, number), []
+    for index, (text, options) in enumerate(spans):
         status, verdict = run(READ_ALL, text.encode(), **options)
         if status or verdict == "verdict 0":
             sys.exit("the reader of the context gives no verdict")

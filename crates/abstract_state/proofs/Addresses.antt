@@ -6,7 +6,7 @@ use Rattle.bpf_words.specs.declared.instruction.Arithmetic.{Arithmetic}
 use Rattle.bpf_words.specs.declared.instruction.Arithmetic.TheVariants.{Add, Sub}
 use Rattle.meaning.specs.Value.{cut, value_of}
 use Rattle.abstract_state.specs.declared.region.Region.{Region}
-use Rattle.abstract_state.specs.declared.region.Region.TheVariants.{Text}
+use Rattle.abstract_state.specs.declared.region.Region.TheVariants.{Text, Link}
 use Rattle.abstract_state.specs.declared.known.Known.{Known}
 use Rattle.abstract_state.specs.declared.known.Known.TheVariants.{Number, Context, Stack, Lent}
 use Rattle.abstract_state.specs.Lent.{Lengths, base_of}
@@ -15,9 +15,11 @@ use Rattle.abstract_state.specs.Known.{ContainsKnown, WithinKnown}
 -- no place near a lent region wraps
 pub near_fits : (region : Region) (x : ℕ) → x ≤ 2 ^ 20 → base_of region + x < 2 ^ 64
 near_fits Text x h = omega arith
+near_fits Link x h = omega arith
 
 pub near_is : (region : Region) (x : ℕ) → x ≤ 2 ^ 20 → (base_of region + x) % 2 ^ 64 ≡ base_of region + x
 near_is Text x h = omega arith
+near_is Link x h = omega arith
 
 pub adds : (op : Arithmetic) (w : Width) (x y : ℕ) → op ≡ Add → w ≡ Full → value_of op w (cut w x) (cut w y) ≡ (x + y) % 2 ^ 64
 adds op w x y is_op is_w =
@@ -46,12 +48,16 @@ known_at o k lengths n is (j, e, c) = let same : j ≡ k = cc in subst (λ (v : 
 -- the sum of an address in a lent region and a number, and the other way round
 pub lent_sum : (region : Region) (x y : ℕ) → (base_of region + (x + y) % 2 ^ 64) % 2 ^ 64 ≡ (base_of region + x + y) % 2 ^ 64
 lent_sum Text x y = omega arith
+lent_sum Link x y = omega arith
 
 pub lent_difference : (region : Region) (x y : ℕ) → y < 2 ^ 64 → (base_of region + (x + (2 ^ 64 - y)) % 2 ^ 64) % 2 ^ 64 ≡ (base_of region + x + (2 ^ 64 - y % 2 ^ 64)) % 2 ^ 64
 lent_difference Text x y h = omega arith
+lent_difference Link x y h = omega arith
 
 pub sum_lent : (region : Region) (x y : ℕ) → (base_of region + (x + y) % 2 ^ 64) % 2 ^ 64 ≡ (x + (base_of region + y)) % 2 ^ 64
 sum_lent Text x y = omega arith
+sum_lent Link x y = omega arith
 
 pub lent_moved : (region : Region) (w : Width) (n x : ℕ) → w ≡ Full → n ≡ base_of region + x → (base_of region + x % 2 ^ 64) % 2 ^ 64 ≡ cut w n
 lent_moved Text w n x is e = omega arith ∙ ap (λ (v : Width). cut v n) (sym is)
+lent_moved Link w n x is e = omega arith ∙ ap (λ (v : Width). cut v n) (sym is)

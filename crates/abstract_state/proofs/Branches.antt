@@ -10,7 +10,7 @@ use Rattle.bpf_words.specs.declared.instruction.Comparison.TheVariants as is
 use Rattle.meaning.specs.State.{State, set_value, register_of}
 use Rattle.meaning.specs.Value.{cut, holds_of}
 use Rattle.abstract_state.specs.declared.region.Region.{Region}
-use Rattle.abstract_state.specs.declared.region.Region.TheVariants.{Text}
+use Rattle.abstract_state.specs.declared.region.Region.TheVariants.{Text, Link}
 use Rattle.abstract_state.specs.declared.branch.Pair.{Pair}
 use Rattle.abstract_state.specs.Lent.{Lengths, base_of}
 use Rattle.abstract_state.specs.Known.{ContainsKnown}
@@ -41,6 +41,7 @@ moved_holds is.SignedLessOrEqual b x y o = absurd o
 
 lent_cut : (region : Region) (m x : ℕ) → m ≡ base_of region + x → x ≤ 2 ^ 20 → cut Full m ≡ base_of region + x
 lent_cut Text m x e h = omega arith
+lent_cut Link m x e h = omega arith
 
 -- addresses in one region stand as their places
 pub lent_holds : (region : Region) (c : Comparison) (m n x y : ℕ) → IsOrder c → m ≡ base_of region + x → n ≡ base_of region + y → x ≤ 2 ^ 20 → y ≤ 2 ^ 20 → holds_of c Full (cut Full m) (cut Full n) ≡ holds_of c Full (cut Full x) (cut Full y)

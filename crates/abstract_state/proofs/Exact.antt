@@ -5,7 +5,8 @@ use Rattle.intervals.specs.declared.Range.{Range}
 use Rattle.abstract_state.specs.declared.region.Tails.{Tails}
 use Rattle.abstract_state.specs.declared.quantity.Quantity.{Quantity}
 use Rattle.abstract_state.specs.Quantity.{Narrows}
-use Rattle.abstract_state.specs.declared.region.Region.TheVariants.{Text}
+use Rattle.abstract_state.specs.declared.region.Region.{Region}
+use Rattle.abstract_state.specs.Lent.{tail_of}
 use Rattle.abstract_state.specs.declared.known.Known.{Known}
 use Rattle.abstract_state.specs.declared.known.Known.TheVariants.{Number, Context, Stack, Lent}
 use Rattle.abstract_state.specs.declared.place.LentPlace.{LentPlace}
@@ -13,20 +14,20 @@ use Rattle.abstract_state.specs.declared.state.AbsReg.{AbsReg}
 use Rattle.abstract_state.specs.declared.state.AbsReg.TheVariants.{Unset, Set}
 use Rattle.abstract_state.specs.Kinds.{IsNumberReg}
 use Rattle.abstract_state.specs.Known.{AreNumbers}
-use Rattle.abstract_state.specs.Exact.{IsIn, IsTextIn, Says, Holds, NumberIn, AnyNumber}
+use Rattle.abstract_state.specs.Exact.{IsIn, IsLentIn, Says, Holds, NumberIn, AnyNumber}
 use Rattle.abstract_state.proofs.Options.{some_is, where_some}
 
-pub one_stays : (o : Option Quantity) (range : Range) (tails : Tails) (n : ℕ) (t : Option ℕ) → Narrows o range tails → range.low ≡ n → range.high ≡ n → tails.text ≡ t → IfSome o (λ q. IsIn q n n t)
-one_stays o range tails n t narrows low high tail = where_some _ o (λ q is.
+pub one_stays : (region : Region) (o : Option Quantity) (range : Range) (tails : Tails) (n : ℕ) (t : Option ℕ) → Narrows o range tails → range.low ≡ n → range.high ≡ n → tail_of tails region ≡ t → IfSome o (λ q. IsIn region q n n t)
+one_stays region o range tails n t narrows low high tail = where_some _ o (λ q is.
     let inner = some_is _ o q is narrows in
     let ordered = q.range.ordered in
-    (omega arith, omega arith, ap (λ (s : Tails). s.text) inner.2 ∙ tail))
+    (omega arith, omega arith, ap (λ (s : Tails). tail_of s region) inner.2 ∙ tail))
 
-pub text_is : (low high : ℕ) (t : Option ℕ) (k : Known) → IsTextIn low high t k → (p : LentPlace) × (k ≡ Lent p) × (p.region ≡ Text) × IsIn p.offset low high t
-text_is low high t (Number q) h = absurd h
-text_is low high t (Context p) h = absurd h
-text_is low high t (Stack p) h = absurd h
-text_is low high t (Lent p) h = (p, refl, h.0, h.1)
+pub lent_is : (region : Region) (low high : ℕ) (t : Option ℕ) (k : Known) → IsLentIn region low high t k → (p : LentPlace) × (k ≡ Lent p) × (p.region ≡ region) × IsIn region p.offset low high t
+lent_is region low high t (Number q) h = absurd h
+lent_is region low high t (Context p) h = absurd h
+lent_is region low high t (Stack p) h = absurd h
+lent_is region low high t (Lent p) h = (p, refl, h.0, h.1)
 
 pub any_number : (o : Option Known) → AreNumbers o → IfSome o (λ k. Says AnyNumber k)
 any_number None h = tt
@@ -36,9 +37,9 @@ pub any_is_number : (reg : AbsReg) → Holds AnyNumber reg → IsNumberReg reg
 any_is_number Unset h = absurd h
 any_is_number (Set k) h = h
 
-pub in_is_number : (low high : ℕ) (t : Option ℕ) (reg : AbsReg) → Holds (NumberIn low high t) reg → IsNumberReg reg
-in_is_number low high t Unset h = absurd h
-in_is_number low high t (Set (Number q)) h = tt
-in_is_number low high t (Set (Context p)) h = absurd h
-in_is_number low high t (Set (Stack p)) h = absurd h
-in_is_number low high t (Set (Lent p)) h = absurd h
+pub in_is_number : (region : Region) (low high : ℕ) (t : Option ℕ) (reg : AbsReg) → Holds (NumberIn region low high t) reg → IsNumberReg reg
+in_is_number region low high t Unset h = absurd h
+in_is_number region low high t (Set (Number q)) h = tt
+in_is_number region low high t (Set (Context p)) h = absurd h
+in_is_number region low high t (Set (Stack p)) h = absurd h
+in_is_number region low high t (Set (Lent p)) h = absurd h

@@ -1,4 +1,5 @@
 pub mod Options
+pub mod Regions
 pub mod Widths
 pub mod Sides
 pub mod Addresses

@@ -10,34 +10,43 @@ use Rattle.std.specs.Int.{byte_at, bytes_low_first}
 use Rattle.std.proofs.lemmas.List.{length-map}
 use Rattle.byteorder.specs.Endian.{little_number, little_bytes}
 use Rattle.byteorder.specs.Numbers.{length-bytes_low_first}
-use Rattle.bpf_words.specs.Context.{context_base, text_base}
-use Rattle.meaning.specs.Memory.{in_context, in_text, in_stack, stack_base, load, store, stored, stack_number, or_unset}
+use Rattle.bpf_words.specs.Context.{context_base, text_base, text_limit, link_base, SpanBytes}
+use Rattle.meaning.specs.Memory.{in_context, in_text, in_link, in_stack, stack_base, load, store, stored, stack_number, or_unset}
 use Rattle.abstract_state.specs.State.{bytes_of, HasByte}
 
 -- ---- which region
-pub loads_context : (context text : List ℕ) (stack : List (Option ℕ)) (place count : ℕ) → length context ≡ 56 → place + count ≤ 56 → load context text stack (context_base + place) count ≡ Ok (little_number count (drop place context))
-loads_context context text stack place count long h =
-    let yes : in_context context (context_base + place) count ≡ true = grind (arith, nat_tests) in
+pub loads_context : (bytes : SpanBytes) (stack : List (Option ℕ)) (place count : ℕ) → place + count ≤ length bytes.context → load bytes stack (context_base + place) count ≡ Ok (little_number count (drop place bytes.context))
+loads_context bytes stack place count h =
+    let yes : in_context bytes.context (context_base + place) count ≡ true = grind (arith, nat_tests) in
     let at : context_base + place - context_base ≡ place = omega arith in
     simp (yes, at)
 
-pub loads_text : (context text : List ℕ) (stack : List (Option ℕ)) (place count : ℕ) → length context ≡ 56 → place + count ≤ length text → load context text stack (text_base + place) count ≡ Ok (little_number count (drop place text))
-loads_text context text stack place count long h =
-    let no : in_context context (text_base + place) count ≡ false = grind (arith, nat_tests) in
-    let yes : in_text text (text_base + place) count ≡ true = grind (arith, nat_tests) in
+pub loads_text : (bytes : SpanBytes) (stack : List (Option ℕ)) (place count : ℕ) → length bytes.context ≤ 72 → place + count ≤ length bytes.text → load bytes stack (text_base + place) count ≡ Ok (little_number count (drop place bytes.text))
+loads_text bytes stack place count long h =
+    let no : in_context bytes.context (text_base + place) count ≡ false = grind (arith, nat_tests) in
+    let yes : in_text bytes.text (text_base + place) count ≡ true = grind (arith, nat_tests) in
     let at : text_base + place - text_base ≡ place = omega arith in
     simp (no, yes, at)
 
-pub loads_stack : (context text : List ℕ) (stack : List (Option ℕ)) (place count : ℕ) → length context ≡ 56 → place + count ≤ 512 → load context text stack (stack_base + place) count ≡ or_unset (stack_number stack place count)
-loads_stack context text stack place count long h =
-    let no : in_context context (stack_base + place) count ≡ false = grind (arith, nat_tests) in
-    let neither : in_text text (stack_base + place) count ≡ false = grind (arith, nat_tests) in
-    let yes : in_stack (stack_base + place) count ≡ true = grind (arith, nat_tests) in
-    let at : stack_base + place - stack_base ≡ place = omega arith in
+pub loads_link : (bytes : SpanBytes) (stack : List (Option ℕ)) (place count : ℕ) → length bytes.context ≤ 72 → length bytes.text ≤ text_limit → place + count ≤ length bytes.link → load bytes stack (link_base + place) count ≡ Ok (little_number count (drop place bytes.link))
+loads_link bytes stack place count long short h =
+    let no : in_context bytes.context (link_base + place) count ≡ false = grind (arith, nat_tests) in
+    let neither : in_text bytes.text (link_base + place) count ≡ false = grind (arith, nat_tests) in
+    let yes : in_link bytes.link (link_base + place) count ≡ true = grind (arith, nat_tests) in
+    let at : link_base + place - link_base ≡ place = omega arith in
     simp (no, neither, yes, at)
 
-pub stores_stack : (context text : List ℕ) (stack : List (Option ℕ)) (place count value : ℕ) → place + count ≤ 512 → store context text stack (stack_base + place) count value ≡ Ok (stored stack place count value)
-stores_stack context text stack place count value h =
+pub loads_stack : (bytes : SpanBytes) (stack : List (Option ℕ)) (place count : ℕ) → length bytes.context ≤ 72 → place + count ≤ 512 → load bytes stack (stack_base + place) count ≡ or_unset (stack_number stack place count)
+loads_stack bytes stack place count long h =
+    let no : in_context bytes.context (stack_base + place) count ≡ false = grind (arith, nat_tests) in
+    let neither : in_text bytes.text (stack_base + place) count ≡ false = grind (arith, nat_tests) in
+    let nor : in_link bytes.link (stack_base + place) count ≡ false = grind (arith, nat_tests) in
+    let yes : in_stack (stack_base + place) count ≡ true = grind (arith, nat_tests) in
+    let at : stack_base + place - stack_base ≡ place = omega arith in
+    simp (no, neither, nor, yes, at)
+
+pub stores_stack : (bytes : SpanBytes) (stack : List (Option ℕ)) (place count value : ℕ) → place + count ≤ 512 → store bytes stack (stack_base + place) count value ≡ Ok (stored stack place count value)
+stores_stack bytes stack place count value h =
     let yes : in_stack (stack_base + place) count ≡ true = grind (arith, nat_tests) in
     let at : stack_base + place - stack_base ≡ place = omega arith in
     simp (yes, at)

@@ -4,56 +4,74 @@ use Rattle.std.proofs.lemmas.Bool.{cases_lt}
 use Rattle.std.proofs.lemmas.List.{get_or-drop}
 use Rattle.byteorder.specs.Endian.{little_number}
 use Rattle.byteorder.specs.Numbers.{little_from-lt}
-use Rattle.bpf_words.specs.Context.{context_base, text_base}
+use Rattle.bpf_words.specs.Context.{context_base, text_base, link_base, SaysLink, LendsLink}
+use Rattle.bpf_words.specs.Profile.{context_length}
+use Rattle.bpf_words.specs.declared.profile.Profile.{Profile}
+use Rattle.bpf_words.specs.declared.profile.Profile.TheVariants.{One, Two}
 use Rattle.bpf_words.specs.declared.instruction.Size.{Size}
 use Rattle.bpf_words.specs.declared.instruction.Size.TheVariants.{Double, Word}
 use Rattle.meaning.specs.State.{State}
 use Rattle.meaning.specs.Safe.{AreBytes}
 use Rattle.meaning.specs.Memory.{stack_base, load, stored, or_unset, bytes_in}
 use Rattle.abstract_state.specs.declared.region.Region.{Region}
-use Rattle.abstract_state.specs.declared.region.Region.TheVariants.{Text}
+use Rattle.abstract_state.specs.declared.region.Region.TheVariants.{Text, Link}
 use Rattle.abstract_state.specs.declared.bounds.Bounds.{Bounds}
 use Rattle.abstract_state.specs.declared.state.AbsReg.{AbsReg}
 use Rattle.abstract_state.specs.declared.state.AbsState.{AbsState}
 use Rattle.abstract_state.specs.Lent.{Lengths, base_of, length_of}
 use Rattle.abstract_state.specs.State.{Span, lengths_of, IsLong, Contains, ContainsRegister, register_at, bytes_of, HasByte, HasNumber, ContainsStack, Spares, Fills, with_stack}
-use Rattle.abstract_state.proofs.Loads.{loads_context, loads_text, loads_stack, number_set, number_back, stored_long, stored_before, stored_at, stored_after}
+use Rattle.abstract_state.proofs.Loads.{loads_context, loads_text, loads_link, loads_stack, number_set, number_back, stored_long, stored_before, stored_at, stored_after}
+
+context_within : (profile : Profile) → context_length profile ≤ 72
+context_within One = omega arith
+context_within Two = omega arith
+
+-- no context has more than 72 bytes
+context_short : (span : Span) → length span.bytes.context ≤ 72
+context_short span = let most = context_within span.profile in let long = span.whole.fits.long in omega arith
 
 pub near_small : (region : Region) (x : ℕ) → x ≤ 2 ^ 20 → base_of region + x < 2 ^ 63
 near_small Text x h = omega arith
+near_small Link x h = omega arith
 
 pub number_fits : (count place : ℕ) (bytes : List ℕ) → AreBytes bytes → little_number count (drop place bytes) < 256 ^ count
 number_fits count place bytes small = little_from-lt 0 count (drop place bytes) (λ k. subst (λ (n : ℕ). n < 256) (sym (get_or-drop place bytes k 0)) (small (place + k)))
 
 -- a load from a lent region
-pub loads_lent : (span : Span) (stack : List (Option ℕ)) (region : Region) (address place count : ℕ) → address ≡ base_of region + place → place + count ≤ length_of (lengths_of span) region → (v : ℕ) × (load span.context span.text stack address count ≡ Ok v) × (v < 256 ^ count)
+pub loads_lent : (span : Span) (stack : List (Option ℕ)) (region : Region) (address place count : ℕ) → address ≡ base_of region + place → place + count ≤ length_of (lengths_of span) region → (v : ℕ) × (load span.bytes stack address count ≡ Ok v) × (v < 256 ^ count)
 loads_lent span stack Text address place count at within = (
-  little_number count (drop place span.text),
-  ap (λ (a : ℕ). load span.context span.text stack a count) at ∙ loads_text span.context span.text stack place count span.whole.fits.long within,
-  number_fits count place span.text span.whole.text_bytes,
+  little_number count (drop place span.bytes.text),
+  ap (λ (a : ℕ). load span.bytes stack a count) at ∙ loads_text span.bytes stack place count (context_short span) within,
+  number_fits count place span.bytes.text span.whole.text_bytes,
+)
+loads_lent span stack Link address place count at within = (
+  little_number count (drop place span.bytes.link),
+  ap (λ (a : ℕ). load span.bytes stack a count) at
+      ∙ loads_link span.bytes stack place count (context_short span) span.whole.fits.short within,
+  number_fits count place span.bytes.link span.whole.link_bytes,
 )
 
 -- a load of set bytes of the stack
-pub loads_set : (span : Span) (stack : List (Option ℕ)) (address place count : ℕ) → address ≡ stack_base + place → place + count ≤ 512 → ((j : ℕ) → j < count → HasByte (bytes_of stack) (place + j)) → (v : ℕ) × (load span.context span.text stack address count ≡ Ok v) × (v < 256 ^ count)
+pub loads_set : (span : Span) (stack : List (Option ℕ)) (address place count : ℕ) → address ≡ stack_base + place → place + count ≤ 512 → ((j : ℕ) → j < count → HasByte (bytes_of stack) (place + j)) → (v : ℕ) × (load span.bytes stack address count ≡ Ok v) × (v < 256 ^ count)
 loads_set span stack address place count at within set =
     let number = number_set stack place count set in (
       number.0,
-      ap (λ (a : ℕ). load span.context span.text stack a count) at ∙ loads_stack span.context span.text stack place count span.whole.fits.long within ∙ ap or_unset number.1,
+      ap (λ (a : ℕ). load span.bytes stack a count) at ∙ loads_stack span.bytes stack place count (context_short span) within ∙ ap or_unset number.1,
       number.2,
     )
 
 -- a load of all that was spilled
-pub loads_back : (span : Span) (stack : List (Option ℕ)) (address place n : ℕ) → address ≡ stack_base + place → place + 8 ≤ 512 → HasNumber (bytes_of stack) place n → n < 2 ^ 64 → load span.context span.text stack address 8 ≡ Ok n
+pub loads_back : (span : Span) (stack : List (Option ℕ)) (address place n : ℕ) → address ≡ stack_base + place → place + 8 ≤ 512 → HasNumber (bytes_of stack) place n → n < 2 ^ 64 → load span.bytes stack address 8 ≡ Ok n
 loads_back span stack address place n at within bytes fits =
-    ap (λ (a : ℕ). load span.context span.text stack a 8) at
-    ∙ loads_stack span.context span.text stack place 8 span.whole.fits.long within
+    ap (λ (a : ℕ). load span.bytes stack a 8) at
+    ∙ loads_stack span.bytes stack place 8 (context_short span) within
     ∙ ap or_unset (number_back stack place 8 n bytes)
     ∙ ap (λ (m : ℕ). Ok m) (omega arith)
 
 -- a load of a field
-pub loads_field : (span : Span) (stack : List (Option ℕ)) (address place count : ℕ) → address ≡ context_base + place → place + count ≤ 56 → load span.context span.text stack address count ≡ Ok (little_number count (drop place span.context))
+pub loads_field : (span : Span) (stack : List (Option ℕ)) (address place count : ℕ) → address ≡ context_base + place → place + count ≤ context_length span.profile → load span.bytes stack address count ≡ Ok (little_number count (drop place span.bytes.context))
 loads_field span stack address place count at within =
-    ap (λ (a : ℕ). load span.context span.text stack a count) at ∙ loads_context span.context span.text stack place count span.whole.fits.long within
+    ap (λ (a : ℕ). load span.bytes stack a count) at ∙ loads_context span.bytes stack place count (let long = span.whole.fits.long in omega arith)
 
 -- the state after a store on the stack
 pub after_store : (a b : AbsState) (lengths : Lengths) (s : State) (place count v : ℕ) → Contains a lengths s → place + count ≤ 512 → b.registers ≡ a.registers → b.bounds ≡ a.bounds → ContainsStack b.stack lengths (bytes_of (stored s.stack place count v)) → Contains b lengths (with_stack s (stored s.stack place count v))
@@ -91,15 +109,32 @@ pub read_as : (size size' : Size) (place place' : ℕ) (context : List ℕ) → 
 read_as size size' place place' context es ep =
     ap (λ (z : Size). little_number (bytes_in z) (drop place context)) es ∙ ap (λ (p : ℕ). little_number (bytes_in size') (drop p context)) ep
 
-pub field_begin : (span : Span) (size : Size) (place : ℕ) → size ≡ Double → place ≡ 0 → little_number (bytes_in size) (drop place span.context) ≡ text_base + 0
-field_begin span size place es ep = read_as size Double place 0 span.context es ep ∙ span.whole.fits.begins ∙ omega arith
+pub field_begin : (span : Span) (size : Size) (place : ℕ) → size ≡ Double → place ≡ 0 → little_number (bytes_in size) (drop place span.bytes.context) ≡ text_base + 0
+field_begin span size place es ep = read_as size Double place 0 span.bytes.context es ep ∙ span.whole.fits.begins ∙ omega arith
 
-pub field_end : (span : Span) (size : Size) (place : ℕ) → size ≡ Double → place ≡ 8 → (base_of Text + length span.text) % 2 ^ 64 ≡ little_number (bytes_in size) (drop place span.context)
+pub field_end : (span : Span) (size : Size) (place : ℕ) → size ≡ Double → place ≡ 8 → (base_of Text + length span.bytes.text) % 2 ^ 64 ≡ little_number (bytes_in size) (drop place span.bytes.context)
 field_end span size place es ep =
-    let is = read_as size Double place 8 span.context es ep ∙ span.whole.fits.ends in
+    let is = read_as size Double place 8 span.bytes.context es ep ∙ span.whole.fits.ends in
     let limit = span.whole.fits.short in
-    let small : (base_of Text + length span.text) % 2 ^ 64 ≡ text_base + length span.text = omega arith in
+    let small : (base_of Text + length span.bytes.text) % 2 ^ 64 ≡ text_base + length span.bytes.text = omega arith in
     small ∙ sym is
 
-pub field_count : (span : Span) (size : Size) (place : ℕ) → size ≡ Word → place ≡ 16 → length span.text ≡ little_number (bytes_in size) (drop place span.context)
-field_count span size place es ep = sym (read_as size Word place 16 span.context es ep ∙ span.whole.fits.counts)
+pub field_count : (span : Span) (size : Size) (place : ℕ) → size ≡ Word → place ≡ 16 → length span.bytes.text ≡ little_number (bytes_in size) (drop place span.bytes.context)
+field_count span size place es ep = sym (read_as size Word place 16 span.bytes.context es ep ∙ span.whole.fits.counts)
+
+-- what a context says of the link, where the profile lends it
+says_link : (span : Span) → span.profile ≡ Two → SaysLink span.bytes
+says_link span same = subst (λ (p : Profile). LendsLink p span.bytes) same span.whole.fits.link
+
+pub link_begin : (span : Span) (size : Size) (place : ℕ) → span.profile ≡ Two → size ≡ Double → place ≡ 56 → little_number (bytes_in size) (drop place span.bytes.context) ≡ link_base + 0
+link_begin span size place same es ep = read_as size Double place 56 span.bytes.context es ep ∙ (says_link span same).begins ∙ omega arith
+
+pub link_end : (span : Span) (size : Size) (place : ℕ) → span.profile ≡ Two → size ≡ Double → place ≡ 64 → (base_of Link + length span.bytes.link) % 2 ^ 64 ≡ little_number (bytes_in size) (drop place span.bytes.context)
+link_end span size place same es ep =
+    let is = read_as size Double place 64 span.bytes.context es ep ∙ (says_link span same).ends in
+    let limit = span.whole.fits.link_short in
+    let small : (base_of Link + length span.bytes.link) % 2 ^ 64 ≡ link_base + length span.bytes.link = omega arith in
+    small ∙ sym is
+
+pub link_count : (span : Span) (size : Size) (place : ℕ) → span.profile ≡ Two → size ≡ Word → place ≡ 32 → length span.bytes.link ≡ little_number (bytes_in size) (drop place span.bytes.context)
+link_count span size place same es ep = sym (read_as size Word place 32 span.bytes.context es ep ∙ (says_link span same).counts)

@@ -18,6 +18,7 @@ use Rattle.bpf_words.specs.declared.instruction.ConvertedBits.TheVariants.{Bits1
 use Rattle.bpf_words.specs.declared.instruction.Size.{Size}
 use Rattle.bpf_words.specs.declared.instruction.SignedSize.{SignedSize}
 use Rattle.bpf_words.specs.declared.instruction.SignedSize.TheVariants.{SignedByte, SignedHalf, SignedWord}
+use Rattle.bpf_words.specs.declared.profile.Profile.{Profile}
 use Rattle.bpf_words.specs.declared.instruction.Insn.{Insn}
 use Rattle.bpf_words.specs.declared.instruction.Insn.TheVariants.{Compute, Negate, Extend, Convert, Load, LoadSigned, Store, LoadWide, Exit}
 use Rattle.meaning.specs.State.{State, register_of, operand_in}
@@ -28,7 +29,7 @@ use Rattle.abstract_state.specs.Quantity.{Fits}
 use Rattle.abstract_state.specs.declared.state.AbsState.{AbsState}
 use Rattle.abstract_state.specs.Lent.{Lengths}
 use Rattle.abstract_state.specs.Steps.{distance_of, Lands, StepsTo}
-use Rattle.abstract_state.specs.State.{Span, lengths_of, Contains, WithinState, StepsBy, does, with_register, with_stack}
+use Rattle.abstract_state.specs.State.{Span, lengths_of, Contains, WithinState, StepsIn, StepsBy, does, with_register, with_stack}
 use Rattle.abstract_state.proofs.Widths.{unsigned_fits}
 
 not_frame : (d : ℕ) → d ≢ 10 → nat_eq d 10 ≡ false
@@ -59,13 +60,13 @@ extends span s e d r x frame ex = let no = not_frame d frame in simp (ex, no)
 pub converts : (span : Span) (s : State) (c : Conversion) (b : ConvertedBits) (d x : ℕ) → d ≢ 10 → register_of s d ≡ Ok x → does span s (Convert c b d) ≡ Ok (On (with_register s d (converted c b x)) (pos 0))
 converts span s c b d x frame ex = let no = not_frame d frame in simp (ex, no)
 
-pub loads : (span : Span) (s : State) (size : Size) (d r : ℕ) (offset : ℤ) (n v : ℕ) → d ≢ 10 → register_of s r ≡ Ok n → load span.context span.text s.stack (address_of n offset) (bytes_in size) ≡ Ok v → does span s (Load size d r offset) ≡ Ok (On (with_register s d v) (pos 0))
+pub loads : (span : Span) (s : State) (size : Size) (d r : ℕ) (offset : ℤ) (n v : ℕ) → d ≢ 10 → register_of s r ≡ Ok n → load span.bytes s.stack (address_of n offset) (bytes_in size) ≡ Ok v → does span s (Load size d r offset) ≡ Ok (On (with_register s d v) (pos 0))
 loads span s size d r offset n v frame en ev = let no = not_frame d frame in simp (en, ev, no)
 
-pub loads_signed : (span : Span) (s : State) (size : SignedSize) (d r : ℕ) (offset : ℤ) (n v : ℕ) → d ≢ 10 → register_of s r ≡ Ok n → load span.context span.text s.stack (address_of n offset) (bytes_in_signed size) ≡ Ok v → does span s (LoadSigned size d r offset) ≡ Ok (On (with_register s d (with_sign size v)) (pos 0))
+pub loads_signed : (span : Span) (s : State) (size : SignedSize) (d r : ℕ) (offset : ℤ) (n v : ℕ) → d ≢ 10 → register_of s r ≡ Ok n → load span.bytes s.stack (address_of n offset) (bytes_in_signed size) ≡ Ok v → does span s (LoadSigned size d r offset) ≡ Ok (On (with_register s d (with_sign size v)) (pos 0))
 loads_signed span s size d r offset n v frame en ev = let no = not_frame d frame in simp (en, ev, no)
 
-pub stores : (span : Span) (s : State) (size : Size) (r : ℕ) (offset : ℤ) (operand : Operand) (n v : ℕ) (stack : List (Option ℕ)) → register_of s r ≡ Ok n → operand_in s operand ≡ Ok v → store span.context span.text s.stack (address_of n offset) (bytes_in size) v ≡ Ok stack → does span s (Store size r offset operand) ≡ Ok (On (with_stack s stack) (pos 0))
+pub stores : (span : Span) (s : State) (size : Size) (r : ℕ) (offset : ℤ) (operand : Operand) (n v : ℕ) (stack : List (Option ℕ)) → register_of s r ≡ Ok n → operand_in s operand ≡ Ok v → store span.bytes s.stack (address_of n offset) (bytes_in size) v ≡ Ok stack → does span s (Store size r offset operand) ≡ Ok (On (with_stack s stack) (pos 0))
 stores span s size r offset operand n v stack en ev es = simp (en, ev, es)
 
 pub loads_wide : (span : Span) (s : State) (d v : ℕ) → d ≢ 10 → does span s (LoadWide d v) ≡ Ok (On (with_register s d v) (pos 1))
@@ -104,17 +105,20 @@ converted_fits Swap b x = big_from-lt 0 (bytes_kept b) (little_bytes (bytes_kept
 pub lands : (o : Option AbsState) (lengths : Lengths) (distance : ℤ) (m : Moved) (next : State) → m ≡ Ok (On next distance) → WithinState o lengths next → Lands o lengths distance m
 lands o lengths distance m next e w = subst (λ (k : Moved). Lands o lengths distance k) (sym e) (refl, w)
 
-pub lands_by : (a : AbsState) (insn same : Insn) (distance : ℤ) (o : Option AbsState) → insn ≡ same → distance ≡ distance_of same → StepsBy a same distance o → StepsTo a insn o
-lands_by a insn same distance o is far by =
-    subst (λ (i : Insn). StepsTo a i o) (sym is)
-    (λ span s held.
-    let given = by span s held in
+pub lands_in : (profile : Profile) (a : AbsState) (insn same : Insn) (distance : ℤ) (o : Option AbsState) → insn ≡ same → distance ≡ distance_of same → StepsIn profile a same distance o → StepsTo profile a insn o
+lands_in profile a insn same distance o is far by =
+    subst (λ (i : Insn). StepsTo profile a i o) (sym is)
+    (λ span s which held.
+    let given = by span s which held in
     lands o (lengths_of span) (distance_of same) (does span s same) given.0 (subst (λ (d : ℤ). does span s same ≡ Ok (On given.0 d)) far given.1) given.2)
 
-pub stays : (a : AbsState) (insn same : Insn) → insn ≡ same → ((span : Span) (s : State) → does span s same ≡ Ok (On s (distance_of same))) → StepsTo a insn (Some a)
-stays a insn same is does_so = lands_by a insn same (distance_of same) (Some a) is refl (λ span s held. (s, does_so span s, (a, refl, held)))
+pub lands_by : (profile : Profile) (a : AbsState) (insn same : Insn) (distance : ℤ) (o : Option AbsState) → insn ≡ same → distance ≡ distance_of same → StepsBy a same distance o → StepsTo profile a insn o
+lands_by profile a insn same distance o is far by = lands_in profile a insn same distance o is far (λ span s which held. by span s held)
 
-pub ends : (a : AbsState) (insn : Insn) → insn ≡ Exit → ((span : Span) (s : State) → Contains a (lengths_of span) s → (v : ℕ) × (does span s Exit ≡ Ok (Returns v))) → StepsTo a insn (Some a)
-ends a insn is by =
-    subst (λ (i : Insn). StepsTo a i (Some a)) (sym is)
-    (λ span s held. let given = by span s held in subst (λ (k : Moved). Lands (Some a) (lengths_of span) (distance_of Exit) k) (sym given.1) (a, refl))
+pub stays : (profile : Profile) (a : AbsState) (insn same : Insn) → insn ≡ same → ((span : Span) (s : State) → does span s same ≡ Ok (On s (distance_of same))) → StepsTo profile a insn (Some a)
+stays profile a insn same is does_so = lands_by profile a insn same (distance_of same) (Some a) is refl (λ span s held. (s, does_so span s, (a, refl, held)))
+
+pub ends : (profile : Profile) (a : AbsState) (insn : Insn) → insn ≡ Exit → ((span : Span) (s : State) → Contains a (lengths_of span) s → (v : ℕ) × (does span s Exit ≡ Ok (Returns v))) → StepsTo profile a insn (Some a)
+ends profile a insn is by =
+    subst (λ (i : Insn). StepsTo profile a i (Some a)) (sym is)
+    (λ span s which held. let given = by span s held in subst (λ (k : Moved). Lands (Some a) (lengths_of span) (distance_of Exit) k) (sym given.1) (a, refl))

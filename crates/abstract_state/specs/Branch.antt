@@ -9,6 +9,7 @@ use Rattle.meaning.specs.State.{State, register_of, operand_in}
 use Rattle.meaning.specs.Value.{cut, holds_of}
 use Rattle.abstract_state.specs.declared.branch.Pair.{Pair}
 use Rattle.abstract_state.specs.declared.state.AbsState.{AbsState}
+use Rattle.abstract_state.specs.declared.region.Region.{Region}
 use Rattle.abstract_state.specs.Lent.{Lengths}
 use Rattle.abstract_state.specs.declared.known.Known.{Known}
 use Rattle.abstract_state.specs.declared.known.Known.TheVariants.{Number, Context, Stack, Lent}
@@ -46,12 +47,12 @@ Edge a width comparison left right taken edge =
     → (m : ℕ) × ((n : ℕ) × (register_of s left ≡ Ok m) × (operand_in s right ≡ Ok n)
     × (holds_of comparison width (cut width m) (cut width n) ≡ taken → WithinState edge (lengths_of span) s))
 
--- an address in a lent region, from its byte n on and up to its end
-abbrev pub LongFrom : ℕ → Known → Type 0
-LongFrom n (Number q) = ⊥
-LongFrom n (Context p) = ⊥
-LongFrom n (Stack p) = ⊥
-LongFrom n (Lent p) = EndsFrom n p.offset
+-- an address in a lent region, from byte n on and up to the end of a region
+abbrev pub LongFrom : Region → ℕ → Known → Type 0
+LongFrom region n (Number q) = ⊥
+LongFrom region n (Context p) = ⊥
+LongFrom region n (Stack p) = ⊥
+LongFrom region n (Lent p) = EndsFrom region n p.offset
 
 -- each register that is on neither side is as it was
 abbrev pub LeavesSides : ℕ → Operand → AbsState → AbsState → Type 0

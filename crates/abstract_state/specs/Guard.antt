@@ -1,5 +1,6 @@
--- What a program knows that reads the text behind one comparison with the text's end.
+-- What a program knows that reads a lent region behind one comparison with the region's end.
 use Rattle.std.specs.Prelude.{◌≡◌, ◌≢◌, ℕ, pos, ◌+◌, ◌^◌, ◌<◌, ◌≤◌, Option, Some, None, Result, IsOk, IfOk, IfSome}
+use Rattle.bpf_words.specs.declared.profile.Profile.{Profile}
 use Rattle.bpf_words.specs.declared.instruction.Insn.{Insn}
 use Rattle.bpf_words.specs.declared.instruction.Insn.TheVariants.{Compute, Negate, Extend, Convert, Jump, JumpLong, Branch, Load, LoadSigned, Store, LoadWide, Exit}
 use Rattle.bpf_words.specs.declared.instruction.Width.TheVariants.{Full}
@@ -8,6 +9,8 @@ use Rattle.bpf_words.specs.declared.instruction.Operand.TheVariants.{Immediate, 
 use Rattle.bpf_words.specs.declared.instruction.Size.{Size}
 use Rattle.bpf_words.specs.declared.instruction.Size.TheVariants.{Double}
 use Rattle.meaning.specs.Memory.{bytes_in}
+use Rattle.abstract_state.specs.declared.region.Region.{Region}
+use Rattle.abstract_state.specs.Lent.{begin_field, end_field, limit_of, bound_of, Lends}
 use Rattle.abstract_state.specs.declared.state.AbsState.{AbsState}
 use Rattle.abstract_state.specs.declared.refusal.Refusal.{Refusal}
 use Rattle.abstract_state.specs.declared.step.Flow.{Flow}
@@ -16,16 +19,16 @@ use Rattle.abstract_state.specs.Steps.{after}
 use Rattle.abstract_state.specs.Kinds.{IsContextAt}
 use Rattle.abstract_state.specs.Branch.{LeavesSides}
 use Rattle.abstract_state.specs.Exact.{Fact, Holds, tail_after}
-use Rattle.abstract_state.specs.Exact.Fact.{TextIn, NumberIn, AnyNumber}
+use Rattle.abstract_state.specs.Exact.Fact.{LentIn, NumberIn, AnyNumber}
 
--- what an instruction writes into a register, case by case
-pub data Yields (a : AbsState) : Insn → ℕ → Fact → Type 0 where
-  text_begin : (d base : ℕ) → IsContextAt 0 (register_at a.registers base) → Yields a (Load Double d base (pos 0)) d (TextIn 0 0 (Some 0))
-  text_end : (d base : ℕ) → IsContextAt 0 (register_at a.registers base) → Yields a (Load Double d base (pos 8)) d (TextIn 0 131072 (Some 0))
-  text_moved : (d r n : ℕ) (t : Option ℕ) → Holds (TextIn n n t) (register_at a.registers r) → Yields a (Compute Full Mov d (Source r)) d (TextIn n n t)
-  text_added : (d k n : ℕ) (t : Option ℕ) → Holds (TextIn n n t) (register_at a.registers d) → n + k ≤ 2 ^ 20 → Yields a (Compute Full Add d (Immediate (pos k))) d (TextIn (n + k) (n + k) (tail_after t k))
-  constant : (d k : ℕ) → k < 2 ^ 31 → Yields a (Compute Full Mov d (Immediate (pos k))) d (NumberIn k k None)
-  text_read : (size : Size) (d r o low high : ℕ) (t : Option ℕ) → Holds (TextIn low high t) (register_at a.registers r) → o < 2 ^ 15 → high + o + bytes_in size ≤ a.bounds.text → Yields a (Load size d r (pos o)) d AnyNumber
+-- what an instruction writes into a register in a run of the profile, case by case
+pub data Yields (profile : Profile) (a : AbsState) : Insn → ℕ → Fact → Type 0 where
+  lent_begin : (region : Region) (d base : ℕ) → Lends region profile → IsContextAt 0 (register_at a.registers base) → Yields profile a (Load Double d base (pos (begin_field region))) d (LentIn region 0 0 (Some 0))
+  lent_end : (region : Region) (d base : ℕ) → Lends region profile → IsContextAt 0 (register_at a.registers base) → Yields profile a (Load Double d base (pos (end_field region))) d (LentIn region 0 (limit_of region) (Some 0))
+  lent_moved : (region : Region) (d r n : ℕ) (t : Option ℕ) → Holds (LentIn region n n t) (register_at a.registers r) → Yields profile a (Compute Full Mov d (Source r)) d (LentIn region n n t)
+  lent_added : (region : Region) (d k n : ℕ) (t : Option ℕ) → Holds (LentIn region n n t) (register_at a.registers d) → n + k ≤ 2 ^ 20 → Yields profile a (Compute Full Add d (Immediate (pos k))) d (LentIn region (n + k) (n + k) (tail_after t k))
+  constant : (region : Region) (d k : ℕ) → k < 2 ^ 31 → Yields profile a (Compute Full Mov d (Immediate (pos k))) d (NumberIn region k k None)
+  lent_read : (region : Region) (size : Size) (d r o low high : ℕ) (t : Option ℕ) → Holds (LentIn region low high t) (register_at a.registers r) → o < 2 ^ 15 → high + o + bytes_in size ≤ bound_of a.bounds region → Yields profile a (Load size d r (pos o)) d AnyNumber
 
 -- all registers but one are as they were
 abbrev pub SameBut : ℕ → AbsState → AbsState → Type 0

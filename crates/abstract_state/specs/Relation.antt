@@ -7,7 +7,8 @@ use Rattle.meaning.specs.Value.{bits_of}
 use Rattle.abstract_state.specs.declared.relation.Relation.{Relation}
 use Rattle.abstract_state.specs.declared.relation.Relation.TheVariants.{Less, AtMost, Same, Apart, AtLeast, Greater}
 use Rattle.abstract_state.specs.declared.relation.Sides.{Sides}
-use Rattle.abstract_state.specs.Lent.{Lengths}
+use Rattle.abstract_state.specs.declared.region.Region.{Region}
+use Rattle.abstract_state.specs.Lent.{Lengths, tail_of}
 use Rattle.abstract_state.specs.declared.quantity.Quantity.{Quantity}
 use Rattle.abstract_state.specs.Quantity.{Contains}
 
@@ -45,6 +46,6 @@ WithinBoth o lengths m n = (s : Sides) × (o ≡ Some s) × Contains s.left leng
 abbrev pub NarrowsBoth : Option Sides → Quantity → Quantity → Type 0
 NarrowsBoth o x y = IfSome o (λ s. (s.left.range.high ≤ x.range.high) × (s.right.range.high ≤ y.range.high))
 
--- a number from n on that is up to the text's end
-abbrev pub EndsFrom : ℕ → Quantity → Type 0
-EndsFrom n q = (n ≤ q.range.low) × ((u : ℕ) × (q.tails.text ≡ Some u))
+-- a number from n on that is up to the region's end
+abbrev pub EndsFrom : Region → ℕ → Quantity → Type 0
+EndsFrom region n q = (n ≤ q.range.low) × ((u : ℕ) × (tail_of q.tails region ≡ Some u))

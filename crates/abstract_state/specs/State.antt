@@ -1,8 +1,10 @@
 -- Which machine states an abstract state contains.
 use Rattle.std.specs.Prelude.{◌≡◌, ℕ, ℤ, ◌+◌, ◌*◌, ◌/◌, ◌%◌, ◌^◌, ◌<◌, ◌≤◌, true, false, Option, Some, None, Ok, List, [], length, slice_index_or, slice_set}
+use Rattle.bpf_words.specs.Context.{SpanBytes}
 use Rattle.bpf_words.specs.declared.instruction.Insn.{Insn}
+use Rattle.bpf_words.specs.declared.profile.Profile.{Profile}
 use Rattle.meaning.specs.State.{State}
-use Rattle.meaning.specs.Safe.{IsSpan}
+use Rattle.meaning.specs.Safe.{IsSpanIn}
 use Rattle.meaning.specs.Memory.{load, store}
 use Rattle.meaning.specs.Step.{Moved, On, perform}
 use Rattle.abstract_state.specs.declared.bounds.Bounds.{Bounds}
@@ -15,18 +17,24 @@ use Rattle.abstract_state.specs.declared.state.AbsState.{AbsState}
 use Rattle.abstract_state.specs.Lent.{Lengths}
 use Rattle.abstract_state.specs.Known.{ContainsKnown}
 
--- what a run is lent: a text, and a context that fits it
+-- what a run of a program of a profile is lent: a text, a link's text, and a context that fits them
 pub record Span : Type 0 where
-  pub context : List ℕ
-  pub text : List ℕ
-  pub whole : IsSpan context text
+  pub profile : Profile
+  pub bytes : SpanBytes
+  pub whole : IsSpanIn profile bytes
 
 abbrev pub lengths_of : Span → Lengths
-lengths_of span = record { text = length span.text; short = span.whole.fits.short }
+lengths_of span = record {
+  text = length span.bytes.text;
+  short = span.whole.fits.short;
+  link = length span.bytes.link;
+  link_short = span.whole.fits.link_short;
+}
 
 -- each region is at least as long as the bounds say
 pub record IsLong (bounds : Bounds) (lengths : Lengths) : Type 0 where
   pub text : bounds.text ≤ lengths.text
+  pub link : bounds.link ≤ lengths.link
 
 abbrev pub WithinLong : Option Bounds → Lengths → Type 0
 WithinLong o lengths = (b : Bounds) × (o ≡ Some b) × IsLong b lengths
@@ -88,20 +96,33 @@ with_register s register n = record s { registers = slice_set s.registers regist
 
 -- ---- what an instruction does
 abbrev pub does : Span → State → Insn → Moved
-does span s insn = perform span.context span.text s insn
+does span s insn = perform span.bytes s insn
 
--- from each contained state the instruction goes on by the distance, without a fault, to a contained one; where there is none,
--- no state was contained
+-- from each contained state of a run of the profile the instruction goes on by the distance, without a fault, to a contained one;
+-- where there is none, no state was contained
+abbrev pub StepsIn : Profile → AbsState → Insn → ℤ → Option AbsState → Type 0
+StepsIn profile a insn distance o =
+    (span : Span) (s : State) → span.profile ≡ profile → Contains a (lengths_of span) s
+    → (next : State) × (does span s insn ≡ Ok (On next distance)) × WithinState o (lengths_of span) next
+
+-- the same of a run of any profile
 abbrev pub StepsBy : AbsState → Insn → ℤ → Option AbsState → Type 0
 StepsBy a insn distance o =
     (span : Span) (s : State) → Contains a (lengths_of span) s
     → (next : State) × (does span s insn ≡ Ok (On next distance)) × WithinState o (lengths_of span) next
 
--- from each contained state, a load of so many bytes at an offset from an address of the base gives a number of which P holds
+-- from each contained state of a run of the profile, a load of so many bytes at an offset from an address of the base gives a number of
+-- which P holds
+abbrev pub LoadsIn : Profile → AbsState → Known → ℕ → ℕ → (Lengths → ℕ → Type 0) → Type 0
+LoadsIn profile a base offset count P =
+    (span : Span) (s : State) (n : ℕ) → span.profile ≡ profile → Contains a (lengths_of span) s → ContainsKnown base (lengths_of span) n
+    → (v : ℕ) × (load span.bytes s.stack ((n + offset) % 2 ^ 64) count ≡ Ok v) × P (lengths_of span) v
+
+-- the same of a run of any profile
 abbrev pub LoadsAs : AbsState → Known → ℕ → ℕ → (Lengths → ℕ → Type 0) → Type 0
 LoadsAs a base offset count P =
     (span : Span) (s : State) (n : ℕ) → Contains a (lengths_of span) s → ContainsKnown base (lengths_of span) n
-    → (v : ℕ) × (load span.context span.text s.stack ((n + offset) % 2 ^ 64) count ≡ Ok v) × P (lengths_of span) v
+    → (v : ℕ) × (load span.bytes s.stack ((n + offset) % 2 ^ 64) count ≡ Ok v) × P (lengths_of span) v
 
 abbrev pub with_stack : State → List (Option ℕ) → State
 with_stack s stack = record s { stack = stack }
@@ -110,4 +131,4 @@ with_stack s stack = record s { stack = stack }
 abbrev pub StoresAs : AbsState → Known → ℕ → ℕ → Known → AbsState → Type 0
 StoresAs a base offset count value b =
     (span : Span) (s : State) (n v : ℕ) → Contains a (lengths_of span) s → ContainsKnown base (lengths_of span) n → ContainsKnown value (lengths_of span) v
-    → (stack : List (Option ℕ)) × (store span.context span.text s.stack ((n + offset) % 2 ^ 64) count v ≡ Ok stack) × Contains b (lengths_of span) (with_stack s stack)
+    → (stack : List (Option ℕ)) × (store span.bytes s.stack ((n + offset) % 2 ^ 64) count v ≡ Ok stack) × Contains b (lengths_of span) (with_stack s stack)

@@ -1,5 +1,6 @@
 -- What a step of the machine leads to, at an instruction that is no comparison.
 use Rattle.std.specs.Prelude.{◌≡◌, ◌≢◌, ℤ, pos, Option, Some, None, Ok, Err}
+use Rattle.bpf_words.specs.declared.profile.Profile.{Profile}
 use Rattle.bpf_words.specs.declared.instruction.Insn.{Insn}
 use Rattle.bpf_words.specs.declared.instruction.Insn.TheVariants.{Compute, Negate, Extend, Convert, Jump, JumpLong, Branch, Load, LoadSigned, Store, LoadWide, Exit}
 use Rattle.meaning.specs.State.{State}
@@ -46,10 +47,10 @@ Lands o lengths distance (Ok (On next far)) = (far ≡ distance) × WithinState 
 Lands o lengths distance (Ok (Returns value)) = (a : AbsState) × (o ≡ Some a)
 Lands o lengths distance (Err kind) = ⊥
 
--- from each contained state; so where the answer is dead, no state was contained
-abbrev pub StepsTo : AbsState → Insn → Option AbsState → Type 0
-StepsTo a insn o =
-    (span : Span) (s : State) → Contains a (lengths_of span) s → Lands o (lengths_of span) (distance_of insn) (does span s insn)
+-- from each contained state of a run of the profile; so where the answer is dead, no state was contained
+abbrev pub StepsTo : Profile → AbsState → Insn → Option AbsState → Type 0
+StepsTo profile a insn o =
+    (span : Span) (s : State) → span.profile ≡ profile → Contains a (lengths_of span) s → Lands o (lengths_of span) (distance_of insn) (does span s insn)
 
 -- the state after a step, if a run can come there
 abbrev pub after : Flow → AbsState → Option AbsState

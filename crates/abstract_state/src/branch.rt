@@ -4,7 +4,8 @@ ghost use Rattle.bpf_words.specs.declared.instruction.Width.TheVariants.{Narrow,
 ghost use Rattle.meaning.specs.State.{State, register_of, operand_in};
 ghost use Rattle.meaning.specs.Value.{cut, holds_of};
 ghost use Rattle.std.specs.Int.{cast_unsigned, w64};
-ghost use Rattle.abstract_state.specs.Lent.{Lengths, base_of};
+ghost use Rattle.abstract_state.specs.Lent.{Lengths, base_of, bound_of, tail_of};
+ghost use Rattle.abstract_state.specs.declared.region.Region.{Region};
 ghost use Rattle.abstract_state.specs.Quantity.{Contains as ContainsNumber};
 ghost use Rattle.abstract_state.specs.Known.{ContainsKnown, IsNumber};
 ghost use Rattle.abstract_state.specs.Kinds.{HasNumberAt, HasNumberIn, KeepsAll, AreNumbersOn};
@@ -78,7 +79,7 @@ fn numbers_on(
 fn narrowed(place: LentPlace, offset: Quantity) -> Known
     requires { offset.range.high ≤ place.offset.range.high }
     ensures sound { (lengths : Lengths) (n x : ℕ) → n ≡ base_of place.region + x → ContainsNumber offset lengths x → ContainsKnown result lengths n }
-    ensures ends { (n : ℕ) → EndsFrom n offset → LongFrom n result }
+    ensures ends { (region : Region) (n : ℕ) → EndsFrom region n offset → LongFrom region n result }
 {
     Known::Lent(LentPlace {
         region: place.region,
@@ -91,7 +92,7 @@ fn places_on(comparison: Comparison, taken: bool, x: LentPlace, y: LentPlace) ->
     requires order { IsOrder comparison }
     requires region { x.region ≡ y.region }
     ensures sound { (lengths : Lengths) (m n : ℕ) → ContainsKnown (Known.Lent x) lengths m → ContainsKnown (Known.Lent y) lengths n → holds_of comparison Full (cut Full m) (cut Full n) ≡ taken → WithinPair result lengths m n }
-    ensures guards { comparison ≡ Comparison.Greater → taken ≡ false → (t : ℕ) → y.offset.tails.text ≡ Some t → IfSome result (λ p. LongFrom x.offset.range.low p.left) }
+    ensures guards { (region : Region) → comparison ≡ Comparison.Greater → taken ≡ false → (t : ℕ) → tail_of y.offset.tails region ≡ Some t → IfSome result (λ p. LongFrom region x.offset.range.low p.left) }
 {
     let Some(sides) = edge(Width::Full, comparison, taken, x.offset, y.offset) else {
         return None;
@@ -111,8 +112,8 @@ fn pair_on(
     b: Known,
 ) -> Result<Option<Pair>, Refusal>
     ensures sound { IfOk result (λ o. (lengths : Lengths) (m n : ℕ) → ContainsKnown a lengths m → ContainsKnown b lengths n → holds_of comparison width (cut width m) (cut width n) ≡ taken → WithinPair o lengths m n) }
-    ensures texts { (l1 h1 l2 h2 : ℕ) (t1 t2 : Option ℕ) → width ≡ Full → IsOrder comparison → Says (Fact.TextIn l1 h1 t1) a → Says (Fact.TextIn l2 h2 t2) b → IsOk result }
-    ensures guards { (n high l2 h2 t : ℕ) (t1 : Option ℕ) → width ≡ Full → comparison ≡ Comparison.Greater → taken ≡ false → Says (Fact.TextIn n high t1) a → Says (Fact.TextIn l2 h2 (Some t)) b → IfOk result (λ o. IfSome o (λ p. LongFrom n p.left)) }
+    ensures regions { (region : Region) (l1 h1 l2 h2 : ℕ) (t1 t2 : Option ℕ) → width ≡ Full → IsOrder comparison → Says (Fact.LentIn region l1 h1 t1) a → Says (Fact.LentIn region l2 h2 t2) b → IsOk result }
+    ensures guards { (region : Region) (n high l2 h2 t : ℕ) (t1 : Option ℕ) → width ≡ Full → comparison ≡ Comparison.Greater → taken ≡ false → Says (Fact.LentIn region n high t1) a → Says (Fact.LentIn region l2 h2 (Some t)) b → IfOk result (λ o. IfSome o (λ p. LongFrom region n p.left)) }
     ensures floor { IsNumber a → IsNumber b → IsOk result }
     ensures numbers { IsNumber a → IsNumber b → IfOk result (λ o. AreNumbersOn o) }
 {
@@ -202,8 +203,8 @@ impl AbsState {
     fn raise(&mut self, known: Known) -> Flow
         ensures sound { (lengths : Lengths) (s : State) (n : ℕ) → Contains self.old lengths s → ContainsKnown known lengths n → WithinState (after result self.new) lengths s }
         ensures same { self.new.registers ≡ self.old.registers }
-        ensures raised { (n : ℕ) → LongFrom n known → IfSome (after result self.new) (λ b. n ≤ b.bounds.text) }
-        ensures grows { IfSome (after result self.new) (λ b. self.old.bounds.text ≤ b.bounds.text) }
+        ensures raised { (region : Region) (n : ℕ) → LongFrom region n known → IfSome (after result self.new) (λ b. n ≤ bound_of b.bounds region) }
+        ensures grows { (region : Region) → IfSome (after result self.new) (λ b. bound_of self.old.bounds region ≤ bound_of b.bounds region) }
     {
         match known {
             Known::Number(quantity) => self.lengthen(quantity),
@@ -217,8 +218,8 @@ impl AbsState {
     fn lengthen(&mut self, quantity: Quantity) -> Flow
         ensures sound { (lengths : Lengths) (s : State) (x : ℕ) → Contains self.old lengths s → ContainsNumber quantity lengths x → WithinState (after result self.new) lengths s }
         ensures same { self.new.registers ≡ self.old.registers }
-        ensures raised { (n : ℕ) → EndsFrom n quantity → IfSome (after result self.new) (λ b. n ≤ b.bounds.text) }
-        ensures grows { IfSome (after result self.new) (λ b. self.old.bounds.text ≤ b.bounds.text) }
+        ensures raised { (region : Region) (n : ℕ) → EndsFrom region n quantity → IfSome (after result self.new) (λ b. n ≤ bound_of b.bounds region) }
+        ensures grows { (region : Region) → IfSome (after result self.new) (λ b. bound_of self.old.bounds region ≤ bound_of b.bounds region) }
     {
         let Some(bounds) = self.bounds.raise(quantity) else {
             return Flow::Dead;
@@ -231,7 +232,7 @@ impl AbsState {
     fn refine(&mut self, left: Register, right: &Operand, pair: Option<Pair>) -> Flow
         ensures sound { (lengths : Lengths) (s : State) (m n : ℕ) → Contains self.old lengths s → register_of s left ≡ Ok m → ReadsAs s right.now n → WithinPair pair lengths m n → WithinState (after result self.new) lengths s }
         ensures others { IfSome (after result self.new) (λ b. LeavesSides left right.now self.old b) }
-        ensures raised { (n : ℕ) → IfSome pair (λ p. LongFrom n p.left) → IfSome (after result self.new) (λ b. n ≤ b.bounds.text) }
+        ensures raised { (region : Region) (n : ℕ) → IfSome pair (λ p. LongFrom region n p.left) → IfSome (after result self.new) (λ b. n ≤ bound_of b.bounds region) }
         ensures kinds { HasNumberAt self.old left → HasNumberIn self.old right.now → AreNumbersOn pair → IfSome (after result self.new) (λ b. KeepsAll self.old b) }
     {
         let Some(pair) = pair else {
@@ -256,8 +257,8 @@ impl AbsState {
     ) -> Result<Option<AbsState>, Refusal>
         ensures sound { IfOk result (λ o. Edge self.now width comparison left right.now taken o) }
         ensures others { IfOk result (λ o. IfSome o (λ b. LeavesSides left right.now self.now b)) }
-        ensures texts { (r l1 h1 l2 h2 : ℕ) (t1 t2 : Option ℕ) → right.now ≡ Operand.Source r → width ≡ Full → IsOrder comparison → Holds (Fact.TextIn l1 h1 t1) (register_at self.now.registers left) → Holds (Fact.TextIn l2 h2 t2) (register_at self.now.registers r) → IsOk result }
-        ensures guards { (r n high l2 h2 t : ℕ) (t1 : Option ℕ) → right.now ≡ Operand.Source r → left ≢ r → width ≡ Full → comparison ≡ Comparison.Greater → taken ≡ false → Holds (Fact.TextIn n high t1) (register_at self.now.registers left) → Holds (Fact.TextIn l2 h2 (Some t)) (register_at self.now.registers r) → IfOk result (λ o. IfSome o (λ b. n ≤ b.bounds.text)) }
+        ensures regions { (region : Region) (r l1 h1 l2 h2 : ℕ) (t1 t2 : Option ℕ) → right.now ≡ Operand.Source r → width ≡ Full → IsOrder comparison → Holds (Fact.LentIn region l1 h1 t1) (register_at self.now.registers left) → Holds (Fact.LentIn region l2 h2 t2) (register_at self.now.registers r) → IsOk result }
+        ensures guards { (region : Region) (r n high l2 h2 t : ℕ) (t1 : Option ℕ) → right.now ≡ Operand.Source r → left ≢ r → width ≡ Full → comparison ≡ Comparison.Greater → taken ≡ false → Holds (Fact.LentIn region n high t1) (register_at self.now.registers left) → Holds (Fact.LentIn region l2 h2 (Some t)) (register_at self.now.registers r) → IfOk result (λ o. IfSome o (λ b. n ≤ bound_of b.bounds region)) }
         ensures floor { HasNumberAt self.now left → HasNumberIn self.now right.now → IsOk result }
         ensures kinds { HasNumberAt self.now left → HasNumberIn self.now right.now → IfOk result (λ o. IfSome o (λ b. KeepsAll self.now b)) }
     {
@@ -285,8 +286,8 @@ impl AbsState {
         ensures untaken { IfOk result (λ edges. Edge self.now width comparison left right.now false edges.untaken) }
         ensures taken_others { IfOk result (λ edges. IfSome edges.taken (λ b. LeavesSides left right.now self.now b)) }
         ensures untaken_others { IfOk result (λ edges. IfSome edges.untaken (λ b. LeavesSides left right.now self.now b)) }
-        ensures texts { (r l1 h1 l2 h2 : ℕ) (t1 t2 : Option ℕ) → right.now ≡ Operand.Source r → width ≡ Full → IsOrder comparison → Holds (Fact.TextIn l1 h1 t1) (register_at self.now.registers left) → Holds (Fact.TextIn l2 h2 t2) (register_at self.now.registers r) → IsOk result }
-        ensures guards { (r n high l2 h2 t : ℕ) (t1 : Option ℕ) → right.now ≡ Operand.Source r → left ≢ r → width ≡ Full → comparison ≡ Comparison.Greater → Holds (Fact.TextIn n high t1) (register_at self.now.registers left) → Holds (Fact.TextIn l2 h2 (Some t)) (register_at self.now.registers r) → IfOk result (λ edges. IfSome edges.untaken (λ b. n ≤ b.bounds.text)) }
+        ensures regions { (region : Region) (r l1 h1 l2 h2 : ℕ) (t1 t2 : Option ℕ) → right.now ≡ Operand.Source r → width ≡ Full → IsOrder comparison → Holds (Fact.LentIn region l1 h1 t1) (register_at self.now.registers left) → Holds (Fact.LentIn region l2 h2 t2) (register_at self.now.registers r) → IsOk result }
+        ensures guards { (region : Region) (r n high l2 h2 t : ℕ) (t1 : Option ℕ) → right.now ≡ Operand.Source r → left ≢ r → width ≡ Full → comparison ≡ Comparison.Greater → Holds (Fact.LentIn region n high t1) (register_at self.now.registers left) → Holds (Fact.LentIn region l2 h2 (Some t)) (register_at self.now.registers r) → IfOk result (λ edges. IfSome edges.untaken (λ b. n ≤ bound_of b.bounds region)) }
         ensures floor { HasNumberAt self.now left → HasNumberIn self.now right.now → IsOk result }
         ensures taken_kinds { HasNumberAt self.now left → HasNumberIn self.now right.now → IfOk result (λ edges. IfSome edges.taken (λ b. KeepsAll self.now b)) }
         ensures untaken_kinds { HasNumberAt self.now left → HasNumberIn self.now right.now → IfOk result (λ edges. IfSome edges.untaken (λ b. KeepsAll self.now b)) }

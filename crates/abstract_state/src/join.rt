@@ -43,6 +43,7 @@ impl Bounds {
     {
         Bounds {
             text: self.text.min(other.text),
+            link: self.link.min(other.link),
         }
     }
 }

@@ -4,7 +4,8 @@ ghost use Rattle.abstract_state.specs.Quantity.{Contains, Within};
 ghost use Rattle.abstract_state.specs.Known.{ContainsKnown, WithinKnown, IsNumber, AreNumbers};
 ghost use Rattle.abstract_state.specs.declared.state.AbsReg.TheVariants as TheRegs;
 ghost use Rattle.abstract_state.specs.Kinds.{IsContextAt, IsStackAt};
-ghost use Rattle.abstract_state.specs.Exact.{tail_after, IsIn, IsNumberIn, IsTextIn};
+ghost use Rattle.abstract_state.specs.Exact.{tail_after, IsIn, IsNumberIn, IsLentIn};
+ghost use Rattle.abstract_state.specs.declared.region.Region.{Region as TheRegion};
 ghost use Rattle.meaning.specs.Value.{cut, value_of, negated, extended, converted};
 
 use crate::place::{ContextPlace, LentPlace, StackPlace};
@@ -13,6 +14,7 @@ use crate::refusal::Refusal;
 use crate::region::Region;
 use crate::transfer::transfer;
 use bpf_words::instruction::{Arithmetic, Conversion, ConvertedBits, Extension, Width};
+use bpf_words::profile::Profile;
 
 /// What is known of a number that a register or a stack slot holds.
 #[derive(Clone, Copy)]
@@ -29,7 +31,7 @@ pub const NEAR: u64 = 1 << 20;
 pub fn number(quantity: Option<Quantity>) -> Option<Known>
     ensures contains { (lengths : Lengths) (x : ℕ) → Within quantity lengths x → WithinKnown result lengths x }
     ensures numbers { AreNumbers result }
-    ensures same { (low high : ℕ) (t : Option ℕ) → IfSome quantity (λ q. IsIn q low high t) → IfSome result (λ k. IsNumberIn low high t k) }
+    ensures same { (at : TheRegion) (low high : ℕ) (t : Option ℕ) → IfSome quantity (λ q. IsIn at q low high t) → IfSome result (λ k. IsNumberIn at low high t k) }
 {
     let Some(quantity) = quantity else {
         return None;
@@ -40,7 +42,7 @@ pub fn number(quantity: Option<Quantity>) -> Option<Known>
 /// An address in a lent region, if it is near enough.
 pub fn lent(region: Region, offset: Option<Quantity>) -> Result<Option<Known>, Refusal>
     ensures sound { IfOk result (λ o. (lengths : Lengths) (x : ℕ) → Within offset lengths x → WithinKnown o lengths ((base_of region + x) % 2 ^ 64)) }
-    ensures text { (low high : ℕ) (t : Option ℕ) → region ≡ Region.Text → IfSome offset (λ q. IsIn q low high t) → high ≤ 2 ^ 20 → IsOk result × IfOk result (λ o. IfSome o (λ k. IsTextIn low high t k)) }
+    ensures there { (at : TheRegion) (low high : ℕ) (t : Option ℕ) → region ≡ at → IfSome offset (λ q. IsIn at q low high t) → high ≤ 2 ^ 20 → IsOk result × IfOk result (λ o. IfSome o (λ k. IsLentIn at low high t k)) }
 {
     let Some(offset) = offset else {
         return Ok(None);
@@ -64,6 +66,7 @@ fn displaced(operation: Arithmetic, width: Width, place: u64, by: Quantity) -> O
 }
 
 fn from_context(
+    profile: Profile,
     operation: Arithmetic,
     width: Width,
     place: ContextPlace,
@@ -72,7 +75,9 @@ fn from_context(
     ensures { IfOk result (λ k. (lengths : Lengths) (x y : ℕ) → ContainsKnown (Known.Context place) lengths x → Contains by lengths y → ContainsKnown k lengths (value_of operation width (cut width x) (cut width y))) }
 {
     match displaced(operation, width, place.place, by) {
-        Some(place) if place <= 56 => Ok(Known::Context(ContextPlace { place })),
+        Some(place) if place <= profile.context_length() => Ok(Known::Context(ContextPlace {
+            place,
+        })),
         _ => Err(Refusal::PointerArithmetic),
     }
 }
@@ -98,7 +103,7 @@ fn from_lent(
     by: Quantity,
 ) -> Result<Option<Known>, Refusal>
     ensures sound { IfOk result (λ o. (lengths : Lengths) (x y : ℕ) → ContainsKnown (Known.Lent place) lengths x → Contains by lengths y → WithinKnown o lengths (value_of operation width (cut width x) (cut width y))) }
-    ensures adds { operation ≡ Arithmetic.Add → width ≡ Width.Full → place.region ≡ Region.Text → (m n : ℕ) (t : Option ℕ) → IsIn place.offset m m t → IsIn by n n None → m + n ≤ 2 ^ 20 → IsOk result × IfOk result (λ o. IfSome o (λ k. IsTextIn (m + n) (m + n) (tail_after t n) k)) }
+    ensures adds { (at : TheRegion) → operation ≡ Arithmetic.Add → width ≡ Width.Full → place.region ≡ at → (m n : ℕ) (t : Option ℕ) → IsIn at place.offset m m t → IsIn at by n n None → m + n ≤ 2 ^ 20 → IsOk result × IfOk result (λ o. IfSome o (λ k. IsLentIn at (m + n) (m + n) (tail_after t n) k)) }
 {
     match (width, operation) {
         (Width::Full, Arithmetic::Add) => lent(place.region, place.offset.add(by, Width::Full)),
@@ -135,19 +140,20 @@ impl Known {
     /// What an operation other than a move gives.
     pub fn compute(
         self,
+        profile: Profile,
         operation: Arithmetic,
         width: Width,
         other: Known,
     ) -> Result<Option<Known>, Refusal>
         ensures sound { IfOk result (λ o. (lengths : Lengths) (x y : ℕ) → ContainsKnown self lengths x → ContainsKnown other lengths y → WithinKnown o lengths (value_of operation width (cut width x) (cut width y))) }
-        ensures adds { operation ≡ Arithmetic.Add → width ≡ Width.Full → (m n : ℕ) (t : Option ℕ) → IsTextIn m m t self → IsNumberIn n n None other → m + n ≤ 2 ^ 20 → IsOk result × IfOk result (λ o. IfSome o (λ k. IsTextIn (m + n) (m + n) (tail_after t n) k)) }
+        ensures adds { (at : TheRegion) → operation ≡ Arithmetic.Add → width ≡ Width.Full → (m n : ℕ) (t : Option ℕ) → IsLentIn at m m t self → IsNumberIn at n n None other → m + n ≤ 2 ^ 20 → IsOk result × IfOk result (λ o. IfSome o (λ k. IsLentIn at (m + n) (m + n) (tail_after t n) k)) }
         ensures floor { IsNumber self → IsNumber other → IsOk result }
         ensures numbers { IsNumber self → IsNumber other → IfOk result (λ o. AreNumbers o) }
     {
         match (self, other) {
             (Known::Number(a), Known::Number(b)) => Ok(number(transfer(operation, width, a, b))),
             (Known::Context(a), Known::Number(b)) => Ok(Some(from_context(
-                operation, width, a, b,
+                profile, operation, width, a, b,
             )?)),
             (Known::Stack(a), Known::Number(b)) => Ok(Some(from_stack(operation, width, a, b)?)),
             (Known::Lent(a), Known::Number(b)) => from_lent(operation, width, a, b),
@@ -159,8 +165,8 @@ impl Known {
     /// What a move gives: of 32 bits, of a number alone.
     pub fn moved(self, width: Width) -> Result<Option<Known>, Refusal>
         ensures sound { IfOk result (λ o. (lengths : Lengths) (x : ℕ) → ContainsKnown self lengths x → WithinKnown o lengths (cut width x)) }
-        ensures text { width ≡ Width.Full → (n : ℕ) (t : Option ℕ) → IsTextIn n n t self → IsOk result × IfOk result (λ o. IfSome o (λ k. IsTextIn n n t k)) }
-        ensures constant { width ≡ Width.Full → (n : ℕ) (t : Option ℕ) → IsNumberIn n n t self → IfOk result (λ o. IfSome o (λ k. IsNumberIn n n t k)) }
+        ensures lent { (at : TheRegion) → width ≡ Width.Full → (n : ℕ) (t : Option ℕ) → IsLentIn at n n t self → IsOk result × IfOk result (λ o. IfSome o (λ k. IsLentIn at n n t k)) }
+        ensures constant { (at : TheRegion) → width ≡ Width.Full → (n : ℕ) (t : Option ℕ) → IsNumberIn at n n t self → IfOk result (λ o. IfSome o (λ k. IsNumberIn at n n t k)) }
         ensures floor { IsNumber self → IsOk result }
         ensures numbers { IsNumber self → IfOk result (λ o. AreNumbers o) }
     {

@@ -3,13 +3,17 @@ ghost use Rattle.std.specs.Prelude.{◌≡◌, ◌≢◌, ℕ, ◌+◌, ◌-◌,
 ghost use Rattle.byteorder.specs.Endian.{little_number};
 ghost use Rattle.meaning.specs.State.{State};
 ghost use Rattle.meaning.specs.Memory.{address_of, bytes_in, bytes_in_signed, load as load_of, store as store_of};
-ghost use Rattle.abstract_state.specs.Lent.{Lengths, base_of, length_of};
+ghost use Rattle.abstract_state.specs.Lent.{Lengths, base_of, length_of, limit_of, bound_of, begin_field, end_field, Lends};
+ghost use Rattle.abstract_state.specs.declared.region.Region.{Region as TheRegion};
+ghost use Rattle.abstract_state.specs.declared.region.Region.TheVariants.{Text, Link};
 ghost use Rattle.abstract_state.specs.Quantity.{Contains as ContainsNumber, Within as WithinNumber};
 ghost use Rattle.abstract_state.specs.Known.{ContainsKnown, WithinKnown, AreNumbers};
 ghost use Rattle.abstract_state.specs.Kinds.{IsNumberField, IsContextAt};
-ghost use Rattle.abstract_state.specs.Exact.{IsTextIn};
+ghost use Rattle.abstract_state.specs.Exact.{IsLentIn};
 ghost use Rattle.abstract_state.specs.declared.state.AbsReg.TheVariants as TheRegs;
-ghost use Rattle.abstract_state.specs.State.{Span, lengths_of, IsLong, Contains, LoadsAs, StoresAs};
+ghost use Rattle.bpf_words.specs.Profile.{context_length};
+ghost use Rattle.bpf_words.specs.declared.profile.Profile.TheVariants.{Two};
+ghost use Rattle.abstract_state.specs.State.{Span, lengths_of, IsLong, Contains, LoadsAs, LoadsIn, StoresAs};
 
 use crate::bounds::Bounds;
 use crate::known::{Known, lent, number};
@@ -20,6 +24,7 @@ use crate::region::Region;
 use crate::stack::{are_set, filled, overwrite, spill};
 use crate::state::AbsState;
 use bpf_words::instruction::{SignedSize, Size};
+use bpf_words::profile::Profile;
 
 /// A place moved by an offset modulo 2^64, where it isn't before the start.
 fn moved(place: u64, offset: u64) -> Option<u64>
@@ -79,12 +84,12 @@ fn is_word_field(place: u64) -> bool
     place >= 20 && place <= 44 && place % 4 == 0
 }
 
-/// What a field of the context holds.
-fn field(place: u64, size: Size) -> Result<Option<Known>, Refusal>
+/// What a field of the first 56 bytes of the context holds, where nothing is known of the link.
+fn text_field(place: u64, size: Size) -> Result<Option<Known>, Refusal>
     ensures within { IfOk result (λ _. place + bytes_in size ≤ 56) }
-    ensures sound { IfOk result (λ o. (span : Span) → WithinKnown o (lengths_of span) (little_number (bytes_in size) (drop place span.context))) }
-    ensures begin { size ≡ Size.Double → place ≡ 0 → IsOk result × IfOk result (λ o. IfSome o (λ k. IsTextIn 0 0 (Some 0) k)) }
-    ensures end { size ≡ Size.Double → place ≡ 8 → IsOk result × IfOk result (λ o. IfSome o (λ k. IsTextIn 0 131072 (Some 0) k)) }
+    ensures sound { IfOk result (λ o. (span : Span) → WithinKnown o (lengths_of span) (little_number (bytes_in size) (drop place span.bytes.context))) }
+    ensures begin { size ≡ Size.Double → place ≡ 0 → IsOk result × IfOk result (λ o. IfSome o (λ k. IsLentIn Text 0 0 (Some 0) k)) }
+    ensures end { size ≡ Size.Double → place ≡ 8 → IsOk result × IfOk result (λ o. IfSome o (λ k. IsLentIn Text 0 131072 (Some 0) k)) }
     ensures floor { IsNumberField size place → IsOk result }
     ensures numbers { IsNumberField size place → IfOk result (λ o. AreNumbers o) }
 {
@@ -104,11 +109,51 @@ fn field(place: u64, size: Size) -> Result<Option<Known>, Refusal>
     }
 }
 
+/// What a field of the whole context holds.
+fn link_field(place: u64, size: Size) -> Result<Option<Known>, Refusal>
+    ensures within { IfOk result (λ _. place + bytes_in size ≤ 72) }
+    ensures sound { IfOk result (λ o. (span : Span) → span.profile ≡ Two → WithinKnown o (lengths_of span) (little_number (bytes_in size) (drop place span.bytes.context))) }
+    ensures begin { size ≡ Size.Double → place ≡ 0 → IsOk result × IfOk result (λ o. IfSome o (λ k. IsLentIn Text 0 0 (Some 0) k)) }
+    ensures end { size ≡ Size.Double → place ≡ 8 → IsOk result × IfOk result (λ o. IfSome o (λ k. IsLentIn Text 0 131072 (Some 0) k)) }
+    ensures link_begin { size ≡ Size.Double → place ≡ 56 → IsOk result × IfOk result (λ o. IfSome o (λ k. IsLentIn Link 0 0 (Some 0) k)) }
+    ensures link_end { size ≡ Size.Double → place ≡ 64 → IsOk result × IfOk result (λ o. IfSome o (λ k. IsLentIn Link 0 1024 (Some 0) k)) }
+    ensures floor { IsNumberField size place → IsOk result }
+    ensures numbers { IsNumberField size place → IfOk result (λ o. AreNumbers o) }
+{
+    match size {
+        Size::Double if place == 56 => Ok(Some(Known::Lent(LentPlace {
+            region: Region::Link,
+            offset: Quantity::begin(Region::Link),
+        }))),
+        Size::Double if place == 64 => lent(
+            Region::Link,
+            Quantity::up_to_end(Region::Link, u64::MAX),
+        ),
+        Size::Word if place == 32 => Ok(number(Quantity::up_to_end(Region::Link, 0xffff_ffff))),
+        _ => text_field(place, size),
+    }
+}
+
+/// What a field of the context holds that a program of the profile may read.
+fn field(profile: Profile, place: u64, size: Size) -> Result<Option<Known>, Refusal>
+    ensures within { IfOk result (λ _. place + bytes_in size ≤ context_length profile) }
+    ensures sound { IfOk result (λ o. (span : Span) → span.profile ≡ profile → WithinKnown o (lengths_of span) (little_number (bytes_in size) (drop place span.bytes.context))) }
+    ensures begin { (at : TheRegion) → Lends at profile → size ≡ Size.Double → place ≡ begin_field at → IsOk result × IfOk result (λ o. IfSome o (λ k. IsLentIn at 0 0 (Some 0) k)) }
+    ensures end { (at : TheRegion) → Lends at profile → size ≡ Size.Double → place ≡ end_field at → IsOk result × IfOk result (λ o. IfSome o (λ k. IsLentIn at 0 (limit_of at) (Some 0) k)) }
+    ensures floor { IsNumberField size place → IsOk result }
+    ensures numbers { IsNumberField size place → IfOk result (λ o. AreNumbers o) }
+{
+    match profile {
+        Profile::One => text_field(place, size),
+        Profile::Two => link_field(place, size),
+    }
+}
+
 /// Whether so many bytes at a place in a lent region lie in it.
 fn reaches(bounds: Bounds, place: LentPlace, offset: u64, count: usize) -> bool
     requires { count ≤ 8 }
     ensures sound { IsTrue result → (lengths : Lengths) (x : ℕ) → IsLong bounds lengths → ContainsNumber place.offset lengths x → (a : ℕ) × ((base_of place.region + x + offset) % 2 ^ 64 ≡ base_of place.region + a) × (a + count ≤ length_of lengths place.region) }
-    ensures floor { offset ≤ 2 ^ 15 → (bound : ℕ) → place.region ≡ Region.Text → bounds.text ≡ bound → place.offset.range.high + offset + count ≤ bound → IsTrue result }
+    ensures floor { offset ≤ 2 ^ 15 → (at : TheRegion) (bound : ℕ) → place.region ≡ at → bound_of bounds at ≡ bound → place.offset.range.high + offset + count ≤ bound → IsTrue result }
 {
     let range = place.offset.range;
     let Some(least) = moved(range.low, offset) else {
@@ -147,7 +192,7 @@ impl AbsState {
     fn bytes(&self, base: Known, offset: u64, count: usize) -> Result<(), Refusal>
         requires { count ≤ 8 }
         ensures sound { IfOk result (λ _. LoadsAs self.now base offset count (λ lengths v. v < 256 ^ count)) }
-        ensures text { (p : LentPlace) → base ≡ Known.Lent p → p.region ≡ Region.Text → offset ≤ 2 ^ 15 → p.offset.range.high + offset + count ≤ self.now.bounds.text → IsOk result }
+        ensures lent { (at : TheRegion) (p : LentPlace) → base ≡ Known.Lent p → p.region ≡ at → offset ≤ 2 ^ 15 → p.offset.range.high + offset + count ≤ bound_of self.now.bounds at → IsOk result }
     {
         match base {
             Known::Number(_) => Err(Refusal::NotAnAddress),
@@ -171,17 +216,23 @@ impl AbsState {
     }
 
     /// What a load of a field gives.
-    fn field(&self, place: ContextPlace, offset: u64, size: Size) -> Result<Option<Known>, Refusal>
-        ensures sound { IfOk result (λ o. LoadsAs self.now (Known.Context place) offset (bytes_in size) (λ lengths v. WithinKnown o lengths v)) }
-        ensures begin { place.place ≡ 0 → size ≡ Size.Double → offset ≡ 0 → IsOk result × IfOk result (λ o. IfSome o (λ k. IsTextIn 0 0 (Some 0) k)) }
-        ensures end { place.place ≡ 0 → size ≡ Size.Double → offset ≡ 8 → IsOk result × IfOk result (λ o. IfSome o (λ k. IsTextIn 0 131072 (Some 0) k)) }
+    fn field(
+        &self,
+        profile: Profile,
+        place: ContextPlace,
+        offset: u64,
+        size: Size,
+    ) -> Result<Option<Known>, Refusal>
+        ensures sound { IfOk result (λ o. LoadsIn profile self.now (Known.Context place) offset (bytes_in size) (λ lengths v. WithinKnown o lengths v)) }
+        ensures begin { (at : TheRegion) → Lends at profile → place.place ≡ 0 → size ≡ Size.Double → offset ≤ 64 → offset ≡ begin_field at → IsOk result × IfOk result (λ o. IfSome o (λ k. IsLentIn at 0 0 (Some 0) k)) }
+        ensures end { (at : TheRegion) → Lends at profile → place.place ≡ 0 → size ≡ Size.Double → offset ≤ 64 → offset ≡ end_field at → IsOk result × IfOk result (λ o. IfSome o (λ k. IsLentIn at 0 (limit_of at) (Some 0) k)) }
         ensures floor { place.place ≡ 0 → IsNumberField size offset → IsOk result }
         ensures numbers { place.place ≡ 0 → IsNumberField size offset → IfOk result (λ o. AreNumbers o) }
     {
         let Some(p) = moved(place.place, offset) else {
             return Err(Refusal::ContextField);
         };
-        let known = field(p, size)?;
+        let known = field(profile, p, size)?;
         Ok(known)
     }
 
@@ -203,17 +254,23 @@ impl AbsState {
     }
 
     /// What a load gives.
-    pub fn load(&self, base: Known, offset: u64, size: Size) -> Result<Option<Known>, Refusal>
-        ensures sound { IfOk result (λ o. LoadsAs self.now base offset (bytes_in size) (λ lengths v. WithinKnown o lengths v)) }
-        ensures begin { IsContextAt 0 (TheRegs.Set base) → size ≡ Size.Double → offset ≡ 0 → IsOk result × IfOk result (λ o. IfSome o (λ k. IsTextIn 0 0 (Some 0) k)) }
-        ensures end { IsContextAt 0 (TheRegs.Set base) → size ≡ Size.Double → offset ≡ 8 → IsOk result × IfOk result (λ o. IfSome o (λ k. IsTextIn 0 131072 (Some 0) k)) }
+    pub fn load(
+        &self,
+        profile: Profile,
+        base: Known,
+        offset: u64,
+        size: Size,
+    ) -> Result<Option<Known>, Refusal>
+        ensures sound { IfOk result (λ o. LoadsIn profile self.now base offset (bytes_in size) (λ lengths v. WithinKnown o lengths v)) }
+        ensures begin { (at : TheRegion) → Lends at profile → IsContextAt 0 (TheRegs.Set base) → size ≡ Size.Double → offset ≤ 64 → offset ≡ begin_field at → IsOk result × IfOk result (λ o. IfSome o (λ k. IsLentIn at 0 0 (Some 0) k)) }
+        ensures end { (at : TheRegion) → Lends at profile → IsContextAt 0 (TheRegs.Set base) → size ≡ Size.Double → offset ≤ 64 → offset ≡ end_field at → IsOk result × IfOk result (λ o. IfSome o (λ k. IsLentIn at 0 (limit_of at) (Some 0) k)) }
         ensures floor { IsContextAt 0 (TheRegs.Set base) → IsNumberField size offset → IsOk result }
         ensures numbers { IsContextAt 0 (TheRegs.Set base) → IsNumberField size offset → IfOk result (λ o. AreNumbers o) }
-        ensures text { (p : LentPlace) → base ≡ Known.Lent p → p.region ≡ Region.Text → offset ≤ 2 ^ 15 → p.offset.range.high + offset + bytes_in size ≤ self.now.bounds.text → IsOk result }
-        ensures text_numbers { (p : LentPlace) → base ≡ Known.Lent p → IfOk result (λ o. AreNumbers o) }
+        ensures lent { (at : TheRegion) (p : LentPlace) → base ≡ Known.Lent p → p.region ≡ at → offset ≤ 2 ^ 15 → p.offset.range.high + offset + bytes_in size ≤ bound_of self.now.bounds at → IsOk result }
+        ensures lent_numbers { (p : LentPlace) → base ≡ Known.Lent p → IfOk result (λ o. AreNumbers o) }
     {
         if let Known::Context(place) = base {
-            return self.field(place, offset, size);
+            return self.field(profile, place, offset, size);
         }
         if let Some(known) = self.fill(base, offset, size) {
             return Ok(Some(known));

@@ -8,7 +8,7 @@ use crate::region::Region;
 #[derive(Clone, Copy)]
 pub struct ContextPlace {
     pub place: u64,
-    ghost within: { place ≤ 56 },
+    ghost within: { place ≤ 72 },
 }
 
 /// An address in the stack, or at its end: so many bytes from its lowest byte.

@@ -1,5 +1,6 @@
 ghost use Rattle.std.specs.Prelude.{◌≡◌, ℕ, ◌+◌, ◌-◌, ◌*◌, ◌/◌, ◌%◌, ◌^◌, ◌<◌, ◌≤◌, Option, Some, None, IfSome, bit_and, bit_or, bit_xor};
-ghost use Rattle.abstract_state.specs.Lent.{Lengths, length_of, HasTails, InRange, InRanges};
+ghost use Rattle.abstract_state.specs.Lent.{Lengths, length_of, limit_of, tail_of, HasTails, InRange, InRanges};
+ghost use Rattle.abstract_state.specs.declared.region.Region.{Region as TheRegion};
 ghost use Rattle.abstract_state.specs.Quantity.{InBits, Contains, Within, Fits, Maps, MapsBoth, Narrows};
 ghost use Rattle.abstract_state.specs.Exact.{IsIn};
 ghost use Rattle.meaning.specs.Value.{cut, value_of};
@@ -21,7 +22,7 @@ impl Quantity {
     /// The one number.
     pub fn constant(value: u64) -> Quantity
         ensures contains { (lengths : Lengths) → Contains result lengths value }
-        ensures is { IsIn result value value None }
+        ensures is { (region : TheRegion) → IsIn region result value value None }
     {
         Quantity {
             bits: Bits::constant(value),
@@ -48,7 +49,7 @@ impl Quantity {
     pub fn normal(bits: Bits, range: Range, tails: Tails) -> Option<Quantity>
         ensures contains { (lengths : Lengths) (x : ℕ) → InBits bits x → InRange range x → HasTails tails lengths x → Within result lengths x }
         ensures narrows { Narrows result range tails }
-        ensures limits { (t : ℕ) → tails.text ≡ Some t → IfSome result (λ q. q.range.high + t ≤ 131072) }
+        ensures limits { (region : TheRegion) (t : ℕ) → tail_of tails region ≡ Some t → IfSome result (λ q. q.range.high + t ≤ limit_of region) }
     {
         let first = narrow(bits, range, tails)?;
         let high_bits = Bits::between(first.low, first.high);
@@ -77,7 +78,7 @@ impl Quantity {
 fn narrow(bits: Bits, range: Range, tails: Tails) -> Option<Range>
     ensures contains { (lengths : Lengths) (x : ℕ) → InBits bits x → InRange range x → HasTails tails lengths x → InRanges result x }
     ensures within { IfSome result (λ r. (range.low ≤ r.low) × (r.high ≤ range.high)) }
-    ensures limits { (t : ℕ) → tails.text ≡ Some t → IfSome result (λ r. r.high + t ≤ 131072) }
+    ensures limits { (region : TheRegion) (t : ℕ) → tail_of tails region ≡ Some t → IfSome result (λ r. r.high + t ≤ limit_of region) }
 {
     let above = range.at_least(bits.least())?;
     let between = above.at_most(bits.greatest())?;
@@ -106,7 +107,7 @@ impl Quantity {
     /// The number 0, as a place in a region.
     pub fn begin(region: Region) -> Quantity
         ensures contains { (lengths : Lengths) → Contains result lengths 0 }
-        ensures is { region ≡ Region.Text → IsIn result 0 0 (Some 0) }
+        ensures is { IsIn region result 0 0 (Some 0) }
     {
         Quantity {
             bits: Bits::constant(0),
@@ -118,7 +119,7 @@ impl Quantity {
     /// The numbers up to `high` and up to the region's length.
     pub fn up_to_end(region: Region, high: u64) -> Option<Quantity>
         ensures contains { (lengths : Lengths) (x : ℕ) → x ≤ high → x ≤ length_of lengths region → Within result lengths x }
-        ensures is { region ≡ Region.Text → 131072 ≤ high → IfSome result (λ q. IsIn q 0 131072 (Some 0)) }
+        ensures is { limit_of region ≤ high → IfSome result (λ q. IsIn region q 0 (limit_of region) (Some 0)) }
     {
         Quantity::normal(
             Bits::between(0, high),

@@ -1,15 +1,18 @@
 ghost use Rattle.std.specs.Prelude.{◌≡◌, ℕ, ◌+◌, ◌≤◌, Option, Some, None, IfSome};
-ghost use Rattle.abstract_state.specs.Lent.{Lengths, HasTail, HasTails, base_of, limit_of, length_of, InRange, InRanges};
+ghost use Rattle.abstract_state.specs.Lent.{Lengths, HasTail, HasTails, base_of, limit_of, length_of, tail_of, InRange, InRanges};
+ghost use Rattle.abstract_state.specs.declared.region.Region.{Region as TheRegion};
 ghost use Rattle.abstract_state.specs.Exact.{tail_after};
 
 use crate::tail;
-use bpf_words::context::{TEXT, TEXT_LIMIT};
+use bpf_words::context::{LINK, LINK_LIMIT, TEXT, TEXT_LIMIT};
 use intervals::Range;
 
 /// Memory that a run is lent to read, of a length that differs from run to run.
 #[derive(Clone, Copy)]
 pub enum Region {
     Text,
+    /// The text of the span's link.
+    Link,
 }
 
 impl Region {
@@ -19,6 +22,7 @@ impl Region {
     {
         match self {
             Region::Text => TEXT,
+            Region::Link => LINK,
         }
     }
 
@@ -28,6 +32,7 @@ impl Region {
     {
         match self {
             Region::Text => TEXT_LIMIT as u64,
+            Region::Link => LINK_LIMIT as u64,
         }
     }
 }
@@ -36,24 +41,35 @@ impl Region {
 #[derive(Clone, Copy)]
 pub struct Tails {
     pub text: Option<u64>,
+    pub link: Option<u64>,
 }
 
 impl Tails {
     /// Nothing is known.
     pub fn none() -> Tails
         ensures contains { (lengths : Lengths) (x : ℕ) → HasTails result lengths x }
-        ensures none { result.text ≡ None }
+        ensures none { (region : TheRegion) → tail_of result region ≡ None }
     {
-        Tails { text: None }
+        Tails {
+            text: None,
+            link: None,
+        }
     }
 
     /// Of the numbers up to the region's length.
     pub fn ending(region: Region) -> Tails
         ensures contains { (lengths : Lengths) (x : ℕ) → x ≤ length_of lengths region → HasTails result lengths x }
-        ensures text { region ≡ Region.Text → result.text ≡ Some 0 }
+        ensures there { tail_of result region ≡ Some 0 }
     {
         match region {
-            Region::Text => Tails { text: Some(0) },
+            Region::Text => Tails {
+                text: Some(0),
+                link: None,
+            },
+            Region::Link => Tails {
+                text: None,
+                link: Some(0),
+            },
         }
     }
 
@@ -63,6 +79,7 @@ impl Tails {
     {
         match region {
             Region::Text => self.text,
+            Region::Link => self.link,
         }
     }
 
@@ -70,19 +87,21 @@ impl Tails {
     pub fn narrow(self, range: Range) -> Option<Range>
         ensures contains { (lengths : Lengths) (x : ℕ) → InRange range x → HasTails self lengths x → InRanges result x }
         ensures within { IfSome result (λ r. (range.low ≤ r.low) × (r.high ≤ range.high)) }
-        ensures limits { (t : ℕ) → self.text ≡ Some t → IfSome result (λ r. r.high + t ≤ 131072) }
+        ensures limits { (region : TheRegion) (t : ℕ) → tail_of self region ≡ Some t → IfSome result (λ r. r.high + t ≤ limit_of region) }
     {
-        tail::narrow(self.text, Region::Text.limit(), range)
+        let by_text = tail::narrow(self.text, Region::Text.limit(), range)?;
+        tail::narrow(self.link, Region::Link.limit(), by_text)
     }
 
     /// The tails of the sum of a number with these tails and one with the others, where the others' number is
     /// up to `added`, and this number is up to `high`.
     pub fn sum(self, high: u64, other: Tails, added: u64) -> Tails
         ensures contains { (lengths : Lengths) (x y : ℕ) → HasTails self lengths x → x ≤ high → HasTails other lengths y → y ≤ added → HasTails result lengths (x + y) }
-        ensures alone { other.text ≡ None → result.text ≡ tail_after self.text added }
+        ensures alone { (region : TheRegion) → tail_of other region ≡ None → tail_of result region ≡ tail_after (tail_of self region) added }
     {
         Tails {
             text: tail::sum(self.text, high, other.text, added),
+            link: tail::sum(self.link, high, other.link, added),
         }
     }
 
@@ -92,26 +111,29 @@ impl Tails {
     {
         Tails {
             text: tail::difference(self.text, taken),
+            link: tail::difference(self.link, taken),
         }
     }
 
     /// The tails of a number that is less by at least so much.
     pub fn raised(self, by: u64) -> Tails
         ensures contains { (lengths : Lengths) (x y : ℕ) → HasTails self lengths y → x + by ≤ y → HasTails result lengths x }
-        ensures there { (t : ℕ) → self.text ≡ Some t → (u : ℕ) × (result.text ≡ Some u) }
+        ensures there { (region : TheRegion) (t : ℕ) → tail_of self region ≡ Some t → (u : ℕ) × (tail_of result region ≡ Some u) }
     {
         Tails {
             text: tail::raised(self.text, by),
+            link: tail::raised(self.link, by),
         }
     }
 
     /// The tails of a number that is no greater than either.
     pub fn greater(self, other: Tails) -> Tails
         ensures contains { (lengths : Lengths) (x y z : ℕ) → HasTails self lengths x → HasTails other lengths y → z ≤ x → z ≤ y → HasTails result lengths z }
-        ensures there { (u : ℕ) → other.text ≡ Some u → (t : ℕ) × (result.text ≡ Some t) }
+        ensures there { (region : TheRegion) (u : ℕ) → tail_of other region ≡ Some u → (t : ℕ) × (tail_of result region ≡ Some t) }
     {
         Tails {
             text: tail::greater(self.text, other.text),
+            link: tail::greater(self.link, other.link),
         }
     }
 
@@ -122,6 +144,7 @@ impl Tails {
     {
         Tails {
             text: tail::lesser(self.text, other.text),
+            link: tail::lesser(self.link, other.link),
         }
     }
 }

@@ -1,7 +1,8 @@
 //! What a comparison that holds, or doesn't, says of two quantities.
 ghost use Rattle.std.specs.Prelude.{◌≡◌, ◌≢◌, ℕ, ◌+◌, ◌-◌, ◌*◌, ◌%◌, ◌^◌, ◌<◌, ◌≤◌, Option, Some, IfSome, IsTrue, false, ◌↔◌};
 ghost use Rattle.bpf_words.specs.declared.instruction.Width.{Width as Wide};
-ghost use Rattle.abstract_state.specs.Lent.{Lengths, HasTails, InRange, InRanges};
+ghost use Rattle.abstract_state.specs.Lent.{Lengths, tail_of, HasTails, InRange, InRanges};
+ghost use Rattle.abstract_state.specs.declared.region.Region.{Region};
 ghost use Rattle.abstract_state.specs.Quantity.{InBits, Contains, Within, Fits};
 ghost use Rattle.abstract_state.specs.Relation.{Stands, WithinBoth, NarrowsBoth, EndsFrom, IsSigned, SignsAgree};
 ghost use Rattle.meaning.specs.Value.{bits_of, cut, holds_of};
@@ -58,7 +59,7 @@ impl Quantity {
     fn below(self, other: Quantity, by: u64) -> Option<Quantity>
         ensures contains { (lengths : Lengths) (m n : ℕ) → Contains self lengths m → Contains other lengths n → m + by ≤ n → Within result lengths m }
         ensures within { IfSome result (λ q. (self.range.low ≤ q.range.low) × (q.range.high ≤ self.range.high)) }
-        ensures tail { (t : ℕ) → other.tails.text ≡ Some t → IfSome result (λ q. (u : ℕ) × (q.tails.text ≡ Some u)) }
+        ensures tail { (region : Region) (t : ℕ) → tail_of other.tails region ≡ Some t → IfSome result (λ q. (u : ℕ) × (tail_of q.tails region ≡ Some u)) }
     {
         if other.range.high < by {
             return None;
@@ -119,7 +120,7 @@ fn ordered(x: Quantity, y: Quantity, by: u64) -> Option<Sides>
     ensures contains { (lengths : Lengths) (m n : ℕ) → Contains x lengths m → Contains y lengths n → m + by ≤ n → WithinBoth result lengths m n }
     ensures within { NarrowsBoth result x y }
     ensures low { IfSome result (λ s. x.range.low ≤ s.left.range.low) }
-    ensures tail { (t : ℕ) → y.tails.text ≡ Some t → IfSome result (λ s. (u : ℕ) × (s.left.tails.text ≡ Some u)) }
+    ensures tail { (region : Region) (t : ℕ) → tail_of y.tails region ≡ Some t → IfSome result (λ s. (u : ℕ) × (tail_of s.left.tails region ≡ Some u)) }
 {
     let left = x.below(y, by)?;
     let right = y.above(x, by)?;
@@ -166,7 +167,7 @@ fn different(x: Quantity, y: Quantity) -> Option<Sides>
 fn refine(relation: Relation, x: Quantity, y: Quantity) -> Option<Sides>
     ensures contains { (lengths : Lengths) (m n : ℕ) → Contains x lengths m → Contains y lengths n → Stands relation m n → WithinBoth result lengths m n }
     ensures within { NarrowsBoth result x y }
-    ensures ends { relation ≡ Relation.AtMost → (t : ℕ) → y.tails.text ≡ Some t → IfSome result (λ s. EndsFrom x.range.low s.left) }
+    ensures ends { (region : Region) → relation ≡ Relation.AtMost → (t : ℕ) → tail_of y.tails region ≡ Some t → IfSome result (λ s. EndsFrom region x.range.low s.left) }
 {
     match relation {
         Relation::Less => ordered(x, y, 1),
@@ -213,7 +214,7 @@ pub fn edge(
 ) -> Option<Sides>
     ensures contains { (lengths : Lengths) (m n : ℕ) → Contains x lengths m → Contains y lengths n → holds_of comparison width (cut width m) (cut width n) ≡ taken → WithinBoth result lengths m n }
     ensures within { NarrowsBoth result x y }
-    ensures ends { width ≡ Width.Full → comparison ≡ Comparison.Greater → taken ≡ false → (t : ℕ) → y.tails.text ≡ Some t → IfSome result (λ s. EndsFrom x.range.low s.left) }
+    ensures ends { (region : Region) → width ≡ Width.Full → comparison ≡ Comparison.Greater → taken ≡ false → (t : ℕ) → tail_of y.tails region ≡ Some t → IfSome result (λ s. EndsFrom region x.range.low s.left) }
 {
     let reach = reach(width, comparison);
     if x.range.high > reach || y.range.high > reach {

@@ -1,5 +1,6 @@
 ghost use Rattle.std.specs.Prelude.{◌≡◌, ◌≢◌, ℕ, ◌+◌, ◌-◌, ◌*◌, ◌/◌, ◌%◌, ◌^◌, ◌<◌, ◌≤◌, Option, Some, Ok, IfSome, IfOk, IsOk, IsTrue, None, length, slice_set, slice_index_or, pos};
-ghost use Rattle.abstract_state.specs.Lent.{Lengths, length_of};
+ghost use Rattle.abstract_state.specs.Lent.{Lengths, length_of, bound_of, HasTail};
+ghost use Rattle.abstract_state.specs.declared.region.Region.{Region as TheRegion};
 ghost use Rattle.abstract_state.specs.Quantity.{Contains as ContainsNumber, Within as WithinNumber};
 ghost use Rattle.abstract_state.specs.Known.{ContainsKnown, WithinKnown, IsNumber, AreNumbers};
 ghost use Rattle.abstract_state.specs.State.{Span, lengths_of, IsLong, WithinLong, Contains, WithinState, with_register, register_at, ContainsRegister, Bytes, ContainsStack, ContainsSlot};
@@ -42,30 +43,43 @@ impl Bounds {
     pub fn of(self, region: Region) -> u64
         ensures short { result ≤ 131072 }
         ensures long { (lengths : Lengths) → IsLong self lengths → result ≤ length_of lengths region }
-        ensures text { region ≡ Region.Text → result ≡ self.text }
+        ensures value { (at : TheRegion) → region ≡ at → result ≡ bound_of self at }
     {
         match region {
             Region::Text => self.text,
+            Region::Link => self.link,
         }
     }
 
     /// The bounds where a number of the quantity stands; `None` where no region is so long.
     pub fn raise(self, q: Quantity) -> Option<Bounds>
         ensures sound { (lengths : Lengths) (x : ℕ) → IsLong self lengths → ContainsNumber q lengths x → WithinLong result lengths }
-        ensures raised { (t : ℕ) → q.tails.text ≡ Some t → IfSome result (λ b. q.range.low + t ≤ b.text) }
-        ensures grows { IfSome result (λ b. self.text ≤ b.text) }
+        ensures text { (t : ℕ) → q.tails.text ≡ Some t → IfSome result (λ b. q.range.low + t ≤ b.text) }
+        ensures link { (t : ℕ) → q.tails.link ≡ Some t → IfSome result (λ b. q.range.low + t ≤ b.link) }
+        ensures grows { IfSome result (λ b. (self.text ≤ b.text) × (self.link ≤ b.link)) }
     {
-        let Some(tail) = q.tails.text else {
-            return Some(self);
-        };
-        let least = q.range.low.checked_add(tail)?;
-        if least > 131_072 {
-            return None;
-        }
-        Some(Bounds {
-            text: self.text.max(least),
-        })
+        let text = bound_raised(self.text, q.range.low, q.tails.text, Region::Text.limit())?;
+        let link = bound_raised(self.link, q.range.low, q.tails.link, Region::Link.limit())?;
+        Some(Bounds { text, link })
     }
+}
+
+/// One bound where a number from `low` on with a tail stands; `None` where no region is so long.
+fn bound_raised(bound: u64, low: u64, tail: Option<u64>, limit: u64) -> Option<u64>
+    requires { bound ≤ limit }
+    ensures short { IfSome result (λ b. b ≤ limit) }
+    ensures sound { (long x : ℕ) → long ≤ limit → bound ≤ long → low ≤ x → HasTail tail long x → (b : ℕ) × (result ≡ Some b) × (b ≤ long) }
+    ensures raised { (t : ℕ) → tail ≡ Some t → IfSome result (λ b. low + t ≤ b) }
+    ensures grows { IfSome result (λ b. bound ≤ b) }
+{
+    let Some(t) = tail else {
+        return Some(bound);
+    };
+    let least = low.checked_add(t)?;
+    if least > limit {
+        return None;
+    }
+    Some(bound.max(least))
 }
 
 impl AbsState {
@@ -75,12 +89,12 @@ impl AbsState {
         ensures context { IsContextAt 0 (register_at result.registers 1) }
         ensures frame { IsStackAt 512 (register_at result.registers 10) }
         ensures unset { (i : ℕ) → i ≢ 1 → i ≢ 10 → register_at result.registers i ≡ AbsReg.Unset }
-        ensures bounds { result.bounds.text ≡ 0 }
+        ensures bounds { (result.bounds.text ≡ 0) × (result.bounds.link ≡ 0) }
     {
         AbsState {
             registers: first_registers(),
             stack: unset_stack(),
-            bounds: Bounds { text: 0 },
+            bounds: Bounds { text: 0, link: 0 },
         }
     }
 
@@ -102,7 +116,7 @@ impl AbsState {
     pub fn operand(&self, operand: Operand) -> Result<Known, Refusal>
         ensures sound { IfOk result (λ k. (lengths : Lengths) (s : State) → Contains self.now lengths s → (n : ℕ) × (operand_in s operand ≡ Ok n) × ContainsKnown k lengths n) }
         ensures holds { (r : ℕ) (fact : Fact) → operand ≡ Operand.Source r → Holds fact (register_at self.now.registers r) → IsOk result × IfOk result (λ k. Says fact k) }
-        ensures constant { (k : ℕ) → operand ≡ Operand.Immediate (pos k) → k < 2 ^ 31 → IsOk result × IfOk result (λ v. IsNumberIn k k None v) }
+        ensures constant { (region : TheRegion) (k : ℕ) → operand ≡ Operand.Immediate (pos k) → k < 2 ^ 31 → IsOk result × IfOk result (λ v. IsNumberIn region k k None v) }
         ensures floor { HasNumberIn self.now operand → IsOk result }
         ensures numbers { HasNumberIn self.now operand → IfOk result (λ k. IsNumber k) }
     {

@@ -3,10 +3,12 @@ ghost use Rattle.std.specs.Prelude.{◌≡◌, ◌≢◌, ℕ, pos, ◌+◌, ◌
 ghost use Rattle.std.specs.Int.{cast_unsigned, w64};
 ghost use Rattle.meaning.specs.State.{State, register_of};
 ghost use Rattle.meaning.specs.Step.{Returns};
-ghost use Rattle.abstract_state.specs.State.{Span, lengths_of, Contains, StepsBy, does, register_at};
+ghost use Rattle.abstract_state.specs.State.{Span, lengths_of, Contains, StepsIn, StepsBy, does, register_at};
 ghost use Rattle.abstract_state.specs.Kinds.{HasNumberAt, HasNumberIn, ReadsFirst, ReadsNumbers, WritesNumber, Carries, IsNumberField, IsContextAt};
 ghost use Rattle.abstract_state.specs.Steps.{MayStep, StepsTo, after};
 ghost use Rattle.abstract_state.specs.Exact.{Fact, Holds, tail_after};
+ghost use Rattle.abstract_state.specs.declared.region.Region.{Region};
+ghost use Rattle.abstract_state.specs.Lent.{begin_field, end_field, limit_of, bound_of, Lends};
 ghost use Rattle.abstract_state.specs.Guard.{Yields, Keeps, SameBut, LeavesOthers};
 ghost use Rattle.meaning.specs.Memory.{bytes_in};
 
@@ -17,6 +19,7 @@ use crate::state::AbsState;
 use bpf_words::instruction::{
     Arithmetic, Conversion, ConvertedBits, Extension, Insn, Operand, SignedSize, Size, Width,
 };
+use bpf_words::profile::Profile;
 use bpf_words::register::Register;
 
 /// Whether a run can come past an instruction.
@@ -43,8 +46,8 @@ impl AbsState {
         requires { destination ≢ 10 }
         ensures sound { IfOk result (λ flow. StepsBy self.old (Insn.Compute width Arithmetic.Mov destination operand) (pos 0) (after flow self.new)) }
         ensures others { IfOk result (λ flow. IfSome (after flow self.new) (λ b. SameBut destination self.old b)) }
-        ensures text { (r n : ℕ) (t : Option ℕ) → width ≡ Width.Full → operand ≡ Operand.Source r → Holds (Fact.TextIn n n t) (register_at self.old.registers r) → Keeps result self.new destination (Fact.TextIn n n t) }
-        ensures constant { (k : ℕ) → width ≡ Width.Full → operand ≡ Operand.Immediate (pos k) → k < 2 ^ 31 → Keeps result self.new destination (Fact.NumberIn k k None) }
+        ensures lent { (region : Region) (r n : ℕ) (t : Option ℕ) → width ≡ Width.Full → operand ≡ Operand.Source r → Holds (Fact.LentIn region n n t) (register_at self.old.registers r) → Keeps result self.new destination (Fact.LentIn region n n t) }
+        ensures constant { (region : Region) (k : ℕ) → width ≡ Width.Full → operand ≡ Operand.Immediate (pos k) → k < 2 ^ 31 → Keeps result self.new destination (Fact.NumberIn region k k None) }
         ensures floor { HasNumberIn self.old operand → IsOk result }
         ensures numbers { HasNumberIn self.old operand → IfOk result (λ flow. IfSome (after flow self.new) (λ b. WritesNumber self.old destination b)) }
     {
@@ -55,6 +58,7 @@ impl AbsState {
 
     fn compute(
         &mut self,
+        profile: Profile,
         width: Width,
         operation: Arithmetic,
         destination: Register,
@@ -64,13 +68,13 @@ impl AbsState {
         requires reads { operation ≢ Arithmetic.Mov }
         ensures sound { IfOk result (λ flow. StepsBy self.old (Insn.Compute width operation destination operand) (pos 0) (after flow self.new)) }
         ensures others { IfOk result (λ flow. IfSome (after flow self.new) (λ b. SameBut destination self.old b)) }
-        ensures adds { (k n : ℕ) (t : Option ℕ) → width ≡ Width.Full → operation ≡ Arithmetic.Add → operand ≡ Operand.Immediate (pos k) → Holds (Fact.TextIn n n t) (register_at self.old.registers destination) → n + k ≤ 2 ^ 20 → Keeps result self.new destination (Fact.TextIn (n + k) (n + k) (tail_after t k)) }
+        ensures adds { (region : Region) (k n : ℕ) (t : Option ℕ) → width ≡ Width.Full → operation ≡ Arithmetic.Add → operand ≡ Operand.Immediate (pos k) → Holds (Fact.LentIn region n n t) (register_at self.old.registers destination) → n + k ≤ 2 ^ 20 → Keeps result self.new destination (Fact.LentIn region (n + k) (n + k) (tail_after t k)) }
         ensures floor { HasNumberAt self.old destination → HasNumberIn self.old operand → IsOk result }
         ensures numbers { HasNumberAt self.old destination → HasNumberIn self.old operand → IfOk result (λ flow. IfSome (after flow self.new) (λ b. WritesNumber self.old destination b)) }
     {
         let a = self.read(destination)?;
         let b = self.operand(operand)?;
-        let known = a.compute(operation, width, b)?;
+        let known = a.compute(profile, operation, width, b)?;
         Ok(self.write(destination, known))
     }
 
@@ -122,22 +126,23 @@ impl AbsState {
 
     fn load_into(
         &mut self,
+        profile: Profile,
         size: Size,
         destination: Register,
         base: Register,
         offset: i16,
     ) -> Result<Flow, Refusal>
         requires { destination ≢ 10 }
-        ensures sound { IfOk result (λ flow. StepsBy self.old (Insn.Load size destination base offset) (pos 0) (after flow self.new)) }
+        ensures sound { IfOk result (λ flow. StepsIn profile self.old (Insn.Load size destination base offset) (pos 0) (after flow self.new)) }
         ensures others { IfOk result (λ flow. IfSome (after flow self.new) (λ b. SameBut destination self.old b)) }
-        ensures begin { offset ≡ pos 0 → size ≡ Size.Double → IsContextAt 0 (register_at self.old.registers base) → Keeps result self.new destination (Fact.TextIn 0 0 (Some 0)) }
-        ensures end { offset ≡ pos 8 → size ≡ Size.Double → IsContextAt 0 (register_at self.old.registers base) → Keeps result self.new destination (Fact.TextIn 0 131072 (Some 0)) }
-        ensures text { (o low high : ℕ) (t : Option ℕ) → offset ≡ pos o → Holds (Fact.TextIn low high t) (register_at self.old.registers base) → o < 2 ^ 15 → high + o + bytes_in size ≤ self.old.bounds.text → Keeps result self.new destination Fact.AnyNumber }
+        ensures begin { (region : Region) → Lends region profile → offset ≡ pos (begin_field region) → size ≡ Size.Double → IsContextAt 0 (register_at self.old.registers base) → Keeps result self.new destination (Fact.LentIn region 0 0 (Some 0)) }
+        ensures end { (region : Region) → Lends region profile → offset ≡ pos (end_field region) → size ≡ Size.Double → IsContextAt 0 (register_at self.old.registers base) → Keeps result self.new destination (Fact.LentIn region 0 (limit_of region) (Some 0)) }
+        ensures lent { (region : Region) (o low high : ℕ) (t : Option ℕ) → offset ≡ pos o → Holds (Fact.LentIn region low high t) (register_at self.old.registers base) → o < 2 ^ 15 → high + o + bytes_in size ≤ bound_of self.old.bounds region → Keeps result self.new destination Fact.AnyNumber }
         ensures floor { IsContextAt 0 (register_at self.old.registers base) → IsNumberField size (cast_unsigned w64 offset) → IsOk result }
         ensures numbers { IsContextAt 0 (register_at self.old.registers base) → IsNumberField size (cast_unsigned w64 offset) → IfOk result (λ flow. IfSome (after flow self.new) (λ b. WritesNumber self.old destination b)) }
     {
         let a = self.read(base)?;
-        let known = self.load(a, displacement(offset), size)?;
+        let known = self.load(profile, a, displacement(offset), size)?;
         Ok(self.write(destination, known))
     }
 
@@ -186,6 +191,7 @@ impl AbsState {
 
     fn arithmetic(
         &mut self,
+        profile: Profile,
         width: Width,
         operation: Arithmetic,
         destination: Register,
@@ -194,13 +200,13 @@ impl AbsState {
         requires { destination ≢ 10 }
         ensures sound { IfOk result (λ flow. StepsBy self.old (Insn.Compute width operation destination operand) (pos 0) (after flow self.new)) }
         ensures others { IfOk result (λ flow. IfSome (after flow self.new) (λ b. SameBut destination self.old b)) }
-        ensures yields { (d : ℕ) (fact : Fact) → Yields self.old (Insn.Compute width operation destination operand) d fact → Keeps result self.new d fact }
+        ensures yields { (d : ℕ) (fact : Fact) → Yields profile self.old (Insn.Compute width operation destination operand) d fact → Keeps result self.new d fact }
         ensures floor { ReadsFirst self.old operation destination → HasNumberIn self.old operand → IsOk result }
         ensures numbers { ReadsFirst self.old operation destination → HasNumberIn self.old operand → IfOk result (λ flow. IfSome (after flow self.new) (λ b. WritesNumber self.old destination b)) }
     {
         match operation {
             Arithmetic::Mov => self.move_to(width, destination, operand),
-            _ => self.compute(width, operation, destination, operand),
+            _ => self.compute(profile, width, operation, destination, operand),
         }
     }
 
@@ -219,11 +225,11 @@ impl AbsState {
 
     /// Makes of what is known before an instruction that is no comparison what is known after it. A state that answers
     /// `Dead`, or a refusal, says nothing more.
-    pub fn step(&mut self, insn: &Insn) -> Result<Flow, Refusal>
+    pub fn step(&mut self, profile: Profile, insn: &Insn) -> Result<Flow, Refusal>
         requires { MayStep insn.now }
-        ensures sound { IfOk result (λ flow. StepsTo self.old insn.now (after flow self.new)) }
+        ensures sound { IfOk result (λ flow. StepsTo profile self.old insn.now (after flow self.new)) }
         ensures others { IfOk result (λ flow. IfSome (after flow self.new) (λ b. LeavesOthers self.old insn.now b)) }
-        ensures yields { (d : ℕ) (fact : Fact) → Yields self.old insn.now d fact → Keeps result self.new d fact }
+        ensures yields { (d : ℕ) (fact : Fact) → Yields profile self.old insn.now d fact → Keeps result self.new d fact }
         ensures floor { ReadsNumbers self.old insn.now → IsOk result }
         ensures carries { ReadsNumbers self.old insn.now → IfOk result (λ flow. IfSome (after flow self.new) (λ b. Carries self.old insn.now b)) }
     {
@@ -233,7 +239,7 @@ impl AbsState {
                 operation,
                 destination,
                 operand,
-            } => self.arithmetic(width, operation, destination, operand),
+            } => self.arithmetic(profile, width, operation, destination, operand),
             Insn::Negate { width, destination } => self.negate(width, destination),
             Insn::Extend {
                 extension,
@@ -253,7 +259,7 @@ impl AbsState {
                 destination,
                 base,
                 offset,
-            } => self.load_into(size, destination, base, offset),
+            } => self.load_into(profile, size, destination, base, offset),
             Insn::LoadSigned {
                 size,
                 destination,

@@ -1,6 +1,7 @@
 //! What an operation makes of quantities.
 ghost use Rattle.std.specs.Prelude.{◌≡◌, ℕ, ◌+◌, ◌-◌, ◌*◌, ◌/◌, ◌%◌, ◌^◌, ◌<◌, ◌≤◌, Option, None, IfSome, bit_and, bit_or, bit_xor};
 ghost use Rattle.abstract_state.specs.Lent.{Lengths, HasTails, InRange, InRanges};
+ghost use Rattle.abstract_state.specs.declared.region.Region.{Region};
 ghost use Rattle.abstract_state.specs.Quantity.{InBits, Contains, Within, Fits, Maps, MapsBoth, Narrows};
 ghost use Rattle.abstract_state.specs.Exact.{tail_after, IsIn};
 ghost use Rattle.meaning.specs.Value.{bits_of, cut, value_of};
@@ -84,7 +85,7 @@ impl Quantity {
     /// The sum: bits, interval, tails.
     fn plus(self, other: Quantity, width: Width) -> Option<Quantity>
         ensures contains { MapsBoth width self other result (λ x y. value_of Arithmetic.Add width x y) }
-        ensures constants { width ≡ Width.Full → (m n : ℕ) (t : Option ℕ) → IsIn self m m t → IsIn other n n None → m + n < 2 ^ 64 → IfSome result (λ q. IsIn q (m + n) (m + n) (tail_after t n)) }
+        ensures constants { (region : Region) → width ≡ Width.Full → (m n : ℕ) (t : Option ℕ) → IsIn region self m m t → IsIn region other n n None → m + n < 2 ^ 64 → IfSome result (λ q. IsIn region q (m + n) (m + n) (tail_after t n)) }
     {
         Quantity::finish(
             width,
@@ -146,7 +147,7 @@ impl Quantity {
     /// The sum; a great constant is taken away as what it lacks to the width, so that the interval stays.
     pub fn add(self, other: Quantity, width: Width) -> Option<Quantity>
         ensures contains { MapsBoth width self other result (λ x y. value_of Arithmetic.Add width x y) }
-        ensures constants { width ≡ Width.Full → (m n : ℕ) (t : Option ℕ) → IsIn self m m t → IsIn other n n None → m < 2 ^ 62 → n < 2 ^ 62 → IfSome result (λ q. IsIn q (m + n) (m + n) (tail_after t n)) }
+        ensures constants { (region : Region) → width ≡ Width.Full → (m n : ℕ) (t : Option ℕ) → IsIn region self m m t → IsIn region other n n None → m < 2 ^ 62 → n < 2 ^ 62 → IfSome result (λ q. IsIn region q (m + n) (m + n) (tail_after t n)) }
     {
         match other.complement(width) {
             Some(taken) => self.minus(taken, width),

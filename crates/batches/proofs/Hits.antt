@@ -3,22 +3,23 @@ use Rattle.std.proofs.Common.{◌≡◌, ℕ, ◌≤◌, List, [], ◌∷◌, �
 use Rattle.std.specs.List.{enumerate_from}
 use Rattle.std.proofs.lemmas.List.{length-map, map-append, append-nil, drop_all}
 use Rattle.std.proofs.lemmas.List.FromFn.{length-enumerate_from}
+use Rattle.bpf_words.specs.Context.{span_bytes}
 use Rattle.meaning.specs.Step.{Program}
 use Rattle.meaning.specs.Outcomes.{outcome}
 use Rattle.meaning.specs.Safe.{Verdict}
 use Rattle.span_flatten.specs.Version.{Snapshot}
 use Rattle.span_view.specs.Views.{LentSpan, view_of, views}
-use Rattle.span_view.specs.ContextOf.{context_of}
+use Rattle.span_view.specs.ContextOf.{context_of, link_of}
 use Rattle.version_history.specs.Tokens.{Token}
 use Rattle.batches.specs.declared.item.Finding.TheVariants.{End}
 use Rattle.batches.specs.Batches.{Entry, entry, hits_from, items_of}
 use Rattle.batches.specs.Verdicts.{number_of, verdict_on, verdicts_of}
 
-pub verdict_is : (program : Program) (span : LentSpan) (context text : List ℕ) (value : ℕ) → context ≡ context_of span → text ≡ span.text
-    → Verdict program context text value → value ≡ verdict_on program span
+pub verdict_is : (program : Program) (span : LentSpan) (context text link : List ℕ) (value : ℕ) → context ≡ context_of span → text ≡ span.text
+    → link ≡ link_of span → Verdict program (span_bytes context text link) value → value ≡ verdict_on program span
 unfolding verdict_on
-verdict_is program span context text value c t v =
-    sym (ap number_of (ap (λ (x : List ℕ × List ℕ). outcome program x.0 x.1) (λ i. (sym c i, sym t i)) ∙ v))
+verdict_is program span context text link value c t l v =
+    sym (ap number_of (ap (λ (x : List ℕ × List ℕ × List ℕ). outcome program (span_bytes x.0 x.1 x.2)) (λ i. (sym c i, sym t i, sym l i)) ∙ v))
 
 pub verdict_count : (program : Program) (version : Snapshot) → length (verdicts_of program version) ≡ length version.rows
 verdict_count program version =

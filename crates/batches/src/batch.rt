@@ -5,7 +5,7 @@ ghost use Rattle.batches.specs.Verdicts.{verdict_on, verdicts_of};
 use crate::item::{Finding, Item, Job};
 use interpreter::run::run;
 use span_flatten::version::Version;
-use span_view::context::context;
+use span_view::context::{context, link};
 use span_view::view::{SpanView, spans};
 use std::alloc::{AllocError, Global};
 use std::marker::Model;
@@ -40,7 +40,7 @@ impl<N: Naming> Model for Batch<N> {
 pub fn verdict(program: &Verified, span: &SpanView<'_>) -> u64
     ensures { result ≡ verdict_on program.now span.now }
 {
-    run(program, &context(span), span.text.as_bytes())
+    run(program, &context(span), span.text.as_bytes(), link(span))
 }
 
 /// The verdicts of a program on all spans of a version, in order.

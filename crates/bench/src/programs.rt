@@ -1,18 +1,19 @@
 //! Programs: verified, and run on one span.
-ghost use Rattle.std.specs.Prelude.{◌≤◌, length};
-ghost use Rattle.bpf_words.specs.Context.{Fits};
+ghost use Rattle.std.specs.Prelude.{◌≤◌, [], length};
+ghost use Rattle.bpf_words.specs.Context.{Fits, span_bytes};
 
 use bpf_words::context::{Context, Facts, TEXT_LIMIT};
+use bpf_words::profile::Profile;
 use bpf_words::words::Words;
 use interpreter::run::{run, run_checked};
 use meaning::Outcome;
 use std::alloc::Global;
 use verifier::verify::{Verified, verify};
 
-/// The context of a span of this text. Each round has one of its own, so that no run can stand for another.
+/// The context of a span of this text, without a link. Each round has one of its own, so that no run can stand for another.
 fn context_of(text: &[u8], round: u32) -> Context
     requires { length text.now ≤ 131072 }
-    ensures { Fits result text.now }
+    ensures { Fits (span_bytes result text.now []) }
 {
     Context::new(&Facts {
         text_len: text.len() as u32,
@@ -28,7 +29,7 @@ fn context_of(text: &[u8], round: u32) -> Context
 }
 
 fn is_accepted(alloc: Global, words: &Words<'_>) -> bool {
-    verify(alloc, words).is_ok()
+    verify(alloc, words, Profile::One).is_ok()
 }
 
 /// Verifies a program so many times. It answers how many times it was accepted before it was first refused.
@@ -52,7 +53,7 @@ fn sum_of_runs(program: &Verified, text: &[u8], rounds: u32) -> u64
     let mut sum: u64 = 0;
     for round in 0..rounds {
         let context = context_of(text, round);
-        sum = sum.wrapping_add(run(program, &context, text));
+        sum = sum.wrapping_add(run(program, &context, text, &[]));
     }
     sum
 }
@@ -71,7 +72,7 @@ fn sum_of_checked_runs(words: &Words<'_>, text: &[u8], rounds: u32) -> u64
     let mut sum: u64 = 0;
     for round in 0..rounds {
         let context = context_of(text, round);
-        sum = sum.wrapping_add(number_of(run_checked(words, &context, text)));
+        sum = sum.wrapping_add(number_of(run_checked(words, &context, text, &[])));
     }
     sum
 }
@@ -86,7 +87,7 @@ pub extern "C" fn bench_run(alloc: Global, program: &[u8], text: &[u8], rounds: 
     let Ok(words) = Words::new(program) else {
         return 0;
     };
-    match verify(alloc, &words) {
+    match verify(alloc, &words, Profile::One) {
         Ok(program) => sum_of_runs(&program, text, rounds),
         Err(_) => 0,
     }

@@ -8,3 +8,4 @@ pub mod RoundTrip
 pub mod Table
 pub mod Faults
 pub mod Flow
+pub mod Profile

@@ -1,5 +1,5 @@
 ghost use Rattle.std.specs.Prelude.{◌≡◌, ℕ, ◌≤◌, ◌+◌, List, length};
-ghost use Rattle.bpf_words.specs.Context.{context_base, frame_end, text_base, text_limit};
+ghost use Rattle.bpf_words.specs.Context.{context_base, frame_end, text_base, text_limit, link_base, link_limit};
 
 use byteorder::{ByteOrder, LittleEndian};
 use std::marker::Model;
@@ -13,18 +13,26 @@ pub const FRAME: u64 = 0x2_0000_0000;
 /// The address at which the text begins.
 pub const TEXT: u64 = 0x4_0000_0000;
 
+/// The address at which the text of a link begins.
+pub const LINK: u64 = 0x8_0000_0000;
+
 /// How many bytes a text may have.
 pub const TEXT_LIMIT: usize = 131_072;
 
-/// The addresses and the limit are those that the meaning and `Fits` name.
+/// How many bytes the text of a link may have.
+pub const LINK_LIMIT: usize = 1_024;
+
+/// The addresses and the limits are those that the meaning and `Fits` name.
 pub fn regions()
     ensures context { CONTEXT ≡ context_base }
     ensures frame { FRAME ≡ frame_end }
     ensures text { TEXT ≡ text_base }
+    ensures link { LINK ≡ link_base }
     ensures limit { TEXT_LIMIT ≡ text_limit }
+    ensures link_limit { LINK_LIMIT ≡ link_limit }
 {}
 
-/// What a program may learn of a span beside its text.
+/// What a program may learn of a span beside its text and the text of its link.
 #[derive(Clone, Copy)]
 pub struct Facts {
     /// In bytes.
@@ -44,10 +52,10 @@ pub struct Facts {
     pub version: u64,
 }
 
-/// The 56 bytes that a program reads of a span.
+/// The 72 bytes that a program reads of a span.
 #[derive(Drop)]
 pub struct Context {
-    bytes: [u8; 56],
+    bytes: [u8; 72],
 }
 
 impl Model for Context {
@@ -63,17 +71,26 @@ fn text_end(facts: &Facts) -> u64
     TEXT + u64::from(facts.text_len)
 }
 
-impl Context {
-    ghost use Rattle.bpf_words.specs.Context.{context_bytes, Fits};
+/// The address behind the last byte of the link's text.
+fn link_end(facts: &Facts) -> u64
+    ensures { result ≡ link_base + facts.now.link_len }
+{
+    LINK + u64::from(facts.link_len)
+}
 
-    /// The context of a span with those facts; it fits each text of that length.
+impl Context {
+    ghost use Rattle.bpf_words.specs.Context.{context_bytes, span_bytes, Fits};
+
+    /// The context of a span with those facts; it fits each text and each link's text of those lengths.
     #[tactic(auto, using(crate::proofs::ContextFits::fitting))]
     pub fn new(facts: &Facts) -> Self
-        requires { facts.now.text_len ≤ 131072 }
+        requires text_short { facts.now.text_len ≤ 131072 }
+        requires link_short { facts.now.link_len ≤ 1024 }
         ensures value { result ≡ context_bytes facts.now }
-        ensures fits { (text : List ℕ) → length text ≡ facts.now.text_len → Fits result text }
+        ensures fits { (text link : List ℕ) → length text ≡ facts.now.text_len → length link ≡ facts.now.link_len
+            → Fits (span_bytes result text link) }
     {
-        let mut bytes = [0; 56];
+        let mut bytes = [0; 72];
         LittleEndian::write_u64(&mut bytes[0..8], TEXT);
         LittleEndian::write_u64(&mut bytes[8..16], text_end(facts));
         LittleEndian::write_u32(&mut bytes[16..20], facts.text_len);
@@ -85,13 +102,15 @@ impl Context {
         LittleEndian::write_u32(&mut bytes[40..44], facts.index);
         LittleEndian::write_u32(&mut bytes[44..48], facts.count);
         LittleEndian::write_u64(&mut bytes[48..56], facts.version);
+        LittleEndian::write_u64(&mut bytes[56..64], LINK);
+        LittleEndian::write_u64(&mut bytes[64..72], link_end(facts));
         Context { bytes }
     }
 
     /// The bytes, each number's lowest first.
     pub fn bytes(&self) -> &[u8]
         ensures value { result.now ≡ self.now }
-        ensures long { length result.now ≡ 56 }
+        ensures long { length result.now ≡ 72 }
     {
         &self.bytes
     }

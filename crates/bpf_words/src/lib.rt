@@ -7,6 +7,7 @@ mod fields;
 pub mod flow;
 pub mod instruction;
 mod opcode;
+pub mod profile;
 mod reading;
 pub mod refusal;
 pub mod register;

@@ -1,5 +1,5 @@
 use clap::{Arg, ArgAction, Command, value_parser};
-use hub_requests::{MOST_SESSIONS, MOST_WORKERS};
+use hub_requests::{MOST_LINK_BYTES, MOST_SESSIONS, MOST_WORKERS};
 use std::alloc::{AllocError, Global};
 
 /// What the exit status of each command says.
@@ -10,7 +10,7 @@ wrong; 3 if a read, a write, a bind or an accept fails. A refusal is printed as
 `refused <number> <Name>`, with its place behind it (docs/REFUSALS.md).";
 
 /// The options of `run` whose fields have 32 bits, with their defaults and what they say of the span.
-static FIELDS: [(&str, &str, &str); 6] = [
+static FIELDS: [(&str, &str, &str); 5] = [
     (
         "flags",
         "0",
@@ -21,7 +21,6 @@ static FIELDS: [(&str, &str, &str); 6] = [
         "0",
         "The color in decimal, 65536 * red + 256 * green + blue; 0 if there is none",
     ),
-    ("link", "0", "The link's length in bytes"),
     ("comments", "0", "The number of comments"),
     ("index", "0", "The span's index, from 0"),
     ("count", "1", "The number of spans of the version"),
@@ -51,6 +50,19 @@ decimal.",
             .help(help);
         run = run.arg(field)?;
     }
+    let link = Arg::new(alloc, "link")
+        .long("link")
+        .value_name("NUMBER")
+        .action(ArgAction::Set)
+        .value_parser(value_parser!(u32).range(0..=i64::from(MOST_LINK_BYTES)))
+        .default_value("0")
+        .conflicts_with("link-text")?
+        .help("The link is so many letters `a`, at most 1024; there is none if 0");
+    let link_text = Arg::new(alloc, "link-text")
+        .long("link-text")
+        .value_name("TEXT")
+        .action(ArgAction::Set)
+        .help("The link: 1 to 1024 characters of ASCII from `!` to `~`");
     let version = Arg::new(alloc, "number")
         .long("number")
         .value_name("NUMBER")
@@ -58,7 +70,7 @@ decimal.",
         .value_parser(value_parser!(u64).range(0..))
         .default_value("0")
         .help("The version's number, of 64 bits; the numbers above have 32");
-    run.arg(version)
+    run.arg(link)?.arg(link_text)?.arg(version)
 }
 
 fn asm<'a>(alloc: Global) -> Command<'a> {
@@ -77,6 +89,15 @@ fn check<'a>(alloc: Global) -> Result<Command<'a>, AllocError> {
         .long("explain")
         .action(ArgAction::SetTrue)
         .help("Also prints what the verifier knows of the program (docs/PROGRAMS.md)");
+    let context = Arg::new(alloc, "context")
+        .long("context")
+        .value_name("NUMBER")
+        .action(ArgAction::Set)
+        .value_parser(value_parser!(u32).range(1..=2))
+        .default_value("1")
+        .help(
+            "1: the program may read the first 56 bytes of the context, and the text; 2: also the link",
+        );
     Command::new(alloc, "check")
         .about("Says whether a program is accepted")
         .long_about(
@@ -92,6 +113,7 @@ what is known before it, a line for each register and each eight bytes of the
 stack that are set, and one for the least length of the text (docs/PROGRAMS.md).",
         )
         .after_help(STATUSES)
+        .arg(context)?
         .arg(explain)
 }
 

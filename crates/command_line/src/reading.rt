@@ -1,4 +1,6 @@
 use crate::grammar::hub;
+use bpf_words::profile::Profile;
+use change_ops::attribute::Link;
 use clap::error::ErrorKind;
 use clap::{ArgMatches, Error};
 use hub_requests::{Command, Request, Sessions, SpanOptions, Workers};
@@ -27,20 +29,47 @@ impl From<AllocError> for Unread {
     }
 }
 
+/// What is said of a text that no link has.
+const BAD_LINK: &str = "error: a link's text has 1 to 1024 characters of ASCII from `!` to `~`\n";
+
 /// The value of an option, which has a default.
 fn number(matches: &ArgMatches<'_>, name: &str) -> u32 {
     matches.get_one::<u32>(name).unwrap_or(0)
 }
 
-fn span_options(matches: &ArgMatches<'_>) -> SpanOptions {
-    SpanOptions {
+/// The link that `run` lends: the one of `--link-text`, or as many letters as `--link` says.
+fn link(alloc: Global, matches: &ArgMatches<'_>) -> Result<Option<Link>, Unread> {
+    if let Some(text) = matches.get_str("link-text") {
+        return match Link::new(alloc, text)? {
+            Some(link) => Ok(Some(link)),
+            None => Err(Unread::Usage(String::from_str(alloc, BAD_LINK)?)),
+        };
+    }
+    let mut letters = String::new(alloc);
+    for _ in 0..number(matches, "link") {
+        letters.push('a')?;
+    }
+    Ok(Link::new(alloc, letters.as_str())?)
+}
+
+fn span_options(alloc: Global, matches: &ArgMatches<'_>) -> Result<SpanOptions, Unread> {
+    Ok(SpanOptions {
         flags: number(matches, "flags"),
         color: number(matches, "color"),
-        link_len: number(matches, "link"),
+        link: link(alloc, matches)?,
         comments: number(matches, "comments"),
         index: number(matches, "index"),
         count: number(matches, "count"),
         version: matches.get_one::<u64>("number").unwrap_or(0),
+    })
+}
+
+/// What the program that is checked may read, by the number of its context.
+fn profile(matches: &ArgMatches<'_>) -> Profile {
+    if number(matches, "context") == 2 {
+        Profile::Two
+    } else {
+        Profile::One
     }
 }
 
@@ -64,6 +93,7 @@ fn request_of(alloc: Global, matches: &ArgMatches<'_>) -> Result<Request, Unread
         Some(("asm", _)) => Some(Request::Perform(Command::Asm)),
         Some(("check", check)) => Some(Request::Perform(Command::Check {
             explain: check.get_flag("explain"),
+            profile: profile(check),
         })),
         Some(("dis", _)) => Some(Request::Perform(Command::Dis)),
         Some(("replay", replay)) => Some(Request::Replay {
@@ -71,7 +101,7 @@ fn request_of(alloc: Global, matches: &ArgMatches<'_>) -> Result<Request, Unread
         }),
         Some(("run", run)) => Some(Request::Perform(Command::Run {
             digits: String::from_str(alloc, run.get_str("HEX").unwrap_or(""))?,
-            options: span_options(run),
+            options: span_options(alloc, run)?,
         })),
         Some(("serve", serve)) => serving(serve),
         Some(("spans", _)) => Some(Request::Perform(Command::Spans)),

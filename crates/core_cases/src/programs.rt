@@ -1,3 +1,4 @@
+use bpf_words::profile::Profile;
 use bpf_words::words::Words;
 use std::alloc::{AllocError, Global};
 use std::sync::Wait;
@@ -7,7 +8,7 @@ use version_history::published::{Naming, ProgramToken, Published};
 fn verified_program(alloc: Global, digits: &str) -> Option<Verified> {
     let bytes = hex::decode(alloc, digits).ok()?;
     let words = Words::new(bytes.as_slice()).ok()?;
-    verify(alloc, &words).ok()
+    verify(alloc, &words, Profile::One).ok()
 }
 
 /// Publishes the program of these digits.

@@ -7,21 +7,18 @@ use Rattle.std.proofs.lemmas.List.{take_all, length-take}
 use Rattle.std.proofs.lemmas.Bool.{cases_lt}
 use Rattle.hex.specs.Hex.{decode_of}
 use Rattle.hex.specs.declared.error.FromHexError.{FromHexError}
+use Rattle.bpf_words.specs.declared.profile.Profile.{Profile}
 use Rattle.bpf_words.specs.declared.context.Facts.{Facts}
 use Rattle.bpf_words.specs.declared.refusal.WordError.{WordError}
 use Rattle.bpf_words.specs.Words.{IsProgram, IsRefused, program_of}
-use Rattle.bpf_words.specs.Context.{context_bytes}
+use Rattle.bpf_words.specs.Context.{span_bytes, context_bytes}
 use Rattle.meaning.specs.declared.Outcome.{Outcome}
 use Rattle.meaning.specs.Outcomes.{outcome}
 use Rattle.meaning.specs.Step.{Program}
-use Rattle.meaning.specs.Safe.{Safe}
-use Rattle.verifier.specs.declared.refusal.StructureFault.{StructureFault}
+use Rattle.meaning.specs.Safe.{SafeIn}
 use Rattle.verifier.specs.declared.refusal.VerifyError.{VerifyError}
-use Rattle.verifier.specs.declared.refusal.VerifyError.TheVariants.{Structure, State, OutOfMemory}
-use Rattle.verifier.specs.Structure.{IsStructured, FirstFault}
-use Rattle.verifier.specs.Reaches.{IsBefore}
-use Rattle.verifier.specs.Plain.{IsPlain}
-use Rattle.verifier.specs.Guard.{IsGuard}
+use Rattle.verifier.specs.Structure.{IsStructured}
+use Rattle.verifier.specs.Judged.{Rejects, IsJudged}
 use Rattle.assembler.specs.declared.fault.AsmError.{AsmError}
 use Rattle.assembler.specs.Text.{AsmText, AsmFault}
 use Rattle.hub_requests.specs.declared.SpanOptions.{SpanOptions}
@@ -29,7 +26,7 @@ use Rattle.refusals.specs.declared.reason.Reason.TheVariants.{BadHex, Words, Sou
 use Rattle.hub_commands.specs.Answers.{Reply, done}
 use Rattle.hub_commands.specs.Hexadecimal.{slot_lines}
 use Rattle.hub_commands.specs.Reasons.{refusal}
-use Rattle.hub_commands.specs.Programs.{IsAsmReply, no_source, assembled, IsProgramReply, no_hex, no_program, program, HasNoFault, Rejects, IsJudged, facts_of, outcome_reply, IsSpanReply, no_text, ran}
+use Rattle.hub_commands.specs.Programs.{IsAsmReply, no_source, assembled, IsProgramReply, no_hex, no_program, program, facts_of, link_of, bytes_of, outcome_reply, IsSpanReply, no_text, ran}
 
 -- what holds of an answer, by what it was said to be
 pub mapped : {A E : Type 0} (P Q : A → Type 0) (result : Result A E) → IfOk result P → ((x : A) → P x → Q x) → IfOk result Q
@@ -74,34 +71,23 @@ module _ (Replies : List ℕ → Reply → Type 0) (digits lent : List ℕ) (sam
       let Q : List ℕ → Type 0 = λ b. Replies b reply in
       program bytes (subst P same decoded) (subst IsProgram is right) (subst Q is answered)
 
--- what the verifier answers says of the faults in a program's structure
-abbrev Names : Program → Result Program VerifyError → Type 0
-Names code given = (slot : ℕ) (fault : StructureFault) → (given ≡ Err (Structure slot fault)) ↔ FirstFault code slot fault
+-- what the verifier's answer says of a program
+pub judged : (profile : Profile) (code : Program) (given : Result Program VerifyError) (left : Option VerifyError) → left ≡ result_err given → IfOk given (λ same. same ≡ code)
+    → IfOk given (SafeIn profile) → IfOk given (λ _. IsStructured code) → IfErr given (Rejects profile code) → IsJudged profile code left
+judged profile code (Ok same) left e is seen structured rejects = subst (IsJudged profile code) (sym e) (structured, subst (SafeIn profile) is seen)
+judged profile code (Err error) left e is seen structured rejects = subst (IsJudged profile code) (sym e) rejects
 
-rejects : (code : Program) (error : VerifyError) → Names code (Err error) → (IsPlain code → error ≡ OutOfMemory) → (IsGuard code → error ≡ OutOfMemory)
-    → IsBefore (length code) error → Rejects code error
-rejects code (Structure slot fault) names plain guard before = (names slot fault).0 refl
-rejects code (State slot fault) names plain guard before =
-    let sound : HasNoFault code = λ other wrong first. (let bad : Err (State slot fault) ≡ Err (Structure other wrong) = (names other wrong).1 first in absurd cc) in
-    (sound, before, λ right. (let bad : State slot fault ≡ OutOfMemory = plain right in absurd cc), λ right. (let bad : State slot fault ≡ OutOfMemory = guard right in absurd cc))
-rejects code OutOfMemory names plain guard before = λ other wrong first. (let bad : Err OutOfMemory ≡ Err (Structure other wrong) = (names other wrong).1 first in absurd cc)
-
-pub judged : (code : Program) (given : Result Program VerifyError) (left : Option VerifyError) → left ≡ result_err given → IfOk given (λ same. same ≡ code) → IfOk given Safe
-    → IfOk given (λ _. IsStructured code) → Names code given → IfErr given (λ error. IsPlain code → error ≡ OutOfMemory) → IfErr given (λ error. IsGuard code → error ≡ OutOfMemory)
-    → IfErr given (IsBefore (length code)) → IsJudged code left
-judged code (Ok same) left e is safe structured names plain guard before = subst (IsJudged code) (sym e) (structured, subst Safe is safe)
-judged code (Err error) left e is safe structured names plain guard before = subst (IsJudged code) (sym e) (rejects code error names plain guard before)
-
-pub span_ran : {E : Type 0} (options : SpanOptions) (bytes input text lent context : List ℕ) (facts : Facts) (given : Outcome) (result : Result Reply E)
-    → text ≡ input → IsUtf8 input → length text ≤ 131072 → facts ≡ facts_of options text → context ≡ context_bytes facts → lent ≡ text
-    → given ≡ outcome (program_of bytes) context lent → IfOk result (λ reply. reply ≡ outcome_reply given) → IfOk result (IsSpanReply options input bytes)
-span_ran options bytes input text lent context facts given (Ok reply) same utf8 short told made lends is e =
+pub span_ran : {E : Type 0} (options : SpanOptions) (bytes input text lent link context : List ℕ) (facts : Facts) (given : Outcome) (result : Result Reply E)
+    → text ≡ input → IsUtf8 input → length text ≤ 131072 → facts ≡ facts_of options text → context ≡ context_bytes facts → lent ≡ text → link ≡ link_of options
+    → given ≡ outcome (program_of bytes) (span_bytes context lent link) → IfOk result (λ reply. reply ≡ outcome_reply given) → IfOk result (IsSpanReply options input bytes)
+span_ran options bytes input text lent link context facts given (Ok reply) same utf8 short told made lends linked is e =
     let few : length input ≤ 131072 = omega (arith, ap length same) in
-    let by_context = ap (λ (c : List ℕ). outcome (program_of bytes) c lent) (made ∙ ap context_bytes told) in
-    let by_text = ap (λ (t : List ℕ). outcome (program_of bytes) (context_bytes (facts_of options text)) t) lends in
-    let by_input = ap (λ (t : List ℕ). outcome (program_of bytes) (context_bytes (facts_of options t)) t) same in
-    ran (record { characters = utf8; short = few }) (e ∙ ap outcome_reply (is ∙ by_context ∙ by_text ∙ by_input))
-span_ran options bytes input text lent context facts given (Err e) same utf8 short told made lends is h = tt
+    let by_context = ap (λ (c : List ℕ). outcome (program_of bytes) (span_bytes c lent link)) (made ∙ ap context_bytes told) in
+    let by_text = ap (λ (t : List ℕ). outcome (program_of bytes) (span_bytes (context_bytes (facts_of options text)) t link)) lends in
+    let by_link = ap (λ (l : List ℕ). outcome (program_of bytes) (span_bytes (context_bytes (facts_of options text)) text l)) linked in
+    let by_input = ap (λ (t : List ℕ). outcome (program_of bytes) (bytes_of options t)) same in
+    ran (record { characters = utf8; short = few }) (e ∙ ap outcome_reply (is ∙ by_context ∙ by_text ∙ by_link ∙ by_input))
+span_ran options bytes input text lent link context facts given (Err e) same utf8 short told made lends linked is h = tt
 
 too_long : (options : SpanOptions) (text bytes : List ℕ) (reply : Reply) → 131072 < length text → IsSpanReply options (take 131073 text) bytes reply → IsSpanReply options text bytes reply
 too_long options text bytes reply long (no_text wrong e) = no_text (λ right. absurd (omega (arith, right.short))) e

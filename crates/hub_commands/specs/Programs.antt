@@ -1,26 +1,24 @@
 -- What the commands on programs answer: `asm`, `check`, `dis` and `run`.
-use Rattle.std.specs.Prelude.{◌≡◌, ℕ, ◌<◌, ◌≤◌, List, ◌++◌, length, codes, Option, Some, None, Ok, Err}
+use Rattle.std.specs.Prelude.{◌≡◌, ℕ, ◌≤◌, List, [], ◌++◌, length, codes, unwrap_or, Ok, Err}
 use Rattle.std.specs.Fmt.{decimal}
 use Rattle.std.specs.Str.{IsUtf8, chars}
 use Rattle.hex.specs.Hex.{decode_of}
 use Rattle.hex.specs.declared.error.FromHexError.{FromHexError}
+use Rattle.bpf_words.specs.declared.profile.Profile.{Profile}
 use Rattle.bpf_words.specs.declared.context.Facts.{Facts}
 use Rattle.bpf_words.specs.declared.refusal.WordError.{WordError}
 use Rattle.bpf_words.specs.Words.{IsProgram, IsRefused, program_of}
-use Rattle.bpf_words.specs.Context.{context_bytes}
+use Rattle.bpf_words.specs.Context.{SpanBytes, span_bytes, context_bytes}
 use Rattle.meaning.specs.declared.FaultKind.{FaultKind}
 use Rattle.meaning.specs.declared.FaultKind.TheVariants.{UnsetRegister, BadAddress, ReadOnly, UnsetStack, BadInstruction, OutOfCode, WriteR10}
 use Rattle.meaning.specs.declared.Outcome.{Outcome}
 use Rattle.meaning.specs.declared.Outcome.TheVariants.{Done, Fault, OutOfSteps}
 use Rattle.meaning.specs.Outcomes.{outcome}
 use Rattle.meaning.specs.Step.{Program}
-use Rattle.meaning.specs.Safe.{Safe}
-use Rattle.verifier.specs.declared.refusal.StructureFault.{StructureFault}
+use Rattle.meaning.specs.Safe.{SafeIn}
 use Rattle.verifier.specs.declared.refusal.VerifyError.{VerifyError}
-use Rattle.verifier.specs.declared.refusal.VerifyError.TheVariants.{Structure, State, OutOfMemory}
-use Rattle.verifier.specs.Structure.{IsStructured, FirstFault}
-use Rattle.verifier.specs.Plain.{IsPlain}
-use Rattle.verifier.specs.Guard.{IsGuard}
+use Rattle.verifier.specs.Structure.{IsStructured}
+use Rattle.verifier.specs.Judged.{Rejects}
 use Rattle.assembler.specs.declared.fault.AsmError.{AsmError}
 use Rattle.assembler.specs.Text.{AsmText, AsmFault}
 use Rattle.disassembler.specs.Canonical.{canonical}
@@ -47,47 +45,36 @@ pub data IsProgramReply (Replies : List ℕ → Reply → Type 0) (digits : List
 unfoldable pub IsDisReply : List ℕ → Reply → Type 0
 IsDisReply input reply = IsProgramReply (λ bytes given. given ≡ done (canonical (program_of bytes))) (without_blanks input) reply
 
--- no instruction's place or target is at fault
-abbrev pub HasNoFault : Program → Type 0
-HasNoFault code = (slot : ℕ) (fault : StructureFault) → ¬ (FirstFault code slot fault)
-
--- what a refusal says of a program: the first fault in its structure; or that this has none, and then, where a slot is named, that
--- the program has it and is neither plain nor a guard program
-abbrev pub Rejects : Program → VerifyError → Type 0
-Rejects code (Structure slot fault) = FirstFault code slot fault
-Rejects code (State slot fault) = HasNoFault code × (slot < length code) × ¬ (IsPlain code) × ¬ (IsGuard code)
-Rejects code OutOfMemory = HasNoFault code
-
--- why a program isn't accepted; none: it is structured, and every run of it ends with a number
-abbrev pub IsJudged : Program → Option VerifyError → Type 0
-IsJudged code None = IsStructured code × Safe code
-IsJudged code (Some error) = Rejects code error
-
--- of a program: how many slots it has, where it is structured and every run of it ends with a number; or why it isn't accepted
-pub data IsAcceptanceReply (bytes : List ℕ) (reply : Reply) : Type 0 where
-  accepted : IsStructured (program_of bytes) → Safe (program_of bytes) → reply ≡ done (line (codes "accepted " ++ decimal (length (program_of bytes))))
-      → IsAcceptanceReply bytes reply
-  rejected : (error : VerifyError) → Rejects (program_of bytes) error → reply ≡ refusal (Unverified error) → IsAcceptanceReply bytes reply
+-- of a program: how many slots it has, where it is structured and every run of it on what the profile lends ends with a number; or why
+-- it isn't accepted
+pub data IsAcceptanceReply (profile : Profile) (bytes : List ℕ) (reply : Reply) : Type 0 where
+  accepted : IsStructured (program_of bytes) → SafeIn profile (program_of bytes) → reply ≡ done (line (codes "accepted " ++ decimal (length (program_of bytes))))
+      → IsAcceptanceReply profile bytes reply
+  rejected : (error : VerifyError) → Rejects profile (program_of bytes) error → reply ≡ refusal (Unverified error) → IsAcceptanceReply profile bytes reply
 
 -- `check`: whether a program is accepted
-unfoldable pub IsCheckReply : List ℕ → Reply → Type 0
-IsCheckReply input reply = IsProgramReply IsAcceptanceReply (without_blanks input) reply
+unfoldable pub IsCheckReply : Profile → List ℕ → Reply → Type 0
+IsCheckReply profile input reply = IsProgramReply (IsAcceptanceReply profile) (without_blanks input) reply
 
 -- of a program: what `check` answers, with further text behind it
-pub record IsExplainedReply (bytes : List ℕ) (reply : Reply) : Type 0 where
+pub record IsExplainedReply (profile : Profile) (bytes : List ℕ) (reply : Reply) : Type 0 where
   pub first : Reply
-  pub judged : IsAcceptanceReply bytes first
+  pub judged : IsAcceptanceReply profile bytes first
   pub more : List ℕ
   pub is : reply ≡ record first { text = first.text ++ more }
 
 -- `check --explain`: what `check` answers, and behind it what is known of a program
-unfoldable pub IsExplainReply : List ℕ → Reply → Type 0
-IsExplainReply input reply = IsProgramReply IsExplainedReply (without_blanks input) reply
+unfoldable pub IsExplainReply : Profile → List ℕ → Reply → Type 0
+IsExplainReply profile input reply = IsProgramReply (IsExplainedReply profile) (without_blanks input) reply
 
 -- a text that a span may have
 pub record IsSpanText (text : List ℕ) : Type 0 where
   pub characters : IsUtf8 text
   pub short : length text ≤ 131072
+
+-- the text of the link that the options name, none where they name none
+abbrev pub link_of : SpanOptions → List ℕ
+link_of options = unwrap_or options.link []
 
 -- what the options and the text say of the span
 abbrev pub facts_of : SpanOptions → List ℕ → Facts
@@ -96,12 +83,16 @@ facts_of options text = record {
   characters = length (chars text);
   flags = options.flags;
   color = options.color;
-  link_len = options.link_len;
+  link_len = length (link_of options);
   comments = options.comments;
   index = options.index;
   count = options.count;
   version = options.version;
 }
+
+-- what the span lends
+abbrev pub bytes_of : SpanOptions → List ℕ → SpanBytes
+bytes_of options text = span_bytes (context_bytes (facts_of options text)) text (link_of options)
 
 abbrev pub fault_name : FaultKind → List ℕ
 fault_name UnsetRegister = codes "F1 UnsetRegister"
@@ -121,7 +112,7 @@ outcome_reply OutOfSteps = failed (codes "out of steps")
 -- of a program on a span with a text
 pub data IsSpanReply (options : SpanOptions) (text : List ℕ) (bytes : List ℕ) (reply : Reply) : Type 0 where
   no_text : ¬ (IsSpanText text) → reply ≡ refusal TextRefused → IsSpanReply options text bytes reply
-  ran : IsSpanText text → reply ≡ outcome_reply (outcome (program_of bytes) (context_bytes (facts_of options text)) text)
+  ran : IsSpanText text → reply ≡ outcome_reply (outcome (program_of bytes) (bytes_of options text))
       → IsSpanReply options text bytes reply
 
 -- `run`: what the program does on the span; its bytes are looked at before the text

@@ -9,8 +9,8 @@ use Rattle.hub_commands.specs.SpansReply.{IsSpansReply}
 -- the reply that the command gives to an input
 abbrev pub IsReplyTo : Command → List ℕ → Reply → Type 0
 IsReplyTo Asm = IsAsmReply
-IsReplyTo (Check false) = IsCheckReply
-IsReplyTo (Check true) = IsExplainReply
+IsReplyTo (Check false profile) = IsCheckReply profile
+IsReplyTo (Check true profile) = IsExplainReply profile
 IsReplyTo Dis = IsDisReply
 IsReplyTo (Run digits options) = IsRunReply (string_bytes digits) options
 IsReplyTo Spans = IsSpansReply

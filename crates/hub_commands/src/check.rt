@@ -1,13 +1,16 @@
 ghost use Rattle.std.specs.Prelude.{IfOk};
 ghost use Rattle.bpf_words.specs.Words.{program_of};
 ghost use Rattle.hub_commands.specs.Answers.{IsAnswered};
-ghost use Rattle.hub_commands.specs.Programs.{IsJudged, IsAcceptanceReply, IsCheckReply};
+ghost use Rattle.bpf_words.specs.declared.profile.Profile.{Profile as TheProfile};
+ghost use Rattle.verifier.specs.Judged.{IsJudged};
+ghost use Rattle.hub_commands.specs.Programs.{IsAcceptanceReply, IsCheckReply};
 
 use crate::answer::Answer;
 use crate::failure::Failure;
 use crate::hexadecimal::{decode_hex, without_blanks};
 use crate::input::read_input;
 use crate::output::write_answer;
+use bpf_words::profile::Profile;
 use bpf_words::words::Words;
 use refusals::reason::Reason;
 use std::alloc::{AllocError, Global};
@@ -16,10 +19,10 @@ use verifier::refusal::VerifyError;
 use verifier::verify::verify;
 
 /// Why a program isn't accepted, unless it is.
-pub fn rejection(alloc: Global, words: &Words<'_>) -> Option<VerifyError>
-    ensures { IsJudged (program_of words.now) result }
+pub fn rejection(alloc: Global, words: &Words<'_>, profile: Profile) -> Option<VerifyError>
+    ensures { IsJudged profile (program_of words.now) result }
 {
-    verify(alloc, words).err()
+    verify(alloc, words, profile).err()
 }
 
 /// What is answered to a program, by why it isn't accepted: the number of its slots where it is.
@@ -28,8 +31,8 @@ pub fn acceptance_answer(
     words: &Words<'_>,
     rejection: Option<VerifyError>,
 ) -> Result<Answer, AllocError>
-    requires { IsJudged (program_of words.now) rejection }
-    ensures { IfOk result (λ answer. IsAcceptanceReply words.now answer) }
+    ensures { (profile : TheProfile) → IsJudged profile (program_of words.now) rejection
+        → IfOk result (λ answer. IsAcceptanceReply profile words.now answer) }
 {
     if let Some(error) = rejection {
         return Answer::refused(alloc, &Reason::Unverified(error));
@@ -40,15 +43,15 @@ pub fn acceptance_answer(
 }
 
 /// What `check` answers to a program in hexadecimal.
-pub fn check_answer(alloc: Global, input: &[u8]) -> Result<Answer, AllocError>
-    ensures { IfOk result (λ answer. IsCheckReply input.now answer) }
+pub fn check_answer(alloc: Global, profile: Profile, input: &[u8]) -> Result<Answer, AllocError>
+    ensures { IfOk result (λ answer. IsCheckReply profile input.now answer) }
 {
     let digits = without_blanks(alloc, input)?;
     let Some(bytes) = decode_hex(alloc, &digits)? else {
         return Answer::refused(alloc, &Reason::BadHex);
     };
     match Words::new(&bytes) {
-        Ok(words) => acceptance_answer(alloc, &words, rejection(alloc, &words)),
+        Ok(words) => acceptance_answer(alloc, &words, rejection(alloc, &words, profile)),
         Err(error) => Answer::refused(alloc, &Reason::Words(error)),
     }
 }
@@ -56,13 +59,14 @@ pub fn check_answer(alloc: Global, input: &[u8]) -> Result<Answer, AllocError>
 /// The command `check`: whether a program in hexadecimal is accepted.
 pub fn check<R: Read, W: Write>(
     alloc: Global,
+    profile: Profile,
     reader: &mut R,
     writer: &mut W,
 ) -> Result<u8, Failure>
-    ensures { IfOk result (λ status. IsAnswered IsCheckReply (R.remaining reader.old)
+    ensures { IfOk result (λ status. IsAnswered (IsCheckReply profile) (R.remaining reader.old)
         (W.contents writer.old) (W.contents writer.new) status) }
 {
     let input = read_input(alloc, reader)?;
-    let answer = check_answer(alloc, &input)?;
+    let answer = check_answer(alloc, profile, &input)?;
     write_answer(writer, &answer)
 }

@@ -1,13 +1,15 @@
 //! What the verifier knows of a program, printed behind what `check` answers.
 ghost use Rattle.std.specs.Prelude.{◌≡◌, ℕ, pos, ◌+◌, ◌<◌, ◌≤◌, ◌++◌, List, length, Some, true, IfOk, slice_index};
 ghost use Rattle.bpf_words.specs.Flow.{jump_of, falls_through, slots_of};
+ghost use Rattle.bpf_words.specs.Context.{SpanBytes};
 ghost use Rattle.bpf_words.specs.Words.{program_of};
 ghost use Rattle.meaning.specs.State.{start};
 ghost use Rattle.meaning.specs.Outcomes.{outcome, outcome_from};
-ghost use Rattle.meaning.specs.Safe.{IsSpan, Safe};
+ghost use Rattle.meaning.specs.Safe.{IsSpan, Safe, SafeIn};
 ghost use Rattle.verifier.specs.Structure.{IsStructured};
 ghost use Rattle.hub_commands.specs.Answers.{IsAnswered};
-ghost use Rattle.hub_commands.specs.Programs.{Rejects, IsJudged, IsExplainedReply, IsExplainReply};
+ghost use Rattle.verifier.specs.Judged.{Rejects, IsJudged};
+ghost use Rattle.hub_commands.specs.Programs.{IsExplainedReply, IsExplainReply};
 
 use crate::answer::Answer;
 use crate::check::{acceptance_answer, rejection};
@@ -18,6 +20,7 @@ use crate::known_lines::push_state;
 use crate::output::write_answer;
 use crate::reads::push_reads;
 use bpf_words::instruction::Insn;
+use bpf_words::profile::Profile;
 use bpf_words::words::Words;
 use disassembler::line::Line;
 use refusals::reason::Reason;
@@ -41,12 +44,13 @@ fn push_state_before(
     alloc: Global,
     text: &mut String,
     words: &Words<'_>,
+    profile: Profile,
     slot: usize,
 ) -> Result<(), AllocError>
     requires { slot < length (program_of words.now) }
 {
-    match state_before(alloc, words, slot) {
-        Ok(Some(state)) => push_state(text, &state),
+    match state_before(alloc, words, profile, slot) {
+        Ok(Some(state)) => push_state(text, profile, &state),
         Ok(None) => text.push_str("  no run comes there\n"),
         Err(VerifyError::OutOfMemory) => Err(AllocError),
         Err(_) => text.push_str("  nothing is known\n"),
@@ -110,8 +114,8 @@ fn steps_from(steps: &[usize], slot: usize, insn: &Insn) -> usize
 fn most_steps(alloc: Global, words: &Words<'_>) -> Result<usize, AllocError>
     requires structured { IsStructured (program_of words.now) }
     requires safe { Safe (program_of words.now) }
-    ensures { IfOk result (λ most. (context text : List ℕ) → IsSpan context text
-        → outcome_from (program_of words.now) context text most start ≡ outcome (program_of words.now) context text) }
+    ensures { IfOk result (λ most. (bytes : SpanBytes) → IsSpan bytes
+        → outcome_from (program_of words.now) bytes most start ≡ outcome (program_of words.now) bytes) }
 {
     let mut steps = vec![in alloc; 0; words.len()]?;
     for done in 0..words.len() {
@@ -128,67 +132,78 @@ fn push_refused(
     alloc: Global,
     text: &mut String,
     words: &Words<'_>,
+    profile: Profile,
     error: VerifyError,
 ) -> Result<(), AllocError>
-    requires { Rejects (program_of words.now) error }
+    requires { Rejects profile (program_of words.now) error }
 {
     match error {
         VerifyError::Structure { slot, .. } => push_instruction(text, words, slot),
         VerifyError::State { slot, .. } => {
             push_instruction(text, words, slot)?;
-            push_state_before(alloc, text, words, slot)
+            push_state_before(alloc, text, words, profile, slot)
         }
         VerifyError::OutOfMemory => Ok(()),
     }
 }
 
 /// Appends the greatest number of steps of an accepted program, and what it can read of a span.
-fn push_accepted(alloc: Global, text: &mut String, words: &Words<'_>) -> Result<(), AllocError>
+fn push_accepted(
+    alloc: Global,
+    text: &mut String,
+    words: &Words<'_>,
+    profile: Profile,
+) -> Result<(), AllocError>
     requires structured { IsStructured (program_of words.now) }
-    requires safe { Safe (program_of words.now) }
+    requires seen { SafeIn profile (program_of words.now) }
 {
     writeln!(text, "steps <= {}", most_steps(alloc, words)?)?;
-    push_reads(alloc, text, words)
+    push_reads(alloc, text, words, profile)
 }
 
 /// What is known of a program, by why it isn't accepted.
 fn explanation(
     alloc: Global,
     words: &Words<'_>,
+    profile: Profile,
     rejection: Option<VerifyError>,
 ) -> Result<String, AllocError>
-    requires { IsJudged (program_of words.now) rejection }
+    requires { IsJudged profile (program_of words.now) rejection }
 {
     let mut text = String::new(alloc);
     match rejection {
-        Some(error) => push_refused(alloc, &mut text, words, error)?,
-        None => push_accepted(alloc, &mut text, words)?,
+        Some(error) => push_refused(alloc, &mut text, words, profile, error)?,
+        None => push_accepted(alloc, &mut text, words, profile)?,
     }
     Ok(text)
 }
 
 /// What `check` answers to a program, and behind it what is known of the program. The verifier is asked once, so that both are of one
 /// answer of it where memory is short.
-fn explained_answer(alloc: Global, words: &Words<'_>) -> Result<Answer, AllocError>
-    ensures { IfOk result (λ answer. IsExplainedReply words.now answer) }
+fn explained_answer(
+    alloc: Global,
+    words: &Words<'_>,
+    profile: Profile,
+) -> Result<Answer, AllocError>
+    ensures { IfOk result (λ answer. IsExplainedReply profile words.now answer) }
 {
-    let rejection = rejection(alloc, words);
+    let rejection = rejection(alloc, words, profile);
     let Answer { ending, mut text } = acceptance_answer(alloc, words, rejection)?;
-    let explanation = explanation(alloc, words, rejection)?;
+    let explanation = explanation(alloc, words, profile, rejection)?;
     text.push_str(explanation.as_str())?;
     Ok(Answer { ending, text })
 }
 
 /// What `check --explain` answers to a program in hexadecimal.
-pub fn explain_answer(alloc: Global, input: &[u8]) -> Result<Answer, AllocError>
-    ensures { IfOk result (λ answer. IsExplainReply input.now answer) }
+pub fn explain_answer(alloc: Global, profile: Profile, input: &[u8]) -> Result<Answer, AllocError>
+    ensures { IfOk result (λ answer. IsExplainReply profile input.now answer) }
 {
     let digits = without_blanks(alloc, input)?;
     let Some(bytes) = decode_hex(alloc, &digits)? else {
         return Answer::refused(alloc, &Reason::BadHex);
     };
     match Words::new(&bytes) {
-        Ok(words) => explained_answer(alloc, &words),
+        Ok(words) => explained_answer(alloc, &words, profile),
         Err(error) => Answer::refused(alloc, &Reason::Words(error)),
     }
 }
@@ -196,13 +211,14 @@ pub fn explain_answer(alloc: Global, input: &[u8]) -> Result<Answer, AllocError>
 /// The command `check --explain`: whether a program in hexadecimal is accepted, and what the verifier knows of it.
 pub fn explain<R: Read, W: Write>(
     alloc: Global,
+    profile: Profile,
     reader: &mut R,
     writer: &mut W,
 ) -> Result<u8, Failure>
-    ensures { IfOk result (λ status. IsAnswered IsExplainReply (R.remaining reader.old)
+    ensures { IfOk result (λ status. IsAnswered (IsExplainReply profile) (R.remaining reader.old)
         (W.contents writer.old) (W.contents writer.new) status) }
 {
     let input = read_input(alloc, reader)?;
-    let answer = explain_answer(alloc, &input)?;
+    let answer = explain_answer(alloc, profile, &input)?;
     write_answer(writer, &answer)
 }

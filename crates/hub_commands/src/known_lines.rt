@@ -1,8 +1,10 @@
 //! The lines of what is known of the machine before an instruction (docs/PROGRAMS.md, "What the verifier knew").
 use abstract_state::known::Known;
 use abstract_state::quantity::Quantity;
+use abstract_state::region::Region;
 use abstract_state::slot::Slot;
 use abstract_state::state::{AbsReg, AbsState};
+use bpf_words::profile::Profile;
 use known_bits::Bits;
 use std::alloc::AllocError;
 
@@ -16,16 +18,27 @@ fn push_range(text: &mut String, quantity: &Quantity) -> Result<(), AllocError> 
     }
 }
 
-/// Appends the bits of a number, where its interval doesn't tell them, and its tail.
+/// Appends the bits of a number, where its interval doesn't tell them, and its tails.
 fn push_details(text: &mut String, quantity: &Quantity) -> Result<(), AllocError> {
     let bits = quantity.bits;
     let told = Bits::between(quantity.range.low, quantity.range.high);
     if bits.unknown != told.unknown {
         write!(text, ", bits ({:#x}; {:#x})", bits.value, bits.unknown)?;
     }
-    match quantity.tails.text {
-        Some(tail) => write!(text, ", tail {tail}"),
+    if let Some(tail) = quantity.tails.text {
+        write!(text, ", tail {tail}")?;
+    }
+    match quantity.tails.link {
+        Some(tail) => write!(text, ", link tail {tail}"),
         None => Ok(()),
+    }
+}
+
+/// The name of a lent region.
+fn region_name(region: Region) -> &'static str {
+    match region {
+        Region::Text => "text",
+        Region::Link => "link",
     }
 }
 
@@ -45,7 +58,7 @@ fn push_known(text: &mut String, known: Known) -> Result<(), AllocError> {
         Known::Context(place) => write!(text, "context+{}", place.place),
         Known::Stack(place) => { write!(text, "stack-{}", 512_u64.saturating_sub(place.place)) }
         Known::Lent(place) => {
-            text.push_str("text+")?;
+            write!(text, "{}+", region_name(place.region))?;
             push_range(text, &place.offset)?;
             push_details(text, &place.offset)
         }
@@ -89,13 +102,18 @@ fn push_slot(text: &mut String, index: usize, slot: Slot) -> Result<(), AllocErr
     text.push('\n')
 }
 
-/// Appends a line for each register and each eight bytes of the stack that are set, and one for the text's least length.
-pub fn push_state(text: &mut String, state: &AbsState) -> Result<(), AllocError> {
+/// Appends a line for each register and each eight bytes of the stack that are set, and one for the least length of each region that the
+/// profile lends.
+pub fn push_state(text: &mut String, profile: Profile, state: &AbsState) -> Result<(), AllocError> {
     for number in 0..11 {
         push_register(text, number, state.registers[number])?;
     }
     for index in 0..64 {
         push_slot(text, index, state.stack[index])?;
     }
-    writeln!(text, "  length >= {}", state.bounds.text)
+    writeln!(text, "  length >= {}", state.bounds.text)?;
+    match profile {
+        Profile::One => Ok(()),
+        Profile::Two => writeln!(text, "  link length >= {}", state.bounds.link),
+    }
 }

@@ -25,8 +25,14 @@ pub fn perform<R: Read, W: Write>(
 {
     match command {
         Command::Asm => asm(alloc, reader, writer),
-        Command::Check { explain: false } => check(alloc, reader, writer),
-        Command::Check { explain: true } => explain(alloc, reader, writer),
+        Command::Check {
+            explain: false,
+            profile,
+        } => check(alloc, *profile, reader, writer),
+        Command::Check {
+            explain: true,
+            profile,
+        } => explain(alloc, *profile, reader, writer),
         Command::Dis => dis(alloc, reader, writer),
         Command::Run { digits, options } => {
             run(alloc, digits.as_bytes(), options, reader, writer)

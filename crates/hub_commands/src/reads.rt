@@ -5,9 +5,11 @@ ghost use Rattle.bpf_words.specs.Words.{program_of};
 use abstract_state::known::Known;
 use abstract_state::memory::{count, count_signed};
 use abstract_state::place::{ContextPlace, LentPlace};
+use abstract_state::region::Region;
 use abstract_state::state::{AbsReg, AbsState};
-use bpf_words::context::TEXT_LIMIT;
+use bpf_words::context::{LINK_LIMIT, TEXT_LIMIT};
 use bpf_words::instruction::Insn;
+use bpf_words::profile::Profile;
 use bpf_words::register::Register;
 use bpf_words::words::Words;
 use std::alloc::{AllocError, Global};
@@ -15,7 +17,7 @@ use verifier::before::states_before;
 use verifier::refusal::VerifyError;
 
 /// The fields of the context, by rising offset: the first byte of each, how many it has, and its name.
-static FIELDS: [(u64, u64, &str); 11] = [
+static FIELDS: [(u64, u64, &str); 13] = [
     (0, 8, "text"),
     (8, 8, "end"),
     (16, 4, "len"),
@@ -27,6 +29,8 @@ static FIELDS: [(u64, u64, &str); 11] = [
     (40, 4, "index"),
     (44, 4, "count"),
     (48, 8, "version"),
+    (56, 8, "link"),
+    (64, 8, "link_end"),
 ];
 
 /// Where a load reads: so many bytes, at an offset from the address in a register.
@@ -40,9 +44,11 @@ struct Load {
 /// What loads can read of the span.
 #[derive(Drop)]
 struct Reads {
-    fields: [bool; 11],
+    fields: [bool; 13],
     /// How many bytes of the text there are up to the last one that can be read.
     text: u64,
+    /// The same of the link's text.
+    link: u64,
 }
 
 /// Where an instruction reads, if it is a load.
@@ -72,8 +78,9 @@ fn load_of(insn: &Insn) -> Option<Load> {
 impl Reads {
     /// Adds all that a span has.
     fn add_all(&mut self) {
-        self.fields = [true; 11];
+        self.fields = [true; 13];
         self.text = TEXT_LIMIT as u64;
+        self.link = LINK_LIMIT as u64;
     }
 
     /// Adds the fields of which a load takes bytes from the context; all of them where that is none.
@@ -88,15 +95,18 @@ impl Reads {
             }
         }
         if !some {
-            self.fields = [true; 11];
+            self.fields = [true; 13];
         }
     }
 
-    /// Adds the bytes up to the last one that a load can take from a text, however long.
+    /// Adds the bytes up to the last one that a load can take from a region, however long.
     fn add_bytes(&mut self, load: &Load, base: LentPlace) {
         let last = base.offset.range.high.saturating_add_signed(load.offset);
-        let end = last.saturating_add(load.bytes).min(TEXT_LIMIT as u64);
-        self.text = self.text.max(end);
+        let end = last.saturating_add(load.bytes).min(base.region.limit());
+        match base.region {
+            Region::Text => self.text = self.text.max(end),
+            Region::Link => self.link = self.link.max(end),
+        }
     }
 
     /// Adds what a load can read by what its register holds: all of the span where that may be any address, so that what is
@@ -116,8 +126,9 @@ impl Reads {
         requires { length states.now ≡ length (program_of words.now) }
     {
         let mut reads = Reads {
-            fields: [false; 11],
+            fields: [false; 13],
             text: 0,
+            link: 0,
         };
         for slot in 0..words.len() {
             let Some(insn) = words.insn(slot) else {
@@ -132,7 +143,7 @@ impl Reads {
 }
 
 /// Appends the names of the fields.
-fn push_fields(text: &mut String, fields: &[bool; 11]) -> Result<(), AllocError> {
+fn push_fields(text: &mut String, fields: &[bool; 13]) -> Result<(), AllocError> {
     text.push_str("context: ")?;
     let mut some = false;
     for (read, (_, _, name)) in fields.iter().zip(&FIELDS) {
@@ -150,22 +161,32 @@ fn push_fields(text: &mut String, fields: &[bool; 11]) -> Result<(), AllocError>
     text.push('\n')
 }
 
-/// Appends which bytes of the text.
-fn push_bytes(text: &mut String, count: u64) -> Result<(), AllocError> {
+/// Appends which bytes of a region.
+fn push_bytes(text: &mut String, name: &str, count: u64) -> Result<(), AllocError> {
     match count.checked_sub(1) {
-        Some(last) => writeln!(text, "text: bytes 0..={last}"),
-        None => text.push_str("text: nothing\n"),
+        Some(last) => writeln!(text, "{name}: bytes 0..={last}"),
+        None => writeln!(text, "{name}: nothing"),
     }
 }
 
-/// Appends what an accepted program can read of a span: a line for the fields of the context, and one for the text.
-pub fn push_reads(alloc: Global, text: &mut String, words: &Words<'_>) -> Result<(), AllocError> {
-    let states = match states_before(alloc, words) {
+/// Appends what an accepted program can read of a span: a line for the fields of the context, one for the text, and one for the link
+/// where the profile lends it.
+pub fn push_reads(
+    alloc: Global,
+    text: &mut String,
+    words: &Words<'_>,
+    profile: Profile,
+) -> Result<(), AllocError> {
+    let states = match states_before(alloc, words, profile) {
         Ok(states) => states,
         Err(VerifyError::OutOfMemory) => return Err(AllocError),
         Err(_) => return Ok(()),
     };
     let reads = Reads::of(words, &states);
     push_fields(text, &reads.fields)?;
-    push_bytes(text, reads.text)
+    push_bytes(text, "text", reads.text)?;
+    match profile {
+        Profile::One => Ok(()),
+        Profile::Two => push_bytes(text, "link", reads.link),
+    }
 }

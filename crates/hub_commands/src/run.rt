@@ -1,6 +1,6 @@
 ghost use Rattle.std.specs.Prelude.{◌≡◌, ◌≤◌, length, IfOk, IfSome};
 ghost use Rattle.hub_commands.specs.Answers.{IsAnswered};
-ghost use Rattle.hub_commands.specs.Programs.{fault_name, facts_of, outcome_reply, IsSpanReply, IsRunReply};
+ghost use Rattle.hub_commands.specs.Programs.{fault_name, facts_of, link_of, outcome_reply, IsSpanReply, IsRunReply};
 
 use crate::answer::Answer;
 use crate::failure::Failure;
@@ -30,17 +30,29 @@ fn fault_name(kind: FaultKind) -> &'static str
     }
 }
 
+/// The text of the link that the options name; it has no byte where they name none.
+fn link(options: &SpanOptions) -> &[u8]
+    ensures value { result.now ≡ link_of options.now }
+    ensures short { length result.now ≤ 1024 }
+{
+    match &options.link {
+        Some(link) => link.target().as_bytes(),
+        None => &[],
+    }
+}
+
 /// What the options and the text say of the span.
 fn facts(options: &SpanOptions, text: &str) -> Facts
     requires { length text.now ≤ 131072 }
-    ensures { result ≡ facts_of options.now text.now }
+    ensures value { result ≡ facts_of options.now text.now }
+    ensures link_short { result.link_len ≤ 1024 }
 {
     Facts {
         text_len: text.len() as u32,
         characters: text.chars().count() as u32,
         flags: options.flags,
         color: options.color,
-        link_len: options.link_len,
+        link_len: link(options).len() as u32,
         comments: options.comments,
         index: options.index,
         count: options.count,
@@ -82,7 +94,10 @@ pub fn span_answer(
         return Answer::refused(alloc, &Reason::TextRefused);
     }
     let context = Context::new(&facts(options, text));
-    outcome_answer(alloc, run_checked(words, &context, text.as_bytes()))
+    outcome_answer(
+        alloc,
+        run_checked(words, &context, text.as_bytes(), link(options)),
+    )
 }
 
 /// What `run` answers to a program in hexadecimal, on the span whose text is the input. The text is read only where the

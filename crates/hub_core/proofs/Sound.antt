@@ -7,6 +7,7 @@ use Rattle.std.proofs.lemmas.List.Elements.{All-set, All-push, All-weaker, All-g
 use Rattle.std.proofs.lemmas.Option.{slice_get_within, slice_get_read, slice_get_past, same_Some, none-some}
 use Rattle.change_ops.specs.Changes.{Edit}
 use Rattle.meaning.specs.Step.{Program}
+use Rattle.meaning.specs.Safe.{Safe}
 use Rattle.span_flatten.specs.Version.{Snapshot, IsVersion}
 use Rattle.version_history.specs.Tokens.{Token}
 use Rattle.batches.specs.Batches.{Entry, Slip}
@@ -245,3 +246,15 @@ module _ {S : Type 0} where
   -- the sink of the subscriber that was read
   pub sink_there : (o s : State S) (id : ℕ) (a : Sub S) (sink : S) → s ≡ o → id < length s.subs → a ≡ get_or s.subs id a → sink ≡ a.sink → (x : Sub S) × (slice_get o.subs id ≡ Some x) × (sink ≡ x.sink)
   sink_there o s id a sink same within at is = (a, subst (λ (y : State S). slice_get y.subs id ≡ Some a) same (reads s id a within at), is)
+
+  -- what holds of it, its program is safe, holds of the one with the id
+  pub safe_there : (o s : State S) (id : ℕ) (a : Sub S) → s ≡ o → id < length s.subs → a ≡ get_or s.subs id a → Safe a.program.value → (x : Sub S) → slice_get o.subs id ≡ Some x → Safe x.program.value
+  safe_there o s id a same within at safe x there =
+      let read : slice_get o.subs id ≡ Some a = subst (λ (y : State S). slice_get y.subs id ≡ Some a) same (reads s id a within at) in
+      let one : a ≡ x = same_Some a x (sym read ∙ there) in
+      subst (λ (y : Sub S). Safe y.program.value) one safe
+
+  pub none_there : (o s : State S) (id : ℕ) → s ≡ o → length s.subs ≤ id → (x : Sub S) → slice_get o.subs id ≡ Some x → Safe x.program.value
+  none_there o s id same past x there =
+      let none : slice_get s.subs id ≡ None = slice_get_past s.subs id past in
+      absurd (none-some x (sym none ∙ subst (λ (y : State S). slice_get y.subs id ≡ Some x) (sym same) there))

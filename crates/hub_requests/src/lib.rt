@@ -4,14 +4,19 @@
 
 ghost use Rattle.std.specs.Prelude.{◌≡◌, ◌≤◌, SomeIff};
 
+use bpf_words::profile::Profile;
+use change_ops::attribute::Link;
 use std::marker::Model;
+
+/// The most bytes that the text of a link has.
+pub const MOST_LINK_BYTES: u32 = 1_024;
 
 /// What the options of `run` say of the span.
 #[derive(Drop)]
 pub struct SpanOptions {
     pub flags: u32,
     pub color: u32,
-    pub link_len: u32,
+    pub link: Option<Link>,
     pub comments: u32,
     pub index: u32,
     pub count: u32,
@@ -27,6 +32,7 @@ pub enum Command {
     Check {
         /// Whether to say also what the verifier knows of it.
         explain: bool,
+        profile: Profile,
     },
     /// To print the text of the program that it is in hexadecimal.
     Dis,

@@ -39,7 +39,7 @@ Submits change count _ count' = ⊥
 -- what is done for a request, the lines of items that are printed, and the reply after them
 abbrev pub Answers : SessionRequest → Standing → List ℕ → List ℕ → Reply → Standing → Type 0
 Answers (asked.Change change) s out out' answer s' = Submits change s.count answer s'.count × (s'.held ≡ s.held) × (out' ≡ out)
-Answers (asked.Subscribe capacity program first) s out out' answer s' = Adds capacity program.items first s.held answer s'.held × (s'.count ≡ s.count) × (out' ≡ out)
+Answers (asked.Subscribe profile capacity program first) s out out' answer s' = Adds profile capacity program.items first s.held answer s'.held × (s'.count ≡ s.count) × (out' ≡ out)
 Answers (asked.Pull id count) s out out' answer s' = PullsAny id count s.held s'.held out out' answer × (s'.count ≡ s.count)
 Answers (asked.Close id) s out out' answer s' = Closes s.held id answer s'.held × (s'.count ≡ s.count) × (out' ≡ out)
 

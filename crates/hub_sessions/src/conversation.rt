@@ -121,10 +121,11 @@ fn answer<N: Naming + Ledger + Send + Sync, R: Threads + Wait + Copy + Send + Sy
     match request {
         SessionRequest::Change(asked) => Ok(change(&hub.rt, hub.hub, share, asked)),
         SessionRequest::Subscribe {
+            profile,
             capacity,
             program,
             first,
-        } => Ok(hub.subscribe(held, capacity, &program, first)),
+        } => Ok(hub.subscribe(held, profile, capacity, &program, first)),
         SessionRequest::Pull { subscriber, count } => hub.pull(held, subscriber, count, out),
         SessionRequest::Close { subscriber } => Ok(hub.close(held, subscriber)),
     }

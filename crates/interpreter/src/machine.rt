@@ -1,4 +1,5 @@
 ghost use Rattle.std.specs.Prelude.{◌≡◌, ℕ, ◌+◌, ◌<◌, ◌≤◌, ◌^◌, List, length, OnOk, OnErr, IfErr, Ok, Err};
+ghost use Rattle.bpf_words.specs.Context.{span_bytes};
 ghost use Rattle.bpf_words.specs.Words.{program_of};
 ghost use Rattle.meaning.specs.State.{start, register_of, operand_in, written};
 ghost use Rattle.meaning.specs.Memory.{address_of};
@@ -30,15 +31,16 @@ pub struct Machine<'a> {
 impl<'a> Model for Machine<'a> {
     ghost Value = { Run };
 
-    ghost view = { λ m. record { context = m.memory.context; text = m.memory.text; slot = m.slot; registers = m.registers; stack = m.memory.stack } };
+    ghost view = { λ m. record { bytes = m.memory.bytes; slot = m.slot; registers = m.registers; stack = m.memory.stack } };
 }
 
 impl<'a> Machine<'a> {
-    pub fn new(context: &'a [u8], text: &'a [u8]) -> Self
+    pub fn new(context: &'a [u8], text: &'a [u8], link: &'a [u8]) -> Self
         requires context_short { length context.now < 2 ^ 32 }
         requires text_short { length text.now < 2 ^ 32 }
+        requires link_short { length link.now < 2 ^ 32 }
         ensures state { state_of result ≡ start }
-        ensures span { (result.context ≡ context.now) × (result.text ≡ text.now) }
+        ensures bytes { result.bytes ≡ span_bytes context.now text.now link.now }
     {
         let mut registers = [None; 11];
         registers[1] = Some(CONTEXT);
@@ -46,7 +48,7 @@ impl<'a> Machine<'a> {
         Machine {
             slot: 0,
             registers,
-            memory: Memory::new(context, text),
+            memory: Memory::new(context, text, link),
         }
     }
 
@@ -115,7 +117,7 @@ impl<'a> Machine<'a> {
         destination: Register,
         operand: Operand,
     ) -> Result<Motion, FaultKind>
-        ensures value { move_of result (state_of self.new) ≡ perform self.old.context self.old.text (state_of self.old) (Insn.Compute width operation destination operand) }
+        ensures value { move_of result (state_of self.new) ≡ perform self.old.bytes (state_of self.old) (Insn.Compute width operation destination operand) }
         ensures stays { Stays self.old self.new }
     {
         let a = self.first_operand(operation, destination)?;
@@ -124,7 +126,7 @@ impl<'a> Machine<'a> {
     }
 
     fn negate(&mut self, width: Width, destination: Register) -> Result<Motion, FaultKind>
-        ensures value { move_of result (state_of self.new) ≡ perform self.old.context self.old.text (state_of self.old) (Insn.Negate width destination) }
+        ensures value { move_of result (state_of self.new) ≡ perform self.old.bytes (state_of self.old) (Insn.Negate width destination) }
         ensures stays { Stays self.old self.new }
     {
         let a = self.register(destination)?;
@@ -137,7 +139,7 @@ impl<'a> Machine<'a> {
         destination: Register,
         source: Register,
     ) -> Result<Motion, FaultKind>
-        ensures value { move_of result (state_of self.new) ≡ perform self.old.context self.old.text (state_of self.old) (Insn.Extend extension destination source) }
+        ensures value { move_of result (state_of self.new) ≡ perform self.old.bytes (state_of self.old) (Insn.Extend extension destination source) }
         ensures stays { Stays self.old self.new }
     {
         let a = self.register(source)?;
@@ -150,7 +152,7 @@ impl<'a> Machine<'a> {
         bits: ConvertedBits,
         destination: Register,
     ) -> Result<Motion, FaultKind>
-        ensures value { move_of result (state_of self.new) ≡ perform self.old.context self.old.text (state_of self.old) (Insn.Convert conversion bits destination) }
+        ensures value { move_of result (state_of self.new) ≡ perform self.old.bytes (state_of self.old) (Insn.Convert conversion bits destination) }
         ensures stays { Stays self.old self.new }
     {
         let a = self.register(destination)?;
@@ -165,7 +167,7 @@ impl<'a> Machine<'a> {
         right: Operand,
         distance: i16,
     ) -> Result<Motion, FaultKind>
-        ensures { move_of result (state_of self.now) ≡ perform self.now.context self.now.text (state_of self.now) (Insn.Branch width comparison left right distance) }
+        ensures { move_of result (state_of self.now) ≡ perform self.now.bytes (state_of self.now) (Insn.Branch width comparison left right distance) }
     {
         let a = self.register(left)?;
         let b = self.operand(right)?;
@@ -183,7 +185,7 @@ impl<'a> Machine<'a> {
         base: Register,
         offset: i16,
     ) -> Result<Motion, FaultKind>
-        ensures value { move_of result (state_of self.new) ≡ perform self.old.context self.old.text (state_of self.old) (Insn.Load size destination base offset) }
+        ensures value { move_of result (state_of self.new) ≡ perform self.old.bytes (state_of self.old) (Insn.Load size destination base offset) }
         ensures stays { Stays self.old self.new }
     {
         let address = address(self.register(base)?, offset);
@@ -198,7 +200,7 @@ impl<'a> Machine<'a> {
         base: Register,
         offset: i16,
     ) -> Result<Motion, FaultKind>
-        ensures value { move_of result (state_of self.new) ≡ perform self.old.context self.old.text (state_of self.old) (Insn.LoadSigned size destination base offset) }
+        ensures value { move_of result (state_of self.new) ≡ perform self.old.bytes (state_of self.old) (Insn.LoadSigned size destination base offset) }
         ensures stays { Stays self.old self.new }
     {
         let address = address(self.register(base)?, offset);
@@ -213,7 +215,7 @@ impl<'a> Machine<'a> {
         offset: i16,
         value: Operand,
     ) -> Result<Motion, FaultKind>
-        ensures value { move_of result (state_of self.new) ≡ perform self.old.context self.old.text (state_of self.old) (Insn.Store size base offset value) }
+        ensures value { move_of result (state_of self.new) ≡ perform self.old.bytes (state_of self.old) (Insn.Store size base offset value) }
         ensures stays { Stays self.old self.new }
     {
         let address = address(self.register(base)?, offset);
@@ -223,7 +225,7 @@ impl<'a> Machine<'a> {
     }
 
     fn exit(&self) -> Result<Motion, FaultKind>
-        ensures { move_of result (state_of self.now) ≡ perform self.now.context self.now.text (state_of self.now) Insn.Exit }
+        ensures { move_of result (state_of self.now) ≡ perform self.now.bytes (state_of self.now) Insn.Exit }
     {
         let value = self.register(Register::r0())?;
         Ok(Motion::Stops(value))
@@ -231,7 +233,7 @@ impl<'a> Machine<'a> {
 
     /// What an instruction does, whatever the program is.
     fn perform(&mut self, insn: Insn) -> Result<Motion, FaultKind>
-        ensures value { move_of result (state_of self.new) ≡ perform self.old.context self.old.text (state_of self.old) insn }
+        ensures value { move_of result (state_of self.new) ≡ perform self.old.bytes (state_of self.old) insn }
         ensures stays { Stays self.old self.new }
     {
         match insn {
@@ -306,7 +308,7 @@ impl<'a> Machine<'a> {
     /// One step of the machine.
     pub fn step(&mut self, words: &Words<'_>) -> Result<Progress, FaultKind>
         requires within { self.old.slot < length (program_of words.now) }
-        ensures value { result_of result (state_of self.new) ≡ step (program_of words.now) self.old.context self.old.text (state_of self.old) }
+        ensures value { result_of result (state_of self.new) ≡ step (program_of words.now) self.old.bytes (state_of self.old) }
         ensures within { self.new.slot < length (program_of words.now) }
         ensures reads { Reads self.old self.new }
     {

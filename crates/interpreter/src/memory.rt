@@ -1,9 +1,10 @@
 ghost use Rattle.std.specs.Prelude.{◌≡◌, ℕ, ◌+◌, ◌<◌, ◌≤◌, ◌^◌, ◌++◌, length, map, take, drop, replicate, Some, None, IfSome, IfOk, OnOk, IfErr, Ok, Err};
 ghost use Rattle.byteorder.specs.Endian.{little_bytes, little_number};
+ghost use Rattle.bpf_words.specs.Context.{span_bytes};
 ghost use Rattle.interpreter.specs.Running.{Regions};
 ghost use Rattle.meaning.specs.Memory.{load as load_of, store as store_of, bytes_in, lies_in, stack_number, stored};
 
-use bpf_words::context::{CONTEXT, TEXT};
+use bpf_words::context::{CONTEXT, LINK, TEXT};
 use bpf_words::instruction::Size;
 use meaning::FaultKind;
 use std::marker::Model;
@@ -62,40 +63,43 @@ fn store_on_stack(stack: &mut [Option<u8>; 512], place: usize, size: Size, value
     stack[place..place + count].copy_from_slice(&bytes[..count]);
 }
 
-/// What addresses lead to: the context and the text of a span, and the run's stack.
+/// What addresses lead to: the context, the text and the link's text of a span, and the run's stack.
 #[derive(Drop)]
 pub struct Memory<'a> {
     context: &'a [u8],
     text: &'a [u8],
+    link: &'a [u8],
     stack: [Option<u8>; 512],
 }
 
 impl<'a> Model for Memory<'a> {
     ghost Value = { Regions };
 
-    ghost view = { λ m. record { context = m.context.now; text = m.text.now; stack = m.stack } };
+    ghost view = { λ m. record { bytes = span_bytes m.context.now m.text.now m.link.now; stack = m.stack } };
 
-    ghost invariant = { λ m. (length m.context.now < 2 ^ 32) × (length m.text.now < 2 ^ 32) };
+    ghost invariant = { λ m. (length m.context.now < 2 ^ 32) × (length m.text.now < 2 ^ 32) × (length m.link.now < 2 ^ 32) };
 }
 
 impl<'a> Memory<'a> {
     /// The memory of a run that begins: no byte of the stack is set.
-    pub fn new(context: &'a [u8], text: &'a [u8]) -> Self
+    pub fn new(context: &'a [u8], text: &'a [u8], link: &'a [u8]) -> Self
         requires context_short { length context.now < 2 ^ 32 }
         requires text_short { length text.now < 2 ^ 32 }
-        ensures span { (result.context ≡ context.now) × (result.text ≡ text.now) }
+        requires link_short { length link.now < 2 ^ 32 }
+        ensures bytes { result.bytes ≡ span_bytes context.now text.now link.now }
         ensures unset { result.stack ≡ replicate 512 None }
     {
         Memory {
             context,
             text,
+            link,
             stack: [None; 512],
         }
     }
 
     /// The number in the bytes at an address.
     pub fn load(&self, address: u64, size: Size) -> Result<u64, FaultKind>
-        ensures value { result ≡ load_of self.now.context self.now.text self.now.stack address (bytes_in size) }
+        ensures value { result ≡ load_of self.now.bytes self.now.stack address (bytes_in size) }
         ensures small { IfOk result (λ number. number < 256 ^ bytes_in size) }
     {
         let count = count(size);
@@ -103,6 +107,8 @@ impl<'a> Memory<'a> {
             Ok(number(self.context, (address - CONTEXT) as usize, size))
         } else if is_in(TEXT, self.text.len(), address, count) {
             Ok(number(self.text, (address - TEXT) as usize, size))
+        } else if is_in(LINK, self.link.len(), address, count) {
+            Ok(number(self.link, (address - LINK) as usize, size))
         } else if is_in(STACK, 512, address, count) {
             number_on_stack(&self.stack, (address - STACK) as usize, count).ok_or(
                 FaultKind::UnsetStack,
@@ -114,10 +120,9 @@ impl<'a> Memory<'a> {
 
     /// Writes a number's low bytes at an address.
     pub fn store(&mut self, address: u64, size: Size, value: u64) -> Result<(), FaultKind>
-        ensures ok { OnOk result (store_of self.old.context self.old.text self.old.stack address (bytes_in size) value ≡ Ok self.new.stack) }
-        ensures err { IfErr result (λ kind. store_of self.old.context self.old.text self.old.stack address (bytes_in size) value ≡ Err kind) }
-        ensures context { self.new.context ≡ self.old.context }
-        ensures text { self.new.text ≡ self.old.text }
+        ensures ok { OnOk result (store_of self.old.bytes self.old.stack address (bytes_in size) value ≡ Ok self.new.stack) }
+        ensures err { IfErr result (λ kind. store_of self.old.bytes self.old.stack address (bytes_in size) value ≡ Err kind) }
+        ensures bytes { self.new.bytes ≡ self.old.bytes }
     {
         let count = count(size);
         if is_in(STACK, 512, address, count) {
@@ -125,6 +130,7 @@ impl<'a> Memory<'a> {
             Ok(())
         } else if is_in(CONTEXT, self.context.len(), address, count)
             || is_in(TEXT, self.text.len(), address, count)
+            || is_in(LINK, self.link.len(), address, count)
         {
             Err(FaultKind::ReadOnly)
         } else {

@@ -44,9 +44,9 @@ fn a_context_has_its_bytes(rt: HostRuntime) -> Result<(), Fail> {
     let alloc = rt.alloc();
     let version = version(alloc)?;
     let span = view(&version, 0).ok_or("there is no span")?;
-    // Text start, text end, length and characters, flags and color, link and comments, index and count, version.
+    // Text start, text end, length and characters, flags and color, link and comments, index and count, version, link start, link end.
     let want =
-        "0000000004000000010000000400000001000000010000000100000000000000000000000000000000000000020000000200000000000000";
+        "000000000400000001000000040000000100000001000000010000000000000000000000000000000000000002000000020000000000000000000000080000000000000008000000";
     let got = hex::encode(alloc, context(&span).bytes())?;
     assert_eq!(rt; got.as_str(), want);
     Ok(())

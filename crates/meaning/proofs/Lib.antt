@@ -1,2 +1,3 @@
 pub mod Witness
 pub mod Runs
+pub mod More

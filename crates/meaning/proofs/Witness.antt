@@ -3,14 +3,14 @@ use Rattle.std.proofs.Common.{◌≡◌, ℕ, zero, suc, ◌&&◌, Bool, true, f
 use Rattle.std.specs.List.{list_all}
 use borrow.Author.Tests.{ltb-true}
 use Rattle.byteorder.specs.Endian.{little_bytes}
-use Rattle.bpf_words.specs.Context.{text_base}
+use Rattle.bpf_words.specs.Context.{text_base, link_base, SpanBytes, span_bytes}
 use Rattle.meaning.specs.declared.FaultKind.TheVariants.{UnsetRegister}
 use Rattle.meaning.specs.declared.Outcome.TheVariants.{Done, Fault}
 use Rattle.meaning.specs.Outcomes.{outcome, outcome_from}
 use Rattle.meaning.specs.Safe.{AreBytes, IsSpan, Safe}
 use Rattle.meaning.specs.Samples.{returns_one, exit_alone}
 
-both : (a b : Bool) → (a && b) ≡ true → (a ≡ true) × (b ≡ true)
+pub both : (a b : Bool) → (a && b) ≡ true → (a ≡ true) × (b ≡ true)
 both true b h = (refl, h)
 both false b h = absurd (cc)
 
@@ -19,27 +19,39 @@ bytes-tested [] h place = omega arith
 bytes-tested (n ∷ rest) h zero = ltb-true n 256 (both (nat_lt n 256) (list_all (λ m. nat_lt m 256) rest) h).0
 bytes-tested (n ∷ rest) h (suc place) = bytes-tested rest (both (nat_lt n 256) (list_all (λ m. nat_lt m 256) rest) h).1 place
 
--- a span of no text
+-- a span of no text and without a link
 abbrev pub empty_context : List ℕ
-empty_context = little_bytes 8 text_base ++ little_bytes 8 text_base ++ replicate 40 0
+empty_context = little_bytes 8 text_base ++ little_bytes 8 text_base ++ replicate 40 0 ++ little_bytes 8 link_base ++ little_bytes 8 link_base
 
-empty_span : IsSpan empty_context []
+abbrev pub empty_bytes : SpanBytes
+empty_bytes = span_bytes empty_context [] []
+
+empty_span : IsSpan empty_bytes
 empty_span = record {
-  fits = record { long = refl; short = omega arith; begins = refl; ends = refl; counts = refl };
+  fits = record {
+    long = refl;
+    short = omega arith;
+    begins = refl;
+    ends = refl;
+    counts = refl;
+    link_short = omega arith;
+    link = record { counts = refl; begins = refl; ends = refl };
+  };
   context_bytes = bytes-tested empty_context refl;
   text_bytes = bytes-tested [] refl;
+  link_bytes = bytes-tested [] refl;
 }
 
 pub one-safe : Safe returns_one
 unfolding outcome_from
-one-safe context text span = (1, refl)
+one-safe bytes span = (1, refl)
 
-unset : (context text : List ℕ) → outcome exit_alone context text ≡ Fault 0 UnsetRegister
+unset : (bytes : SpanBytes) → outcome exit_alone bytes ≡ Fault 0 UnsetRegister
 unfolding outcome_from
-unset context text = refl
+unset bytes = refl
 
 pub alone-unsafe : Safe exit_alone → ⊥
 alone-unsafe safe =
-    let run = safe empty_context [] empty_span in
-    let clash : Fault 0 UnsetRegister ≡ Done run.0 = sym (unset empty_context []) ∙ run.1 in
+    let run = safe empty_bytes empty_span in
+    let clash : Fault 0 UnsetRegister ≡ Done run.0 = sym (unset empty_bytes) ∙ run.1 in
     absurd (cc)

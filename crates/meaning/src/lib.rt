@@ -11,7 +11,7 @@ pub enum FaultKind {
     UnsetRegister,
     /// The bytes of a load or store don't all lie in one region.
     BadAddress,
-    /// A store into the context or the text.
+    /// A store into the context, the text or the link's text.
     ReadOnly,
     /// A load of a stack byte that nothing was written to.
     UnsetStack,

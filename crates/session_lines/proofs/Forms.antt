@@ -12,7 +12,9 @@ use Rattle.change_ops.proofs.Grammar.{Lacks, bind_some, split_again, split_takes
 use Rattle.change_ops.proofs.Phrases.{same_bytes}
 use Rattle.change_ops.proofs.Keys.{lacks_all}
 use Rattle.change_ops.proofs.NumeralForms.{number_takes, number_again}
-use Rattle.session_lines.specs.Commands.{Command, subscribe, pull, close, Number, IsCount, Count, OneWord, CommandForm, Grants, IsAsked}
+use Rattle.bpf_words.specs.declared.profile.Profile.{Profile}
+use Rattle.bpf_words.specs.declared.profile.Profile.TheVariants.{One, Two}
+use Rattle.session_lines.specs.Commands.{Command, name_of, subscribe, pull, close, Number, IsCount, Count, OneWord, CommandForm, Grants, IsAsked}
 use Rattle.session_lines.specs.Reading.{small, small_number, is_count, is_one_word, from_at, program_at, subscribe_at, pull_at, close_at, command_at}
 use Rattle.session_lines.specs.declared.request.SessionRequest.{SessionRequest}
 use Rattle.session_lines.specs.declared.fault.LineRefusal.{LineRefusal}
@@ -74,43 +76,43 @@ named_line name line j lacks = ap (split 32) (j.whole ∙ ap (λ (x : List ℕ).
 
 -- ---- the forms
 -- a subscription's line, whose capacity was read
-module _ (line fields number rest : List ℕ) (capacity : ℕ) (c : Command) (text : line ≡ codes "sub" ␣ fields) (whole : fields ≡ number ␣ rest) (before : Number capacity number) where
-  from_form : from_at capacity rest ≡ Some c → CommandForm c line
+module _ (line fields number rest : List ℕ) (profile : Profile) (capacity : ℕ) (c : Command) (text : line ≡ name_of profile ␣ fields) (whole : fields ≡ number ␣ rest) (before : Number capacity number) where
+  from_form : from_at profile capacity rest ≡ Some c → CommandForm c line
   unfolding from_at
   from_form e =
-      let p = bind_some (split 32 rest) (λ parts. split 32 parts.1 >>= λ more. small (number_in 10 more.1) >>= λ first. if is_one_word parts.0 && bytes_eq more.0 (codes "from") then Some (subscribe capacity parts.0 (Some first)) else None) c e in
-      let q = bind_some (split 32 p.0.1) (λ more. small (number_in 10 more.1) >>= λ first. if is_one_word p.0.0 && bytes_eq more.0 (codes "from") then Some (subscribe capacity p.0.0 (Some first)) else None) c p.2 in
-      let n = bind_some (small (number_in 10 q.0.1)) (λ first. if is_one_word p.0.0 && bytes_eq q.0.0 (codes "from") then Some (subscribe capacity p.0.0 (Some first)) else None) c q.2 in
-      let g = guard_some (is_one_word p.0.0 && bytes_eq q.0.0 (codes "from")) (subscribe capacity p.0.0 (Some n.0)) c n.2 in
+      let p = bind_some (split 32 rest) (λ parts. split 32 parts.1 >>= λ more. small (number_in 10 more.1) >>= λ first. if is_one_word parts.0 && bytes_eq more.0 (codes "from") then Some (subscribe profile capacity parts.0 (Some first)) else None) c e in
+      let q = bind_some (split 32 p.0.1) (λ more. small (number_in 10 more.1) >>= λ first. if is_one_word p.0.0 && bytes_eq more.0 (codes "from") then Some (subscribe profile capacity p.0.0 (Some first)) else None) c p.2 in
+      let n = bind_some (small (number_in 10 q.0.1)) (λ first. if is_one_word p.0.0 && bytes_eq q.0.0 (codes "from") then Some (subscribe profile capacity p.0.0 (Some first)) else None) c q.2 in
+      let g = guard_some (is_one_word p.0.0 && bytes_eq q.0.0 (codes "from")) (subscribe profile capacity p.0.0 (Some n.0)) c n.2 in
       let both = and_parts (is_one_word p.0.0) (bytes_eq q.0.0 (codes "from")) g.0 in
       let last : Joined 32 (Word (codes "from")) (Number n.0) p.0.1 = record { first = q.0.0; second = q.0.1; whole = (split_takes 32 p.0.1 q.0.0 q.0.1 q.1).0; before = same_bytes q.0.0 (codes "from") both.1; after = number_form q.0.1 n.0 n.1 } in
       let behind : Joined 32 (OneWord p.0.0) (Joined 32 (Word (codes "from")) (Number n.0)) rest = record { first = p.0.0; second = p.0.1; whole = (split_takes 32 rest p.0.0 p.0.1 p.1).0; before = one_word_form p.0.0 both.0; after = last } in
       let after : Joined 32 (Number capacity) (Joined 32 (OneWord p.0.0) (Joined 32 (Word (codes "from")) (Number n.0))) fields = record { first = number; second = rest; whole = whole; before = before; after = behind } in
-      let form : CommandForm (subscribe capacity p.0.0 (Some n.0)) line = record { first = codes "sub"; second = fields; whole = text; before = refl; after = after } in
+      let form : CommandForm (subscribe profile capacity p.0.0 (Some n.0)) line = record { first = name_of profile; second = fields; whole = text; before = refl; after = after } in
       subst (λ (x : Command). CommandForm x line) g.1 form
 
-  program_form : program_at capacity rest ≡ Some c → CommandForm c line
+  program_form : program_at profile capacity rest ≡ Some c → CommandForm c line
   program_form e = go (is_one_word rest) refl e where
-    go : (b : Bool) → is_one_word rest ≡ b → cond b (Some (subscribe capacity rest None)) (from_at capacity rest) ≡ Some c → CommandForm c line
+    go : (b : Bool) → is_one_word rest ≡ b → cond b (Some (subscribe profile capacity rest None)) (from_at profile capacity rest) ≡ Some c → CommandForm c line
     go true f e =
-        let same : subscribe capacity rest None ≡ c = cc e in
+        let same : subscribe profile capacity rest None ≡ c = cc e in
         let after : Joined 32 (Number capacity) (OneWord rest) fields = record { first = number; second = rest; whole = whole; before = before; after = one_word_form rest f } in
-        let form : CommandForm (subscribe capacity rest None) line = record { first = codes "sub"; second = fields; whole = text; before = refl; after = after } in
+        let form : CommandForm (subscribe profile capacity rest None) line = record { first = name_of profile; second = fields; whole = text; before = refl; after = after } in
         subst (λ (x : Command). CommandForm x line) same form
     go false f e = from_form e
 
-subscribe_form : (line fields : List ℕ) (c : Command) → line ≡ codes "sub" ␣ fields → subscribe_at fields ≡ Some c → CommandForm c line
+subscribe_form : (line fields : List ℕ) (profile : Profile) (c : Command) → line ≡ name_of profile ␣ fields → subscribe_at profile fields ≡ Some c → CommandForm c line
 unfolding subscribe_at
-subscribe_form line fields c text e =
-    let a = bind_some (split 32 fields) (λ parts. small (number_in 10 parts.0) >>= λ capacity. program_at capacity parts.1) c e in
-    let b = bind_some (small (number_in 10 a.0.0)) (λ capacity. program_at capacity a.0.1) c a.2 in
-    program_form line fields a.0.0 a.0.1 b.0 c text (split_takes 32 fields a.0.0 a.0.1 a.1).0 (number_form a.0.0 b.0 b.1) b.2
+subscribe_form line fields profile c text e =
+    let a = bind_some (split 32 fields) (λ parts. small (number_in 10 parts.0) >>= λ capacity. program_at profile capacity parts.1) c e in
+    let b = bind_some (small (number_in 10 a.0.0)) (λ capacity. program_at profile capacity a.0.1) c a.2 in
+    program_form line fields a.0.0 a.0.1 profile b.0 c text (split_takes 32 fields a.0.0 a.0.1 a.1).0 (number_form a.0.0 b.0 b.1) b.2
 
-subscribe_read : (fields : List ℕ) (capacity : ℕ) (digits : List ℕ) → Joined 32 (Number capacity) (OneWord digits) fields → subscribe_at fields ≡ Some (subscribe capacity digits None)
+subscribe_read : (fields : List ℕ) (profile : Profile) (capacity : ℕ) (digits : List ℕ) → Joined 32 (Number capacity) (OneWord digits) fields → subscribe_at profile fields ≡ Some (subscribe profile capacity digits None)
 unfolding subscribe_at
-subscribe_read fields capacity digits j =
+subscribe_read fields profile capacity digits j =
     rw (joined_again fields j (no_space j.first capacity j.before), number_read j.first capacity j.before, one_word_read j.second digits j.after)
-    (ap (λ (w : List ℕ). Some (subscribe capacity w None)) j.after.whole)
+    (ap (λ (w : List ℕ). Some (subscribe profile capacity w None)) j.after.whole)
 
 -- two words are no single one
 spaced : (word rest : List ℕ) → list_all (λ b. not (eqb b 32)) (word ++ 32 ∷ rest) ≡ false
@@ -126,20 +128,20 @@ two_words text word rest e = rw (e, spaced word rest) (no_more (leb 1 (length (w
   no_more true = refl
   no_more false = refl
 
-from_read : (capacity first : ℕ) (digits text : List ℕ) → Joined 32 (OneWord digits) (Joined 32 (Word (codes "from")) (Number first)) text → from_at capacity text ≡ Some (subscribe capacity digits (Some first))
+from_read : (profile : Profile) (capacity first : ℕ) (digits text : List ℕ) → Joined 32 (OneWord digits) (Joined 32 (Word (codes "from")) (Number first)) text → from_at profile capacity text ≡ Some (subscribe profile capacity digits (Some first))
 unfolding from_at
-from_read capacity first digits text j =
+from_read profile capacity first digits text j =
     let one : is_one_word j.first ≡ true = one_word_read j.first digits j.before in
     let word : Lacks 32 j.first = subst (Lacks 32) (sym j.before.whole) (lacks_all 32 digits (all_spaceless digits j.before.one)) in
     let name : split 32 j.second ≡ Some (codes "from", j.after.second) = named_line (codes "from") j.second j.after (lacks_all 32 (codes "from") refl) in
-    rw (joined_again text j word, name, number_read j.after.second first j.after.after, one) (ap (λ (w : List ℕ). Some (subscribe capacity w (Some first))) j.before.whole)
+    rw (joined_again text j word, name, number_read j.after.second first j.after.after, one) (ap (λ (w : List ℕ). Some (subscribe profile capacity w (Some first))) j.before.whole)
 
-subscribe_from_read : (fields : List ℕ) (capacity first : ℕ) (digits : List ℕ) → Joined 32 (Number capacity) (Joined 32 (OneWord digits) (Joined 32 (Word (codes "from")) (Number first))) fields
-    → subscribe_at fields ≡ Some (subscribe capacity digits (Some first))
+subscribe_from_read : (fields : List ℕ) (profile : Profile) (capacity first : ℕ) (digits : List ℕ) → Joined 32 (Number capacity) (Joined 32 (OneWord digits) (Joined 32 (Word (codes "from")) (Number first))) fields
+    → subscribe_at profile fields ≡ Some (subscribe profile capacity digits (Some first))
 unfolding subscribe_at
-subscribe_from_read fields capacity first digits j =
+subscribe_from_read fields profile capacity first digits j =
     let no : is_one_word j.second ≡ false = two_words j.second j.after.first j.after.second j.after.whole in
-    rw (joined_again fields j (no_space j.first capacity j.before), number_read j.first capacity j.before, no) (from_read capacity first digits j.second j.after)
+    rw (joined_again fields j (no_space j.first capacity j.before), number_read j.first capacity j.before, no) (from_read profile capacity first digits j.second j.after)
 
 pull_form : (line fields : List ℕ) (c : Command) → line ≡ codes "pull" ␣ fields → pull_at fields ≡ Some c → CommandForm c line
 unfolding pull_at
@@ -174,31 +176,34 @@ close_read fields subscriber h = rw (number_read fields subscriber h) refl
 pub command_form : (line : List ℕ) (c : Command) → command_at line ≡ Some c → CommandForm c line
 unfolding command_at
 command_form line c e =
-    let a = bind_some (split 32 line) (λ parts. if bytes_eq parts.0 (codes "sub") then subscribe_at parts.1 else if bytes_eq parts.0 (codes "pull") then pull_at parts.1 else if bytes_eq parts.0 (codes "close") then close_at parts.1 else None) c e in
+    let a = bind_some (split 32 line) (λ parts. if bytes_eq parts.0 (codes "sub") then subscribe_at One parts.1 else if bytes_eq parts.0 (codes "sub2") then subscribe_at Two parts.1 else if bytes_eq parts.0 (codes "pull") then pull_at parts.1 else if bytes_eq parts.0 (codes "close") then close_at parts.1 else None) c e in
     kinds a.0.0 a.0.1 (split_takes 32 line a.0.0 a.0.1 a.1).0 a.2
   where
-    kinds : (name fields : List ℕ) → line ≡ name ␣ fields → (if bytes_eq name (codes "sub") then subscribe_at fields else if bytes_eq name (codes "pull") then pull_at fields else if bytes_eq name (codes "close") then close_at fields else None) ≡ Some c → CommandForm c line
-    kinds name fields whole e = go (bytes_eq name (codes "sub")) (bytes_eq name (codes "pull")) (bytes_eq name (codes "close")) refl refl refl e where
+    kinds : (name fields : List ℕ) → line ≡ name ␣ fields → (if bytes_eq name (codes "sub") then subscribe_at One fields else if bytes_eq name (codes "sub2") then subscribe_at Two fields else if bytes_eq name (codes "pull") then pull_at fields else if bytes_eq name (codes "close") then close_at fields else None) ≡ Some c → CommandForm c line
+    kinds name fields whole e = go (bytes_eq name (codes "sub")) (bytes_eq name (codes "sub2")) (bytes_eq name (codes "pull")) (bytes_eq name (codes "close")) refl refl refl refl e where
       named : (word : List ℕ) → bytes_eq name word ≡ true → line ≡ word ␣ fields
       named word f = whole ∙ ap (λ (x : List ℕ). x ␣ fields) (same_bytes name word f)
 
-      go : (s p q : Bool) → bytes_eq name (codes "sub") ≡ s → bytes_eq name (codes "pull") ≡ p → bytes_eq name (codes "close") ≡ q
-          → cond s (subscribe_at fields) (cond p (pull_at fields) (cond q (close_at fields) None)) ≡ Some c → CommandForm c line
-      go true p q f1 f2 f3 e = subscribe_form line fields c (named (codes "sub") f1) e
-      go false true q f1 f2 f3 e = pull_form line fields c (named (codes "pull") f2) e
-      go false false true f1 f2 f3 e = close_form line fields c (named (codes "close") f3) e
-      go false false false f1 f2 f3 e = absurd cc
+      go : (s t p q : Bool) → bytes_eq name (codes "sub") ≡ s → bytes_eq name (codes "sub2") ≡ t → bytes_eq name (codes "pull") ≡ p → bytes_eq name (codes "close") ≡ q
+          → cond s (subscribe_at One fields) (cond t (subscribe_at Two fields) (cond p (pull_at fields) (cond q (close_at fields) None))) ≡ Some c → CommandForm c line
+      go true t p q f1 f2 f3 f4 e = subscribe_form line fields One c (named (codes "sub") f1) e
+      go false true p q f1 f2 f3 f4 e = subscribe_form line fields Two c (named (codes "sub2") f2) e
+      go false false true q f1 f2 f3 f4 e = pull_form line fields c (named (codes "pull") f3) e
+      go false false false true f1 f2 f3 f4 e = close_form line fields c (named (codes "close") f4) e
+      go false false false false f1 f2 f3 f4 e = absurd cc
 
 pub command_read : (line : List ℕ) (c : Command) → CommandForm c line → command_at line ≡ Some c
 unfolding command_at
-command_read line (subscribe capacity digits None) j = rw (named_line (codes "sub") line j (lacks_all 32 (codes "sub") refl), subscribe_read j.second capacity digits j.after) refl
-command_read line (subscribe capacity digits (Some first)) j = rw (named_line (codes "sub") line j (lacks_all 32 (codes "sub") refl), subscribe_from_read j.second capacity first digits j.after) refl
+command_read line (subscribe One capacity digits None) j = rw (named_line (codes "sub") line j (lacks_all 32 (codes "sub") refl), subscribe_read j.second One capacity digits j.after) refl
+command_read line (subscribe One capacity digits (Some first)) j = rw (named_line (codes "sub") line j (lacks_all 32 (codes "sub") refl), subscribe_from_read j.second One capacity first digits j.after) refl
+command_read line (subscribe Two capacity digits None) j = rw (named_line (codes "sub2") line j (lacks_all 32 (codes "sub2") refl), subscribe_read j.second Two capacity digits j.after) refl
+command_read line (subscribe Two capacity digits (Some first)) j = rw (named_line (codes "sub2") line j (lacks_all 32 (codes "sub2") refl), subscribe_from_read j.second Two capacity first digits j.after) refl
 command_read line (pull subscriber count) j = rw (named_line (codes "pull") line j (lacks_all 32 (codes "pull") refl), pull_read j.second subscriber count j.after) refl
 command_read line (close subscriber) j = rw (named_line (codes "close") line j (lacks_all 32 (codes "close") refl), close_read j.second subscriber j.after) refl
 
 -- ---- what is answered to a line
 never : (c : Command) → Grants c (Err BadCommand) → ⊥
-never (subscribe capacity digits first) g = g
+never (subscribe profile capacity digits first) g = g
 never (pull subscriber count) g = g
 never (close subscriber) g = g
 

@@ -3,15 +3,18 @@ use Rattle.std.specs.Prelude.{◌≡◌, ◌≢◌, ℕ, ◌^◌, ◌<◌, ◌�
 use Rattle.std.specs.List.{AllByRecursion}
 use Rattle.hex.specs.Hex.{decode_of}
 use Rattle.hex.specs.declared.error.FromHexError.{FromHexError}
+use Rattle.bpf_words.specs.declared.profile.Profile.{Profile}
+use Rattle.bpf_words.specs.declared.profile.Profile.TheVariants.{One, Two}
 use Rattle.change_ops.specs.Forms.{Numeral, Word, ◌⎵◌}
 use Rattle.session_lines.specs.declared.request.SessionRequest.{SessionRequest}
 use Rattle.session_lines.specs.declared.request.SessionRequest.TheVariants.{Subscribe, Pull, Close}
 use Rattle.session_lines.specs.declared.fault.LineRefusal.{LineRefusal}
 use Rattle.session_lines.specs.declared.fault.LineRefusal.TheVariants.{BadCommand, BadCapacity, BadHex, OutOfMemory}
 
--- what a line says; a subscription is from the latest version on, or from the one that it names
+-- what a line says; a subscription is of a program that may read what the profile lets it, and from the latest version on, or from
+-- the one that it names
 pub data Command : Type 0 where
-  subscribe : (capacity : ℕ) (digits : List ℕ) (first : Option ℕ) → Command
+  subscribe : (profile : Profile) (capacity : ℕ) (digits : List ℕ) (first : Option ℕ) → Command
   pull : (subscriber count : ℕ) → Command
   close : (subscriber : ℕ) → Command
 
@@ -35,19 +38,24 @@ pub record OneWord (digits word : List ℕ) : Type 0 where
   pub some : 1 ≤ length digits
   pub one : AllByRecursion (λ b. b ≢ 32) digits
 
+-- the word for a subscription
+abbrev pub name_of : Profile → List ℕ
+name_of One = codes "sub"
+name_of Two = codes "sub2"
+
 -- a line, without its LF
 abbrev pub CommandForm : Command → List ℕ → Type 0
-CommandForm (subscribe capacity digits None) = Word (codes "sub") ⎵ Number capacity ⎵ OneWord digits
-CommandForm (subscribe capacity digits (Some first)) = Word (codes "sub") ⎵ Number capacity ⎵ OneWord digits ⎵ Word (codes "from") ⎵ Number first
+CommandForm (subscribe profile capacity digits None) = Word (name_of profile) ⎵ Number capacity ⎵ OneWord digits
+CommandForm (subscribe profile capacity digits (Some first)) = Word (name_of profile) ⎵ Number capacity ⎵ OneWord digits ⎵ Word (codes "from") ⎵ Number first
 CommandForm (pull subscriber count) = Word (codes "pull") ⎵ Number subscriber ⎵ Count count
 CommandForm (close subscriber) = Word (codes "close") ⎵ Number subscriber
 
 -- What is asked for by what a line says, or why it is refused; the capacity is looked at before the digits.
 abbrev pub Grants : Command → Result SessionRequest LineRefusal → Type 0
-Grants (subscribe capacity digits first) (Ok (Subscribe room program from)) = (room ≡ capacity) × IsCount capacity × (decode_of digits ≡ Ok program.items) × (from ≡ first)
-Grants (subscribe capacity digits first) (Err BadCapacity) = ¬ (IsCount capacity)
-Grants (subscribe capacity digits first) (Err BadHex) = IsCount capacity × ((error : FromHexError) × (decode_of digits ≡ Err error))
-Grants (subscribe capacity digits first) (Err OutOfMemory) = IsCount capacity
+Grants (subscribe profile capacity digits first) (Ok (Subscribe reads room program from)) = (reads ≡ profile) × (room ≡ capacity) × IsCount capacity × (decode_of digits ≡ Ok program.items) × (from ≡ first)
+Grants (subscribe profile capacity digits first) (Err BadCapacity) = ¬ (IsCount capacity)
+Grants (subscribe profile capacity digits first) (Err BadHex) = IsCount capacity × ((error : FromHexError) × (decode_of digits ≡ Err error))
+Grants (subscribe profile capacity digits first) (Err OutOfMemory) = IsCount capacity
 Grants (pull subscriber count) (Ok (Pull id most)) = (id ≡ subscriber) × (most ≡ count)
 Grants (close subscriber) (Ok (Close id)) = id ≡ subscriber
 Grants command answer = ⊥

@@ -2,6 +2,8 @@
 use Rattle.std.specs.Prelude.{ℕ, ◌+◌, ◌*◌, ◌^◌, nat_lt, nat_le, ◌==◌, ◌&&◌, not, Bool, if◌then◌else◌, List, length, codes, Option, Some, None}
 use Rattle.std.specs.List.{list_all}
 use Rattle.std.specs.Str.{bytes_eq}
+use Rattle.bpf_words.specs.declared.profile.Profile.{Profile}
+use Rattle.bpf_words.specs.declared.profile.Profile.TheVariants.{One, Two}
 use Rattle.change_ops.specs.Ids.{checked}
 use Rattle.change_ops.specs.Words.{split, digit_of, number_in}
 use Rattle.change_ops.specs.Reading.{◌>>=◌}
@@ -28,25 +30,25 @@ is_one_word word = nat_le 1 (length word) && list_all (λ b. not (b == 32)) word
 
 -- what a line says, as it is read
 abbrev pub said : LentCommand → Command
-said (Subscribe capacity digits first) = subscribe capacity digits.now first
+said (Subscribe profile capacity digits first) = subscribe profile capacity digits.now first
 said (Pull subscriber count) = pull subscriber count
 said (Close subscriber) = close subscriber
 
-unfoldable pub from_at : ℕ → List ℕ → Option Command
-from_at capacity text = do
+unfoldable pub from_at : Profile → ℕ → List ℕ → Option Command
+from_at profile capacity text = do
   parts ← split 32 text
   more ← split 32 parts.1
   first ← small (number_in 10 more.1)
-  if is_one_word parts.0 && bytes_eq more.0 (codes "from") then Some (subscribe capacity parts.0 (Some first)) else None
+  if is_one_word parts.0 && bytes_eq more.0 (codes "from") then Some (subscribe profile capacity parts.0 (Some first)) else None
 
-abbrev pub program_at : ℕ → List ℕ → Option Command
-program_at capacity text = if is_one_word text then Some (subscribe capacity text None) else from_at capacity text
+abbrev pub program_at : Profile → ℕ → List ℕ → Option Command
+program_at profile capacity text = if is_one_word text then Some (subscribe profile capacity text None) else from_at profile capacity text
 
-unfoldable pub subscribe_at : List ℕ → Option Command
-subscribe_at fields = do
+unfoldable pub subscribe_at : Profile → List ℕ → Option Command
+subscribe_at profile fields = do
   parts ← split 32 fields
   capacity ← small (number_in 10 parts.0)
-  program_at capacity parts.1
+  program_at profile capacity parts.1
 
 unfoldable pub pull_at : List ℕ → Option Command
 pull_at fields = do
@@ -64,6 +66,7 @@ close_at fields = do
 unfoldable pub command_at : List ℕ → Option Command
 command_at line = do
   parts ← split 32 line
-  if bytes_eq parts.0 (codes "sub") then subscribe_at parts.1 else
+  if bytes_eq parts.0 (codes "sub") then subscribe_at One parts.1 else
+      if bytes_eq parts.0 (codes "sub2") then subscribe_at Two parts.1 else
       if bytes_eq parts.0 (codes "pull") then pull_at parts.1 else
       if bytes_eq parts.0 (codes "close") then close_at parts.1 else None

@@ -10,9 +10,12 @@ ghost use Rattle.session_lines.specs.declared.fault.LineRefusal.TheVariants as w
 use crate::fault::LineRefusal;
 use crate::request::SessionRequest;
 use crate::words::{is_one_word, number, word_of};
+use bpf_words::profile::Profile;
 use std::alloc::Global;
 
 const SUBSCRIBE: &[u8] = b"sub";
+
+const SUBSCRIBE_TWO: &[u8] = b"sub2";
 
 const FROM: &[u8] = b"from";
 
@@ -24,6 +27,7 @@ const CLOSE: &[u8] = b"close";
 #[derive(Clone, Copy)]
 enum LentCommand<'a> {
     Subscribe {
+        profile: Profile,
         capacity: u64,
         digits: &'a [u8],
         first: Option<u64>,
@@ -46,8 +50,8 @@ fn is_count(number: u64) -> bool
 
 /// What follows the capacity of a subscription from a version on.
 #[tactic(auto, unfolding(crate::specs::Reading::from_at))]
-fn from_in(capacity: u64, text: &[u8]) -> Option<LentCommand<'_>>
-    ensures { option_map said result ≡ from_at capacity text.now }
+fn from_in(profile: Profile, capacity: u64, text: &[u8]) -> Option<LentCommand<'_>>
+    ensures { option_map said result ≡ from_at profile capacity text.now }
 {
     let (digits, rest) = word_of(text)?;
     let (name, first) = word_of(rest)?;
@@ -56,6 +60,7 @@ fn from_in(capacity: u64, text: &[u8]) -> Option<LentCommand<'_>>
         return None;
     }
     Some(LentCommand::Subscribe {
+        profile,
         capacity,
         digits,
         first: Some(first),
@@ -63,27 +68,28 @@ fn from_in(capacity: u64, text: &[u8]) -> Option<LentCommand<'_>>
 }
 
 /// What follows a subscription's capacity.
-fn program_in(capacity: u64, text: &[u8]) -> Option<LentCommand<'_>>
-    ensures { option_map said result ≡ program_at capacity text.now }
+fn program_in(profile: Profile, capacity: u64, text: &[u8]) -> Option<LentCommand<'_>>
+    ensures { option_map said result ≡ program_at profile capacity text.now }
 {
     if is_one_word(text) {
         return Some(LentCommand::Subscribe {
+            profile,
             capacity,
             digits: text,
             first: None,
         });
     }
-    from_in(capacity, text)
+    from_in(profile, capacity, text)
 }
 
-/// What follows `sub`.
+/// What follows `sub` or `sub2`.
 #[tactic(auto, unfolding(crate::specs::Reading::subscribe_at))]
-fn subscribe_in(fields: &[u8]) -> Option<LentCommand<'_>>
-    ensures { option_map said result ≡ subscribe_at fields.now }
+fn subscribe_in(profile: Profile, fields: &[u8]) -> Option<LentCommand<'_>>
+    ensures { option_map said result ≡ subscribe_at profile fields.now }
 {
     let (capacity, text) = word_of(fields)?;
     let capacity = number(capacity)?;
-    program_in(capacity, text)
+    program_in(profile, capacity, text)
 }
 
 /// What follows `pull`.
@@ -116,7 +122,9 @@ fn command_in(line: &[u8]) -> Option<LentCommand<'_>>
 {
     let (name, fields) = word_of(line)?;
     if name == SUBSCRIBE {
-        subscribe_in(fields)
+        subscribe_in(Profile::One, fields)
+    } else if name == SUBSCRIBE_TWO {
+        subscribe_in(Profile::Two, fields)
     } else if name == PULL {
         pull_in(fields)
     } else if name == CLOSE {
@@ -141,17 +149,19 @@ fn program_of(alloc: Global, digits: &[u8]) -> Result<Vec<u8>, LineRefusal>
 /// A subscription to a program; the capacity is looked at before the digits.
 fn subscription(
     alloc: Global,
+    profile: Profile,
     capacity: u64,
     digits: &[u8],
     first: Option<u64>,
 ) -> Result<SessionRequest, LineRefusal>
-    ensures { Grants (subscribe capacity digits.now first) result }
+    ensures { Grants (subscribe profile capacity digits.now first) result }
 {
     if !is_count(capacity) {
         return Err(LineRefusal::BadCapacity);
     }
     let program = program_of(alloc, digits)?;
     Ok(SessionRequest::Subscribe {
+        profile,
         capacity: capacity as usize,
         program,
         first,
@@ -164,10 +174,11 @@ fn request_of(alloc: Global, command: LentCommand<'_>) -> Result<SessionRequest,
 {
     match command {
         LentCommand::Subscribe {
+            profile,
             capacity,
             digits,
             first,
-        } => subscription(alloc, capacity, digits, first),
+        } => subscription(alloc, profile, capacity, digits, first),
         LentCommand::Pull { subscriber, count } => Ok(SessionRequest::Pull {
             subscriber: subscriber as usize,
             count: count as usize,

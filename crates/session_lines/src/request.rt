@@ -12,6 +12,7 @@ use crate::changes::{followers, is_header, push_line};
 use crate::commands::command_of;
 use crate::fault::{LineRefusal, ReadFault};
 use crate::reader::{Arrival, LineReader};
+use bpf_words::profile::Profile;
 use change_ops::change::{Change, read_change};
 use change_ops::refusal::ChangeError;
 use std::alloc::Global;
@@ -22,9 +23,10 @@ use std::io::Read;
 pub enum SessionRequest {
     /// To accept a change.
     Change(Change),
-    /// To add a subscriber: with room for 1 to 1,024 items, with bytes that are yet to be looked at as a program's, and from the
-    /// latest version on, or from the one with this number.
+    /// To add a subscriber: with room for 1 to 1,024 items, with bytes that are yet to be looked at as those of a program that reads
+    /// what the profile lets it, and from the latest version on, or from the one with this number.
     Subscribe {
+        profile: Profile,
         capacity: usize,
         program: Vec<u8>,
         first: Option<u64>,

@@ -3,9 +3,10 @@ use Rattle.std.proofs.Common.{◌≡◌, ℕ, ◌<◌, ◌==◌, List, [], Resul
 use Rattle.std.specs.Prelude.{Some, None, IfOk, IfErr, Bool, IsTrue, ◌↔◌}
 use Rattle.std.proofs.lemmas.List.Quantifiers.{position-Some}
 use Rattle.std.proofs.lemmas.Option.{slice_get_read}
+use Rattle.bpf_words.specs.declared.profile.Profile.{Profile}
 use Rattle.bpf_words.specs.Words.{IsProgram, program_of}
 use Rattle.meaning.specs.Step.{Program}
-use Rattle.meaning.specs.Safe.{Safe}
+use Rattle.meaning.specs.Safe.{SafeIn}
 use Rattle.batches.specs.Batches.{Entry}
 use Rattle.ingest_workers.specs.Holdings.{InOneHolding}
 use Rattle.refusals.specs.declared.reason.Reason.TheVariants as reason
@@ -41,8 +42,8 @@ pub full : (test : Bool) → IsTrue test → InOneHolding (λ old new. (new ≡ 
 full test is found = (found.0, found.1, (found.2.0, found.2.1.0 is), found.3)
 
 -- the bytes of a program that was accepted
-pub safe_bytes : (program : Program) (bytes : List ℕ) → IsProgram bytes × (program ≡ program_of bytes) × Safe program → AreSafe bytes
-safe_bytes program bytes h = (h.0, subst Safe h.1 h.2)
+pub safe_bytes : (profile : Profile) (program : Program) (bytes : List ℕ) → IsProgram bytes × (program ≡ program_of bytes) × SafeIn profile program → AreSafe profile bytes
+safe_bytes profile program bytes h = (h.0, subst (SafeIn profile) h.1 h.2)
 
 -- an error that is passed on
 pub passed_on : {T E : Type 0} (r : Result T E) (e : E) (P : E → Type 0) → IsErrAnd r (λ y. y ≡ e) → P e → IfErr r P

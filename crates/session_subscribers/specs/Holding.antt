@@ -1,9 +1,11 @@
 -- The subscribers of a session, and what requests do to them.
 use Rattle.std.specs.Prelude.{◌≡◌, ◌<◌, ◌≤◌, ◌⊎◌, ◌==◌, ℕ, Option, None, Some, Result, Ok, List, [], ◌∷◌, ◌++◌, length, position, slice_get, slice_set, ⊤}
 use Rattle.std.specs.List.{remove}
+use Rattle.bpf_words.specs.declared.profile.Profile.{Profile}
 use Rattle.bpf_words.specs.Words.{IsProgram, IsRefused, program_of}
 use Rattle.meaning.specs.Step.{Program}
-use Rattle.meaning.specs.Safe.{Safe}
+use Rattle.meaning.specs.Safe.{SafeIn}
+use Rattle.verifier.specs.Judged.{Rejects}
 use Rattle.version_history.specs.Tokens.{Token}
 use Rattle.batches.specs.Batches.{Entry}
 use Rattle.hub_core.specs.Machine.{State, Subscribes, Closes as ClosesAtHub}
@@ -30,34 +32,34 @@ abbrev pub first_of : Option ℕ → State Sending → ℕ
 first_of None s = length s.changes
 first_of (Some number) s = number
 
--- the program of these bytes, each run of which ends with a number, was subscribed under this id with an empty queue of this capacity, from its
--- first version on
-pub record IsSubscribed (capacity : ℕ) (bytes : List ℕ) (first : Option ℕ) (id : ℕ) : Type 0 where
+-- the program of these bytes, each run of which on what the profile lends ends with a number, was subscribed under this id with an empty
+-- queue of this capacity, from its first version on
+pub record IsSubscribed (profile : Profile) (capacity : ℕ) (bytes : List ℕ) (first : Option ℕ) (id : ℕ) : Type 0 where
   pub program : IsProgram bytes
-  pub safe : Safe (program_of bytes)
+  pub safe : SafeIn profile (program_of bytes)
   pub token : Token Program
   pub same : token.value ≡ program_of bytes
   pub holding : InOneHolding (λ old new. Subscribes old (first_of first old) token (record { sent = []; capacity = capacity }) (Ok id) new)
 
--- the bytes are a program, each run of which ends with a number
-abbrev pub AreSafe : List ℕ → Type 0
-AreSafe bytes = IsProgram bytes × Safe (program_of bytes)
+-- the bytes are a program, each run of which on what the profile lends ends with a number
+abbrev pub AreSafe : Profile → List ℕ → Type 0
+AreSafe profile bytes = IsProgram bytes × SafeIn profile (program_of bytes)
 
 -- why it was not
-abbrev pub IsNotSubscribed : ℕ → List ℕ → Option ℕ → Reason → Type 0
-IsNotSubscribed capacity bytes first (reason.Words error) = IsRefused bytes error
-IsNotSubscribed capacity bytes first (reason.Unverified error) = IsProgram bytes
-IsNotSubscribed capacity bytes first reason.BadCapacity = AreSafe bytes × (¬ IsCapacity capacity)
-IsNotSubscribed capacity bytes first reason.SubscribersFull = AreSafe bytes × InOneHolding (λ old new. (new ≡ old) × (length old.subs ≡ 64))
-IsNotSubscribed capacity bytes (Some number) reason.NoVersion = AreSafe bytes × InOneHolding (λ old new. (new ≡ old) × (length old.changes < number))
-IsNotSubscribed capacity bytes first reason.OutOfMemory = AreSafe bytes
-IsNotSubscribed capacity bytes first _ = ⊥
+abbrev pub IsNotSubscribed : Profile → ℕ → List ℕ → Option ℕ → Reason → Type 0
+IsNotSubscribed profile capacity bytes first (reason.Words error) = IsRefused bytes error
+IsNotSubscribed profile capacity bytes first (reason.Unverified error) = IsProgram bytes × Rejects profile (program_of bytes) error
+IsNotSubscribed profile capacity bytes first reason.BadCapacity = AreSafe profile bytes × (¬ IsCapacity capacity)
+IsNotSubscribed profile capacity bytes first reason.SubscribersFull = AreSafe profile bytes × InOneHolding (λ old new. (new ≡ old) × (length old.subs ≡ 64))
+IsNotSubscribed profile capacity bytes (Some number) reason.NoVersion = AreSafe profile bytes × InOneHolding (λ old new. (new ≡ old) × (length old.changes < number))
+IsNotSubscribed profile capacity bytes first reason.OutOfMemory = AreSafe profile bytes
+IsNotSubscribed profile capacity bytes first _ = ⊥
 
 -- one more is held, of which nothing was taken; or the same as before
-abbrev pub Adds : ℕ → List ℕ → Option ℕ → List Watched → Reply → List Watched → Type 0
-Adds capacity bytes first held (reply.Subscribed id) held' = (held' ≡ held ++ record { id = id; taken = [] } ∷ []) × IsSubscribed capacity bytes first id
-Adds capacity bytes first held (reply.Refused why) held' = (held' ≡ held) × IsNotSubscribed capacity bytes first why
-Adds capacity bytes first held _ held' = ⊥
+abbrev pub Adds : Profile → ℕ → List ℕ → Option ℕ → List Watched → Reply → List Watched → Type 0
+Adds profile capacity bytes first held (reply.Subscribed id) held' = (held' ≡ held ++ record { id = id; taken = [] } ∷ []) × IsSubscribed profile capacity bytes first id
+Adds profile capacity bytes first held (reply.Refused why) held' = (held' ≡ held) × IsNotSubscribed profile capacity bytes first why
+Adds profile capacity bytes first held _ held' = ⊥
 
 -- the hub was asked to close this one; where the hub has it as closed, it is refused and stays so
 abbrev pub IsClosed : ℕ → Type 0

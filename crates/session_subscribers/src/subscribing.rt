@@ -1,11 +1,13 @@
 ghost use Rattle.std.specs.Prelude.{◌≡◌, ℕ, List, Option, [], Ok, IfOk, IfErr};
 ghost use Rattle.bpf_words.specs.Words.{IsProgram, program_of};
-ghost use Rattle.meaning.specs.Safe.{Safe};
+ghost use Rattle.bpf_words.specs.declared.profile.Profile.{Profile as TheProfile};
+ghost use Rattle.meaning.specs.Safe.{SafeIn};
 ghost use Rattle.hub_core.specs.Machine.{Subscribes};
 ghost use Rattle.ingest_workers.specs.Holdings.{InOneHolding};
 ghost use Rattle.session_subscribers.specs.Holding.{AreSafe, first_of, IsNotSubscribed, Adds, Closes};
 
 use crate::session_hub::{Held, SessionHub, place_of};
+use bpf_words::profile::Profile;
 use bpf_words::words::Words;
 use hub_core::error::SubscribeError;
 use refusals::reason::Reason;
@@ -24,7 +26,7 @@ fn ends<N: Naming, R: Wait + Copy>(
     capacity: usize,
 ) -> Result<(QueueSink<N, R>, Subscription<N, R>), Reason>
     ensures ok { IfOk result (λ q. (q.0 ≡ record { sent = []; capacity = capacity }) × (q.1 ≡ [])) }
-    ensures err { IfErr result (λ why. (bytes : List ℕ) (first : Option ℕ) → AreSafe bytes → IsNotSubscribed capacity bytes first why) }
+    ensures err { IfErr result (λ why. (profile : TheProfile) (bytes : List ℕ) (first : Option ℕ) → AreSafe profile bytes → IsNotSubscribed profile capacity bytes first why) }
 {
     match queue(rt, alloc, capacity) {
         Ok(ends) => Ok(ends),
@@ -33,16 +35,16 @@ fn ends<N: Naming, R: Wait + Copy>(
     }
 }
 
-/// The accepted program of these bytes.
-fn accepted(alloc: Global, bytes: &[u8]) -> Result<Verified, Reason>
-    ensures ok { IfOk result (λ program. IsProgram bytes.now × (program ≡ program_of bytes.now) × Safe program) }
-    ensures err { IfErr result (λ why. (capacity : ℕ) (first : Option ℕ) → IsNotSubscribed capacity bytes.now first why) }
+/// The program of these bytes, accepted by what the profile lets it read.
+fn accepted(alloc: Global, profile: Profile, bytes: &[u8]) -> Result<Verified, Reason>
+    ensures ok { IfOk result (λ program. IsProgram bytes.now × (program ≡ program_of bytes.now) × SafeIn profile program) }
+    ensures err { IfErr result (λ why. (capacity : ℕ) (first : Option ℕ) → IsNotSubscribed profile capacity bytes.now first why) }
 {
     let words = match Words::new(bytes) {
         Ok(words) => words,
         Err(error) => return Err(Reason::Words(error)),
     };
-    match verify(alloc, &words) {
+    match verify(alloc, &words, profile) {
         Ok(program) => Ok(program),
         Err(error) => Err(Reason::Unverified(error)),
     }
@@ -62,7 +64,7 @@ impl<N: Naming + Ledger, R: Wait + Copy> SessionHub<'_, '_, N, R> {
 
     /// Refuses what the hub would refuse whatever the program is.
     fn check(&self, first: Option<u64>) -> Result<(), Reason>
-        ensures { IfErr result (λ why. (capacity : ℕ) (bytes : List ℕ) → AreSafe bytes → IsNotSubscribed capacity bytes first why) }
+        ensures { IfErr result (λ why. (profile : TheProfile) (capacity : ℕ) (bytes : List ℕ) → AreSafe profile bytes → IsNotSubscribed profile capacity bytes first why) }
     {
         if self.hub.is_full(&self.rt) {
             return Err(Reason::SubscribersFull);
@@ -101,7 +103,7 @@ impl<N: Naming + Ledger, R: Wait + Copy> SessionHub<'_, '_, N, R> {
     ) -> Result<usize, Reason>
         requires { sink.sent ≡ [] }
         ensures ok { IfOk result (λ id. InOneHolding (λ old new. Subscribes old (first_of first old) token sink (Ok id) new)) }
-        ensures err { IfErr result (λ why. (capacity : ℕ) (bytes : List ℕ) → AreSafe bytes → IsNotSubscribed capacity bytes first why) }
+        ensures err { IfErr result (λ why. (profile : TheProfile) (capacity : ℕ) (bytes : List ℕ) → AreSafe profile bytes → IsNotSubscribed profile capacity bytes first why) }
     {
         match self.subscribed(token, sink, first) {
             Ok(id) => Ok(id),
@@ -119,14 +121,15 @@ impl<N: Naming + Ledger, R: Wait + Copy> SessionHub<'_, '_, N, R> {
     fn add(
         &self,
         held: &mut Vec<Held<N, R>>,
+        profile: Profile,
         capacity: usize,
         bytes: &[u8],
         first: Option<u64>,
     ) -> Result<usize, Reason>
-        ensures ok { IfOk result (λ id. Adds capacity bytes.now first held.old.items (Reply.Subscribed id) held.new.items) }
-        ensures err { IfErr result (λ why. Adds capacity bytes.now first held.old.items (Reply.Refused why) held.new.items) }
+        ensures ok { IfOk result (λ id. Adds profile capacity bytes.now first held.old.items (Reply.Subscribed id) held.new.items) }
+        ensures err { IfErr result (λ why. Adds profile capacity bytes.now first held.old.items (Reply.Refused why) held.new.items) }
     {
-        let program = accepted(self.alloc, bytes)?;
+        let program = accepted(self.alloc, profile, bytes)?;
         self.check(first)?;
         if held.reserve(1).is_err() {
             return Err(Reason::OutOfMemory);
@@ -138,17 +141,19 @@ impl<N: Naming + Ledger, R: Wait + Copy> SessionHub<'_, '_, N, R> {
         Ok(id)
     }
 
-    /// Adds a subscriber: its program, how many items may wait for it, and its first version, the latest where none is named.
+    /// Adds a subscriber: its program and what it may read, how many items may wait for it, and its first version, the latest where none
+    /// is named.
     pub fn subscribe(
         &self,
         held: &mut Vec<Held<N, R>>,
+        profile: Profile,
         capacity: usize,
         bytes: &[u8],
         first: Option<u64>,
     ) -> Reply
-        ensures { Adds capacity bytes.now first held.old.items result held.new.items }
+        ensures { Adds profile capacity bytes.now first held.old.items result held.new.items }
     {
-        match self.add(held, capacity, bytes, first) {
+        match self.add(held, profile, capacity, bytes, first) {
             Ok(id) => Reply::Subscribed(id),
             Err(reason) => Reply::Refused(reason),
         }

@@ -1,8 +1,7 @@
--- What a program may learn of a span beside its text.
-use Rattle.std.specs.Prelude.{ℕ, ◌+◌, Bool, List, length, chars, is_some, unwrap_or, nat_lt, if◌then◌else◌}
-use Rattle.std.specs.Option.{option_map_or}
+-- What a span lends to a program: its context, its text and the text of its link.
+use Rattle.std.specs.Prelude.{ℕ, ◌+◌, Bool, List, [], length, chars, is_some, unwrap_or, nat_lt, if◌then◌else◌}
 use Rattle.bpf_words.specs.declared.context.Facts.{Facts}
-use Rattle.bpf_words.specs.Context.{context_bytes}
+use Rattle.bpf_words.specs.Context.{SpanBytes, span_bytes, context_bytes}
 use Rattle.mark_anchors.specs.Formatting.{Formatting}
 use Rattle.span_view.specs.Views.{LentSpan}
 
@@ -16,6 +15,10 @@ flags_of format =
     flag format.strong 1 + flag format.em 2 + flag (is_some format.link) 4 + flag (is_some format.color) 8
     + flag (nat_lt 0 (length format.comments)) 16
 
+-- the text of the span's link, none where it has no link
+abbrev pub link_of : LentSpan → List ℕ
+link_of span = unwrap_or span.format.link []
+
 -- lengths are in bytes; a color or a link that is not there counts as 0
 abbrev pub facts_of : LentSpan → Facts
 facts_of span = record {
@@ -23,7 +26,7 @@ facts_of span = record {
   characters = length (chars span.text);
   flags = flags_of span.format;
   color = unwrap_or span.format.color 0;
-  link_len = option_map_or (λ target. length target) span.format.link 0;
+  link_len = length (link_of span);
   comments = length span.format.comments;
   index = span.index;
   count = span.count;
@@ -32,3 +35,6 @@ facts_of span = record {
 
 abbrev pub context_of : LentSpan → List ℕ
 context_of span = context_bytes (facts_of span)
+
+abbrev pub bytes_of : LentSpan → SpanBytes
+bytes_of span = span_bytes (context_of span) span.text (link_of span)

@@ -1,7 +1,6 @@
 ghost use Rattle.std.specs.Prelude.{◌≡◌, ◌≤◌, chars, length, unwrap_or};
-ghost use Rattle.std.specs.Option.{option_map_or};
-ghost use Rattle.bpf_words.specs.Context.{Fits};
-ghost use Rattle.span_view.specs.ContextOf.{flag, flags_of, facts_of, context_of};
+ghost use Rattle.bpf_words.specs.Context.{Fits, span_bytes};
+ghost use Rattle.span_view.specs.ContextOf.{flag, flags_of, facts_of, context_of, link_of};
 
 use crate::view::SpanView;
 use bpf_words::context::{Context, Facts};
@@ -41,12 +40,14 @@ fn character_count(text: &str) -> u32
     text.chars().count() as u32
 }
 
-fn link_length(format: &Format) -> u32
-    ensures { result ≡ option_map_or (λ target. length target) format.now.link 0 }
+/// The text of the span's link, borrowed from its format; it has no byte where the span has no link.
+pub fn link<'a>(span: &SpanView<'a>) -> &'a [u8]
+    ensures value { result.now ≡ link_of span.now }
+    ensures short { length result.now ≤ 1024 }
 {
-    match format.link() {
-        Some(link) => link.target().len() as u32,
-        None => 0,
+    match span.format.link() {
+        Some(link) => link.target().as_bytes(),
+        None => &[],
     }
 }
 
@@ -77,6 +78,7 @@ fn comment_count(format: &Format) -> u32
 fn facts(span: &SpanView) -> Facts
     ensures value { result ≡ facts_of span.now }
     ensures short { result.text_len ≤ 131072 }
+    ensures link_short { result.link_len ≤ 1024 }
 {
     let format = span.format;
     Facts {
@@ -84,7 +86,7 @@ fn facts(span: &SpanView) -> Facts
         characters: character_count(span.text),
         flags: flags(format),
         color: color_number(format),
-        link_len: link_length(format),
+        link_len: link(span).len() as u32,
         comments: comment_count(format),
         index: span.index as u32,
         count: span.count as u32,
@@ -95,7 +97,7 @@ fn facts(span: &SpanView) -> Facts
 /// The context that a program reads of the span.
 pub fn context(span: &SpanView) -> Context
     ensures value { result ≡ context_of span.now }
-    ensures fits { Fits result span.now.text }
+    ensures fits { Fits (span_bytes result span.now.text (link_of span.now)) }
 {
     Context::new(&facts(span))
 }

@@ -9,6 +9,7 @@ use Rattle.verifier.specs.declared.refusal.VerifyError.TheVariants.{OutOfMemory}
 use Rattle.std.specs.declared.alloc.Global.{Global}
 use Rattle.std.proofs.lemmas.Bool.{cases_eq}
 use Rattle.std.proofs.lemmas.Option.{same_Some, slice_get_within}
+use Rattle.bpf_words.specs.declared.profile.Profile.{Profile}
 use Rattle.bpf_words.specs.declared.instruction.Insn.{Insn}
 use Rattle.bpf_words.specs.declared.instruction.Insn.TheVariants.{Compute, Negate, Extend, Convert, Jump, JumpLong, Branch, Load, LoadSigned, Store, LoadWide, Exit}
 use Rattle.bpf_words.specs.Flow.{StartsAt, IsPaired, jump_of, slots_of, falls_through}
@@ -25,27 +26,27 @@ use Rattle.verifier.proofs.Passing.{IsStraight}
 use Rattle.verifier.proofs.Taking.{straight_long}
 use Rattle.verifier.proofs.Walking.{fall_starts, starts_at}
 
-pub at_none : (program : Program) (slot : ℕ) → ArisesAt program slot None
-at_none program slot a e = absurd (cc)
+pub at_none : (profile : Profile) (program : Program) (slot : ℕ) → ArisesAt profile program slot None
+at_none profile program slot a e = absurd (cc)
 
-pub at_one : (program : Program) (slot : ℕ) (a : AbsState) → Arises program slot a → ArisesAt program slot (Some a)
-at_one program slot a arises b e = subst (λ x. Arises program slot x) (same_Some a b e) arises
+pub at_one : (profile : Profile) (program : Program) (slot : ℕ) (a : AbsState) → Arises profile program slot a → ArisesAt profile program slot (Some a)
+at_one profile program slot a arises b e = subst (λ x. Arises profile program slot x) (same_Some a b e) arises
 
 -- ---- what waits, where one slot's entry is written
-pub arise_added : (program : Program) (states : States) (slot : ℕ) (empty : Option (Box AbsState Global)) (boxed : Box AbsState Global) → slot < length states → AllArise program states → IsTarget program slot → Arises program slot boxed.value → AllArise program (set (set states slot empty) slot (Some boxed))
-arise_added program states slot empty boxed within all target arises other a e =
+pub arise_added : (profile : Profile) (program : Program) (states : States) (slot : ℕ) (empty : Option (Box AbsState Global)) (boxed : Box AbsState Global) → slot < length states → AllArise profile program states → IsTarget program slot → Arises profile program slot boxed.value → AllArise profile program (set (set states slot empty) slot (Some boxed))
+arise_added profile program states slot empty boxed within all target arises other a e =
     ⊎_elim
     (λ (here : other ≡ slot).
     let there = set_twice states slot empty boxed within in
     let is : Some boxed.value ≡ Some a = sym there ∙ ap (waiting_at (set (set states slot empty) slot (Some boxed))) (sym here) ∙ e in
-    subst (λ k. IsTarget program k × Arises program k a) (sym here) (target, subst (λ x. Arises program slot x) (same_Some boxed.value a is) arises))
+    subst (λ k. IsTarget program k × Arises profile program k a) (sym here) (target, subst (λ x. Arises profile program slot x) (same_Some boxed.value a is) arises))
     (λ (apart : other ≡ slot → ⊥).
     let stays = waiting-set_other (set states slot empty) slot other (Some boxed) apart ∙ waiting-set_other states slot other empty apart in
     all other a (sym stays ∙ e))
     (cases_eq other slot)
 
-pub arise_taken : (program : Program) (states : States) (slot : ℕ) (empty : Option (Box AbsState Global)) → slot < length states → empty ≡ None → AllArise program states → AllArise program (set states slot empty)
-arise_taken program states slot empty within none all other a e =
+pub arise_taken : (profile : Profile) (program : Program) (states : States) (slot : ℕ) (empty : Option (Box AbsState Global)) → slot < length states → empty ≡ None → AllArise profile program states → AllArise profile program (set states slot empty)
+arise_taken profile program states slot empty within none all other a e =
     ⊎_elim
     (λ (here : other ≡ slot).
     let there = waiting-set_same states slot empty within ∙ ap unboxed none in
@@ -54,16 +55,16 @@ arise_taken program states slot empty within none all other a e =
     (λ (apart : other ≡ slot → ⊥). all other a (sym (waiting-set_other states slot other empty apart) ∙ e))
     (cases_eq other slot)
 
-pub read_arises : (program : Program) (states : States) (slot : ℕ) (read taken : Option (Box AbsState Global)) (a : AbsState) → slot < length states → read ≡ get_or states slot read → taken ≡ read → AllArise program states → unboxed taken ≡ Some a → IsTarget program slot × Arises program slot a
-read_arises program states slot read taken a within is same all e = all slot a (read_waiting states slot read taken within is same ∙ e)
+pub read_arises : (profile : Profile) (program : Program) (states : States) (slot : ℕ) (read taken : Option (Box AbsState Global)) (a : AbsState) → slot < length states → read ≡ get_or states slot read → taken ≡ read → AllArise profile program states → unboxed taken ≡ Some a → IsTarget program slot × Arises profile program slot a
+read_arises profile program states slot read taken a within is same all e = all slot a (read_waiting states slot read taken within is same ∙ e)
 
 empty_of : (o : Option AbsState) → ((a : AbsState) → o ≡ Some a → ⊥) → o ≡ None
 empty_of None never = refl
 empty_of (Some a) never = absurd (never a refl)
 
 -- a structured program's jumps don't lead to the second slot of an instruction, so nothing waits there
-pub nothing_waits : (program : Program) (slot : ℕ) (waiting : States) → IsStructured program → slice_get program slot ≡ Some None → AllArise program waiting → waiting_at waiting slot ≡ None
-nothing_waits program slot waiting structured second all =
+pub nothing_waits : (profile : Profile) (program : Program) (slot : ℕ) (waiting : States) → IsStructured program → slice_get program slot ≡ Some None → AllArise profile program waiting → waiting_at waiting slot ≡ None
+nothing_waits profile program slot waiting structured second all =
     empty_of (waiting_at waiting slot)
     (λ a e.
     let target = (all slot a e).0 in
@@ -90,16 +91,16 @@ straight_falls (Store z b o v) is = refl
 straight_falls (LoadWide d v) is = refl
 straight_falls Exit is = absurd is
 
-pub step_falls : (program : Program) (slot : ℕ) (insn : Insn) (a : AbsState) (o : Option AbsState) → IsStraight insn → StartsAt program slot insn → Arises program slot a → ((b : AbsState) → o ≡ Some b → Takes a insn b) → FallsFrom program slot insn o
-step_falls program slot insn a o straight starts from takes b e =
+pub step_falls : (profile : Profile) (program : Program) (slot : ℕ) (insn : Insn) (a : AbsState) (o : Option AbsState) → IsStraight insn → StartsAt program slot insn → Arises profile program slot a → ((b : AbsState) → o ≡ Some b → Takes profile a insn b) → FallsFrom profile program slot insn o
+step_falls profile program slot insn a o straight starts from takes b e =
     let falls = straight_falls insn straight in
     (falls, fell from starts falls (takes b e) (straight_long a b insn straight))
 
-pub no_falls : (program : Program) (slot : ℕ) (insn : Insn) → FallsFrom program slot insn None
-no_falls program slot insn a e = absurd (cc)
+pub no_falls : (profile : Profile) (program : Program) (slot : ℕ) (insn : Insn) → FallsFrom profile program slot insn None
+no_falls profile program slot insn a e = absurd (cc)
 
-pub edge_falls : (program : Program) (slot : ℕ) (insn : Insn) (a : AbsState) (o : Option AbsState) → StartsAt program slot insn → Arises program slot a → falls_through insn ≡ true → ((b : AbsState) → o ≡ Some b → Takes a insn b × IsLongBehind a insn b) → FallsFrom program slot insn o
-edge_falls program slot insn a o starts from falls takes b e = (falls, fell from starts falls (takes b e).0 (takes b e).1)
+pub edge_falls : (profile : Profile) (program : Program) (slot : ℕ) (insn : Insn) (a : AbsState) (o : Option AbsState) → StartsAt program slot insn → Arises profile program slot a → falls_through insn ≡ true → ((b : AbsState) → o ≡ Some b → Takes profile a insn b × IsLongBehind a insn b) → FallsFrom profile program slot insn o
+edge_falls profile program slot insn a o starts from falls takes b e = (falls, fell from starts falls (takes b e).0 (takes b e).1)
 
 -- the slot to which an instruction jumps
 pub jump_target : (program : Program) (slot n to : ℕ) (insn : Insn) (distance : ℤ) → StartsAt program slot insn → jump_of insn ≡ Some distance → distance ≡ pos n → to ≡ slot + 1 + n → IsTarget program to
@@ -112,9 +113,9 @@ jump_target program slot n to insn distance starts jumps is at = record {
   there = at;
 }
 
-pub jump_arises : (program : Program) (slot n to : ℕ) (insn : Insn) (distance : ℤ) (a b : AbsState) → StartsAt program slot insn → Arises program slot a → jump_of insn ≡ Some distance → distance ≡ pos n → to ≡ slot + 1 + n → Takes a insn b → Arises program to b
-jump_arises program slot n to insn distance a b starts from jumps is at takes =
-    subst (λ k. Arises program k b) (sym at) (jumped from starts (jumps ∙ ap Some is) takes)
+pub jump_arises : (profile : Profile) (program : Program) (slot n to : ℕ) (insn : Insn) (distance : ℤ) (a b : AbsState) → StartsAt program slot insn → Arises profile program slot a → jump_of insn ≡ Some distance → distance ≡ pos n → to ≡ slot + 1 + n → Takes profile a insn b → Arises profile program to b
+jump_arises profile program slot n to insn distance a b starts from jumps is at takes =
+    subst (λ k. Arises profile program k b) (sym at) (jumped from starts (jumps ∙ ap Some is) takes)
 
 -- ---- what falls into an instruction
 one_at_least : (slot : ℕ) (insn : Insn) → slot + 1 ≤ slot + slots_of insn
@@ -131,35 +132,35 @@ one_at_least slot (Store z b o v) = omega arith
 one_at_least slot (LoadWide d v) = omega arith
 one_at_least slot Exit = omega arith
 
-pub falls_here : (program : Program) (slot : ℕ) (insn : Insn) (falling : Option AbsState) → StartsAt program slot insn → FallsAs program slot falling → ArisesAt program slot falling
-falls_here program slot insn falling starts falls a e =
+pub falls_here : (profile : Profile) (program : Program) (slot : ℕ) (insn : Insn) (falling : Option AbsState) → StartsAt program slot insn → FallsAs profile program slot falling → ArisesAt profile program slot falling
+falls_here profile program slot insn falling starts falls a e =
     let f = falls a e in
     let to = f.0 in
     let low = f.1.1 in
     ⊎_elim
-    (λ (same : to ≡ slot). subst (λ k. Arises program k a) same f.1.4)
+    (λ (same : to ≡ slot). subst (λ k. Arises profile program k a) same f.1.4)
     (λ (other : to ≡ slot → ⊥).
     let none = f.1.2 slot (omega arith) (omega arith) in
     let both : Some (Some insn) ≡ Some None = sym starts ∙ none in
     absurd (cc))
     (cases_eq to slot)
 
-pub here_falls : (program : Program) (slot : ℕ) (insn : Insn) (known : Option AbsState) → StartsAt program slot insn → ArisesAt program slot known → FallsAs program slot known
-here_falls program slot insn known starts arises a e =
+pub here_falls : (profile : Profile) (program : Program) (slot : ℕ) (insn : Insn) (known : Option AbsState) → StartsAt program slot insn → ArisesAt profile program slot known → FallsAs profile program slot known
+here_falls profile program slot insn known starts arises a e =
     let none : Between program slot slot = λ k low high. absurd (omega arith) in
     (slot, (insn, (omega arith), none, starts, arises a e))
 
-pub falls_next : (program : Program) (slot : ℕ) (insn : Insn) (falling : Option AbsState) → IsPaired program → IsStructured program → StartsAt program slot insn → FallsFrom program slot insn falling → FallsAs program (slot + 1) falling
-falls_next program slot insn falling paired structured starts falls a e =
+pub falls_next : (profile : Profile) (program : Program) (slot : ℕ) (insn : Insn) (falling : Option AbsState) → IsPaired program → IsStructured program → StartsAt program slot insn → FallsFrom profile program slot insn falling → FallsAs profile program (slot + 1) falling
+falls_next profile program slot insn falling paired structured starts falls a e =
     let f = falls a e in
     let n = fall_starts program slot (slot + slots_of insn) insn paired structured starts f.0 refl in
     (slot + slots_of insn, (n.next, one_at_least slot insn, n.between, n.starts, f.1))
 
-pub dead_falls : (program : Program) (slot : ℕ) → FallsAs program (slot + 1) None
-dead_falls program slot a e = absurd (cc)
+pub dead_falls : (profile : Profile) (program : Program) (slot : ℕ) → FallsAs profile program (slot + 1) None
+dead_falls profile program slot a e = absurd (cc)
 
-pub second_falls : (program : Program) (slot : ℕ) (falling : Option AbsState) → slice_get program slot ≡ Some None → FallsAs program slot falling → FallsAs program (slot + 1) falling
-second_falls program slot falling second falls a e =
+pub second_falls : (profile : Profile) (program : Program) (slot : ℕ) (falling : Option AbsState) → slice_get program slot ≡ Some None → FallsAs profile program slot falling → FallsAs profile program (slot + 1) falling
+second_falls profile program slot falling second falls a e =
     let f = falls a e in
     let to = f.0 in
     let low = f.1.1 in
@@ -171,12 +172,12 @@ second_falls program slot falling second falls a e =
     (λ (other : to ≡ slot → ⊥). (to, (f.1.0, (omega arith), between, f.1.3, f.1.4)))
     (cases_eq to slot)
 
-pub entry_falls : (program : Program) (entry : AbsState) → 0 < length program → IsPaired program → IsContextAt 0 (register_at entry.registers 1) → FallsAs program 0 (Some entry)
-entry_falls program entry some paired context a e =
+pub entry_falls : (profile : Profile) (program : Program) (entry : AbsState) → 0 < length program → IsPaired program → IsContextAt 0 (register_at entry.registers 1) → FallsAs profile program 0 (Some entry)
+entry_falls profile program entry some paired context a e =
     let start = starts_at program 0 some paired.begins in
     let is : entry ≡ a = same_Some entry a e in
     let none : Between program 0 0 = λ k low high. absurd (omega arith) in
-    (0, (start.0, (omega arith), none, start.1, subst (λ x. Arises program 0 x) is (first context)))
+    (0, (start.0, (omega arith), none, start.1, subst (λ x. Arises profile program 0 x) is (first context)))
 
 -- ---- a refusal that is passed on
 pub passed_on : {T : Type 0} (r : Result T VerifyError) (e : VerifyError) (P : VerifyError → Type 0) → IsErrAnd r (λ y. y ≡ e) → P e → IfErr r P
@@ -184,6 +185,6 @@ passed_on (Ok t) e P is p = tt
 passed_on (Err y) e P is p = subst P (sym is) p
 
 -- a program of which each instruction is granted is refused for want of memory alone
-pub only_memory : (program : Program) (e : VerifyError) (P : Type 0) → (P → MayRefuse program → ⊥) → IsCause program e → P → e ≡ OutOfMemory
-only_memory program e P grants (inl none) p = none
-only_memory program e P grants (inr may) p = absurd (grants p may)
+pub only_memory : (profile : Profile) (program : Program) (e : VerifyError) (P : Type 0) → (P → MayRefuse profile program → ⊥) → IsCause profile program e → P → e ≡ OutOfMemory
+only_memory profile program e P grants (inl none) p = none
+only_memory profile program e P grants (inr may) p = absurd (grants p may)

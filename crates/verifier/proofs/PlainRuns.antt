@@ -4,6 +4,7 @@ use Rattle.std.specs.List.{Contains}
 use Rattle.std.proofs.lemmas.List.Elements.{Contains-append_cases, Contains-append_left, Contains-append_right, Contains-push_cases}
 use Rattle.std.proofs.lemmas.Bool.{cases_eq}
 use Rattle.std.proofs.lemmas.Option.{same_Some}
+use Rattle.bpf_words.specs.declared.profile.Profile.{Profile}
 use Rattle.bpf_words.specs.declared.instruction.Arithmetic.{Arithmetic}
 use Rattle.bpf_words.specs.declared.instruction.Arithmetic.TheVariants.{Add, Sub, Mul, Div, Or, And, Lsh, Rsh, Mod, Xor, Mov, Arsh, SignedDiv, SignedMod}
 use Rattle.bpf_words.specs.declared.instruction.Operand.{Operand}
@@ -111,8 +112,8 @@ leaves_r1 a b (Store z base o v) p others = absurd p
 leaves_r1 a b (LoadWide d v) free others = others 1 (λ e. free.1 (sym e))
 leaves_r1 a b Exit p others = ap (λ (s : AbsState). register_at s.registers 1) others
 
-carried_at : (program : Program) (slot to : ℕ) (a b : AbsState) (insn : Insn) → IsPlain program → PlainAt program slot a → StartsAt program slot insn → Leads insn slot to → Takes a insn b → PlainAt program to b
-carried_at program slot to a b insn plain at starts leads takes =
+carried_at : (profile : Profile) (program : Program) (slot to : ℕ) (a b : AbsState) (insn : Insn) → IsPlain program → PlainAt program slot a → StartsAt program slot insn → Leads insn slot to → Takes profile a insn b → PlainAt program to b
+carried_at profile program slot to a b insn plain at starts leads takes =
     let taken = takes.numbers (reads_at program slot a insn plain at starts) in
     record {
       context = subst (IsContextAt 0) (sym (leaves_r1 a b insn (plain.scalar slot insn starts) takes.others)) at.context;
@@ -128,18 +129,18 @@ carried_at program slot to a b insn plain at starts leads takes =
           (is_written (written_by insn) i);
     }
 
-plain_at : (program : Program) (slot : ℕ) (a : AbsState) → IsPlain program → Arises program slot a → PlainAt program slot a
-plain_at program slot a plain (first context) = record {
+plain_at : (profile : Profile) (program : Program) (slot : ℕ) (a : AbsState) → IsPlain program → Arises profile program slot a → PlainAt program slot a
+plain_at profile program slot a plain (first context) = record {
   context = context;
   registers = λ i h. inr ([], begins, nothing_in i);
 }
-plain_at program slot a plain (fell {slot = before} {a = old} {insn = insn} from starts falls takes long) =
-    carried_at program before slot old a insn plain (plain_at program before old plain from) starts (inl (falls, refl)) takes
-plain_at program slot a plain (jumped {slot = before} {n = n} {a = old} {insn = insn} from starts jumps takes) =
-    carried_at program before slot old a insn plain (plain_at program before old plain from) starts (inr (n, jumps, refl)) takes
-plain_at program slot a plain (joined {a = left} {b = right} target one two joins) =
-    let at_left = plain_at program slot left plain one in
-    let at_right = plain_at program slot right plain two in
+plain_at profile program slot a plain (fell {slot = before} {a = old} {insn = insn} from starts falls takes long) =
+    carried_at profile program before slot old a insn plain (plain_at profile program before old plain from) starts (inl (falls, refl)) takes
+plain_at profile program slot a plain (jumped {slot = before} {n = n} {a = old} {insn = insn} from starts jumps takes) =
+    carried_at profile program before slot old a insn plain (plain_at profile program before old plain from) starts (inr (n, jumps, refl)) takes
+plain_at profile program slot a plain (joined {a = left} {b = right} target one two joins) =
+    let at_left = plain_at profile program slot left plain one in
+    let at_right = plain_at profile program slot right plain two in
     record {
       context = (joins 1 (omega arith)).context 0 at_left.context at_right.context;
       registers = λ i h.
@@ -150,6 +151,6 @@ plain_at program slot a plain (joined {a = left} {b = right} target one two join
     }
 
 -- each instruction of a plain program reads numbers alone, so it is never refused
-pub plain_grants : (program : Program) → IsPlain program → MayRefuse program → ⊥
-plain_grants program plain may =
-    may.refused (of_numbers (reads_at program may.slot may.state may.insn plain (plain_at program may.slot may.state plain may.arises) may.starts))
+pub plain_grants : (profile : Profile) (program : Program) → IsPlain program → MayRefuse profile program → ⊥
+plain_grants profile program plain may =
+    may.refused (of_numbers (reads_at program may.slot may.state may.insn plain (plain_at profile program may.slot may.state plain may.arises) may.starts))

@@ -7,6 +7,7 @@ use Rattle.std.proofs.Math.ListN.{get_or-append}
 use Rattle.std.proofs.Math.Seq.{get_or-append_seam}
 use Rattle.std.proofs.lemmas.Bool.{cases_eq}
 use Rattle.std.proofs.lemmas.Option.{slice_get_within}
+use Rattle.bpf_words.specs.declared.profile.Profile.{Profile}
 use Rattle.bpf_words.specs.declared.instruction.Insn.{Insn}
 use Rattle.bpf_words.specs.Flow.{StartsAt, IsPaired, jump_of, slots_of, falls_through}
 use Rattle.meaning.specs.declared.FaultKind.TheVariants.{OutOfCode}
@@ -47,13 +48,13 @@ moves_forward program s next insn (Ok (On mid (negsuc n))) structured starts (sa
 moves_forward program s next insn (Ok (On mid (negsuc n))) structured starts (same, inr jumps) e =
     absurd (structured s.slot insn (slice_get_within program s.slot (Some insn) starts) starts BackwardJump (negsuc n, jumps, (n, refl)))
 
-forward_at : (program : Program) (span : Span) (s next : State) (entry : Option (Option Insn)) → IsStructured program → slice_get program s.slot ≡ entry → step_at program span.context span.text s entry ≡ Ok (Next next) → s.slot < next.slot
+forward_at : (program : Program) (span : Span) (s next : State) (entry : Option (Option Insn)) → IsStructured program → slice_get program s.slot ≡ entry → step_at program span.bytes s entry ≡ Ok (Next next) → s.slot < next.slot
 forward_at program span s next None structured is e = absurd (cc)
 forward_at program span s next (Some None) structured is e = absurd (cc)
-forward_at program span s next (Some (Some insn)) structured is e = moves_forward program s next insn (does span s insn) structured is (stays span.context span.text s insn) e
+forward_at program span s next (Some (Some insn)) structured is e = moves_forward program s next insn (does span s insn) structured is (stays span.bytes s insn) e
 
 -- a structured program goes forward
-goes_forward : (program : Program) (span : Span) (s next : State) → IsStructured program → step program span.context span.text s ≡ Ok (Next next) → s.slot < next.slot
+goes_forward : (program : Program) (span : Span) (s next : State) → IsStructured program → step program span.bytes s ≡ Ok (Next next) → s.slot < next.slot
 goes_forward program span s next structured e = forward_at program span s next (slice_get program s.slot) structured refl e
 
 -- so a run enters each of its slots from below
@@ -89,9 +90,9 @@ moved_awaited program span slot insn s next falling waiting (Ok (On mid distance
     advances
 
 -- ---- all edges into a slot
-pub all_joined : (program : Program) (slot : ℕ) (falling joined : Option AbsState) (waiting : States) → IsStructured program → ((lengths : Lengths) (s : State) → WithinState falling lengths s → WithinState joined lengths s) → ((lengths : Lengths) (s : State) → WithinState (waiting_at waiting slot) lengths s → WithinState joined lengths s) → Covers program slot falling waiting → ContainsRuns program slot joined
-all_joined program slot falling joined waiting structured falls arrives covers span s reached at =
-    let awaited = covers span s (enters program span slot s structured at reached) (omega arith) in
+pub all_joined : (profile : Profile) (program : Program) (slot : ℕ) (falling joined : Option AbsState) (waiting : States) → IsStructured program → ((lengths : Lengths) (s : State) → WithinState falling lengths s → WithinState joined lengths s) → ((lengths : Lengths) (s : State) → WithinState (waiting_at waiting slot) lengths s → WithinState joined lengths s) → Covers profile program slot falling waiting → ContainsRuns profile program slot joined
+all_joined profile program slot falling joined waiting structured falls arrives covers span s which reached at =
+    let awaited = covers span s which (enters program span slot s structured at reached) (omega arith) in
     ⊎_elim
     (λ (fell : Between program slot s.slot × WithinState falling (lengths_of span) s). falls (lengths_of span) s fell.1)
     (λ (waits : WithinState (waiting_at waiting s.slot) (lengths_of span) s).
@@ -99,9 +100,9 @@ all_joined program slot falling joined waiting structured falls arrives covers s
     awaited.1
 
 -- what waited at a slot is joined to what falls into it, and all else still waits
-pub covers_arrived : (program : Program) (slot : ℕ) (falling joined : Option AbsState) (old mid : States) → ((lengths : Lengths) (s : State) → WithinState falling lengths s → WithinState joined lengths s) → ((lengths : Lengths) (s : State) → WithinState (waiting_at old slot) lengths s → WithinState joined lengths s) → ((other : ℕ) → other ≢ slot → waiting_at mid other ≡ waiting_at old other) → Covers program slot falling old → Covers program slot joined mid
-covers_arrived program slot falling joined old mid falls arrives others covers span s entered low =
-    let awaited = covers span s entered low in (
+pub covers_arrived : (profile : Profile) (program : Program) (slot : ℕ) (falling joined : Option AbsState) (old mid : States) → ((lengths : Lengths) (s : State) → WithinState falling lengths s → WithinState joined lengths s) → ((lengths : Lengths) (s : State) → WithinState (waiting_at old slot) lengths s → WithinState joined lengths s) → ((other : ℕ) → other ≢ slot → waiting_at mid other ≡ waiting_at old other) → Covers profile program slot falling old → Covers profile program slot joined mid
+covers_arrived profile program slot falling joined old mid falls arrives others covers span s which entered low =
+    let awaited = covers span s which entered low in (
       low,
       ⊎_elim
           (λ (fell : Between program slot s.slot × WithinState falling (lengths_of span) s). inl (fell.0, falls (lengths_of span) s fell.1))
@@ -116,64 +117,64 @@ covers_arrived program slot falling joined old mid falls arrives others covers s
     )
 
 -- ---- what is known before each slot, in a list
-abbrev pub ContainRunsBelow : Program → ℕ → List (Option AbsState) → Type 0
-ContainRunsBelow program count states = (slot : ℕ) → slot < count → ContainsRuns program slot (get_or states slot None)
+abbrev pub ContainRunsBelow : Profile → Program → ℕ → List (Option AbsState) → Type 0
+ContainRunsBelow profile program count states = (slot : ℕ) → slot < count → ContainsRuns profile program slot (get_or states slot None)
 
-pub contain_none : (program : Program) (states : List (Option AbsState)) → ContainRunsBelow program 0 states
-contain_none program states slot less = absurd (omega arith)
+pub contain_none : (profile : Profile) (program : Program) (states : List (Option AbsState)) → ContainRunsBelow profile program 0 states
+contain_none profile program states slot less = absurd (omega arith)
 
 pub count_more : (slot : ℕ) (known : Option AbsState) (states : List (Option AbsState)) → length states ≡ slot → length (states ++ known ∷ []) ≡ slot + 1
 count_more slot known states size = length-append states (known ∷ []) ∙ ap (λ n. n + 1) size
 
-pub contain_more : (program : Program) (slot : ℕ) (known : Option AbsState) (states : List (Option AbsState)) → length states ≡ slot → ContainsRuns program slot known → ContainRunsBelow program slot states → ContainRunsBelow program (slot + 1) (states ++ known ∷ [])
-contain_more program slot known states size here below at less =
+pub contain_more : (profile : Profile) (program : Program) (slot : ℕ) (known : Option AbsState) (states : List (Option AbsState)) → length states ≡ slot → ContainsRuns profile program slot known → ContainRunsBelow profile program slot states → ContainRunsBelow profile program (slot + 1) (states ++ known ∷ [])
+contain_more profile program slot known states size here below at less =
     ⊎_elim
     (λ (last : at ≡ slot).
     let end : at ≡ length states = last ∙ sym size in
     let is : get_or (states ++ known ∷ []) at None ≡ known = ap (λ k. get_or (states ++ known ∷ []) k None) end ∙ get_or-append_seam states known [] None in
-    subst (λ k. ContainsRuns program k (get_or (states ++ known ∷ []) at None)) (sym last) (subst (λ o. ContainsRuns program slot o) (sym is) here))
+    subst (λ k. ContainsRuns profile program k (get_or (states ++ known ∷ []) at None)) (sym last) (subst (λ o. ContainsRuns profile program slot o) (sym is) here))
     (λ (apart : at ≡ slot → ⊥).
     let under : at < slot = omega arith in
     let is : get_or (states ++ known ∷ []) at None ≡ get_or states at None = get_or-append states (known ∷ []) None at (omega arith) in
-    subst (λ o. ContainsRuns program at o) (sym is) (below at under))
+    subst (λ o. ContainsRuns profile program at o) (sym is) (below at under))
     (cases_eq at slot)
 
-abbrev pub AriseBelow : Program → ℕ → List (Option AbsState) → Type 0
-AriseBelow program count states = (slot : ℕ) (insn : Insn) → slot < count → StartsAt program slot insn → ArisesAt program slot (get_or states slot None)
+abbrev pub AriseBelow : Profile → Program → ℕ → List (Option AbsState) → Type 0
+AriseBelow profile program count states = (slot : ℕ) (insn : Insn) → slot < count → StartsAt program slot insn → ArisesAt profile program slot (get_or states slot None)
 
-pub arise_none : (program : Program) (states : List (Option AbsState)) → AriseBelow program 0 states
-arise_none program states slot insn less = absurd (omega arith)
+pub arise_none : (profile : Profile) (program : Program) (states : List (Option AbsState)) → AriseBelow profile program 0 states
+arise_none profile program states slot insn less = absurd (omega arith)
 
-pub arise_more : (program : Program) (slot : ℕ) (known : Option AbsState) (states : List (Option AbsState)) → length states ≡ slot → ((insn : Insn) → StartsAt program slot insn → ArisesAt program slot known) → AriseBelow program slot states → AriseBelow program (slot + 1) (states ++ known ∷ [])
-arise_more program slot known states size here below at insn less starts =
+pub arise_more : (profile : Profile) (program : Program) (slot : ℕ) (known : Option AbsState) (states : List (Option AbsState)) → length states ≡ slot → ((insn : Insn) → StartsAt program slot insn → ArisesAt profile program slot known) → AriseBelow profile program slot states → AriseBelow profile program (slot + 1) (states ++ known ∷ [])
+arise_more profile program slot known states size here below at insn less starts =
     ⊎_elim
     (λ (last : at ≡ slot).
     let end : at ≡ length states = last ∙ sym size in
     let is : get_or (states ++ known ∷ []) at None ≡ known = ap (λ k. get_or (states ++ known ∷ []) k None) end ∙ get_or-append_seam states known [] None in
-    let there : ArisesAt program slot known = here insn (subst (λ k. StartsAt program k insn) last starts) in
-    subst (λ k. ArisesAt program k (get_or (states ++ known ∷ []) at None)) (sym last) (subst (λ o. ArisesAt program slot o) (sym is) there))
+    let there : ArisesAt profile program slot known = here insn (subst (λ k. StartsAt program k insn) last starts) in
+    subst (λ k. ArisesAt profile program k (get_or (states ++ known ∷ []) at None)) (sym last) (subst (λ o. ArisesAt profile program slot o) (sym is) there))
     (λ (apart : at ≡ slot → ⊥).
     let under : at < slot = omega arith in
     let is : get_or (states ++ known ∷ []) at None ≡ get_or states at None = get_or-append states (known ∷ []) None at (omega arith) in
-    subst (λ o. ArisesAt program at o) (sym is) (below at insn under starts))
+    subst (λ o. ArisesAt profile program at o) (sym is) (below at insn under starts))
     (cases_eq at slot)
 
 -- ---- one turn of the walk
-pub covers_begin : (program : Program) (entry : AbsState) (waiting : States) → ((span : Span) → Contains entry (lengths_of span) start) → Covers program 0 (Some entry) waiting
-covers_begin program entry waiting contains span s from_start low = ((omega arith), inl ((λ k least most. absurd (omega arith)), (entry, refl, contains span)))
-covers_begin program entry waiting contains span s (from_below from below e) low = absurd (omega arith)
+pub covers_begin : (profile : Profile) (program : Program) (entry : AbsState) (waiting : States) → ((span : Span) → Contains entry (lengths_of span) start) → Covers profile program 0 (Some entry) waiting
+covers_begin profile program entry waiting contains span s which from_start low = ((omega arith), inl ((λ k least most. absurd (omega arith)), (entry, refl, contains span)))
+covers_begin profile program entry waiting contains span s which (from_below from below e) low = absurd (omega arith)
 
-pub covers_over : (program : Program) (slot : ℕ) (falling : Option AbsState) (waiting : States) → slice_get program slot ≡ Some None → Covers program slot falling waiting → Covers program (slot + 1) falling waiting
-covers_over program slot falling waiting second covers span s from_start low = absurd (omega arith)
-covers_over program slot falling waiting second covers span s (from_below {s = before} from below e) low =
+pub covers_over : (profile : Profile) (program : Program) (slot : ℕ) (falling : Option AbsState) (waiting : States) → slice_get program slot ≡ Some None → Covers profile program slot falling waiting → Covers profile program (slot + 1) falling waiting
+covers_over profile program slot falling waiting second covers span s which from_start low = absurd (omega arith)
+covers_over profile program slot falling waiting second covers span s which (from_below {s = before} from below e) low =
     ⊎_elim
     (λ (here : before.slot ≡ slot).
     let there : slice_get program before.slot ≡ Some None = ap (slice_get program) here ∙ second in
-    let fault : step_at program span.context span.text before (Some None) ≡ Ok (Next s) =
-    subst (λ entry. step_at program span.context span.text before entry ≡ Ok (Next s)) there e in
+    let fault : step_at program span.bytes before (Some None) ≡ Ok (Next s) =
+    subst (λ entry. step_at program span.bytes before entry ≡ Ok (Next s)) there e in
     absurd (cc))
     (λ (apart : before.slot ≡ slot → ⊥).
-    let awaited = covers span s (from_below from (omega arith) e) (omega arith) in (
+    let awaited = covers span s which (from_below from (omega arith) e) (omega arith) in (
       low,
       ⊎_elim
           (λ (fell : Between program slot s.slot × WithinState falling (lengths_of span) s). let between : Between program (slot + 1) s.slot = λ k least most. fell.0 k (omega arith) most in inl (between, fell.1))
@@ -182,17 +183,17 @@ covers_over program slot falling waiting second covers span s (from_below {s = b
     ))
     (cases_eq before.slot slot)
 
-pub covers_passed : (program : Program) (slot : ℕ) (insn : Insn) (falling joined next : Option AbsState) (old mid new : States) → IsPaired program → IsStructured program → StartsAt program slot insn → ((lengths : Lengths) (s : State) → WithinState falling lengths s → WithinState joined lengths s) → ((lengths : Lengths) (s : State) → WithinState (waiting_at old slot) lengths s → WithinState joined lengths s) → ((other : ℕ) → other ≢ slot → waiting_at mid other ≡ waiting_at old other) → Keeps mid new → ((span : Span) (s : State) → WithinState joined (lengths_of span) s → Advances (lengths_of span) slot insn next new (does span s insn)) → Covers program slot falling old → Covers program (slot + 1) next new
-covers_passed program slot insn falling joined next old mid new paired structured starts falls arrives others keeps sound covers span s from_start low = absurd (omega arith)
-covers_passed program slot insn falling joined next old mid new paired structured starts falls arrives others keeps sound covers span s (from_below {s = before} from below e) low =
+pub covers_passed : (profile : Profile) (program : Program) (slot : ℕ) (insn : Insn) (falling joined next : Option AbsState) (old mid new : States) → IsPaired program → IsStructured program → StartsAt program slot insn → ((lengths : Lengths) (s : State) → WithinState falling lengths s → WithinState joined lengths s) → ((lengths : Lengths) (s : State) → WithinState (waiting_at old slot) lengths s → WithinState joined lengths s) → ((other : ℕ) → other ≢ slot → waiting_at mid other ≡ waiting_at old other) → Keeps mid new → ((span : Span) (s : State) → span.profile ≡ profile → WithinState joined (lengths_of span) s → Advances (lengths_of span) slot insn next new (does span s insn)) → Covers profile program slot falling old → Covers profile program (slot + 1) next new
+covers_passed profile program slot insn falling joined next old mid new paired structured starts falls arrives others keeps sound covers span s which from_start low = absurd (omega arith)
+covers_passed profile program slot insn falling joined next old mid new paired structured starts falls arrives others keeps sound covers span s which (from_below {s = before} from below e) low =
     ⊎_elim
     (λ (here : before.slot ≡ slot).
-    let known : WithinState joined (lengths_of span) before = all_joined program slot falling joined old structured falls arrives covers span before from here in
+    let known : WithinState joined (lengths_of span) before = all_joined profile program slot falling joined old structured falls arrives covers span before which from here in
     let there : StartsAt program before.slot insn = subst (λ k. StartsAt program k insn) (sym here) starts in
-    moved_awaited program span slot insn before s next new (does span before insn) paired structured starts here refl (sound span before known)
+    moved_awaited program span slot insn before s next new (does span before insn) paired structured starts here refl (sound span before which known)
     (sym (stepped program span before insn (does span before insn) there refl) ∙ e))
     (λ (apart : before.slot ≡ slot → ⊥).
-    let awaited = covers span s (from_below from (omega arith) e) (omega arith) in (
+    let awaited = covers span s which (from_below from (omega arith) e) (omega arith) in (
       low,
       ⊎_elim
           (λ (fell : Between program slot s.slot × WithinState falling (lengths_of span) s).

@@ -1,16 +1,21 @@
 -- The first fault of a program's structure is one, and a structured program has none.
-use Rattle.std.proofs.Common.{◌≡◌, ℕ, ◌<◌, ◌⊎◌, ⊎_elim, Some, refl, sym, ap, ◌∙◌, subst, arith}
+use Rattle.std.proofs.Common.{◌≡◌, ℕ, ◌<◌, ◌⊎◌, ⊎_elim, length, Some, refl, sym, ap, ◌∙◌, subst, arith}
 use Rattle.std.proofs.Common.{Result, Ok, Err, ◌↔◌}
 use Rattle.std.specs.Result.{IsErrAnd}
 use Rattle.std.proofs.lemmas.Bool.{cases_order}
 use Rattle.verifier.specs.declared.refusal.VerifyError.{VerifyError}
-use Rattle.verifier.specs.declared.refusal.VerifyError.TheVariants.{Structure}
+use Rattle.verifier.specs.declared.refusal.VerifyError.TheVariants.{Structure, State, OutOfMemory}
 use Rattle.std.proofs.lemmas.Option.{slice_get_within, same_Some}
+use Rattle.bpf_words.specs.declared.profile.Profile.{Profile}
 use Rattle.bpf_words.specs.declared.instruction.Insn.{Insn}
 use Rattle.bpf_words.specs.Flow.{StartsAt}
 use Rattle.meaning.specs.Step.{Program}
 use Rattle.verifier.specs.declared.refusal.StructureFault.{StructureFault}
 use Rattle.verifier.specs.declared.refusal.StructureFault.TheVariants.{BackwardJump, JumpOut, JumpIntoWide, FallOff, WriteR10}
+use Rattle.verifier.specs.Plain.{IsPlain}
+use Rattle.verifier.specs.Guard.{IsGuard}
+use Rattle.verifier.specs.Reaches.{IsStateBelow}
+use Rattle.verifier.specs.Judged.{Rejects}
 use Rattle.verifier.specs.Structure.{LeastFault, FirstFault, IsOfState, IsStructured, number_of}
 
 same_number : (a b : StructureFault) → number_of a ≡ number_of b → a ≡ b
@@ -83,3 +88,14 @@ not_named (Ok t) e slot fault is of_state at = is
 not_named (Err y) e slot fault is of_state at =
     let same : Structure slot fault ≡ e = let other : y ≡ Structure slot fault = (cc) in sym other ∙ is in
     subst IsOfState (sym same) of_state
+
+-- what a refusal of the walk says of a structured program
+pub walk_rejects : (profile : Profile) (program : Program) (e : VerifyError) → IsStructured program → IsOfState e → IsStateBelow (length program) e → (IsPlain program → e ≡ OutOfMemory) → (IsGuard profile program → e ≡ OutOfMemory) → Rejects profile program e
+walk_rejects profile program (Structure slot fault) structured state below plain guard = absurd state
+walk_rejects profile program (State slot fault) structured state below plain guard = (
+  λ other wrong first. no_fault program other wrong structured first,
+  below,
+  λ right. (let bad : State slot fault ≡ OutOfMemory = plain right in absurd (cc)),
+  λ right. (let bad : State slot fault ≡ OutOfMemory = guard right in absurd (cc)),
+)
+walk_rejects profile program OutOfMemory structured state below plain guard = λ other wrong first. no_fault program other wrong structured first

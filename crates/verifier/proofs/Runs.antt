@@ -3,6 +3,7 @@ use Rattle.std.proofs.Common.{◌≡◌, ℕ, ◌+◌, ◌-◌, ◌<◌, ◌⊎�
 use Rattle.std.specs.Prelude.{ℤ, pos}
 use Rattle.std.proofs.lemmas.Bool.{lt-ltb}
 use Rattle.std.proofs.lemmas.Option.{slice_get_within}
+use Rattle.bpf_words.specs.Context.{SpanBytes}
 use Rattle.bpf_words.specs.declared.instruction.Insn.{Insn}
 use Rattle.bpf_words.specs.declared.instruction.Insn.TheVariants.{Compute, Negate, Extend, Convert, Jump, JumpLong, Branch, Load, LoadSigned, Store, LoadWide, Exit}
 use Rattle.bpf_words.specs.Flow.{StartsAt, jump_of}
@@ -46,32 +47,32 @@ either_way : (holds : Bool) (distance : ℤ) → ((n : ℕ) × ((if holds then d
 either_way true distance = inr refl
 either_way false distance = inl (0, refl)
 
-pub stays : (context text : List ℕ) (s : State) (insn : Insn) → StaysAt s.slot (jump_of insn) (perform context text s insn)
-stays context text s (Compute width operation destination operand) =
+pub stays : (bytes : SpanBytes) (s : State) (insn : Insn) → StaysAt s.slot (jump_of insn) (perform bytes s insn)
+stays bytes s (Compute width operation destination operand) =
     stays_two s None destination (first_of s operation destination) (λ a. operand_in s operand) (λ a b. value_of operation width (cut width a) (cut width b))
-stays context text s (Negate width destination) = stays_one s None destination (register_of s destination) (λ a. negated width (cut width a))
-stays context text s (Extend extension destination source) = stays_one s None destination (register_of s source) (λ a. extended extension a)
-stays context text s (Convert conversion bits destination) = stays_one s None destination (register_of s destination) (λ a. converted conversion bits a)
-stays context text s (Jump distance) = (refl, inr refl)
-stays context text s (JumpLong distance) = (refl, inr refl)
-stays context text s (Branch width comparison left right distance) =
+stays bytes s (Negate width destination) = stays_one s None destination (register_of s destination) (λ a. negated width (cut width a))
+stays bytes s (Extend extension destination source) = stays_one s None destination (register_of s source) (λ a. extended extension a)
+stays bytes s (Convert conversion bits destination) = stays_one s None destination (register_of s destination) (λ a. converted conversion bits a)
+stays bytes s (Jump distance) = (refl, inr refl)
+stays bytes s (JumpLong distance) = (refl, inr refl)
+stays bytes s (Branch width comparison left right distance) =
     let goes : ℕ → ℕ → Moved = λ a b. Ok (On s (if holds_of comparison width (cut width a) (cut width b) then distance else pos 0)) in
     stays_then s.slot (Some distance) (register_of s left) (λ a. then_with (operand_in s right) (goes a))
     (λ a. stays_then s.slot (Some distance) (operand_in s right) (goes a) (λ b. (refl, either_way (holds_of comparison width (cut width a) (cut width b)) distance)))
-stays context text s (Load size destination base offset) =
-    stays_two s None destination (register_of s base) (λ address. load context text s.stack (address_of address offset) (bytes_in size)) (λ address value. value)
-stays context text s (LoadSigned size destination base offset) =
-    stays_two s None destination (register_of s base) (λ address. load context text s.stack (address_of address offset) (bytes_in_signed size)) (λ address value. with_sign size value)
-stays context text s (Store size base offset operand) =
+stays bytes s (Load size destination base offset) =
+    stays_two s None destination (register_of s base) (λ address. load bytes s.stack (address_of address offset) (bytes_in size)) (λ address value. value)
+stays bytes s (LoadSigned size destination base offset) =
+    stays_two s None destination (register_of s base) (λ address. load bytes s.stack (address_of address offset) (bytes_in_signed size)) (λ address value. with_sign size value)
+stays bytes s (Store size base offset operand) =
     let goes : List (Option ℕ) → Moved = λ stack. Ok (On (record s { stack = stack }) (pos 0)) in
-    let stores : ℕ → ℕ → Result (List (Option ℕ)) FaultKind = λ address value. store context text s.stack (address_of address offset) (bytes_in size) value in
+    let stores : ℕ → ℕ → Result (List (Option ℕ)) FaultKind = λ address value. store bytes s.stack (address_of address offset) (bytes_in size) value in
     stays_then s.slot None (register_of s base) (λ address. then_with (operand_in s operand) (λ value. then_with (stores address value) goes))
     (λ address. stays_then s.slot None (operand_in s operand) (λ value. then_with (stores address value) goes) (λ value. stays_then s.slot None (stores address value) goes (λ stack. (refl, inl (0, refl)))))
-stays context text s (LoadWide destination value) = stays_write s None destination value 1
-stays context text s Exit = stays_then s.slot None (register_of s 0) (λ value. Ok (Returns value)) (λ value. tt)
+stays bytes s (LoadWide destination value) = stays_write s None destination value 1
+stays bytes s Exit = stays_then s.slot None (register_of s 0) (λ value. Ok (Returns value)) (λ value. tt)
 
 pub stays_on : (span : Span) (s next : State) (insn : Insn) (distance : ℤ) → does span s insn ≡ Ok (On next distance) → next.slot ≡ s.slot
-stays_on span s next insn distance e = (subst (StaysAt s.slot (jump_of insn)) e (stays span.context span.text s insn)).0
+stays_on span s next insn distance e = (subst (StaysAt s.slot (jump_of insn)) e (stays span.bytes s insn)).0
 
 -- ---- a state at another slot
 pub contains_at : (o : Option AbsState) (lengths : Lengths) (s : State) (slot : ℕ) → WithinState o lengths s → WithinState o lengths (record s { slot = slot })
@@ -86,14 +87,14 @@ some_left program span s c =
     let enough = c.enough in
     omega arith
 
-pub stepped : (program : Program) (span : Span) (s : State) (insn : Insn) (moved : Moved) → StartsAt program s.slot insn → does span s insn ≡ moved → step program span.context span.text s ≡ then_with moved (land program)
+pub stepped : (program : Program) (span : Span) (s : State) (insn : Insn) (moved : Moved) → StartsAt program s.slot insn → does span s insn ≡ moved → step program span.bytes s ≡ then_with moved (land program)
 stepped program span s insn moved starts e = rw (starts, e) refl
 
 pub ends_here : (program : Program) (span : Span) (s : State) (insn : Insn) (value : ℕ) → ComesTo program span s → StartsAt program s.slot insn → does span s insn ≡ Ok (Returns value) → Ends program span
 ends_here program span s insn value c starts e = (
   value,
-  c.same ∙ outcome_from-step program span.context span.text c.steps s (some_left program span s c)
-      ∙ ap (λ g. after g s.slot (λ next. outcome_from program span.context span.text (c.steps - 1) next)) (stepped program span s insn (Ok (Returns value)) starts e),
+  c.same ∙ outcome_from-step program span.bytes c.steps s (some_left program span s c)
+      ∙ ap (λ g. after g s.slot (λ next. outcome_from program span.bytes (c.steps - 1) next)) (stepped program span s insn (Ok (Returns value)) starts e),
 )
 
 lands : (program : Program) (next : State) (to n : ℕ) → to ≡ next.slot + 1 + n → to < length program → land program (On next (pos n)) ≡ Ok (Next (record next { slot = to }))
@@ -111,8 +112,8 @@ goes_on program span s next insn after_it to n c starts e is there =
     record {
       steps = c.steps - 1;
       same =
-          c.same ∙ outcome_from-step program span.context span.text c.steps s some
-          ∙ ap (λ g. after g s.slot (λ next. outcome_from program span.context span.text (c.steps - 1) next)) (stepped program span s insn (Ok (On next (pos n))) starts e ∙ landed);
+          c.same ∙ outcome_from-step program span.bytes c.steps s some
+          ∙ ap (λ g. after g s.slot (λ next. outcome_from program span.bytes (c.steps - 1) next)) (stepped program span s insn (Ok (On next (pos n))) starts e ∙ landed);
       enough = omega arith;
       insn = after_it;
       starts = there;

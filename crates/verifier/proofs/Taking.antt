@@ -4,6 +4,7 @@ use Rattle.std.specs.Prelude.{ℤ}
 use Rattle.std.specs.Option.{IfSome}
 use Rattle.std.proofs.lemmas.Bool.{cases_eq}
 use Rattle.std.proofs.lemmas.Option.{same_Some}
+use Rattle.bpf_words.specs.declared.profile.Profile.{Profile}
 use Rattle.bpf_words.specs.declared.instruction.Width.{Width}
 use Rattle.bpf_words.specs.declared.instruction.Width.TheVariants.{Full}
 use Rattle.bpf_words.specs.declared.instruction.Comparison.{Comparison}
@@ -16,12 +17,13 @@ use Rattle.bpf_words.specs.Flow.{written_by}
 use Rattle.abstract_state.specs.declared.known.Known.TheVariants.{Number, Context, Stack, Lent}
 use Rattle.abstract_state.specs.declared.state.AbsReg.{AbsReg}
 use Rattle.abstract_state.specs.declared.state.AbsReg.TheVariants.{Unset, Set}
+use Rattle.abstract_state.specs.declared.region.Region.{Region}
 use Rattle.abstract_state.specs.declared.state.AbsState.{AbsState}
 use Rattle.abstract_state.specs.State.{register_at}
 use Rattle.abstract_state.specs.Branch.{LeavesSides}
 use Rattle.abstract_state.specs.Kinds.{HasNumberAt, HasNumberIn, IsNumberReg, KeepsAll, KeepsKind, ReadsNumbers, WritesNumber, Carries}
-use Rattle.abstract_state.specs.Exact.{Fact, TextIn, Holds}
-use Rattle.abstract_state.specs.Guard.{Yields, text_begin, text_end, text_moved, text_added, constant, text_read, LeavesOthers}
+use Rattle.abstract_state.specs.Exact.{Fact, LentIn, Holds}
+use Rattle.abstract_state.specs.Guard.{Yields, lent_begin, lent_end, lent_moved, lent_added, constant, lent_read, LeavesOthers}
 use Rattle.verifier.specs.Arises.{Guards, behind, IsGranted, of_numbers, of_row, of_guard, TakesNumbers, Takes, IsLongBehind}
 use Rattle.verifier.proofs.Passing.{IsStraight}
 
@@ -30,52 +32,52 @@ at_some None P t h e = absurd (cc)
 at_some (Some x) P t h e = subst P (same_Some x t e) h
 
 -- ---- what is granted
-yields_writes : (a : AbsState) (insn : Insn) (d : ℕ) (fact : Fact) → Yields a insn d fact → written_by insn ≡ Some d
-yields_writes a insn d fact (text_begin d' base h) = refl
-yields_writes a insn d fact (text_end d' base h) = refl
-yields_writes a insn d fact (text_moved d' r n t h) = refl
-yields_writes a insn d fact (text_added d' k n t h near) = refl
-yields_writes a insn d fact (constant d' k small) = refl
-yields_writes a insn d fact (text_read size d' r o low high t h short within) = refl
+yields_writes : (profile : Profile) (a : AbsState) (insn : Insn) (d : ℕ) (fact : Fact) → Yields profile a insn d fact → written_by insn ≡ Some d
+yields_writes profile a insn d fact (lent_begin region d' base lends h) = refl
+yields_writes profile a insn d fact (lent_end region d' base lends h) = refl
+yields_writes profile a insn d fact (lent_moved region d' r n t h) = refl
+yields_writes profile a insn d fact (lent_added region d' k n t h near) = refl
+yields_writes profile a insn d fact (constant region d' k small) = refl
+yields_writes profile a insn d fact (lent_read region size d' r o low high t h short within) = refl
 
-no_row : (a : AbsState) (insn : Insn) (d : ℕ) (fact : Fact) → written_by insn ≡ None → Yields a insn d fact → ⊥
-no_row a insn d fact none row = let both : None ≡ Some d = sym none ∙ yields_writes a insn d fact row in absurd (cc)
+no_row : (profile : Profile) (a : AbsState) (insn : Insn) (d : ℕ) (fact : Fact) → written_by insn ≡ None → Yields profile a insn d fact → ⊥
+no_row profile a insn d fact none row = let both : None ≡ Some d = sym none ∙ yields_writes profile a insn d fact row in absurd (cc)
 
-no_guard : (a : AbsState) (insn : Insn) (n : ℕ) → IsStraight insn → Guards a insn n → ⊥
-no_guard a insn n straight (behind l r n' high low2 high2 t tail distance apart h g) = straight
+no_guard : (a : AbsState) (insn : Insn) (region : Region) (n : ℕ) → IsStraight insn → Guards a insn region n → ⊥
+no_guard a insn region n straight (behind lent l r n' high low2 high2 t tail distance apart h g) = straight
 
 -- what is promised of a step in each of these cases
-pub step_granted : (a : AbsState) (insn : Insn) (P : Type 0) → IsStraight insn → (ReadsNumbers a insn → P) → ((d : ℕ) (fact : Fact) → Yields a insn d fact → P) → IsGranted a insn → P
-step_granted a insn P straight numbers row (of_numbers reads) = numbers reads
-step_granted a insn P straight numbers row (of_row d fact yields) = row d fact yields
-step_granted a insn P straight numbers row (of_guard n guard) = absurd (no_guard a insn n straight guard)
+pub step_granted : (profile : Profile) (a : AbsState) (insn : Insn) (P : Type 0) → IsStraight insn → (ReadsNumbers a insn → P) → ((d : ℕ) (fact : Fact) → Yields profile a insn d fact → P) → IsGranted profile a insn → P
+step_granted profile a insn P straight numbers row (of_numbers reads) = numbers reads
+step_granted profile a insn P straight numbers row (of_row d fact yields) = row d fact yields
+step_granted profile a insn P straight numbers row (of_guard region n guard) = absurd (no_guard a insn region n straight guard)
 
 -- an exit that is granted reads a number
-pub exit_granted : (a : AbsState) (insn : Insn) → insn ≡ Exit → IsGranted a insn → HasNumberAt a 0
-exit_granted a insn is (of_numbers reads) = subst (ReadsNumbers a) is reads
-exit_granted a insn is (of_row d fact row) = absurd (no_row a insn d fact (ap written_by is) row)
-exit_granted a insn is (of_guard n (behind l r n' high low2 high2 t tail distance apart h g)) = absurd (cc)
+pub exit_granted : (profile : Profile) (a : AbsState) (insn : Insn) → insn ≡ Exit → IsGranted profile a insn → HasNumberAt a 0
+exit_granted profile a insn is (of_numbers reads) = subst (ReadsNumbers a) is reads
+exit_granted profile a insn is (of_row d fact row) = absurd (no_row profile a insn d fact (ap written_by is) row)
+exit_granted profile a insn is (of_guard region n (behind lent l r n' high low2 high2 t tail distance apart h g)) = absurd (cc)
 
--- what is promised of a comparison of two addresses in the text, of its answer
-abbrev pub IfGuards : AbsState → Width → Comparison → ℕ → Operand → (ℕ → Type 0) → Type 0
+-- what is promised of a comparison of two addresses in one lent region, of its answer
+abbrev pub IfGuards : AbsState → Width → Comparison → ℕ → Operand → (Region → ℕ → Type 0) → Type 0
 IfGuards a width comparison left right P =
-    (r n high low2 high2 t : ℕ) (tail : Option ℕ) → right ≡ Source r → left ≢ r → width ≡ Full → comparison ≡ Greater → Holds (TextIn n high tail) (register_at a.registers left) → Holds (TextIn low2 high2 (Some t)) (register_at a.registers r) → P n
+    (region : Region) (r n high low2 high2 t : ℕ) (tail : Option ℕ) → right ≡ Source r → left ≢ r → width ≡ Full → comparison ≡ Greater → Holds (LentIn region n high tail) (register_at a.registers left) → Holds (LentIn region low2 high2 (Some t)) (register_at a.registers r) → P region n
 
-pub guard_is : (a : AbsState) (insn : Insn) (width : Width) (comparison : Comparison) (left : ℕ) (right : Operand) (distance : ℤ) (P : ℕ → Type 0) (n : ℕ) → insn ≡ Branch width comparison left right distance → IfGuards a width comparison left right P → Guards a insn n → P n
-guard_is a insn width comparison left right distance P n is f (behind l r n' high low2 high2 t tail d apart h g) =
+pub guard_is : (a : AbsState) (insn : Insn) (width : Width) (comparison : Comparison) (left : ℕ) (right : Operand) (distance : ℤ) (P : Region → ℕ → Type 0) (region : Region) (n : ℕ) → insn ≡ Branch width comparison left right distance → IfGuards a width comparison left right P → Guards a insn region n → P region n
+guard_is a insn width comparison left right distance P region n is f (behind lent l r n' high low2 high2 t tail d apart h g) =
     let wide : width ≡ Full = cc in
     let greater : comparison ≡ Greater = cc in
     let at : l ≡ left = cc in
     let other : right ≡ Source r = cc in
-    f r n' high low2 high2 t tail other (λ e. apart (at ∙ e)) wide greater (subst (λ (i : ℕ). Holds (TextIn n' high tail) (register_at a.registers i)) at h) g
+    f lent r n' high low2 high2 t tail other (λ e. apart (at ∙ e)) wide greater (subst (λ (i : ℕ). Holds (LentIn lent n' high tail) (register_at a.registers i)) at h) g
 
 -- what is promised of a comparison in each of these cases
-pub branch_granted : (a : AbsState) (insn : Insn) (width : Width) (comparison : Comparison) (left : ℕ) (right : Operand) (distance : ℤ) (P : Type 0) → insn ≡ Branch width comparison left right distance → (HasNumberAt a left → HasNumberIn a right → P) → IfGuards a width comparison left right (λ n. P) → IsGranted a insn → P
-branch_granted a insn width comparison left right distance P is floor texts (of_numbers reads) =
+pub branch_granted : (profile : Profile) (a : AbsState) (insn : Insn) (width : Width) (comparison : Comparison) (left : ℕ) (right : Operand) (distance : ℤ) (P : Type 0) → insn ≡ Branch width comparison left right distance → (HasNumberAt a left → HasNumberIn a right → P) → IfGuards a width comparison left right (λ region n. P) → IsGranted profile a insn → P
+branch_granted profile a insn width comparison left right distance P is floor regions (of_numbers reads) =
     let both = subst (ReadsNumbers a) is reads in floor both.0 both.1
-branch_granted a insn width comparison left right distance P is floor texts (of_row d fact row) = absurd (no_row a insn d fact (ap written_by is) row)
-branch_granted a insn width comparison left right distance P is floor texts (of_guard n guard) =
-    guard_is a insn width comparison left right distance (λ k. P) n is texts guard
+branch_granted profile a insn width comparison left right distance P is floor regions (of_row d fact row) = absurd (no_row profile a insn d fact (ap written_by is) row)
+branch_granted profile a insn width comparison left right distance P is floor regions (of_guard region n guard) =
+    guard_is a insn width comparison left right distance (λ region k. P) region n is regions guard
 
 -- ---- what is known past an instruction
 writes_takes : (a b : AbsState) (insn : Insn) (d : ℕ) → written_by insn ≡ Some d → WritesNumber a d b → TakesNumbers a insn b
@@ -102,15 +104,15 @@ carries_takes a b (Store z base o v) is reads carries = absurd reads
 carries_takes a b (LoadWide d v) is reads carries = writes_takes a b (LoadWide d v) d refl carries
 carries_takes a b Exit is reads carries = absurd is
 
-pub step_takes : (a b : AbsState) (insn : Insn) (o : Option AbsState) → IsStraight insn → o ≡ Some b → (ReadsNumbers a insn → IfSome o (λ x. Carries a insn x)) → IfSome o (λ x. LeavesOthers a insn x) → ((d : ℕ) (fact : Fact) → Yields a insn d fact → IfSome o (λ x. Holds fact (register_at x.registers d))) → Takes a insn b
-step_takes a b insn o straight live carries others rows = record {
+pub step_takes : (profile : Profile) (a b : AbsState) (insn : Insn) (o : Option AbsState) → IsStraight insn → o ≡ Some b → (ReadsNumbers a insn → IfSome o (λ x. Carries a insn x)) → IfSome o (λ x. LeavesOthers a insn x) → ((d : ℕ) (fact : Fact) → Yields profile a insn d fact → IfSome o (λ x. Holds fact (register_at x.registers d))) → Takes profile a insn b
+step_takes profile a b insn o straight live carries others rows = record {
   numbers = λ reads. carries_takes a b insn straight reads (at_some o (λ x. Carries a insn x) b (carries reads) live);
   others = at_some o (λ x. LeavesOthers a insn x) b others live;
   yields = λ d fact row. at_some o (λ x. Holds fact (register_at x.registers d)) b (rows d fact row) live;
 }
 
 pub straight_long : (a b : AbsState) (insn : Insn) → IsStraight insn → IsLongBehind a insn b
-straight_long a b insn straight n guard = absurd (no_guard a insn n straight guard)
+straight_long a b insn straight region n guard = absurd (no_guard a insn region n straight guard)
 
 -- a jump leaves all as it is
 none_taken : (a : AbsState) (insn : Insn) → written_by insn ≡ None → TakesNumbers a insn a
@@ -119,11 +121,11 @@ none_taken a insn none = record {
   kept = λ i was. was;
 }
 
-pub jump_takes : (a : AbsState) (insn : Insn) → written_by insn ≡ None → LeavesOthers a insn a → Takes a insn a
-jump_takes a insn none others = record {
+pub jump_takes : (profile : Profile) (a : AbsState) (insn : Insn) → written_by insn ≡ None → LeavesOthers a insn a → Takes profile a insn a
+jump_takes profile a insn none others = record {
   numbers = λ reads. none_taken a insn none;
   others = others;
-  yields = λ d fact row. absurd (no_row a insn d fact none row);
+  yields = λ d fact row. absurd (no_row profile a insn d fact none row);
 }
 
 keeps_number : (x y : AbsReg) → KeepsKind x y → IsNumberReg x → IsNumberReg y
@@ -133,8 +135,8 @@ keeps_number (Set (Context p)) y keeps number = absurd number
 keeps_number (Set (Stack p)) y keeps number = absurd number
 keeps_number (Set (Lent p)) y keeps number = absurd number
 
-pub edge_takes : (a b : AbsState) (insn : Insn) (width : Width) (comparison : Comparison) (left : ℕ) (right : Operand) (distance : ℤ) (edge : Option AbsState) → insn ≡ Branch width comparison left right distance → edge ≡ Some b → IfSome edge (λ x. LeavesSides left right a x) → (HasNumberAt a left → HasNumberIn a right → IfSome edge (λ x. KeepsAll a x)) → Takes a insn b
-edge_takes a b insn width comparison left right distance edge is live leaves kinds = record {
+pub edge_takes : (profile : Profile) (a b : AbsState) (insn : Insn) (width : Width) (comparison : Comparison) (left : ℕ) (right : Operand) (distance : ℤ) (edge : Option AbsState) → insn ≡ Branch width comparison left right distance → edge ≡ Some b → IfSome edge (λ x. LeavesSides left right a x) → (HasNumberAt a left → HasNumberIn a right → IfSome edge (λ x. KeepsAll a x)) → Takes profile a insn b
+edge_takes profile a b insn width comparison left right distance edge is live leaves kinds = record {
   numbers = λ reads.
       let both = subst (ReadsNumbers a) is reads in
       let keeps = at_some edge (λ x. KeepsAll a x) b (kinds both.0 both.1) live in
@@ -143,5 +145,5 @@ edge_takes a b insn width comparison left right distance edge is live leaves kin
         kept = λ i was. keeps_number _ _ (keeps i) was;
       };
   others = subst (λ (i : Insn). LeavesOthers a i b) (sym is) (at_some edge (λ x. LeavesSides left right a x) b leaves live);
-  yields = λ d fact row. absurd (no_row a insn d fact (ap written_by is) row);
+  yields = λ d fact row. absurd (no_row profile a insn d fact (ap written_by is) row);
 }

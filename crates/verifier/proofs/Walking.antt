@@ -4,12 +4,13 @@ use Rattle.std.specs.Prelude.{pos, negsuc}
 use Rattle.std.specs.List.{slice_get}
 use Rattle.std.proofs.lemmas.Bool.{cases_lt, false≢true}
 use Rattle.std.proofs.lemmas.Option.{slice_get_within, slice_get-get_or, same_Some}
+use Rattle.bpf_words.specs.declared.profile.Profile.{Profile}
 use Rattle.bpf_words.specs.declared.instruction.Insn.{Insn}
 use Rattle.bpf_words.specs.declared.instruction.Insn.TheVariants.{Compute, Negate, Extend, Convert, Jump, JumpLong, Branch, Load, LoadSigned, Store, LoadWide, Exit}
 use Rattle.bpf_words.specs.Flow.{StartsAt, IsPaired, jump_of, slots_of, falls_through}
 use Rattle.meaning.specs.State.{State, start}
 use Rattle.meaning.specs.Step.{Program, Moved, On, Returns}
-use Rattle.meaning.specs.Safe.{Safe}
+use Rattle.meaning.specs.Safe.{SafeIn}
 use Rattle.abstract_state.specs.declared.state.AbsState.{AbsState}
 use Rattle.abstract_state.specs.Lent.{Lengths}
 use Rattle.abstract_state.specs.State.{Span, lengths_of, Contains, WithinState, does}
@@ -106,16 +107,16 @@ fall_starts program slot to insn paired structured starts falls is =
     (one_or_two insn)
 
 -- ---- what is known once all edges into a slot are joined
-abbrev pub Settled : Program → ℕ → Option AbsState → States → Type 0
-Settled program slot falling waiting =
-    (span : Span)
+abbrev pub Settled : Profile → Program → ℕ → Option AbsState → States → Type 0
+Settled profile program slot falling waiting =
+    (span : Span) → span.profile ≡ profile
     → Ends program span
     ⊎ ((s : State) × ComesTo program span s
     × (((s.slot ≡ slot) × WithinState falling (lengths_of span) s)
     ⊎ ((slot < s.slot) × WithinState (waiting_at waiting s.slot) (lengths_of span) s)))
 
-pub arrived : (program : Program) (slot : ℕ) (insn : Insn) (falling joined : Option AbsState) (old new : States) → StartsAt program slot insn → ((lengths : Lengths) (s : State) → WithinState falling lengths s → WithinState joined lengths s) → ((lengths : Lengths) (s : State) → WithinState (waiting_at old slot) lengths s → WithinState joined lengths s) → ((other : ℕ) → other ≢ slot → waiting_at new other ≡ waiting_at old other) → Follows program slot falling old → Settled program slot joined new
-arrived program slot insn falling joined old new starts falls arrives others follows span =
+pub arrived : (profile : Profile) (program : Program) (slot : ℕ) (insn : Insn) (falling joined : Option AbsState) (old new : States) → StartsAt program slot insn → ((lengths : Lengths) (s : State) → WithinState falling lengths s → WithinState joined lengths s) → ((lengths : Lengths) (s : State) → WithinState (waiting_at old slot) lengths s → WithinState joined lengths s) → ((other : ℕ) → other ≢ slot → waiting_at new other ≡ waiting_at old other) → Follows profile program slot falling old → Settled profile program slot joined new
+arrived profile program slot insn falling joined old new starts falls arrives others follows span which =
     ⊎_elim
     (λ (ended : Ends program span). inl ended)
     (λ (come : (s : State) × ComesTo program span s × IsAwaited program slot falling old (lengths_of span) s).
@@ -140,7 +141,7 @@ arrived program slot insn falling joined old new starts falls arrives others fol
     inr (s, come.1, inl (at, arrives (lengths_of span) s (subst (λ k. WithinState (waiting_at old k) (lengths_of span) s) at waits))))
     come.2.1)
     (cases_lt slot s.slot))
-    (follows span)
+    (follows span which)
 
 -- ---- an instruction is passed
 moved : (program : Program) (span : Span) (slot : ℕ) (insn : Insn) (s : State) (falling : Option AbsState) (waiting : States) (m : Moved) → IsPaired program → IsStructured program → StartsAt program slot insn → ComesTo program span s → s.slot ≡ slot → does span s insn ≡ m → Advances (lengths_of span) slot insn falling waiting m → Ends program span ⊎ ((s : State) × ComesTo program span s × IsAwaited program (slot + 1) falling waiting (lengths_of span) s)
@@ -171,8 +172,8 @@ moved program span slot insn s falling waiting (Ok (On next distance)) paired st
     advances
 moved program span slot insn s falling waiting (Err kind) paired structured starts comes at e advances = absurd advances
 
-pub passed : (program : Program) (slot : ℕ) (insn : Insn) (a : AbsState) (falling : Option AbsState) (old new : States) → IsPaired program → IsStructured program → StartsAt program slot insn → Keeps old new → ((span : Span) (s : State) → Contains a (lengths_of span) s → Advances (lengths_of span) slot insn falling new (does span s insn)) → Settled program slot (Some a) old → Follows program (slot + 1) falling new
-passed program slot insn a falling old new paired structured starts keeps sound settled span =
+pub passed : (profile : Profile) (program : Program) (slot : ℕ) (insn : Insn) (a : AbsState) (falling : Option AbsState) (old new : States) → IsPaired program → IsStructured program → StartsAt program slot insn → Keeps old new → ((span : Span) (s : State) → span.profile ≡ profile → Contains a (lengths_of span) s → Advances (lengths_of span) slot insn falling new (does span s insn)) → Settled profile program slot (Some a) old → Follows profile program (slot + 1) falling new
+passed profile program slot insn a falling old new paired structured starts keeps sound settled span which =
     ⊎_elim
     (λ (ended : Ends program span). inl ended)
     (λ (come : (s : State) × ComesTo program span s × (((s.slot ≡ slot) × WithinState (Some a) (lengths_of span) s) ⊎ ((slot < s.slot) × WithinState (waiting_at old s.slot) (lengths_of span) s))).
@@ -180,16 +181,16 @@ passed program slot insn a falling old new paired structured starts keeps sound 
     ⊎_elim
     (λ (here : (s.slot ≡ slot) × WithinState (Some a) (lengths_of span) s).
     let contains : Contains a (lengths_of span) s = let (x, is, c) = here.1 in subst (λ b. Contains b (lengths_of span) s) (same_Some x a (sym is)) c in
-    moved program span slot insn s falling new (does span s insn) paired structured starts come.1 here.0 refl (sound span s contains))
+    moved program span slot insn s falling new (does span s insn) paired structured starts come.1 here.0 refl (sound span s which contains))
     (λ (later : (slot < s.slot) × WithinState (waiting_at old s.slot) (lengths_of span) s).
     let after_it = later.0 in
     inr (s, come.1, (omega arith, inr (keeps s.slot (lengths_of span) s later.1))))
     come.2)
-    (settled span)
+    (settled span which)
 
 -- nothing comes to a dead slot
-pub skipped : (program : Program) (slot : ℕ) (falling : Option AbsState) (waiting : States) → Settled program slot None waiting → Follows program (slot + 1) falling waiting
-skipped program slot falling waiting settled span =
+pub skipped : (profile : Profile) (program : Program) (slot : ℕ) (falling : Option AbsState) (waiting : States) → Settled profile program slot None waiting → Follows profile program (slot + 1) falling waiting
+skipped profile program slot falling waiting settled span which =
     ⊎_elim
     (λ (ended : Ends program span). inl ended)
     (λ (come : (s : State) × ComesTo program span s × (((s.slot ≡ slot) × WithinState None (lengths_of span) s) ⊎ ((slot < s.slot) × WithinState (waiting_at waiting s.slot) (lengths_of span) s))).
@@ -200,11 +201,11 @@ skipped program slot falling waiting settled span =
     let after_it = later.0 in
     inr (s, come.1, (omega arith, inr later.1)))
     come.2)
-    (settled span)
+    (settled span which)
 
 -- ---- a slot that is no instruction
-pub stepped_over : (program : Program) (slot : ℕ) (falling : Option AbsState) (waiting : States) → slice_get program slot ≡ Some None → Follows program slot falling waiting → Follows program (slot + 1) falling waiting
-stepped_over program slot falling waiting second follows span =
+pub stepped_over : (profile : Profile) (program : Program) (slot : ℕ) (falling : Option AbsState) (waiting : States) → slice_get program slot ≡ Some None → Follows profile program slot falling waiting → Follows profile program (slot + 1) falling waiting
+stepped_over profile program slot falling waiting second follows span which =
     ⊎_elim
     (λ (ended : Ends program span). inl ended)
     (λ (come : (s : State) × ComesTo program span s × IsAwaited program slot falling waiting (lengths_of span) s).
@@ -230,11 +231,11 @@ stepped_over program slot falling waiting second follows span =
     let both : Some None ≡ Some (Some c.insn) = sym second ∙ there in
     absurd (cc))
     (cases_lt slot s.slot))
-    (follows span)
+    (follows span which)
 
 -- ---- the walk's begin and end
-pub begins : (program : Program) (entry : AbsState) (waiting : States) → 0 < length program → IsPaired program → ((span : Span) → Contains entry (lengths_of span) start) → Follows program 0 (Some entry) waiting
-begins program entry waiting some paired contains span =
+pub begins : (profile : Profile) (program : Program) (entry : AbsState) (waiting : States) → 0 < length program → IsPaired program → ((span : Span) → Contains entry (lengths_of span) start) → Follows profile program 0 (Some entry) waiting
+begins profile program entry waiting some paired contains span which =
     let first = starts_at program 0 some paired.begins in
     inr (
       start,
@@ -242,13 +243,13 @@ begins program entry waiting some paired contains span =
       (omega arith, inl ((λ k low high. absurd (omega arith)), (entry, refl, contains span))),
     )
 
-pub ends : (program : Program) (falling : Option AbsState) (waiting : States) → Follows program (length program) falling waiting → Safe program
-ends program falling waiting follows context text whole =
+pub ends : (profile : Profile) (program : Program) (falling : Option AbsState) (waiting : States) → Follows profile program (length program) falling waiting → SafeIn profile program
+ends profile program falling waiting follows bytes whole =
     ⊎_elim
-    (λ (ended : Ends program (record { context = context; text = text; whole = whole })). ended)
-    (λ (come : (s : State) × ComesTo program (record { context = context; text = text; whole = whole }) s × IsAwaited program (length program) falling waiting (lengths_of (record { context = context; text = text; whole = whole })) s).
+    (λ (ended : Ends program (record { profile = profile; bytes = bytes; whole = whole })). ended)
+    (λ (come : (s : State) × ComesTo program (record { profile = profile; bytes = bytes; whole = whole }) s × IsAwaited program (length program) falling waiting (lengths_of (record { profile = profile; bytes = bytes; whole = whole })) s).
     let s = come.0 in
     let within = slice_get_within program s.slot (Some come.1.insn) come.1.starts in
     let past = come.2.0 in
     absurd (omega arith))
-    (follows (record { context = context; text = text; whole = whole }))
+    (follows (record { profile = profile; bytes = bytes; whole = whole }) refl)

@@ -1,5 +1,6 @@
 -- How what is known before a slot came to be, and which instructions may be refused then.
 use Rattle.std.specs.Prelude.{◌≡◌, ◌≢◌, ℕ, ℤ, pos, ◌+◌, ◌<◌, ◌≤◌, ◌⊎◌, Option, Some, true}
+use Rattle.bpf_words.specs.declared.profile.Profile.{Profile}
 use Rattle.bpf_words.specs.declared.instruction.Width.TheVariants.{Full}
 use Rattle.bpf_words.specs.declared.instruction.Comparison.TheVariants.{Greater}
 use Rattle.bpf_words.specs.declared.instruction.Operand.TheVariants.{Source}
@@ -7,26 +8,28 @@ use Rattle.bpf_words.specs.declared.instruction.Insn.{Insn}
 use Rattle.bpf_words.specs.declared.instruction.Insn.TheVariants.{Branch}
 use Rattle.bpf_words.specs.Flow.{StartsAt, jump_of, written_by, falls_through, slots_of}
 use Rattle.meaning.specs.Step.{Program}
+use Rattle.abstract_state.specs.declared.region.Region.{Region}
+use Rattle.abstract_state.specs.Lent.{bound_of}
 use Rattle.abstract_state.specs.declared.state.AbsState.{AbsState}
 use Rattle.abstract_state.specs.State.{register_at}
 use Rattle.abstract_state.specs.Kinds.{HasNumberAt, IsContextAt, JoinsReg, ReadsNumbers}
 use Rattle.abstract_state.specs.Exact.{Fact, Holds}
-use Rattle.abstract_state.specs.Exact.Fact.{TextIn}
+use Rattle.abstract_state.specs.Exact.Fact.{LentIn}
 use Rattle.abstract_state.specs.Guard.{Yields, LeavesOthers}
 use Rattle.verifier.specs.declared.refusal.VerifyError.{VerifyError}
 use Rattle.verifier.specs.declared.refusal.VerifyError.TheVariants.{OutOfMemory}
 use Rattle.verifier.specs.Waiting.{States, waiting_at}
 use Rattle.verifier.specs.Walk.{Between}
 
--- a comparison with an address in the text up to its end: where it doesn't hold, so many bytes are there
-pub data Guards (a : AbsState) : Insn → ℕ → Type 0 where
-  behind : (left right n high low2 high2 t : ℕ) (tail : Option ℕ) (distance : ℤ) → left ≢ right → Holds (TextIn n high tail) (register_at a.registers left) → Holds (TextIn low2 high2 (Some t)) (register_at a.registers right) → Guards a (Branch Full Greater left (Source right) distance) n
+-- a comparison with an address in a lent region up to its end: where it doesn't hold, so many bytes are there
+pub data Guards (a : AbsState) : Insn → Region → ℕ → Type 0 where
+  behind : (region : Region) (left right n high low2 high2 t : ℕ) (tail : Option ℕ) (distance : ℤ) → left ≢ right → Holds (LentIn region n high tail) (register_at a.registers left) → Holds (LentIn region low2 high2 (Some t)) (register_at a.registers right) → Guards a (Branch Full Greater left (Source right) distance) region n
 
--- what is never refused: what reads numbers alone, and the steps of a guarded read of the text
-pub data IsGranted (a : AbsState) (insn : Insn) : Type 0 where
-  of_numbers : ReadsNumbers a insn → IsGranted a insn
-  of_row : (register : ℕ) (fact : Fact) → Yields a insn register fact → IsGranted a insn
-  of_guard : (n : ℕ) → Guards a insn n → IsGranted a insn
+-- what is never refused: what reads numbers alone, and the steps of a guarded read of a region that the profile lends
+pub data IsGranted (profile : Profile) (a : AbsState) (insn : Insn) : Type 0 where
+  of_numbers : ReadsNumbers a insn → IsGranted profile a insn
+  of_row : (register : ℕ) (fact : Fact) → Yields profile a insn register fact → IsGranted profile a insn
+  of_guard : (region : Region) (n : ℕ) → Guards a insn region n → IsGranted profile a insn
 
 -- what an instruction writes is a number, and a number stays one
 pub record TakesNumbers (a : AbsState) (insn : Insn) (b : AbsState) : Type 0 where
@@ -34,14 +37,14 @@ pub record TakesNumbers (a : AbsState) (insn : Insn) (b : AbsState) : Type 0 whe
   pub kept : (i : ℕ) → HasNumberAt a i → HasNumberAt b i
 
 -- what is known past an instruction, on each of its edges
-pub record Takes (a : AbsState) (insn : Insn) (b : AbsState) : Type 0 where
+pub record Takes (profile : Profile) (a : AbsState) (insn : Insn) (b : AbsState) : Type 0 where
   pub numbers : ReadsNumbers a insn → TakesNumbers a insn b
   pub others : LeavesOthers a insn b
-  pub yields : (register : ℕ) (fact : Fact) → Yields a insn register fact → Holds fact (register_at b.registers register)
+  pub yields : (register : ℕ) (fact : Fact) → Yields profile a insn register fact → Holds fact (register_at b.registers register)
 
--- how long the text is where a comparison doesn't hold
+-- how long a lent region is where a comparison doesn't hold
 abbrev pub IsLongBehind : AbsState → Insn → AbsState → Type 0
-IsLongBehind a insn b = (n : ℕ) → Guards a insn n → n ≤ b.bounds.text
+IsLongBehind a insn b = (region : Region) (n : ℕ) → Guards a insn region n → n ≤ bound_of b.bounds region
 
 abbrev pub JoinsAll : AbsState → AbsState → AbsState → Type 0
 JoinsAll a b c = (i : ℕ) → i < 11 → JoinsReg (register_at a.registers i) (register_at b.registers i) (register_at c.registers i)
@@ -55,39 +58,39 @@ pub record IsTarget (program : Program) (slot : ℕ) : Type 0 where
   pub jumps : jump_of insn ≡ Some (pos distance)
   pub there : slot ≡ from + 1 + distance
 
--- known before the first slot; past an instruction, by its fall into the next one or by its jump; or joined, where a jump leads
-pub data Arises (program : Program) : ℕ → AbsState → Type 0 where
-  first : {a : AbsState} → IsContextAt 0 (register_at a.registers 1) → Arises program 0 a
-  fell : {slot : ℕ} {a b : AbsState} {insn : Insn} → Arises program slot a → StartsAt program slot insn → falls_through insn ≡ true → Takes a insn b → IsLongBehind a insn b → Arises program (slot + slots_of insn) b
-  jumped : {slot n : ℕ} {a b : AbsState} {insn : Insn} → Arises program slot a → StartsAt program slot insn → jump_of insn ≡ Some (pos n) → Takes a insn b → Arises program (slot + 1 + n) b
-  joined : {slot : ℕ} {a b c : AbsState} → IsTarget program slot → Arises program slot a → Arises program slot b → JoinsAll a b c → Arises program slot c
+-- in a run of the profile: known before the first slot; past an instruction, by its fall into the next one or by its jump; or joined, where a jump leads
+pub data Arises (profile : Profile) (program : Program) : ℕ → AbsState → Type 0 where
+  first : {a : AbsState} → IsContextAt 0 (register_at a.registers 1) → Arises profile program 0 a
+  fell : {slot : ℕ} {a b : AbsState} {insn : Insn} → Arises profile program slot a → StartsAt program slot insn → falls_through insn ≡ true → Takes profile a insn b → IsLongBehind a insn b → Arises profile program (slot + slots_of insn) b
+  jumped : {slot n : ℕ} {a b : AbsState} {insn : Insn} → Arises profile program slot a → StartsAt program slot insn → jump_of insn ≡ Some (pos n) → Takes profile a insn b → Arises profile program (slot + 1 + n) b
+  joined : {slot : ℕ} {a b c : AbsState} → IsTarget program slot → Arises profile program slot a → Arises profile program slot b → JoinsAll a b c → Arises profile program slot c
 
-abbrev pub ArisesAt : Program → ℕ → Option AbsState → Type 0
-ArisesAt program slot o = (a : AbsState) → o ≡ Some a → Arises program slot a
+abbrev pub ArisesAt : Profile → Program → ℕ → Option AbsState → Type 0
+ArisesAt profile program slot o = (a : AbsState) → o ≡ Some a → Arises profile program slot a
 
 -- something waits only where a jump leads, and arises there
-abbrev pub AllArise : Program → States → Type 0
-AllArise program waiting = (slot : ℕ) (a : AbsState) → waiting_at waiting slot ≡ Some a → IsTarget program slot × Arises program slot a
+abbrev pub AllArise : Profile → Program → States → Type 0
+AllArise profile program waiting = (slot : ℕ) (a : AbsState) → waiting_at waiting slot ≡ Some a → IsTarget program slot × Arises profile program slot a
 
 -- what an instruction leaves for the next one
-abbrev pub FallsFrom : Program → ℕ → Insn → Option AbsState → Type 0
-FallsFrom program slot insn falling = (a : AbsState) → falling ≡ Some a → (falls_through insn ≡ true) × Arises program (slot + slots_of insn) a
+abbrev pub FallsFrom : Profile → Program → ℕ → Insn → Option AbsState → Type 0
+FallsFrom profile program slot insn falling = (a : AbsState) → falling ≡ Some a → (falls_through insn ≡ true) × Arises profile program (slot + slots_of insn) a
 
 -- what falls into the next instruction arises there
-abbrev pub FallsAs : Program → ℕ → Option AbsState → Type 0
-FallsAs program slot falling =
+abbrev pub FallsAs : Profile → Program → ℕ → Option AbsState → Type 0
+FallsAs profile program slot falling =
     (a : AbsState) → falling ≡ Some a
-    → (to : ℕ) × ((next : Insn) × (slot ≤ to) × Between program slot to × StartsAt program to next × Arises program to a)
+    → (to : ℕ) × ((next : Insn) × (slot ≤ to) × Between program slot to × StartsAt program to next × Arises profile program to a)
 
 -- what arises before some instruction doesn't grant it
-pub record MayRefuse (program : Program) : Type 0 where
+pub record MayRefuse (profile : Profile) (program : Program) : Type 0 where
   pub slot : ℕ
   pub state : AbsState
   pub insn : Insn
-  pub arises : Arises program slot state
+  pub arises : Arises profile program slot state
   pub starts : StartsAt program slot insn
-  pub refused : IsGranted state insn → ⊥
+  pub refused : IsGranted profile state insn → ⊥
 
 -- the causes of a refusal of a structured program
-abbrev pub IsCause : Program → VerifyError → Type 0
-IsCause program e = (e ≡ OutOfMemory) ⊎ MayRefuse program
+abbrev pub IsCause : Profile → Program → VerifyError → Type 0
+IsCause profile program e = (e ≡ OutOfMemory) ⊎ MayRefuse profile program

@@ -1,5 +1,6 @@
--- A program that reads one byte of the text behind a test that it is there.
+-- A program that reads one byte of a lent region behind a test that it is there.
 use Rattle.std.specs.Prelude.{◌≡◌, ℕ, pos, ◌<◌, ◌≤◌, [], ◌∷◌, Some}
+use Rattle.bpf_words.specs.declared.profile.Profile.{Profile}
 use Rattle.bpf_words.specs.declared.instruction.Size.TheVariants.{Byte, Double}
 use Rattle.bpf_words.specs.declared.instruction.Width.TheVariants.{Full}
 use Rattle.bpf_words.specs.declared.instruction.Arithmetic.TheVariants.{Mov, Add}
@@ -7,12 +8,14 @@ use Rattle.bpf_words.specs.declared.instruction.Comparison.TheVariants.{Greater}
 use Rattle.bpf_words.specs.declared.instruction.Operand.TheVariants.{Immediate, Source}
 use Rattle.bpf_words.specs.declared.instruction.Insn.TheVariants.{Compute, Branch, Load, Exit}
 use Rattle.meaning.specs.Step.{Program}
+use Rattle.abstract_state.specs.declared.region.Region.{Region}
+use Rattle.abstract_state.specs.Lent.{begin_field, end_field, limit_of, Lends}
 
--- r2 and r3 are the text's begin and end; where n bytes are there, r0 is the byte at an offset, and else 0
-abbrev pub guard : ℕ → ℕ → Program
-guard n offset =
-    Some (Load Double 2 1 (pos 0))
-    ∷ Some (Load Double 3 1 (pos 8))
+-- r2 and r3 are the region's begin and end; where n bytes are there, r0 is the byte at an offset, and else 0
+abbrev pub guard : Region → ℕ → ℕ → Program
+guard region n offset =
+    Some (Load Double 2 1 (pos (begin_field region)))
+    ∷ Some (Load Double 3 1 (pos (end_field region)))
     ∷ Some (Compute Full Mov 4 (Source 2))
     ∷ Some (Compute Full Add 4 (Immediate (pos n)))
     ∷ Some (Compute Full Mov 0 (Immediate (pos 0)))
@@ -21,11 +24,14 @@ guard n offset =
     ∷ Some Exit
     ∷ []
 
-pub record IsGuard (program : Program) : Type 0 where
+-- over a region that the profile lends
+pub record IsGuard (profile : Profile) (program : Program) : Type 0 where
+  pub region : Region
   pub count : ℕ
   pub offset : ℕ
+  pub lends : Lends region profile
   pub some : 1 ≤ count
-  pub short : count ≤ 131072
+  pub short : count ≤ limit_of region
   pub within : offset < count
   pub fits : offset ≤ 32767
-  pub is : program ≡ guard count offset
+  pub is : program ≡ guard region count offset

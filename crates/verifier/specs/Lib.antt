@@ -5,3 +5,4 @@ pub mod Plain
 pub mod Arises
 pub mod Guard
 pub mod Reaches
+pub mod Judged

@@ -1,5 +1,6 @@
 -- The states that the runs of a program come to, and what is known of them.
 use Rattle.std.specs.Prelude.{◌≡◌, ℕ, ◌<◌, ◌≤◌, List, length, Option, None, Ok, slice_index_or}
+use Rattle.bpf_words.specs.declared.profile.Profile.{Profile}
 use Rattle.bpf_words.specs.declared.instruction.Insn.{Insn}
 use Rattle.bpf_words.specs.Flow.{StartsAt}
 use Rattle.meaning.specs.State.{State, start}
@@ -15,19 +16,19 @@ use Rattle.verifier.specs.Arises.{ArisesAt}
 -- the run on a span comes to a state
 pub data Reaches (program : Program) (span : Span) : State → Type 0 where
   at_start : Reaches program span start
-  by_step : {s next : State} → Reaches program span s → step program span.context span.text s ≡ Ok (Next next) → Reaches program span next
+  by_step : {s next : State} → Reaches program span s → step program span.bytes s ≡ Ok (Next next) → Reaches program span next
 
--- what is known before a slot contains each state that a run comes to there; where nothing is known, no run comes there
-abbrev pub ContainsRuns : Program → ℕ → Option AbsState → Type 0
-ContainsRuns program slot known = (span : Span) (s : State) → Reaches program span s → s.slot ≡ slot → WithinState known (lengths_of span) s
+-- what is known before a slot contains each state that a run of the profile comes to there; where nothing is known, no run comes there
+abbrev pub ContainsRuns : Profile → Program → ℕ → Option AbsState → Type 0
+ContainsRuns profile program slot known = (span : Span) (s : State) → span.profile ≡ profile → Reaches program span s → s.slot ≡ slot → WithinState known (lengths_of span) s
 
 -- so does what is known before each slot
-abbrev pub ContainAllRuns : Program → List (Option AbsState) → Type 0
-ContainAllRuns program states = (slot : ℕ) → slot < length program → ContainsRuns program slot (slice_index_or states slot None)
+abbrev pub ContainAllRuns : Profile → Program → List (Option AbsState) → Type 0
+ContainAllRuns profile program states = (slot : ℕ) → slot < length program → ContainsRuns profile program slot (slice_index_or states slot None)
 
 -- each state that is known arises from the program's steps
-abbrev pub AriseEverywhere : Program → List (Option AbsState) → Type 0
-AriseEverywhere program states = (slot : ℕ) (insn : Insn) → StartsAt program slot insn → ArisesAt program slot (slice_index_or states slot None)
+abbrev pub AriseEverywhere : Profile → Program → List (Option AbsState) → Type 0
+AriseEverywhere profile program states = (slot : ℕ) (insn : Insn) → StartsAt program slot insn → ArisesAt profile program slot (slice_index_or states slot None)
 
 -- a refusal for what is known at a slot below, or for want of memory
 abbrev pub IsStateBelow : ℕ → VerifyError → Type 0
@@ -45,9 +46,9 @@ IsBefore end OutOfMemory = Unit {0}
 -- the run comes to a state by a step from below a slot, or it begins there
 pub data Enters (program : Program) (span : Span) (slot : ℕ) : State → Type 0 where
   from_start : Enters program span slot start
-  from_below : {s next : State} → Reaches program span s → s.slot < slot → step program span.context span.text s ≡ Ok (Next next) → Enters program span slot next
+  from_below : {s next : State} → Reaches program span s → s.slot < slot → step program span.bytes s ≡ Ok (Next next) → Enters program span slot next
 
--- each state from a slot on that a run enters from below is awaited
-abbrev pub Covers : Program → ℕ → Option AbsState → States → Type 0
-Covers program slot falling waiting =
-    (span : Span) (s : State) → Enters program span slot s → slot ≤ s.slot → IsAwaited program slot falling waiting (lengths_of span) s
+-- each state from a slot on that a run of the profile enters from below is awaited
+abbrev pub Covers : Profile → Program → ℕ → Option AbsState → States → Type 0
+Covers profile program slot falling waiting =
+    (span : Span) (s : State) → span.profile ≡ profile → Enters program span slot s → slot ≤ s.slot → IsAwaited program slot falling waiting (lengths_of span) s

@@ -1,5 +1,6 @@
 -- How the runs of a program follow the walk over its slots.
 use Rattle.std.specs.Prelude.{◌≡◌, ℕ, ℤ, pos, ◌+◌, ◌<◌, ◌≤◌, ◌⊎◌, length, Option, Some, None, Ok, Err, true, slice_get}
+use Rattle.bpf_words.specs.declared.profile.Profile.{Profile}
 use Rattle.bpf_words.specs.declared.instruction.Insn.{Insn}
 use Rattle.bpf_words.specs.Flow.{StartsAt, jump_of, slots_of, falls_through}
 use Rattle.meaning.specs.State.{State}
@@ -14,7 +15,7 @@ use Rattle.verifier.specs.Waiting.{States, waiting_at}
 -- the run on a span comes to a state, at an instruction, with enough steps left for all slots from there on
 pub record ComesTo (program : Program) (span : Span) (s : State) : Type 0 where
   pub steps : ℕ
-  pub same : outcome program span.context span.text ≡ outcome_from program span.context span.text steps s
+  pub same : outcome program span.bytes ≡ outcome_from program span.bytes steps s
   pub enough : length program ≤ steps + s.slot
   pub insn : Insn
   pub starts : StartsAt program s.slot insn
@@ -29,12 +30,12 @@ IsAwaited program slot falling waiting lengths s =
     (slot ≤ s.slot) × ((Between program slot s.slot × WithinState falling lengths s) ⊎ WithinState (waiting_at waiting s.slot) lengths s)
 
 abbrev pub Ends : Program → Span → Type 0
-Ends program span = (value : ℕ) × Verdict program span.context span.text value
+Ends program span = (value : ℕ) × Verdict program span.bytes value
 
--- every run ends with a number, or comes to a state that is awaited
-abbrev pub Follows : Program → ℕ → Option AbsState → States → Type 0
-Follows program slot falling waiting =
-    (span : Span) → Ends program span ⊎ ((s : State) × ComesTo program span s × IsAwaited program slot falling waiting (lengths_of span) s)
+-- every run of the profile ends with a number, or comes to a state that is awaited
+abbrev pub Follows : Profile → Program → ℕ → Option AbsState → States → Type 0
+Follows profile program slot falling waiting =
+    (span : Span) → span.profile ≡ profile → Ends program span ⊎ ((s : State) × ComesTo program span s × IsAwaited program slot falling waiting (lengths_of span) s)
 
 -- where what an instruction did leads: to the end, to the next instruction, or to the target of its jump, and what is known there
 -- contains it

@@ -14,22 +14,24 @@ use crate::refusal::VerifyError;
 use crate::structure::check;
 use crate::walk::{walk_before, walk_each};
 use abstract_state::state::AbsState;
+use bpf_words::profile::Profile;
 use bpf_words::words::Words;
 use std::alloc::Global;
 
-/// What `verify` knows of the machine before a slot: it contains each state that a run comes to there, on any context and text that
-/// fit, and it is nothing only where no run comes there. Refused is what `verify` refuses for its structure or at a slot below.
+/// What `verify` knows of the machine before a slot: it contains each state that a run comes to there, on any context, text and link's
+/// text that fit, and it is nothing only where no run comes there. Refused is what `verify` refuses for its structure or at a slot below.
 pub fn state_before(
     alloc: Global,
     words: &Words<'_>,
+    profile: Profile,
     slot: usize,
 ) -> Result<Option<AbsState>, VerifyError>
     requires { slot < length (program_of words.now) }
-    ensures contains { IfOk result (ContainsRuns (program_of words.now) slot) }
-    ensures arises { IfOk result (λ known. (insn : Insn) → StartsAt (program_of words.now) slot insn → ArisesAt (program_of words.now) slot known) }
+    ensures contains { IfOk result (ContainsRuns profile (program_of words.now) slot) }
+    ensures arises { IfOk result (λ known. (insn : Insn) → StartsAt (program_of words.now) slot insn → ArisesAt profile (program_of words.now) slot known) }
     ensures structure { (at : ℕ) (fault : StructureFault) → (result ≡ Err (VerifyError.Structure at fault)) ↔ FirstFault (program_of words.now) at fault }
     ensures plain { IfErr result (λ e. IsPlain (program_of words.now) → e ≡ VerifyError.OutOfMemory) }
-    ensures guard { IfErr result (λ e. IsGuard (program_of words.now) → e ≡ VerifyError.OutOfMemory) }
+    ensures guard { IfErr result (λ e. IsGuard profile (program_of words.now) → e ≡ VerifyError.OutOfMemory) }
     ensures before { IfErr result (IsBefore slot) }
 {
     if let Err(wrong) = check(words) {
@@ -38,18 +40,22 @@ pub fn state_before(
             fault: wrong.fault,
         });
     }
-    walk_before(alloc, words, slot)
+    walk_before(alloc, words, profile, slot)
 }
 
 /// What `verify` knows of the machine before each slot, as `state_before` answers it of one, by one walk. Refused is what `verify`
 /// refuses.
-pub fn states_before(alloc: Global, words: &Words<'_>) -> Result<Vec<Option<AbsState>>, VerifyError>
+pub fn states_before(
+    alloc: Global,
+    words: &Words<'_>,
+    profile: Profile,
+) -> Result<Vec<Option<AbsState>>, VerifyError>
     ensures size { IfOk result (λ states. length states.items ≡ length (program_of words.now)) }
-    ensures contains { IfOk result (λ states. ContainAllRuns (program_of words.now) states.items) }
-    ensures arises { IfOk result (λ states. AriseEverywhere (program_of words.now) states.items) }
+    ensures contains { IfOk result (λ states. ContainAllRuns profile (program_of words.now) states.items) }
+    ensures arises { IfOk result (λ states. AriseEverywhere profile (program_of words.now) states.items) }
     ensures structure { (at : ℕ) (fault : StructureFault) → (result ≡ Err (VerifyError.Structure at fault)) ↔ FirstFault (program_of words.now) at fault }
     ensures plain { IfErr result (λ e. IsPlain (program_of words.now) → e ≡ VerifyError.OutOfMemory) }
-    ensures guard { IfErr result (λ e. IsGuard (program_of words.now) → e ≡ VerifyError.OutOfMemory) }
+    ensures guard { IfErr result (λ e. IsGuard profile (program_of words.now) → e ≡ VerifyError.OutOfMemory) }
     ensures before { IfErr result (IsBefore (length (program_of words.now))) }
 {
     if let Err(wrong) = check(words) {
@@ -58,5 +64,5 @@ pub fn states_before(alloc: Global, words: &Words<'_>) -> Result<Vec<Option<AbsS
             fault: wrong.fault,
         });
     }
-    walk_each(alloc, words)
+    walk_each(alloc, words, profile)
 }

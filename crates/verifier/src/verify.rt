@@ -1,16 +1,18 @@
 //! The verifier, and the programs that it accepts.
 ghost use Rattle.std.specs.Prelude.{◌≡◌, ◌↔◌, ℕ, length, Err, IfOk, IfErr};
 ghost use Rattle.bpf_words.specs.Words.{program_of};
-ghost use Rattle.meaning.specs.Safe.{Safe};
+ghost use Rattle.meaning.specs.Safe.{Safe, SafeIn, IsBlindToLink};
 ghost use Rattle.verifier.specs.Plain.{IsPlain};
 ghost use Rattle.verifier.specs.Guard.{IsGuard};
 ghost use Rattle.verifier.specs.Structure.{IsStructured, FirstFault};
 ghost use Rattle.verifier.specs.Reaches.{IsBefore};
+ghost use Rattle.verifier.specs.Judged.{Rejects};
 ghost use Rattle.verifier.specs.declared.refusal.StructureFault.{StructureFault};
 
 use crate::refusal::VerifyError;
 use crate::structure::check;
 use crate::walk::walk;
+use bpf_words::profile::Profile;
 use bpf_words::words::Words;
 use decoded_rows::rows::Rows;
 use std::alloc::Global;
@@ -18,27 +20,38 @@ use std::marker::Model;
 
 /// A program of which every run ends with a number: it meets no fault, and takes no more steps than the program has slots.
 pub struct Verified {
+    profile: Profile,
     rows: Rows,
 }
 
 impl Drop for Verified {
     fn drop(self) {
-        let Verified { rows: _ } = self;
+        let Verified {
+            profile: _,
+            rows: _,
+        } = self;
     }
 }
 
 impl Model for Verified {
-    ghost use Rattle.meaning.specs.Safe.{Safe};
+    ghost use Rattle.meaning.specs.Safe.{Safe, SafeIn, IsBlindToLink};
     ghost use Rattle.meaning.specs.Step.{Program};
 
     ghost Value = { Program };
 
     ghost view = { λ v. v.rows };
 
-    ghost invariant = { λ v. Safe v.rows };
+    ghost invariant = { λ v. Safe v.rows × SafeIn v.profile v.rows };
 }
 
 impl Verified {
+    /// What the program was verified to read of a span.
+    pub fn profile(&self) -> Profile
+        ensures { SafeIn result self.now }
+    {
+        self.profile
+    }
+
     /// The program's words, lent.
     pub fn words(&self) -> Words<'_>
         ensures program { program_of result ≡ self.now }
@@ -56,17 +69,20 @@ impl Verified {
     }
 }
 
-/// Accepts a program of which every run ends with a number. The places and targets of all instructions are looked at first, and
-/// then what is known of the machine before each; the first slot at fault is named (of the second kind of fault the clauses say
-/// only that it is a slot of the program).
-pub fn verify(alloc: Global, words: &Words<'_>) -> Result<Verified, VerifyError>
+/// Accepts a program of which every run ends with a number, and that reads of a span no more than the profile lets it. The places
+/// and targets of all instructions are looked at first, and then what is known of the machine before each; the first slot at fault is
+/// named (of the second kind of fault the clauses say only that it is a slot of the program).
+pub fn verify(alloc: Global, words: &Words<'_>, profile: Profile) -> Result<Verified, VerifyError>
     ensures same { IfOk result (λ verified. verified ≡ program_of words.now) }
     ensures safe { IfOk result (λ verified. Safe verified) }
+    ensures seen { IfOk result (λ verified. SafeIn profile verified) }
+    ensures blind { profile ≡ Profile.One → IfOk result (λ verified. IsBlindToLink verified) }
     ensures structured { IfOk result (λ _. IsStructured (program_of words.now)) }
     ensures structure { (slot : ℕ) (fault : StructureFault) → (result ≡ Err (VerifyError.Structure slot fault)) ↔ FirstFault (program_of words.now) slot fault }
     ensures plain { IfErr result (λ e. IsPlain (program_of words.now) → e ≡ VerifyError.OutOfMemory) }
-    ensures guard { IfErr result (λ e. IsGuard (program_of words.now) → e ≡ VerifyError.OutOfMemory) }
+    ensures guard { IfErr result (λ e. IsGuard profile (program_of words.now) → e ≡ VerifyError.OutOfMemory) }
     ensures before { IfErr result (IsBefore (length (program_of words.now))) }
+    ensures rejects { IfErr result (λ e. Rejects profile (program_of words.now) e) }
 {
     if let Err(wrong) = check(words) {
         return Err(VerifyError::Structure {
@@ -74,8 +90,9 @@ pub fn verify(alloc: Global, words: &Words<'_>) -> Result<Verified, VerifyError>
             fault: wrong.fault,
         });
     }
-    walk(alloc, words)?;
+    walk(alloc, words, profile)?;
     Ok(Verified {
+        profile,
         rows: Rows::of(alloc, words)?,
     })
 }

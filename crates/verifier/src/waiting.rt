@@ -1,5 +1,6 @@
 //! What is known before the slots to which jumps lead.
 ghost use Rattle.std.specs.Prelude.{◌≡◌, ◌≢◌, ℕ, ◌<◌, length, None, IfOk};
+ghost use Rattle.bpf_words.specs.declared.profile.Profile.{Profile};
 ghost use Rattle.meaning.specs.State.{State};
 ghost use Rattle.abstract_state.specs.Lent.{Lengths};
 ghost use Rattle.abstract_state.specs.State.{Contains, WithinState};
@@ -37,7 +38,7 @@ fn join(
 ) -> Result<Box<AbsState>, AllocError>
     ensures kept { IfOk result (λ joined. (lengths : Lengths) (s : State) → WithinState (unboxed waiting) lengths s → Contains joined.value lengths s) }
     ensures added { IfOk result (λ joined. (lengths : Lengths) (s : State) → Contains state.now lengths s → Contains joined.value lengths s) }
-    ensures arises { (program : Program) (slot : ℕ) → IsTarget program slot → ArisesAt program slot (unboxed waiting) → Arises program slot state.now → IfOk result (λ joined. Arises program slot joined.value) }
+    ensures arises { (profile : Profile) (program : Program) (slot : ℕ) → IsTarget program slot → ArisesAt profile program slot (unboxed waiting) → Arises profile program slot state.now → IfOk result (λ joined. Arises profile program slot joined.value) }
 {
     let Some(mut earlier) = waiting else {
         return Ok(Box::new(alloc, *state)?);
@@ -65,7 +66,7 @@ impl Waiting {
         ensures size { length self.new ≡ length self.old }
         ensures kept { IfOk result (λ _. Keeps self.old self.new) }
         ensures added { IfOk result (λ _. (lengths : Lengths) (s : State) → Contains state.now lengths s → WithinState (waiting_at self.new slot) lengths s) }
-        ensures arises { (program : Program) → AllArise program self.old → IsTarget program slot → Arises program slot state.now → IfOk result (λ _. AllArise program self.new) }
+        ensures arises { (profile : Profile) (program : Program) → AllArise profile program self.old → IsTarget program slot → Arises profile program slot state.now → IfOk result (λ _. AllArise profile program self.new) }
     {
         let joined = join(self.alloc, self.states[slot].take(), state)?;
         self.states[slot] = Some(joined);
@@ -80,8 +81,8 @@ impl Waiting {
         ensures arrives { (lengths : Lengths) (s : State) → WithinState (waiting_at self.old slot) lengths s → WithinState (after result state.new) lengths s }
         ensures others { (other : ℕ) → other ≢ slot → waiting_at self.new other ≡ waiting_at self.old other }
         ensures alone { waiting_at self.old slot ≡ None → after result state.new ≡ after flow state.old }
-        ensures waits { (program : Program) → AllArise program self.old → AllArise program self.new }
-        ensures arises { (program : Program) → AllArise program self.old → ArisesAt program slot (after flow state.old) → AllArise program self.new × ArisesAt program slot (after result state.new) }
+        ensures waits { (profile : Profile) (program : Program) → AllArise profile program self.old → AllArise profile program self.new }
+        ensures arises { (profile : Profile) (program : Program) → AllArise profile program self.old → ArisesAt profile program slot (after flow state.old) → AllArise profile program self.new × ArisesAt profile program slot (after result state.new) }
     {
         let Some(waiting) = self.states[slot].take() else {
             return flow;

@@ -1,8 +1,9 @@
 //! One walk over the slots, with what is known of the machine before each.
 ghost use Rattle.std.specs.Prelude.{◌≡◌, ◌≢◌, ℕ, ℤ, pos, ◌+◌, ◌<◌, ◌≤◌, length, Option, Some, IfOk, IfErr};
+ghost use Rattle.bpf_words.specs.declared.profile.Profile.{Profile as TheProfile};
 ghost use Rattle.bpf_words.specs.Flow.{IsPaired, StartsAt, jump_of, written_by};
 ghost use Rattle.bpf_words.specs.Words.{program_of};
-ghost use Rattle.meaning.specs.Safe.{Safe};
+ghost use Rattle.meaning.specs.Safe.{Safe, SafeIn};
 ghost use Rattle.meaning.specs.State.{State};
 ghost use Rattle.meaning.specs.Step.{Program};
 ghost use Rattle.abstract_state.specs.Lent.{Lengths};
@@ -20,6 +21,7 @@ use abstract_state::refusal::Refusal;
 use abstract_state::state::AbsState;
 use abstract_state::step::Flow;
 use bpf_words::instruction::Insn;
+use bpf_words::profile::Profile;
 use bpf_words::words::Words;
 use std::alloc::{AllocError, Global};
 
@@ -67,7 +69,7 @@ fn record(target: usize, edge: &Option<AbsState>, waiting: &mut Waiting) -> Resu
     ensures size { length waiting.new ≡ length waiting.old }
     ensures kept { IfOk result (λ _. Keeps waiting.old waiting.new) }
     ensures added { IfOk result (λ _. (lengths : Lengths) (s : State) → WithinState edge.now lengths s → WithinState (waiting_at waiting.new target) lengths s) }
-    ensures arises { (program : Program) → AllArise program waiting.old → IsTarget program target → ArisesAt program target edge.now → IfOk result (λ _. AllArise program waiting.new) }
+    ensures arises { (profile : TheProfile) (program : Program) → AllArise profile program waiting.old → IsTarget program target → ArisesAt profile program target edge.now → IfOk result (λ _. AllArise profile program waiting.new) }
 {
     let Some(state) = edge else {
         return Ok(());
@@ -97,15 +99,21 @@ fn live(flow: Flow, state: &AbsState) -> Option<AbsState>
 }
 
 /// Makes of what is known before an instruction what is known on its edges: of a jump at its target, else in the state.
-fn pass(slot: usize, insn: &Insn, state: &mut AbsState, waiting: &mut Waiting) -> Result<Flow, Stop>
+fn pass(
+    profile: Profile,
+    slot: usize,
+    insn: &Insn,
+    state: &mut AbsState,
+    waiting: &mut Waiting,
+) -> Result<Flow, Stop>
     requires few { slot < 4096 }
     requires jumps { JumpsWithin (length waiting.old) slot insn.now }
     requires spares { written_by insn.now ≢ Some 10 }
     ensures size { length waiting.new ≡ length waiting.old }
     ensures kept { IfOk result (λ _. Keeps waiting.old waiting.new) }
-    ensures sound { IfOk result (λ flow. (span : Span) (s : State) → Contains state.old (lengths_of span) s → Advances (lengths_of span) slot insn.now (after flow state.new) waiting.new (does span s insn.now)) }
-    ensures floor { IsGranted state.old insn.now → IfErr result (λ stop. stop ≡ Stop.OutOfMemory) }
-    ensures arises { (program : Program) → StartsAt program slot insn.now → Arises program slot state.old → AllArise program waiting.old → IfOk result (λ flow. AllArise program waiting.new × FallsFrom program slot insn.now (after flow state.new)) }
+    ensures sound { IfOk result (λ flow. (span : Span) (s : State) → span.profile ≡ profile → Contains state.old (lengths_of span) s → Advances (lengths_of span) slot insn.now (after flow state.new) waiting.new (does span s insn.now)) }
+    ensures floor { IsGranted profile state.old insn.now → IfErr result (λ stop. stop ≡ Stop.OutOfMemory) }
+    ensures arises { (program : Program) → StartsAt program slot insn.now → Arises profile program slot state.old → AllArise profile program waiting.old → IfOk result (λ flow. AllArise profile program waiting.new × FallsFrom profile program slot insn.now (after flow state.new)) }
 {
     match *insn {
         Insn::Jump { .. } => {
@@ -131,12 +139,13 @@ fn pass(slot: usize, insn: &Insn, state: &mut AbsState, waiting: &mut Waiting) -
             state.exit()?;
             Ok(Flow::Dead)
         }
-        _ => Ok(state.step(insn)?),
+        _ => Ok(state.step(profile, insn)?),
     }
 }
 
 /// Joins all edges into a slot, and goes past its instruction, if a run can come there.
 fn visit(
+    profile: Profile,
     slot: usize,
     insn: &Insn,
     flow: Flow,
@@ -149,14 +158,14 @@ fn visit(
     requires spares { written_by insn.now ≢ Some 10 }
     ensures size { length waiting.new ≡ length waiting.old }
     ensures below { IfErr result (IsStateBelow (slot + 1)) }
-    ensures covers { (program : Program) → IsPaired program → IsStructured program → StartsAt program slot insn.now → Covers program slot (after flow state.old) waiting.old → IfOk result (λ next. Covers program (slot + 1) (after next state.new) waiting.new) }
-    ensures follows { (program : Program) → IsPaired program → IsStructured program → StartsAt program slot insn.now → Follows program slot (after flow state.old) waiting.old → IfOk result (λ next. Follows program (slot + 1) (after next state.new) waiting.new) }
-    ensures floor { (program : Program) → IsPaired program → IsStructured program → StartsAt program slot insn.now → AllArise program waiting.old → FallsAs program slot (after flow state.old) → IfErr result (IsCause program) × IfOk result (λ next. AllArise program waiting.new × FallsAs program (slot + 1) (after next state.new)) }
+    ensures covers { (program : Program) → IsPaired program → IsStructured program → StartsAt program slot insn.now → Covers profile program slot (after flow state.old) waiting.old → IfOk result (λ next. Covers profile program (slot + 1) (after next state.new) waiting.new) }
+    ensures follows { (program : Program) → IsPaired program → IsStructured program → StartsAt program slot insn.now → Follows profile program slot (after flow state.old) waiting.old → IfOk result (λ next. Follows profile program (slot + 1) (after next state.new) waiting.new) }
+    ensures floor { (program : Program) → IsPaired program → IsStructured program → StartsAt program slot insn.now → AllArise profile program waiting.old → FallsAs profile program slot (after flow state.old) → IfErr result (IsCause profile program) × IfOk result (λ next. AllArise profile program waiting.new × FallsAs profile program (slot + 1) (after next state.new)) }
 {
     let Flow::Live = waiting.arrive(slot, flow, state) else {
         return Ok(Flow::Dead);
     };
-    match pass(slot, insn, state, waiting) {
+    match pass(profile, slot, insn, state, waiting) {
         Ok(next) => Ok(next),
         Err(Stop::Refused(fault)) => Err(VerifyError::State { slot, fault }),
         Err(Stop::OutOfMemory) => Err(VerifyError::OutOfMemory),
@@ -172,22 +181,27 @@ pub struct Walked {
 }
 
 /// Takes the instructions below a slot in order, once.
-fn walk_to(alloc: Global, words: &Words<'_>, end: usize) -> Result<Walked, VerifyError>
+fn walk_to(
+    alloc: Global,
+    words: &Words<'_>,
+    profile: Profile,
+    end: usize,
+) -> Result<Walked, VerifyError>
     requires structured { IsStructured (program_of words.now) }
     requires end { end ≤ length (program_of words.now) }
     ensures size { IfOk result (λ walked. length walked.waiting ≡ length (program_of words.now)) }
-    ensures follows { IfOk result (λ walked. Follows (program_of words.now) end (after walked.flow walked.state) walked.waiting) }
-    ensures covers { IfOk result (λ walked. Covers (program_of words.now) end (after walked.flow walked.state) walked.waiting) }
-    ensures arises { IfOk result (λ walked. AllArise (program_of words.now) walked.waiting × FallsAs (program_of words.now) end (after walked.flow walked.state)) }
+    ensures follows { IfOk result (λ walked. Follows profile (program_of words.now) end (after walked.flow walked.state) walked.waiting) }
+    ensures covers { IfOk result (λ walked. Covers profile (program_of words.now) end (after walked.flow walked.state) walked.waiting) }
+    ensures arises { IfOk result (λ walked. AllArise profile (program_of words.now) walked.waiting × FallsAs profile (program_of words.now) end (after walked.flow walked.state)) }
     ensures below { IfErr result (IsStateBelow end) }
-    ensures floor { IfErr result (IsCause (program_of words.now)) }
+    ensures floor { IfErr result (IsCause profile (program_of words.now)) }
 {
     let mut waiting = Waiting::new(alloc, words.len())?;
     let mut state = AbsState::entry();
     let mut flow = Flow::Live;
     for slot in 0..end {
         if let Some(insn) = words.insn(slot) {
-            flow = visit(slot, &insn, flow, &mut state, &mut waiting)?;
+            flow = visit(profile, slot, &insn, flow, &mut state, &mut waiting)?;
         }
     }
     Ok(Walked {
@@ -198,14 +212,15 @@ fn walk_to(alloc: Global, words: &Words<'_>, end: usize) -> Result<Walked, Verif
 }
 
 /// Takes the instructions of a program in order, once.
-pub fn walk(alloc: Global, words: &Words<'_>) -> Result<(), VerifyError>
+pub fn walk(alloc: Global, words: &Words<'_>, profile: Profile) -> Result<(), VerifyError>
     requires { IsStructured (program_of words.now) }
     ensures safe { IfOk result (λ _. Safe (program_of words.now)) }
+    ensures seen { IfOk result (λ _. SafeIn profile (program_of words.now)) }
     ensures states { IfErr result IsOfState }
     ensures below { IfErr result (IsStateBelow (length (program_of words.now))) }
-    ensures floor { IfErr result (IsCause (program_of words.now)) }
+    ensures floor { IfErr result (IsCause profile (program_of words.now)) }
 {
-    walk_to(alloc, words, words.len())?;
+    walk_to(alloc, words, profile, words.len())?;
     Ok(())
 }
 
@@ -213,20 +228,21 @@ pub fn walk(alloc: Global, words: &Words<'_>) -> Result<(), VerifyError>
 pub fn walk_before(
     alloc: Global,
     words: &Words<'_>,
+    profile: Profile,
     slot: usize,
 ) -> Result<Option<AbsState>, VerifyError>
     requires structured { IsStructured (program_of words.now) }
     requires slot { slot < length (program_of words.now) }
-    ensures contains { IfOk result (ContainsRuns (program_of words.now) slot) }
-    ensures arises { (insn : Insn) → StartsAt (program_of words.now) slot insn → IfOk result (ArisesAt (program_of words.now) slot) }
+    ensures contains { IfOk result (ContainsRuns profile (program_of words.now) slot) }
+    ensures arises { (insn : Insn) → StartsAt (program_of words.now) slot insn → IfOk result (ArisesAt profile (program_of words.now) slot) }
     ensures below { IfErr result (IsStateBelow slot) }
-    ensures floor { IfErr result (IsCause (program_of words.now)) }
+    ensures floor { IfErr result (IsCause profile (program_of words.now)) }
 {
     let Walked {
         flow,
         mut state,
         mut waiting,
-    } = walk_to(alloc, words, slot)?;
+    } = walk_to(alloc, words, profile, slot)?;
     match waiting.arrive(slot, flow, &mut state) {
         Flow::Live => Ok(Some(state)),
         Flow::Dead => Ok(None),
@@ -234,13 +250,17 @@ pub fn walk_before(
 }
 
 /// What is known before each slot, from all edges into it; nothing only where no run comes there.
-pub fn walk_each(alloc: Global, words: &Words<'_>) -> Result<Vec<Option<AbsState>>, VerifyError>
+pub fn walk_each(
+    alloc: Global,
+    words: &Words<'_>,
+    profile: Profile,
+) -> Result<Vec<Option<AbsState>>, VerifyError>
     requires { IsStructured (program_of words.now) }
     ensures size { IfOk result (λ states. length states.items ≡ length (program_of words.now)) }
-    ensures contains { IfOk result (λ states. ContainAllRuns (program_of words.now) states.items) }
-    ensures arises { IfOk result (λ states. AriseEverywhere (program_of words.now) states.items) }
+    ensures contains { IfOk result (λ states. ContainAllRuns profile (program_of words.now) states.items) }
+    ensures arises { IfOk result (λ states. AriseEverywhere profile (program_of words.now) states.items) }
     ensures below { IfErr result (IsStateBelow (length (program_of words.now))) }
-    ensures floor { IfErr result (IsCause (program_of words.now)) }
+    ensures floor { IfErr result (IsCause profile (program_of words.now)) }
 {
     let mut states = Vec::with_capacity(alloc, words.len())?;
     let mut waiting = Waiting::new(alloc, words.len())?;
@@ -250,7 +270,7 @@ pub fn walk_each(alloc: Global, words: &Words<'_>) -> Result<Vec<Option<AbsState
         flow = waiting.arrive(slot, flow, &mut state);
         states.push(live(flow, &state))?;
         if let Some(insn) = words.insn(slot) {
-            flow = visit(slot, &insn, flow, &mut state, &mut waiting)?;
+            flow = visit(profile, slot, &insn, flow, &mut state, &mut waiting)?;
         }
     }
     Ok(states)

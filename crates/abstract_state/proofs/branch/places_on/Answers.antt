@@ -31,4 +31,4 @@ returns-clause-sound c = λ lengths m n a b h.
     )
 
 pub returns-clause-guards : goal.returns-clause-guards
-returns-clause-guards c = λ greater not t end. c.narrowed.ensures.ends c.args.x.offset.range.low (c.in-Some.ensures.ends refl greater not t end)
+returns-clause-guards c = λ region greater not t end. c.narrowed.ensures.ends region c.args.x.offset.range.low (c.in-Some.ensures.ends region refl greater not t end)

@@ -24,5 +24,5 @@ returns-in-Full-Sub-clause-sound c = IfOk-weaker c.lent-in-Full-Sub.result _ _
     c.lent-in-Full-Sub.ensures.sound
 
 pub returns-in-Full-Add-clause-adds : goal.returns-in-Full-Add-clause-adds
-returns-in-Full-Add-clause-adds c = λ adds full text m n t a b near.
-    c.lent.ensures.text (m + n) (m + n) (tail_after t n) text (c.add.ensures.constants refl m n t a b (omega arith) (omega arith)) near
+returns-in-Full-Add-clause-adds c = λ at adds full is m n t a b near.
+    c.lent.ensures.there at (m + n) (m + n) (tail_after t n) is (c.add.ensures.constants at refl m n t a b (omega arith) (omega arith)) near

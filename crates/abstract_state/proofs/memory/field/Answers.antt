@@ -1,36 +1,42 @@
-use Rattle.std.proofs.Common.{Some, ℕ, length, refl, subst, arith}
+use Rattle.std.proofs.Common.{◌≡◌, Some, subst, ◌∙◌}
+use Rattle.std.specs.Result.{IsOk, IfOk}
+use Rattle.std.specs.Option.{IfSome}
 use Rattle.std.proofs.lemmas.Result.{IfOk-weaker}
-use Rattle.meaning.specs.Memory.{bytes_in}
-use Rattle.abstract_state.specs.Known.{WithinKnown}
-use Rattle.abstract_state.specs.State.{lengths_of}
-use Rattle.abstract_state.proofs.Memories.{number_fits, field_begin, field_end, field_count}
+use Rattle.bpf_words.specs.declared.profile.Profile.{Profile}
+use Rattle.bpf_words.specs.declared.instruction.Size.TheVariants.{Double}
+use Rattle.abstract_state.specs.declared.region.Region.{Region}
+use Rattle.abstract_state.specs.declared.region.Region.TheVariants.{Link}
+use Rattle.abstract_state.specs.Lent.{Lends, begin_field, end_field, limit_of}
+use Rattle.abstract_state.specs.Exact.{IsLentIn}
+use Rattle.abstract_state.proofs.Regions.{each}
 use Rattle.abstract_state.proofs.memory.field.Goals as goal
 
-pub returns-in-Double-clause-sound : goal.returns-in-Double-clause-sound
-returns-in-Double-clause-sound c = λ span.
-    (_, refl, (0, field_begin span c.args.size c.args.place c.in-Double.is c.if-place-eq0.true, c.begin.ensures.contains (lengths_of span)))
+pub returns-in-One-clause-sound : goal.returns-in-One-clause-sound
+returns-in-One-clause-sound c = IfOk-weaker c.text_field.result _ _ (λ o h span same. h span) c.text_field.ensures.sound
 
-pub returns-in-Double-2-clause-sound : goal.returns-in-Double-2-clause-sound
-returns-in-Double-2-clause-sound c = IfOk-weaker c.lent.result _ _
-    (λ o h span.
-    let limit = span.whole.fits.short in
-    subst (λ (n : ℕ). WithinKnown o (lengths_of span) n) (field_end span c.args.size c.args.place c.in-Double-2.is c.if-place-eq8.true)
-    (h (lengths_of span) (length span.text) (c.up_to_end.ensures.contains (lengths_of span) (length span.text) (omega arith) (omega arith))))
-    c.lent.ensures.sound
+pub returns-in-Two-clause-sound : goal.returns-in-Two-clause-sound
+returns-in-Two-clause-sound c = IfOk-weaker c.link_field.result _ _ (λ o h span same. h span (same ∙ c.in-Two.is)) c.link_field.ensures.sound
 
-pub returns-in-Double-3-clause-sound : goal.returns-in-Double-3-clause-sound
-returns-in-Double-3-clause-sound c = λ span.
-    (_, refl, c.loaded.ensures (lengths_of span) _ (number_fits (bytes_in c.args.size) c.args.place span.context span.whole.context_bytes))
+pub returns-in-One-clause-begin : goal.returns-in-One-clause-begin
+returns-in-One-clause-begin c = each
+    (λ (r : Region). Lends r c.args.profile → c.args.size ≡ Double → c.args.place ≡ begin_field r → IsOk c.text_field.result × IfOk c.text_field.result (λ o. IfSome o (λ k. IsLentIn r 0 0 (Some 0) k)))
+    (λ lends size at. c.text_field.ensures.begin size at)
+    (λ lends size at. absurd (subst (λ (profile : Profile). Lends Link profile) c.in-One.is lends))
 
-pub returns-in-Word-clause-sound : goal.returns-in-Word-clause-sound
-returns-in-Word-clause-sound c = λ span.
-    let limit = span.whole.fits.short in
-    subst (λ (n : ℕ). WithinKnown c.number.result (lengths_of span) n) (field_count span c.args.size c.args.place c.in-Word.is c.if-place-eq16.true)
-    (c.number.ensures.contains (lengths_of span) (length span.text) (c.up_to_end-in-Word.ensures.contains (lengths_of span) (length span.text) (omega arith) (omega arith)))
+pub returns-in-One-clause-end : goal.returns-in-One-clause-end
+returns-in-One-clause-end c = each
+    (λ (r : Region). Lends r c.args.profile → c.args.size ≡ Double → c.args.place ≡ end_field r → IsOk c.text_field.result × IfOk c.text_field.result (λ o. IfSome o (λ k. IsLentIn r 0 (limit_of r) (Some 0) k)))
+    (λ lends size at. c.text_field.ensures.end size at)
+    (λ lends size at. absurd (subst (λ (profile : Profile). Lends Link profile) c.in-One.is lends))
 
-pub returns-in-Word-2-clause-sound : goal.returns-in-Word-2-clause-sound
-returns-in-Word-2-clause-sound c = λ span.
-    (_, refl, c.loaded-in-Word-2.ensures (lengths_of span) _ (number_fits (bytes_in c.args.size) c.args.place span.context span.whole.context_bytes))
+pub returns-in-Two-clause-begin : goal.returns-in-Two-clause-begin
+returns-in-Two-clause-begin c = each
+    (λ (r : Region). Lends r c.args.profile → c.args.size ≡ Double → c.args.place ≡ begin_field r → IsOk c.link_field.result × IfOk c.link_field.result (λ o. IfSome o (λ k. IsLentIn r 0 0 (Some 0) k)))
+    (λ lends size at. c.link_field.ensures.begin size at)
+    (λ lends size at. c.link_field.ensures.link_begin size at)
 
-pub returns-in-Double-2-clause-end : goal.returns-in-Double-2-clause-end
-returns-in-Double-2-clause-end c = λ size at. c.lent.ensures.text 0 131072 (Some 0) refl (c.up_to_end.ensures.is refl (omega arith)) (omega arith)
+pub returns-in-Two-clause-end : goal.returns-in-Two-clause-end
+returns-in-Two-clause-end c = each
+    (λ (r : Region). Lends r c.args.profile → c.args.size ≡ Double → c.args.place ≡ end_field r → IsOk c.link_field.result × IfOk c.link_field.result (λ o. IfSome o (λ k. IsLentIn r 0 (limit_of r) (Some 0) k)))
+    (λ lends size at. c.link_field.ensures.end size at)
+    (λ lends size at. c.link_field.ensures.link_end size at)

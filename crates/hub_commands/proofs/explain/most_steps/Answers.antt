@@ -1,4 +1,4 @@
-use Rattle.std.proofs.Common.{◌≡◌, ℕ, zero, suc, ◌+◌, ◌-◌, ◌<◌, ◌≤◌, List, length, get_or, set, replicate, ◌∙◌, subst, sym, ap, rules, arith, ⊎_elim}
+use Rattle.std.proofs.Common.{◌≡◌, ℕ, zero, suc, ◌+◌, ◌-◌, ◌<◌, ◌≤◌, List, [], ◌∷◌, length, get_or, set, replicate, ◌∙◌, subst, sym, ap, rules, arith, ⊎_elim}
 use Rattle.std.proofs.lemmas.List.{get_or-set_same, get_or-set_other, length-set}
 use Rattle.std.proofs.lemmas.Bool.{cases_eq}
 use Rattle.meaning.specs.State.{start}
@@ -71,12 +71,18 @@ loop-done-preserved c =
           })
     ]
 
+-- a place that is there holds the same whatever stands for one that isn't
+got : (xs : List ℕ) (i x : ℕ) → i < length xs → x ≡ get_or xs i x → x ≡ get_or xs i 0
+got [] i x h e = absurd (omega arith)
+got (y ∷ ys) zero x h e = e
+got (y ∷ ys) (suc i) x h e = got ys i x (omega arith) e
+
 pub returns : goal.returns
 returns c =
     let program = program_of c.args.words.now in
     let last : length program - c.loop-done.done ≡ 0 = omega (arith, c.len-done-end.ensures.value, c.loop-done-test.false) in
     let all : AreEnough program c.loop-done.steps.items 0 = subst (λ n. AreEnough program c.loop-done.steps.items n) last c.loop-done.invariant.enough in
     let within : 0 < length c.loop-done.steps.items = omega (arith, c.loop-done.invariant.size, c.len.ensures.value, c.len.ensures.some) in
-    let is : c.index.result.now ≡ get_or c.loop-done.steps.items 0 0 = search rules in
-    λ context text span. subst (λ n. outcome_from program context text n start ≡ outcome program context text) (sym is)
-    (enough_first program c.loop-done.steps.items c.requires.safe all context text span)
+    let is : c.index.result.now ≡ get_or c.loop-done.steps.items 0 0 = got c.loop-done.steps.items 0 c.index.result.now within c.index.ensures in
+    λ bytes span. subst (λ n. outcome_from program bytes n start ≡ outcome program bytes) (sym is)
+    (enough_first program c.loop-done.steps.items c.requires.safe all bytes span)

@@ -3,7 +3,7 @@ use Rattle.std.specs.Str.{chars}
 use Rattle.std.proofs.lemmas.Str.{chars_from_encodes}
 use Rattle.hub_commands.proofs.run.facts.Goals as goal
 
-pub returns : goal.returns
-returns c =
+pub returns-clause-value : goal.returns-clause-value
+returns-clause-value c =
     let counted : c.count.result ≡ length (chars c.args.text.now) = search (rules, chars_from_encodes) in
-    rw counted refl
+    rw (counted, c.link.ensures.value) refl

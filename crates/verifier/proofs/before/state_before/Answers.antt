@@ -19,7 +19,7 @@ pub returns-in-Err-clause-plain : goal.returns-in-Err-clause-plain
 returns-in-Err-clause-plain c = λ plain. absurd (no_fault _ _ _ plain.structured c.in-Err.ensures)
 
 pub returns-in-Err-clause-guard : goal.returns-in-Err-clause-guard
-returns-in-Err-clause-guard c = λ guard. absurd (no_fault _ _ _ (guard_structured _ guard) c.in-Err.ensures)
+returns-in-Err-clause-guard c = λ guard. absurd (no_fault _ _ _ (guard_structured c.args.profile _ guard) c.in-Err.ensures)
 
 pub returns-clause-structure : goal.returns-clause-structure
 returns-clause-structure c = λ at fault. (
@@ -29,13 +29,13 @@ returns-clause-structure c = λ at fault. (
 
 pub returns-clause-plain : goal.returns-clause-plain
 returns-clause-plain c =
-    err_more c.walk_before.result (IsCause (program_of c.args.words.now)) (λ e. IsPlain (program_of c.args.words.now) → e ≡ OutOfMemory)
-    (λ e cause. only_memory (program_of c.args.words.now) e (IsPlain (program_of c.args.words.now)) (plain_grants (program_of c.args.words.now)) cause) c.walk_before.ensures.floor
+    err_more c.walk_before.result (IsCause c.args.profile (program_of c.args.words.now)) (λ e. IsPlain (program_of c.args.words.now) → e ≡ OutOfMemory)
+    (λ e cause. only_memory c.args.profile (program_of c.args.words.now) e (IsPlain (program_of c.args.words.now)) (plain_grants c.args.profile (program_of c.args.words.now)) cause) c.walk_before.ensures.floor
 
 pub returns-clause-guard : goal.returns-clause-guard
 returns-clause-guard c =
-    err_more c.walk_before.result (IsCause (program_of c.args.words.now)) (λ e. IsGuard (program_of c.args.words.now) → e ≡ OutOfMemory)
-    (λ e cause. only_memory (program_of c.args.words.now) e (IsGuard (program_of c.args.words.now)) (guard_grants (program_of c.args.words.now)) cause) c.walk_before.ensures.floor
+    err_more c.walk_before.result (IsCause c.args.profile (program_of c.args.words.now)) (λ e. IsGuard c.args.profile (program_of c.args.words.now) → e ≡ OutOfMemory)
+    (λ e cause. only_memory c.args.profile (program_of c.args.words.now) e (IsGuard c.args.profile (program_of c.args.words.now)) (guard_grants c.args.profile (program_of c.args.words.now)) cause) c.walk_before.ensures.floor
 
 pub returns-clause-before : goal.returns-clause-before
 returns-clause-before c = err_more c.walk_before.result (IsStateBelow c.args.slot) (IsBefore c.args.slot) (is_before c.args.slot) c.walk_before.ensures.below

@@ -1,7 +1,11 @@
-use Rattle.std.proofs.Common.{◌≡◌, length}
+use Rattle.std.proofs.Common.{◌≡◌, length, sym, subst}
 use Rattle.bpf_words.specs.Words.{program_of}
 use Rattle.verifier.specs.declared.refusal.VerifyError.TheVariants.{OutOfMemory}
-use Rattle.verifier.proofs.Refusals.{no_fault, named, not_named}
+use Rattle.meaning.specs.Safe.{Safe, SafeIn, IsBlindToLink}
+use Rattle.meaning.proofs.More.{one_verdict}
+use Rattle.bpf_words.specs.declared.profile.Profile.{Profile}
+use Rattle.verifier.specs.Judged.{Rejects}
+use Rattle.verifier.proofs.Refusals.{no_fault, named, not_named, walk_rejects}
 use Rattle.verifier.specs.Plain.{IsPlain}
 use Rattle.verifier.specs.Guard.{IsGuard}
 use Rattle.verifier.specs.Reaches.{IsBefore}
@@ -28,20 +32,47 @@ returns-clause-structure c = λ slot fault. (λ is. absurd (cc), λ first. absur
 pub returns-in_err-walk-clause-plain : goal.returns-in_err-walk-clause-plain
 returns-in_err-walk-clause-plain c =
     passed_on c.from_residual.result c.in_err-walk.field-0.0 (λ e. IsPlain (program_of c.args.words.now) → e ≡ OutOfMemory) c.from_residual.ensures.1
-    (only_memory (program_of c.args.words.now) c.in_err-walk.field-0.0 (IsPlain (program_of c.args.words.now)) (plain_grants (program_of c.args.words.now)) c.in_err-walk.ensures.floor)
+    (only_memory c.args.profile (program_of c.args.words.now) c.in_err-walk.field-0.0 (IsPlain (program_of c.args.words.now)) (plain_grants c.args.profile (program_of c.args.words.now)) c.in_err-walk.ensures.floor)
 
 pub returns-in_err-walk-clause-guard : goal.returns-in_err-walk-clause-guard
 returns-in_err-walk-clause-guard c =
-    passed_on c.from_residual.result c.in_err-walk.field-0.0 (λ e. IsGuard (program_of c.args.words.now) → e ≡ OutOfMemory) c.from_residual.ensures.1
-    (only_memory (program_of c.args.words.now) c.in_err-walk.field-0.0 (IsGuard (program_of c.args.words.now)) (guard_grants (program_of c.args.words.now)) c.in_err-walk.ensures.floor)
+    passed_on c.from_residual.result c.in_err-walk.field-0.0 (λ e. IsGuard c.args.profile (program_of c.args.words.now) → e ≡ OutOfMemory) c.from_residual.ensures.1
+    (only_memory c.args.profile (program_of c.args.words.now) c.in_err-walk.field-0.0 (IsGuard c.args.profile (program_of c.args.words.now)) (guard_grants c.args.profile (program_of c.args.words.now)) c.in_err-walk.ensures.floor)
 
 pub returns-in-Err-clause-plain : goal.returns-in-Err-clause-plain
 returns-in-Err-clause-plain c = λ plain. absurd (no_fault _ _ _ plain.structured c.in-Err.ensures)
 
 pub returns-in-Err-clause-guard : goal.returns-in-Err-clause-guard
-returns-in-Err-clause-guard c = λ guard. absurd (no_fault _ _ _ (guard_structured _ guard) c.in-Err.ensures)
+returns-in-Err-clause-guard c = λ guard. absurd (no_fault _ _ _ (guard_structured c.args.profile _ guard) c.in-Err.ensures)
 
 pub returns-in_err-walk-clause-before : goal.returns-in_err-walk-clause-before
 returns-in_err-walk-clause-before c =
     passed_on c.from_residual.result c.in_err-walk.field-0.0 (IsBefore (length (program_of c.args.words.now))) c.from_residual.ensures.1
     (is_before (length (program_of c.args.words.now)) c.in_err-walk.field-0.0 c.in_err-walk.ensures.below)
+
+pub returns-in-Err-clause-rejects : goal.returns-in-Err-clause-rejects
+returns-in-Err-clause-rejects c = c.in-Err.ensures
+
+pub returns-in_err-walk-clause-rejects : goal.returns-in_err-walk-clause-rejects
+returns-in_err-walk-clause-rejects c =
+    let program = program_of c.args.words.now in
+    let e = c.in_err-walk.field-0.0 in
+    passed_on c.from_residual.result e (Rejects c.args.profile program) c.from_residual.ensures.1
+    (walk_rejects c.args.profile program e c.in_default.ensures c.in_err-walk.ensures.states c.in_err-walk.ensures.below
+    (only_memory c.args.profile program e (IsPlain program) (plain_grants c.args.profile program) c.in_err-walk.ensures.floor)
+    (only_memory c.args.profile program e (IsGuard c.args.profile program) (guard_grants c.args.profile program) c.in_err-walk.ensures.floor))
+
+pub returns-in_err-of-clause-rejects : goal.returns-in_err-of-clause-rejects
+returns-in_err-of-clause-rejects c =
+    let program = program_of c.args.words.now in
+    passed_on c.from_residual-in_err-of.result OutOfMemory (Rejects c.args.profile program) c.from_residual-in_err-of.ensures.1
+    (λ slot fault first. no_fault program slot fault c.in_default.ensures first)
+
+pub returns-clause-blind : goal.returns-clause-blind
+returns-clause-blind c = λ one.
+    let program = program_of c.args.words.now in
+    subst IsBlindToLink (sym c.in_ok-of.ensures) (one_verdict program (subst (λ (p : Profile). SafeIn p program) one c.in_ok-walk.ensures.seen))
+
+pub invariant_of-result : goal.invariant_of-result
+invariant_of-result c =
+    (subst Safe (sym c.in_ok-of.ensures) c.in_ok-walk.ensures.safe, subst (SafeIn c.args.profile) (sym c.in_ok-of.ensures) c.in_ok-walk.ensures.seen)

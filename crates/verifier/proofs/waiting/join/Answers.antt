@@ -11,5 +11,5 @@ returns-clause-kept c = λ lengths s within.
     (subst (λ a. Contains a lengths s) (sym c.deref_mut.ensures.value) (within_some _ c.in-Some.earlier.value lengths s (ap unboxed c.in-Some.is) within))
 
 pub returns-clause-arises : goal.returns-clause-arises
-returns-clause-arises c = λ program slot target waits arises.
-    joined target (subst (λ a. Arises program slot a) (sym c.deref_mut.ensures.value) (waits c.in-Some.earlier.value (ap unboxed c.in-Some.is))) arises c.join.ensures.kinds
+returns-clause-arises c = λ profile program slot target waits arises.
+    joined target (subst (λ a. Arises profile program slot a) (sym c.deref_mut.ensures.value) (waits c.in-Some.earlier.value (ap unboxed c.in-Some.is))) arises c.join.ensures.kinds

@@ -8,6 +8,7 @@ use Rattle.std.proofs.lemmas.Bool.{false≢true}
 use Rattle.abstract_state.specs.Steps.{after}
 use Rattle.bpf_words.specs.Flow.{written_by, falls_through}
 use Rattle.bpf_words.specs.declared.instruction.Insn.{Insn}
+use Rattle.abstract_state.specs.Lent.{bound_of}
 use Rattle.abstract_state.specs.Branch.{IsOrder}
 use Rattle.abstract_state.specs.Guard.{LeavesOthers}
 use Rattle.verifier.specs.Arises.{FallsFrom}
@@ -39,7 +40,7 @@ record-requires c =
     omega arith
 
 pub returns-in_ok-add-in-Jump-clause-sound : goal.returns-in_ok-add-in-Jump-clause-sound
-returns-in_ok-add-in-Jump-clause-sound c = λ span s contains.
+returns-in_ok-add-in-Jump-clause-sound c = λ span s which contains.
     let jumps = ap jump_of c.in-Jump.is in
     let j = c.requires.jumps _ jumps in
     let t : c.target.result ≡ c.args.slot + 1 + j.0 = c.target.ensures j.0 (jumps ∙ ap Some j.1) in
@@ -47,7 +48,7 @@ returns-in_ok-add-in-Jump-clause-sound c = λ span s contains.
     (subst (λ k. WithinState (waiting_at c.add.new.self k) (lengths_of span) s) t (c.in_ok-add-in-Jump.ensures.added (lengths_of span) s contains))
 
 pub returns-in_ok-add-in-JumpLong-clause-sound : goal.returns-in_ok-add-in-JumpLong-clause-sound
-returns-in_ok-add-in-JumpLong-clause-sound c = λ span s contains.
+returns-in_ok-add-in-JumpLong-clause-sound c = λ span s which contains.
     let jumps = ap jump_of c.in-JumpLong.is in
     let j = c.requires.jumps _ jumps in
     let t : c.target-in-JumpLong.result ≡ c.args.slot + 1 + j.0 = c.target-in-JumpLong.ensures j.0 (jumps ∙ ap Some j.1) in
@@ -55,7 +56,7 @@ returns-in_ok-add-in-JumpLong-clause-sound c = λ span s contains.
     (subst (λ k. WithinState (waiting_at c.add-in-JumpLong.new.self k) (lengths_of span) s) t (c.in_ok-add-in-JumpLong.ensures.added (lengths_of span) s contains))
 
 pub returns-in_ok-record-in-Branch-clause-sound : goal.returns-in_ok-record-in-Branch-clause-sound
-returns-in_ok-record-in-Branch-clause-sound c = λ span s contains.
+returns-in_ok-record-in-Branch-clause-sound c = λ span s which contains.
     let jumps = ap jump_of c.in-Branch.is in
     let j = c.requires.jumps _ jumps in
     let t : c.target-in-Branch.result ≡ c.args.slot + 1 + j.0 = c.target-in-Branch.ensures j.0 (jumps ∙ ap Some j.1) in
@@ -71,13 +72,13 @@ returns-in_ok-step-in_default c = record {
   arises = λ program starts from all.
       let is = straight c.args.insn.now c.in_default.not-Jump c.in_default.not-JumpLong c.in_default.not-Branch c.in_default.not-Exit in (
         all,
-        step_falls program c.args.slot c.args.insn.now c.args.state.now (after c.in_ok-step-in_default.field-0 c.step.new.self) is starts from
-            (λ b live. step_takes c.args.state.now b c.args.insn.now (after c.in_ok-step-in_default.field-0 c.step.new.self) is live c.in_ok-step-in_default.ensures.carries c.in_ok-step-in_default.ensures.others (λ d fact row. (c.in_ok-step-in_default.ensures.yields d fact row).1)),
+        step_falls c.args.profile program c.args.slot c.args.insn.now c.args.state.now (after c.in_ok-step-in_default.field-0 c.step.new.self) is starts from
+            (λ b live. step_takes c.args.profile c.args.state.now b c.args.insn.now (after c.in_ok-step-in_default.field-0 c.step.new.self) is live c.in_ok-step-in_default.ensures.carries c.in_ok-step-in_default.ensures.others (λ d fact row. (c.in_ok-step-in_default.ensures.yields d fact row).1)),
       );
-  sound = λ span s contains.
+  sound = λ span s which contains.
       lands_advances c.args.insn.now (lengths_of span) c.args.slot _ c.args.waiting.now _
       (straight c.args.insn.now c.in_default.not-Jump c.in_default.not-JumpLong c.in_default.not-Branch c.in_default.not-Exit)
-      (c.in_ok-step-in_default.ensures.sound span s contains);
+      (c.in_ok-step-in_default.ensures.sound span s which contains);
 }
 
 pub returns-in_ok-add-in-Jump-clause-arises : goal.returns-in_ok-add-in-Jump-clause-arises
@@ -86,9 +87,9 @@ returns-in_ok-add-in-Jump-clause-arises c = λ program starts from all.
     let j = c.requires.jumps _ jumps in
     let t : c.target.result ≡ c.args.slot + 1 + j.0 = c.target.ensures j.0 (jumps ∙ ap Some j.1) in
     let stays = subst (λ (i : Insn). LeavesOthers c.args.state.now i c.args.state.now) (sym c.in-Jump.is) refl in (
-      c.in_ok-add-in-Jump.ensures.arises program all (jump_target program c.args.slot j.0 c.target.result c.args.insn.now _ starts jumps j.1 t)
-          (jump_arises program c.args.slot j.0 c.target.result c.args.insn.now _ c.args.state.now c.args.state.now starts from jumps j.1 t (jump_takes c.args.state.now c.args.insn.now (ap written_by c.in-Jump.is) stays)),
-      no_falls program c.args.slot c.args.insn.now,
+      c.in_ok-add-in-Jump.ensures.arises c.args.profile program all (jump_target program c.args.slot j.0 c.target.result c.args.insn.now _ starts jumps j.1 t)
+          (jump_arises c.args.profile program c.args.slot j.0 c.target.result c.args.insn.now _ c.args.state.now c.args.state.now starts from jumps j.1 t (jump_takes c.args.profile c.args.state.now c.args.insn.now (ap written_by c.in-Jump.is) stays)),
+      no_falls c.args.profile program c.args.slot c.args.insn.now,
     )
 
 pub returns-in_ok-add-in-JumpLong-clause-arises : goal.returns-in_ok-add-in-JumpLong-clause-arises
@@ -97,9 +98,9 @@ returns-in_ok-add-in-JumpLong-clause-arises c = λ program starts from all.
     let j = c.requires.jumps _ jumps in
     let t : c.target-in-JumpLong.result ≡ c.args.slot + 1 + j.0 = c.target-in-JumpLong.ensures j.0 (jumps ∙ ap Some j.1) in
     let stays = subst (λ (i : Insn). LeavesOthers c.args.state.now i c.args.state.now) (sym c.in-JumpLong.is) refl in (
-      c.in_ok-add-in-JumpLong.ensures.arises program all (jump_target program c.args.slot j.0 c.target-in-JumpLong.result c.args.insn.now _ starts jumps j.1 t)
-          (jump_arises program c.args.slot j.0 c.target-in-JumpLong.result c.args.insn.now _ c.args.state.now c.args.state.now starts from jumps j.1 t (jump_takes c.args.state.now c.args.insn.now (ap written_by c.in-JumpLong.is) stays)),
-      no_falls program c.args.slot c.args.insn.now,
+      c.in_ok-add-in-JumpLong.ensures.arises c.args.profile program all (jump_target program c.args.slot j.0 c.target-in-JumpLong.result c.args.insn.now _ starts jumps j.1 t)
+          (jump_arises c.args.profile program c.args.slot j.0 c.target-in-JumpLong.result c.args.insn.now _ c.args.state.now c.args.state.now starts from jumps j.1 t (jump_takes c.args.profile c.args.state.now c.args.insn.now (ap written_by c.in-JumpLong.is) stays)),
+      no_falls c.args.profile program c.args.slot c.args.insn.now,
     )
 
 pub returns-in_ok-record-in-Branch-clause-arises : goal.returns-in_ok-record-in-Branch-clause-arises
@@ -108,18 +109,18 @@ returns-in_ok-record-in-Branch-clause-arises c = λ program starts from all.
     let j = c.requires.jumps _ jumps in
     let t : c.target-in-Branch.result ≡ c.args.slot + 1 + j.0 = c.target-in-Branch.ensures j.0 (jumps ∙ ap Some j.1) in
     let e = c.in_ok-edges-in-Branch.ensures in (
-      c.in_ok-record-in-Branch.ensures.arises program all (jump_target program c.args.slot j.0 c.target-in-Branch.result c.args.insn.now _ starts jumps j.1 t)
+      c.in_ok-record-in-Branch.ensures.arises c.args.profile program all (jump_target program c.args.slot j.0 c.target-in-Branch.result c.args.insn.now _ starts jumps j.1 t)
           (λ b live.
-          jump_arises program c.args.slot j.0 c.target-in-Branch.result c.args.insn.now _ c.args.state.now b starts from jumps j.1 t
-          (edge_takes c.args.state.now b c.args.insn.now c.in-Branch.width c.in-Branch.comparison c.in-Branch.left c.in-Branch.right _ c.in_ok-edges-in-Branch.edges.taken c.in-Branch.is live e.taken_others e.taken_kinds)),
-      subst (λ o. FallsFrom program c.args.slot c.args.insn.now o) (sym c.go_on.ensures)
-          (edge_falls program c.args.slot c.args.insn.now c.args.state.now c.in_ok-edges-in-Branch.edges.untaken starts from (ap falls_through c.in-Branch.is)
+          jump_arises c.args.profile program c.args.slot j.0 c.target-in-Branch.result c.args.insn.now _ c.args.state.now b starts from jumps j.1 t
+          (edge_takes c.args.profile c.args.state.now b c.args.insn.now c.in-Branch.width c.in-Branch.comparison c.in-Branch.left c.in-Branch.right _ c.in_ok-edges-in-Branch.edges.taken c.in-Branch.is live e.taken_others e.taken_kinds)),
+      subst (λ o. FallsFrom c.args.profile program c.args.slot c.args.insn.now o) (sym c.go_on.ensures)
+          (edge_falls c.args.profile program c.args.slot c.args.insn.now c.args.state.now c.in_ok-edges-in-Branch.edges.untaken starts from (ap falls_through c.in-Branch.is)
           (λ b live. (
-            edge_takes c.args.state.now b c.args.insn.now c.in-Branch.width c.in-Branch.comparison c.in-Branch.left c.in-Branch.right _ c.in_ok-edges-in-Branch.edges.untaken c.in-Branch.is live e.untaken_others e.untaken_kinds,
-            λ n guard.
-                guard_is c.args.state.now c.args.insn.now c.in-Branch.width c.in-Branch.comparison c.in-Branch.left c.in-Branch.right _ (λ m. m ≤ b.bounds.text) n c.in-Branch.is
-                (λ r m high low2 high2 q tail side apart wide greater one two.
-                at_some c.in_ok-edges-in-Branch.edges.untaken (λ x. m ≤ x.bounds.text) b (e.guards r m high low2 high2 q tail side apart wide greater one two) live)
+            edge_takes c.args.profile c.args.state.now b c.args.insn.now c.in-Branch.width c.in-Branch.comparison c.in-Branch.left c.in-Branch.right _ c.in_ok-edges-in-Branch.edges.untaken c.in-Branch.is live e.untaken_others e.untaken_kinds,
+            λ region n guard.
+                guard_is c.args.state.now c.args.insn.now c.in-Branch.width c.in-Branch.comparison c.in-Branch.left c.in-Branch.right _ (λ at m. m ≤ bound_of b.bounds at) region n c.in-Branch.is
+                (λ at r m high low2 high2 q tail side apart wide greater one two.
+                at_some c.in_ok-edges-in-Branch.edges.untaken (λ x. m ≤ bound_of x.bounds at) b (e.guards at r m high low2 high2 q tail side apart wide greater one two) live)
                 guard,
           ))),
     )
@@ -127,19 +128,19 @@ returns-in_ok-record-in-Branch-clause-arises c = λ program starts from all.
 pub returns-in_err-step-in_default-clause-floor : goal.returns-in_err-step-in_default-clause-floor
 returns-in_err-step-in_default-clause-floor c = λ granted.
     absurd (false≢true
-    (step_granted c.args.state.now c.args.insn.now _ (straight c.args.insn.now c.in_default.not-Jump c.in_default.not-JumpLong c.in_default.not-Branch c.in_default.not-Exit)
+    (step_granted c.args.profile c.args.state.now c.args.insn.now _ (straight c.args.insn.now c.in_default.not-Jump c.in_default.not-JumpLong c.in_default.not-Branch c.in_default.not-Exit)
     c.in_err-step-in_default.ensures.floor
     (λ d fact row. (c.in_err-step-in_default.ensures.yields d fact row).0)
     granted))
 
 pub returns-in_err-exit-in-Exit-clause-floor : goal.returns-in_err-exit-in-Exit-clause-floor
-returns-in_err-exit-in-Exit-clause-floor c = λ granted. absurd (false≢true (c.in_err-exit-in-Exit.ensures.floor (exit_granted c.args.state.now c.args.insn.now c.in-Exit.is granted)))
+returns-in_err-exit-in-Exit-clause-floor c = λ granted. absurd (false≢true (c.in_err-exit-in-Exit.ensures.floor (exit_granted c.args.profile c.args.state.now c.args.insn.now c.in-Exit.is granted)))
 
 pub returns-in_err-edges-in-Branch-clause-floor : goal.returns-in_err-edges-in-Branch-clause-floor
 returns-in_err-edges-in-Branch-clause-floor c = λ granted.
     absurd (false≢true
-    (branch_granted c.args.state.now c.args.insn.now c.in-Branch.width c.in-Branch.comparison c.in-Branch.left c.in-Branch.right _ _ c.in-Branch.is
+    (branch_granted c.args.profile c.args.state.now c.args.insn.now c.in-Branch.width c.in-Branch.comparison c.in-Branch.left c.in-Branch.right _ _ c.in-Branch.is
     c.in_err-edges-in-Branch.ensures.floor
-    (λ r n high low2 high2 t tail side apart wide greater one two.
-    c.in_err-edges-in-Branch.ensures.texts r n high low2 high2 tail (Some t) side wide (subst IsOrder (sym greater) tt) one two)
+    (λ region r n high low2 high2 t tail side apart wide greater one two.
+    c.in_err-edges-in-Branch.ensures.regions region r n high low2 high2 tail (Some t) side wide (subst IsOrder (sym greater) tt) one two)
     granted))

@@ -10,31 +10,31 @@ use Rattle.verifier.proofs.Waits.{within_some}
 
 pub returns-in_default-clause-follows : goal.returns-in_default-clause-follows
 returns-in_default-clause-follows c = λ program paired structured starts follows.
-    skipped program c.args.slot None c.arrive.new.self
-    (arrived program c.args.slot c.args.insn.now (after c.args.flow c.args.state.now) None c.args.waiting.now c.arrive.new.self starts
+    skipped c.args.profile program c.args.slot None c.arrive.new.self
+    (arrived c.args.profile program c.args.slot c.args.insn.now (after c.args.flow c.args.state.now) None c.args.waiting.now c.arrive.new.self starts
     c.in_default.ensures.falls c.in_default.ensures.arrives c.in_default.ensures.others follows)
 
 pub returns-in-Ok-clause-follows : goal.returns-in-Ok-clause-follows
 returns-in-Ok-clause-follows c = λ program paired structured starts follows.
-    passed program c.args.slot c.args.insn.now c.arrive.new.state (after c.in-Ok.next c.pass.new.state) c.arrive.new.self c.pass.new.waiting paired structured starts
+    passed c.args.profile program c.args.slot c.args.insn.now c.arrive.new.state (after c.in-Ok.next c.pass.new.state) c.arrive.new.self c.pass.new.waiting paired structured starts
     c.in-Ok.ensures.kept c.in-Ok.ensures.sound
-    (arrived program c.args.slot c.args.insn.now (after c.args.flow c.args.state.now) _ c.args.waiting.now c.arrive.new.self starts
+    (arrived c.args.profile program c.args.slot c.args.insn.now (after c.args.flow c.args.state.now) _ c.args.waiting.now c.arrive.new.self starts
     c.in-Live.ensures.falls c.in-Live.ensures.arrives c.in-Live.ensures.others follows)
 
 pub returns-in_default-clause-floor : goal.returns-in_default-clause-floor
 returns-in_default-clause-floor c = λ program paired structured starts all falls.
-    let a = c.in_default.ensures.arises program all (falls_here program c.args.slot c.args.insn.now (after c.args.flow c.args.state.now) starts falls) in
-    (tt, (a.0, dead_falls program c.args.slot))
+    let a = c.in_default.ensures.arises c.args.profile program all (falls_here c.args.profile program c.args.slot c.args.insn.now (after c.args.flow c.args.state.now) starts falls) in
+    (tt, (a.0, dead_falls c.args.profile program c.args.slot))
 
 pub returns-in-Ok-clause-floor : goal.returns-in-Ok-clause-floor
 returns-in-Ok-clause-floor c = λ program paired structured starts all falls.
-    let a = c.in-Live.ensures.arises program all (falls_here program c.args.slot c.args.insn.now (after c.args.flow c.args.state.now) starts falls) in
+    let a = c.in-Live.ensures.arises c.args.profile program all (falls_here c.args.profile program c.args.slot c.args.insn.now (after c.args.flow c.args.state.now) starts falls) in
     let p = c.in-Ok.ensures.arises program starts (a.1 c.arrive.new.state refl) a.0 in
-    (tt, (p.0, falls_next program c.args.slot c.args.insn.now (after c.in-Ok.next c.pass.new.state) paired structured starts p.1))
+    (tt, (p.0, falls_next c.args.profile program c.args.slot c.args.insn.now (after c.in-Ok.next c.pass.new.state) paired structured starts p.1))
 
 pub returns-in-Err-Refused-clause-floor : goal.returns-in-Err-Refused-clause-floor
 returns-in-Err-Refused-clause-floor c = λ program paired structured starts all falls.
-    let a = c.in-Live.ensures.arises program all (falls_here program c.args.slot c.args.insn.now (after c.args.flow c.args.state.now) starts falls) in (
+    let a = c.in-Live.ensures.arises c.args.profile program all (falls_here c.args.profile program c.args.slot c.args.insn.now (after c.args.flow c.args.state.now) starts falls) in (
       inr (record {
         slot = c.args.slot;
         state = c.arrive.new.state;
@@ -51,11 +51,11 @@ returns-in-Err-OutOfMemory-clause-floor c = λ program paired structured starts 
 
 pub returns-in_default-clause-covers : goal.returns-in_default-clause-covers
 returns-in_default-clause-covers c = λ program paired structured starts covers.
-    covers_passed program c.args.slot c.args.insn.now (after c.args.flow c.args.state.now) None None c.args.waiting.now c.arrive.new.self c.arrive.new.self paired structured starts
-    c.in_default.ensures.falls c.in_default.ensures.arrives c.in_default.ensures.others (λ slot lengths s waits. waits) (λ span s within. absurd (let is = within.1 in cc)) covers
+    covers_passed c.args.profile program c.args.slot c.args.insn.now (after c.args.flow c.args.state.now) None None c.args.waiting.now c.arrive.new.self c.arrive.new.self paired structured starts
+    c.in_default.ensures.falls c.in_default.ensures.arrives c.in_default.ensures.others (λ slot lengths s waits. waits) (λ span s which within. absurd (let is = within.1 in cc)) covers
 
 pub returns-in-Ok-clause-covers : goal.returns-in-Ok-clause-covers
 returns-in-Ok-clause-covers c = λ program paired structured starts covers.
-    covers_passed program c.args.slot c.args.insn.now (after c.args.flow c.args.state.now) (Some c.arrive.new.state) (after c.in-Ok.next c.pass.new.state) c.args.waiting.now c.arrive.new.self c.pass.new.waiting paired structured starts
+    covers_passed c.args.profile program c.args.slot c.args.insn.now (after c.args.flow c.args.state.now) (Some c.arrive.new.state) (after c.in-Ok.next c.pass.new.state) c.args.waiting.now c.arrive.new.self c.pass.new.waiting paired structured starts
     c.in-Live.ensures.falls c.in-Live.ensures.arrives c.in-Live.ensures.others c.in-Ok.ensures.kept
-    (λ span s within. c.in-Ok.ensures.sound span s (within_some (Some c.arrive.new.state) c.arrive.new.state (lengths_of span) s refl within)) covers
+    (λ span s which within. c.in-Ok.ensures.sound span s which (within_some (Some c.arrive.new.state) c.arrive.new.state (lengths_of span) s refl within)) covers

@@ -21,12 +21,12 @@ loop-slot-init c =
     let some : 0 < length (program_of c.args.words.now) = search rules in
     record {
       size = search rules;
-      covers = covers_begin (program_of c.args.words.now) c.entry-state.result c.in_ok-waiting.waiting c.entry-state.ensures.contains;
+      covers = covers_begin c.args.profile (program_of c.args.words.now) c.entry-state.result c.in_ok-waiting.waiting c.entry-state.ensures.contains;
       count = search rules;
-      contains = contain_none (program_of c.args.words.now) c.in_ok-states.states.items;
+      contains = contain_none c.args.profile (program_of c.args.words.now) c.in_ok-states.states.items;
       waits = λ slot a e. let none = c.in_ok-waiting.ensures.nothing slot in absurd (cc);
-      falls = entry_falls (program_of c.args.words.now) c.entry-state.result some (program_of-paired c.args.words.now c.len.ensures.sound) c.entry-state.ensures.context;
-      arises = arise_none (program_of c.args.words.now) c.in_ok-states.states.items;
+      falls = entry_falls c.args.profile (program_of c.args.words.now) c.entry-state.result some (program_of-paired c.args.words.now c.len.ensures.sound) c.entry-state.ensures.context;
+      arises = arise_none c.args.profile (program_of c.args.words.now) c.in_ok-states.states.items;
     }
 
 pub visit-requires-clause-jumps : goal.visit-requires-clause-jumps
@@ -46,25 +46,25 @@ loop-slot-preserved c =
     let slot = c.loop-slot.slot in
     let falling = after c.loop-slot.flow c.loop-slot.state in
     let joined = after c.arrive-flow.result c.arrive-flow.new.state in
-    let here : ContainsRuns program slot joined =
-    all_joined program slot falling joined c.loop-slot.waiting c.requires c.arrive-flow.ensures.falls c.arrive-flow.ensures.arrives c.loop-slot.invariant.covers in
-    let covers : Covers program slot joined c.arrive-flow.new.self =
-    covers_arrived program slot falling joined c.loop-slot.waiting c.arrive-flow.new.self c.arrive-flow.ensures.falls c.arrive-flow.ensures.arrives c.arrive-flow.ensures.others c.loop-slot.invariant.covers in
+    let here : ContainsRuns c.args.profile program slot joined =
+    all_joined c.args.profile program slot falling joined c.loop-slot.waiting c.requires c.arrive-flow.ensures.falls c.arrive-flow.ensures.arrives c.loop-slot.invariant.covers in
+    let covers : Covers c.args.profile program slot joined c.arrive-flow.new.self =
+    covers_arrived c.args.profile program slot falling joined c.loop-slot.waiting c.arrive-flow.new.self c.arrive-flow.ensures.falls c.arrive-flow.ensures.arrives c.arrive-flow.ensures.others c.loop-slot.invariant.covers in
     let size : length c.arrive-flow.new.self ≡ length program = c.arrive-flow.ensures.size ∙ c.loop-slot.invariant.size in
     let items : c.push.new.self.items ≡ c.loop-slot.states.items ++ joined ∷ [] = c.in_ok-push.ensures.items ∙ ap (λ o. c.loop-slot.states.items ++ o ∷ []) c.live.ensures in
     let counted : length c.loop-slot.states.items ≡ slot = c.loop-slot.invariant.count in
     let count : length c.push.new.self.items ≡ slot + 1 = ap length items ∙ count_more slot joined c.loop-slot.states.items counted in
-    let contains : ContainRunsBelow program (slot + 1) c.push.new.self.items =
-    subst (λ states. ContainRunsBelow program (slot + 1) states) (sym items) (contain_more program slot joined c.loop-slot.states.items counted here c.loop-slot.invariant.contains) in
-    let waits : AllArise program c.arrive-flow.new.self = c.arrive-flow.ensures.waits program c.loop-slot.invariant.waits in
-    let known : (insn : Insn) → StartsAt program slot insn → ArisesAt program slot joined = λ insn starts.
-    (c.arrive-flow.ensures.arises program c.loop-slot.invariant.waits (falls_here program slot insn falling starts c.loop-slot.invariant.falls)).1 in
-    let arises : AriseBelow program (slot + 1) c.push.new.self.items =
-    subst (λ states. AriseBelow program (slot + 1) states) (sym items) (arise_more program slot joined c.loop-slot.states.items counted known c.loop-slot.invariant.arises) in
+    let contains : ContainRunsBelow c.args.profile program (slot + 1) c.push.new.self.items =
+    subst (λ states. ContainRunsBelow c.args.profile program (slot + 1) states) (sym items) (contain_more c.args.profile program slot joined c.loop-slot.states.items counted here c.loop-slot.invariant.contains) in
+    let waits : AllArise c.args.profile program c.arrive-flow.new.self = c.arrive-flow.ensures.waits c.args.profile program c.loop-slot.invariant.waits in
+    let known : (insn : Insn) → StartsAt program slot insn → ArisesAt c.args.profile program slot joined = λ insn starts.
+    (c.arrive-flow.ensures.arises c.args.profile program c.loop-slot.invariant.waits (falls_here c.args.profile program slot insn falling starts c.loop-slot.invariant.falls)).1 in
+    let arises : AriseBelow c.args.profile program (slot + 1) c.push.new.self.items =
+    subst (λ states. AriseBelow c.args.profile program (slot + 1) states) (sym items) (arise_more c.args.profile program slot joined c.loop-slot.states.items counted known c.loop-slot.invariant.arises) in
     elim c.match-insn.branch [
       | in-Some+in_ok-flow w ↦
           let step = w.in_ok-flow.ensures.floor program (program_of-paired c.args.words.now c.len.ensures.sound) c.requires w.in-Some.ensures.value waits
-          (here_falls program slot w.in-Some.insn joined w.in-Some.ensures.value (known w.in-Some.insn w.in-Some.ensures.value)) in
+          (here_falls c.args.profile program slot w.in-Some.insn joined w.in-Some.ensures.value (known w.in-Some.insn w.in-Some.ensures.value)) in
           rw (w.waiting-is, w.state-is, w.flow-is)
           (record {
             size = w.in_ok-flow.ensures.size ∙ size;
@@ -76,17 +76,17 @@ loop-slot-preserved c =
             arises = arises;
           })
       | in_default w ↦
-          let nothing : waiting_at c.loop-slot.waiting slot ≡ None = nothing_waits program slot c.loop-slot.waiting c.requires w.in_default.ensures.value c.loop-slot.invariant.waits in
+          let nothing : waiting_at c.loop-slot.waiting slot ≡ None = nothing_waits c.args.profile program slot c.loop-slot.waiting c.requires w.in_default.ensures.value c.loop-slot.invariant.waits in
           let alone : joined ≡ falling = c.arrive-flow.ensures.alone nothing in
-          let falls : FallsAs program slot joined = subst (λ o. FallsAs program slot o) (sym alone) c.loop-slot.invariant.falls in
+          let falls : FallsAs c.args.profile program slot joined = subst (λ o. FallsAs c.args.profile program slot o) (sym alone) c.loop-slot.invariant.falls in
           rw (w.waiting-is, w.state-is, w.flow-is)
           (record {
             size = size;
-            covers = covers_over program slot joined c.arrive-flow.new.self w.in_default.ensures.value covers;
+            covers = covers_over c.args.profile program slot joined c.arrive-flow.new.self w.in_default.ensures.value covers;
             count = count;
             contains = contains;
             waits = waits;
-            falls = second_falls program slot joined w.in_default.ensures.value falls;
+            falls = second_falls c.args.profile program slot joined w.in_default.ensures.value falls;
             arises = arises;
           })
     ]
@@ -94,7 +94,7 @@ loop-slot-preserved c =
 pub returns-clause-contains : goal.returns-clause-contains
 returns-clause-contains c =
     let last : c.loop-slot.slot ≡ length (program_of c.args.words.now) = search rules in
-    subst (λ n. ContainRunsBelow (program_of c.args.words.now) n c.loop-slot.states.items) last c.loop-slot.invariant.contains
+    subst (λ n. ContainRunsBelow c.args.profile (program_of c.args.words.now) n c.loop-slot.states.items) last c.loop-slot.invariant.contains
 
 pub returns-clause-arises : goal.returns-clause-arises
 returns-clause-arises c = λ at insn starts.
@@ -107,9 +107,9 @@ returns-in_err-flow-clause-floor c =
     let program = program_of c.args.words.now in
     let joined = after c.arrive-flow.result c.arrive-flow.new.state in
     let falling = after c.loop-slot.flow c.loop-slot.state in
-    let waits : AllArise program c.arrive-flow.new.self = c.arrive-flow.ensures.waits program c.loop-slot.invariant.waits in
-    let known : ArisesAt program c.loop-slot.slot joined =
-    (c.arrive-flow.ensures.arises program c.loop-slot.invariant.waits (falls_here program c.loop-slot.slot c.in-Some.insn falling c.in-Some.ensures.value c.loop-slot.invariant.falls)).1 in
-    passed_on c.from_residual-in_err-flow.result c.in_err-flow.field-0.0 (IsCause program) c.from_residual-in_err-flow.ensures.1
+    let waits : AllArise c.args.profile program c.arrive-flow.new.self = c.arrive-flow.ensures.waits c.args.profile program c.loop-slot.invariant.waits in
+    let known : ArisesAt c.args.profile program c.loop-slot.slot joined =
+    (c.arrive-flow.ensures.arises c.args.profile program c.loop-slot.invariant.waits (falls_here c.args.profile program c.loop-slot.slot c.in-Some.insn falling c.in-Some.ensures.value c.loop-slot.invariant.falls)).1 in
+    passed_on c.from_residual-in_err-flow.result c.in_err-flow.field-0.0 (IsCause c.args.profile program) c.from_residual-in_err-flow.ensures.1
     (c.in_err-flow.ensures.floor program (program_of-paired c.args.words.now c.len.ensures.sound) c.requires c.in-Some.ensures.value waits
-    (here_falls program c.loop-slot.slot c.in-Some.insn joined c.in-Some.ensures.value known)).0
+    (here_falls c.args.profile program c.loop-slot.slot c.in-Some.insn joined c.in-Some.ensures.value known)).0

@@ -17,10 +17,10 @@ loop-slot-init c =
     let some : 0 < length (program_of c.args.words.now) = search rules in
     record {
       size = search rules;
-      follows = begins (program_of c.args.words.now) c.entry-state.result c.in_ok-waiting.waiting some (program_of-paired c.args.words.now c.len.ensures.sound) c.entry-state.ensures.contains;
-      covers = covers_begin (program_of c.args.words.now) c.entry-state.result c.in_ok-waiting.waiting c.entry-state.ensures.contains;
+      follows = begins c.args.profile (program_of c.args.words.now) c.entry-state.result c.in_ok-waiting.waiting some (program_of-paired c.args.words.now c.len.ensures.sound) c.entry-state.ensures.contains;
+      covers = covers_begin c.args.profile (program_of c.args.words.now) c.entry-state.result c.in_ok-waiting.waiting c.entry-state.ensures.contains;
       waits = λ slot a e. let none = c.in_ok-waiting.ensures.nothing slot in absurd (cc);
-      falls = entry_falls (program_of c.args.words.now) c.entry-state.result some (program_of-paired c.args.words.now c.len.ensures.sound) c.entry-state.ensures.context;
+      falls = entry_falls c.args.profile (program_of c.args.words.now) c.entry-state.result some (program_of-paired c.args.words.now c.len.ensures.sound) c.entry-state.ensures.context;
     }
 
 pub visit-requires-clause-jumps : goal.visit-requires-clause-jumps
@@ -37,7 +37,7 @@ pub loop-slot-preserved : goal.loop-slot-preserved
 loop-slot-preserved c =
     elim c.match-insn.branch [
       | in-Some+in_ok-flow w ↦
-          let follows : Follows (program_of c.args.words.now) (c.loop-slot.slot + 1) (after w.in_ok-flow.flow w.visit.new.state) w.visit.new.waiting =
+          let follows : Follows c.args.profile (program_of c.args.words.now) (c.loop-slot.slot + 1) (after w.in_ok-flow.flow w.visit.new.state) w.visit.new.waiting =
           w.in_ok-flow.ensures.follows (program_of c.args.words.now) (program_of-paired c.args.words.now c.len.ensures.sound) c.requires.structured w.in-Some.ensures.value c.loop-slot.invariant.follows in
           let step = w.in_ok-flow.ensures.floor (program_of c.args.words.now) (program_of-paired c.args.words.now c.len.ensures.sound) c.requires.structured w.in-Some.ensures.value c.loop-slot.invariant.waits c.loop-slot.invariant.falls in
           rw (w.waiting-is, w.state-is, w.flow-is)
@@ -52,24 +52,24 @@ loop-slot-preserved c =
           rw (w.waiting-is, w.state-is, w.flow-is)
           (record {
             size = c.loop-slot.invariant.size;
-            follows = stepped_over (program_of c.args.words.now) c.loop-slot.slot (after c.loop-slot.flow c.loop-slot.state) c.loop-slot.waiting w.in_default.ensures.value c.loop-slot.invariant.follows;
-            covers = covers_over (program_of c.args.words.now) c.loop-slot.slot (after c.loop-slot.flow c.loop-slot.state) c.loop-slot.waiting w.in_default.ensures.value c.loop-slot.invariant.covers;
+            follows = stepped_over c.args.profile (program_of c.args.words.now) c.loop-slot.slot (after c.loop-slot.flow c.loop-slot.state) c.loop-slot.waiting w.in_default.ensures.value c.loop-slot.invariant.follows;
+            covers = covers_over c.args.profile (program_of c.args.words.now) c.loop-slot.slot (after c.loop-slot.flow c.loop-slot.state) c.loop-slot.waiting w.in_default.ensures.value c.loop-slot.invariant.covers;
             waits = c.loop-slot.invariant.waits;
-            falls = second_falls (program_of c.args.words.now) c.loop-slot.slot (after c.loop-slot.flow c.loop-slot.state) w.in_default.ensures.value c.loop-slot.invariant.falls;
+            falls = second_falls c.args.profile (program_of c.args.words.now) c.loop-slot.slot (after c.loop-slot.flow c.loop-slot.state) w.in_default.ensures.value c.loop-slot.invariant.falls;
           })
     ]
 
 pub returns-clause-follows : goal.returns-clause-follows
 returns-clause-follows c =
     let last : c.loop-slot.slot ≡ c.args.end = search rules in
-    subst (λ n. Follows (program_of c.args.words.now) n (after c.loop-slot.flow c.loop-slot.state) c.loop-slot.waiting) last c.loop-slot.invariant.follows
+    subst (λ n. Follows c.args.profile (program_of c.args.words.now) n (after c.loop-slot.flow c.loop-slot.state) c.loop-slot.waiting) last c.loop-slot.invariant.follows
 
 pub returns-clause-covers : goal.returns-clause-covers
 returns-clause-covers c =
     let last : c.loop-slot.slot ≡ c.args.end = search rules in
-    subst (λ n. Covers (program_of c.args.words.now) n (after c.loop-slot.flow c.loop-slot.state) c.loop-slot.waiting) last c.loop-slot.invariant.covers
+    subst (λ n. Covers c.args.profile (program_of c.args.words.now) n (after c.loop-slot.flow c.loop-slot.state) c.loop-slot.waiting) last c.loop-slot.invariant.covers
 
 pub returns-in_err-flow-clause-floor : goal.returns-in_err-flow-clause-floor
 returns-in_err-flow-clause-floor c =
-    passed_on c.from_residual-in_err-flow.result c.in_err-flow.field-0.0 (IsCause (program_of c.args.words.now)) c.from_residual-in_err-flow.ensures.1
+    passed_on c.from_residual-in_err-flow.result c.in_err-flow.field-0.0 (IsCause c.args.profile (program_of c.args.words.now)) c.from_residual-in_err-flow.ensures.1
     (c.in_err-flow.ensures.floor (program_of c.args.words.now) (program_of-paired c.args.words.now c.len.ensures.sound) c.requires.structured c.in-Some.ensures.value c.loop-slot.invariant.waits c.loop-slot.invariant.falls).0

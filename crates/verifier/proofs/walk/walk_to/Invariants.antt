@@ -9,8 +9,8 @@ use Rattle.verifier.proofs.walk.walk_to.Given as goal
 abbrev pub invariant-loop-slot : goal.invariant-loop-slot
 invariant-loop-slot l = record {
   size : length l.waiting ≡ length (program_of l.words);
-  follows : Follows (program_of l.words) l.slot (after l.flow l.state) l.waiting;
-  covers : Covers (program_of l.words) l.slot (after l.flow l.state) l.waiting;
-  waits : AllArise (program_of l.words) l.waiting;
-  falls : FallsAs (program_of l.words) l.slot (after l.flow l.state);
+  follows : Follows l.profile (program_of l.words) l.slot (after l.flow l.state) l.waiting;
+  covers : Covers l.profile (program_of l.words) l.slot (after l.flow l.state) l.waiting;
+  waits : AllArise l.profile (program_of l.words) l.waiting;
+  falls : FallsAs l.profile (program_of l.words) l.slot (after l.flow l.state);
 }

@@ -2,7 +2,7 @@ use Rattle.std.proofs.Common.{◌≡◌, ℕ, None, refl, subst}
 use Rattle.std.proofs.lemmas.Result.{IfOk-weaker}
 use Rattle.abstract_state.specs.Known.{ContainsKnown}
 use Rattle.abstract_state.specs.Lent.{Lengths}
-use Rattle.abstract_state.specs.Exact.{IsTextIn, IsNumberIn}
+use Rattle.abstract_state.specs.Exact.{IsLentIn, IsNumberIn}
 use Rattle.abstract_state.specs.declared.known.Known.{Known}
 use Rattle.abstract_state.proofs.known.Known.compute.Goals as goal
 
@@ -32,7 +32,7 @@ returns-in-Lent-Number-clause-sound c = IfOk-weaker c.from_lent.result _ _
     c.from_lent.ensures.sound
 
 pub returns-in-Lent-Number-clause-adds : goal.returns-in-Lent-Number-clause-adds
-returns-in-Lent-Number-clause-adds c = λ adds full m n t a b near.
-    let left = subst (λ (k : Known). IsTextIn m m t k) c.in-Lent-Number.is-0 a in
-    let right = subst (λ (k : Known). IsNumberIn n n None k) c.in-Lent-Number.is-1 b in
-    c.from_lent.ensures.adds adds full left.0 m n t left.1 right near
+returns-in-Lent-Number-clause-adds c = λ at adds full m n t a b near.
+    let left = subst (λ (k : Known). IsLentIn at m m t k) c.in-Lent-Number.is-0 a in
+    let right = subst (λ (k : Known). IsNumberIn at n n None k) c.in-Lent-Number.is-1 b in
+    c.from_lent.ensures.adds at adds full left.0 m n t left.1 right near

@@ -1,5 +1,5 @@
 use Rattle.std.proofs.Common.{◌≤◌, ℕ, ◌%◌, ◌^◌, refl, subst, arith}
-use Rattle.abstract_state.specs.Exact.{IsTextIn}
+use Rattle.abstract_state.specs.Exact.{IsLentIn}
 use Rattle.abstract_state.proofs.Exact.{one_stays}
 use Rattle.std.proofs.lemmas.Result.{IfOk-weaker}
 use Rattle.abstract_state.specs.Known.{ContainsKnown, WithinKnown}
@@ -28,8 +28,8 @@ pub returns-in-Stack-Full-clause-sound : goal.returns-in-Stack-Full-clause-sound
 returns-in-Stack-Full-clause-sound c = λ lengths x a.
     (_, refl, subst (λ (n : ℕ). ContainsKnown c.args.self lengths n) (full_is c.args.width x c.in-Stack-Full.is-1 (known_fits c.args.self lengths x a)) a)
 
-pub returns-in-Lent-Full-clause-text : goal.returns-in-Lent-Full-clause-text
-returns-in-Lent-Full-clause-text c = λ wide n t is.
-    let given = subst (λ (k : Known). IsTextIn n n t k) c.in-Lent-Full.is-0 is in
+pub returns-in-Lent-Full-clause-lent : goal.returns-in-Lent-Full-clause-lent
+returns-in-Lent-Full-clause-lent c = λ at wide n t is.
+    let given = subst (λ (k : Known). IsLentIn at n n t k) c.in-Lent-Full.is-0 is in
     let near : n ≤ 2 ^ 20 = omega (arith, c.in-Lent-Full.a.near, given.1.1) in
-    c.lent.ensures.text n n t given.0 (one_stays c.moved-in-Lent-Full.result c.in-Lent-Full.a.offset.range c.in-Lent-Full.a.offset.tails n t (c.moved-in-Lent-Full.ensures.narrows refl) given.1.0 given.1.1 given.1.2) near
+    c.lent.ensures.there at n n t given.0 (one_stays at c.moved-in-Lent-Full.result c.in-Lent-Full.a.offset.range c.in-Lent-Full.a.offset.tails n t (c.moved-in-Lent-Full.ensures.narrows refl) given.1.0 given.1.1 given.1.2) near

@@ -14,14 +14,14 @@ returns-in-Mov-clause-sound c = IfOk-weaker c.move_to.result _ _
 
 pub returns-in-Mov-clause-yields : goal.returns-in-Mov-clause-yields
 returns-in-Mov-clause-yields c = λ d fact y.
-    compute_rows c.args.self.now _ d fact c.args.width c.args.operation c.args.destination c.args.operand c.move_to.result c.move_to.new.self y refl
-    (λ r n t w o e h. c.move_to.ensures.text r n t w e h)
-    (λ k n t w o e h near. let bad = sym o ∙ c.in-Mov.is in absurd (cc))
-    (λ k w o e h. c.move_to.ensures.constant k w e h)
+    compute_rows c.args.profile c.args.self.now _ d fact c.args.width c.args.operation c.args.destination c.args.operand c.move_to.result c.move_to.new.self y refl
+    (λ region r n t w o e h. c.move_to.ensures.lent region r n t w e h)
+    (λ region k n t w o e h near. let bad = sym o ∙ c.in-Mov.is in absurd (cc))
+    (λ region k w o e h. c.move_to.ensures.constant region k w e h)
 
 pub returns-in_default-clause-yields : goal.returns-in_default-clause-yields
 returns-in_default-clause-yields c = λ d fact y.
-    compute_rows c.args.self.now _ d fact c.args.width c.args.operation c.args.destination c.args.operand c.compute.result c.compute.new.self y refl
-    (λ r n t w o e h. absurd (c.in_default.not-Mov o))
-    (λ k n t w o e h near. c.compute.ensures.adds k n t w o e h near)
-    (λ k w o e h. absurd (c.in_default.not-Mov o))
+    compute_rows c.args.profile c.args.self.now _ d fact c.args.width c.args.operation c.args.destination c.args.operand c.compute.result c.compute.new.self y refl
+    (λ region r n t w o e h. absurd (c.in_default.not-Mov o))
+    (λ region k n t w o e h near. c.compute.ensures.adds region k n t w o e h near)
+    (λ region k w o e h. absurd (c.in_default.not-Mov o))

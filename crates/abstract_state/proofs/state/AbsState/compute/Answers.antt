@@ -1,5 +1,5 @@
 use Rattle.std.proofs.Common.{◌≡◌, ◌+◌, true, false, refl, arith}
-use Rattle.abstract_state.specs.Exact.{TextIn, tail_after}
+use Rattle.abstract_state.specs.Exact.{LentIn, tail_after}
 use Rattle.abstract_state.specs.State.{lengths_of}
 use Rattle.abstract_state.proofs.Steps.{computes}
 use Rattle.abstract_state.proofs.state.AbsState.compute.Goals as goal
@@ -14,15 +14,15 @@ returns-clause-sound c = λ span s held.
     )
 
 pub returns-in_err-a-clause-adds : goal.returns-in_err-a-clause-adds
-returns-in_err-a-clause-adds c = λ k n t w o e h near. let bad : false ≡ true = (c.in_err-a.ensures.holds (TextIn n n t) h).0 in absurd (cc)
+returns-in_err-a-clause-adds c = λ region k n t w o e h near. let bad : false ≡ true = (c.in_err-a.ensures.holds (LentIn region n n t) h).0 in absurd (cc)
 
 pub returns-in_err-known-clause-adds : goal.returns-in_err-known-clause-adds
-returns-in_err-known-clause-adds c = λ k n t w o e h near.
-    let bad : false ≡ true = (c.in_err-known.ensures.adds o w n k t (c.in_ok-a.ensures.holds (TextIn n n t) h).1 (c.in_ok-b.ensures.constant k e (omega arith)).1 near).0 in absurd (cc)
+returns-in_err-known-clause-adds c = λ region k n t w o e h near.
+    let bad : false ≡ true = (c.in_err-known.ensures.adds region o w n k t (c.in_ok-a.ensures.holds (LentIn region n n t) h).1 (c.in_ok-b.ensures.constant region k e (omega arith)).1 near).0 in absurd (cc)
 
 pub returns-clause-adds : goal.returns-clause-adds
-returns-clause-adds c = λ k n t w o e h near. (
+returns-clause-adds c = λ region k n t w o e h near. (
   refl,
-  c.write.ensures.holds (TextIn (n + k) (n + k) (tail_after t k))
-      (c.in_ok-known.ensures.adds o w n k t (c.in_ok-a.ensures.holds (TextIn n n t) h).1 (c.in_ok-b.ensures.constant k e (omega arith)).1 near).1,
+  c.write.ensures.holds (LentIn region (n + k) (n + k) (tail_after t k))
+      (c.in_ok-known.ensures.adds region o w n k t (c.in_ok-a.ensures.holds (LentIn region n n t) h).1 (c.in_ok-b.ensures.constant region k e (omega arith)).1 near).1,
 )

@@ -2,7 +2,7 @@ use Rattle.std.proofs.Common.{◌≡◌, true, false, ℕ, Option, Some, ◌∙�
 use Rattle.std.specs.Option.{IfSome}
 use Rattle.meaning.specs.Value.{cut, holds_of}
 use Rattle.abstract_state.specs.declared.branch.Pair.{Pair}
-use Rattle.abstract_state.specs.Exact.{TextIn}
+use Rattle.abstract_state.specs.Exact.{LentIn}
 use Rattle.abstract_state.specs.Branch.{LongFrom}
 use Rattle.abstract_state.specs.State.{lengths_of}
 use Rattle.abstract_state.proofs.state.AbsState.edge_on.Goals as goal
@@ -39,18 +39,18 @@ returns-in-Dead-clause-sound c = λ span s held.
       ),
     )
 
-pub returns-in_err-a-clause-texts : goal.returns-in_err-a-clause-texts
-returns-in_err-a-clause-texts c = λ r l1 h1 l2 h2 t1 t2 e w o a b. let bad : false ≡ true = (c.in_err-a.ensures.holds (TextIn l1 h1 t1) a).0 in absurd (cc)
+pub returns-in_err-a-clause-regions : goal.returns-in_err-a-clause-regions
+returns-in_err-a-clause-regions c = λ region r l1 h1 l2 h2 t1 t2 e w o a b. let bad : false ≡ true = (c.in_err-a.ensures.holds (LentIn region l1 h1 t1) a).0 in absurd (cc)
 
-pub returns-in_err-b-clause-texts : goal.returns-in_err-b-clause-texts
-returns-in_err-b-clause-texts c = λ r l1 h1 l2 h2 t1 t2 e w o a b. let bad : false ≡ true = (c.in_err-b.ensures.holds r (TextIn l2 h2 t2) e b).0 in absurd (cc)
+pub returns-in_err-b-clause-regions : goal.returns-in_err-b-clause-regions
+returns-in_err-b-clause-regions c = λ region r l1 h1 l2 h2 t1 t2 e w o a b. let bad : false ≡ true = (c.in_err-b.ensures.holds r (LentIn region l2 h2 t2) e b).0 in absurd (cc)
 
-pub returns-in_err-pair-clause-texts : goal.returns-in_err-pair-clause-texts
-returns-in_err-pair-clause-texts c = λ r l1 h1 l2 h2 t1 t2 e w o a b.
-    let bad : false ≡ true = c.in_err-pair.ensures.texts l1 h1 l2 h2 t1 t2 w o (c.in_ok-a.ensures.holds (TextIn l1 h1 t1) a).1 (c.in_ok-b.ensures.holds r (TextIn l2 h2 t2) e b).1 in absurd (cc)
+pub returns-in_err-pair-clause-regions : goal.returns-in_err-pair-clause-regions
+returns-in_err-pair-clause-regions c = λ region r l1 h1 l2 h2 t1 t2 e w o a b.
+    let bad : false ≡ true = c.in_err-pair.ensures.regions region l1 h1 l2 h2 t1 t2 w o (c.in_ok-a.ensures.holds (LentIn region l1 h1 t1) a).1 (c.in_ok-b.ensures.holds r (LentIn region l2 h2 t2) e b).1 in absurd (cc)
 
 pub returns-in-Live-clause-guards : goal.returns-in-Live-clause-guards
-returns-in-Live-clause-guards c = λ r n high l2 h2 t t1 e other w greater not a b.
+returns-in-Live-clause-guards c = λ region r n high l2 h2 t t1 e other w greater not a b.
     let apart = c.is_one_register-same.ensures r e other in
-    let long = c.in_ok-pair.ensures.guards n high l2 h2 t t1 w greater not (c.in_ok-a.ensures.holds (TextIn n high t1) a).1 (c.in_ok-b.ensures.holds r (TextIn l2 h2 (Some t)) e b).1 in
-    c.in-Live.ensures.raised n (subst (λ (o : Option Pair). IfSome o (λ p. LongFrom n p.left)) (sym (c.unless-pair.ensures.apart apart)) long)
+    let long = c.in_ok-pair.ensures.guards region n high l2 h2 t t1 w greater not (c.in_ok-a.ensures.holds (LentIn region n high t1) a).1 (c.in_ok-b.ensures.holds r (LentIn region l2 h2 (Some t)) e b).1 in
+    c.in-Live.ensures.raised region n (subst (λ (o : Option Pair). IfSome o (λ p. LongFrom region n p.left)) (sym (c.unless-pair.ensures.apart apart)) long)

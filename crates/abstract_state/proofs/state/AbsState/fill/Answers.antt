@@ -19,4 +19,4 @@ returns-clause-sound c = IfSome_then c.filled.result c.filled.ensures
     let address = ap (λ (m : ℕ). (m + c.args.offset) % 2 ^ 64) place ∙ at in
     let bytes = subst (λ (m : ℕ). HasNumber (bytes_of s.stack) m held.0) whole held.2 in
     let eight = loads_back span s.stack _ c.in-Ok.p held.0 address c.in-Ok.ensures.within bytes (known_fits k (lengths_of span) held.0 held.1) in
-    (held.0, ap (λ (z : Size). load span.context span.text s.stack ((n + c.args.offset) % 2 ^ 64) (bytes_in z)) c.in-Stack-Double.is-1 ∙ eight, held.1))
+    (held.0, ap (λ (z : Size). load span.bytes s.stack ((n + c.args.offset) % 2 ^ 64) (bytes_in z)) c.in-Stack-Double.is-1 ∙ eight, held.1))

@@ -1,7 +1,9 @@
 use Rattle.std.proofs.Common.{true, false, ◌≡◌, ◌+◌, ◌%◌, ◌^◌, ℕ, Some, Ok, refl, arith, sym, subst, ap, ◌∙◌}
 use Rattle.abstract_state.specs.Kinds.{IsNumberField}
-use Rattle.abstract_state.specs.Exact.{TextIn, AnyNumber}
-use Rattle.abstract_state.proofs.Exact.{text_is, any_number}
+use Rattle.abstract_state.specs.Lent.{begin_field, end_field, limit_of}
+use Rattle.abstract_state.specs.Exact.{LentIn, AnyNumber}
+use Rattle.abstract_state.proofs.Exact.{lent_is, any_number}
+use Rattle.abstract_state.proofs.Regions.{begin_low, end_low}
 use Rattle.std.proofs.lemmas.Int.{to_z-of_z}
 use Rattle.std.specs.Int.{cast_unsigned, w16, w64}
 use Rattle.meaning.specs.Memory.{load, bytes_in}
@@ -10,13 +12,13 @@ use Rattle.abstract_state.proofs.Steps.{loads}
 use Rattle.abstract_state.proofs.state.AbsState.load_into.Goals as goal
 
 pub returns-clause-sound : goal.returns-clause-sound
-returns-clause-sound c = λ span s held.
+returns-clause-sound c = λ span s profile held.
     let same : c.displacement.result ≡ cast_unsigned w64 c.args.offset = c.displacement.ensures ∙ ap (cast_unsigned w64) (to_z-of_z w16 c.args.offset c.ranges.offset) in
     let a = c.in_ok-a.ensures.sound (lengths_of span) s held in
-    let v = c.in_ok-known.ensures.sound span s a.0 held a.2 in (
+    let v = c.in_ok-known.ensures.sound span s a.0 profile held a.2 in (
       _,
       loads span s c.args.size c.args.destination c.args.base c.args.offset a.0 v.0 c.requires a.1
-          (subst (λ (o : ℕ). load span.context span.text s.stack ((a.0 + o) % 2 ^ 64) (bytes_in c.args.size) ≡ Ok v.0) same v.1),
+          (subst (λ (o : ℕ). load span.bytes s.stack ((a.0 + o) % 2 ^ 64) (bytes_in c.args.size) ≡ Ok v.0) same v.1),
       c.write.ensures.sound (lengths_of span) s _ held v.2,
     )
 
@@ -35,43 +37,51 @@ returns-clause-numbers c = λ p f.
     c.write.ensures.numbers (c.in_ok-known.ensures.numbers (c.in_ok-a.ensures.context 0 p).1 (subst (λ (n : ℕ). IsNumberField c.args.size n) (sym same) f))
 
 pub returns-in_err-a-clause-begin : goal.returns-in_err-a-clause-begin
-returns-in_err-a-clause-begin c = λ e z p. let bad : false ≡ true = (c.in_err-a.ensures.context 0 p).0 in absurd (cc)
+returns-in_err-a-clause-begin c = λ region lends e z p. let bad : false ≡ true = (c.in_err-a.ensures.context 0 p).0 in absurd (cc)
 
 pub returns-in_err-a-clause-end : goal.returns-in_err-a-clause-end
-returns-in_err-a-clause-end c = λ e z p. let bad : false ≡ true = (c.in_err-a.ensures.context 0 p).0 in absurd (cc)
+returns-in_err-a-clause-end c = λ region lends e z p. let bad : false ≡ true = (c.in_err-a.ensures.context 0 p).0 in absurd (cc)
 
-pub returns-in_err-a-clause-text : goal.returns-in_err-a-clause-text
-returns-in_err-a-clause-text c = λ o low high t e h short within. let bad : false ≡ true = (c.in_err-a.ensures.holds (TextIn low high t) h).0 in absurd (cc)
+pub returns-in_err-a-clause-lent : goal.returns-in_err-a-clause-lent
+returns-in_err-a-clause-lent c = λ region o low high t e h short within. let bad : false ≡ true = (c.in_err-a.ensures.holds (LentIn region low high t) h).0 in absurd (cc)
 
 pub returns-in_err-known-clause-begin : goal.returns-in_err-known-clause-begin
-returns-in_err-known-clause-begin c = λ e z p.
+returns-in_err-known-clause-begin c = λ region lends e z p.
+    let low = begin_low region in
     let same : c.displacement.result ≡ cast_unsigned w64 c.args.offset = c.displacement.ensures ∙ ap (cast_unsigned w64) (to_z-of_z w16 c.args.offset c.ranges.offset) in
-    let bad : false ≡ true = (c.in_err-known.ensures.begin (c.in_ok-a.ensures.context 0 p).1 z (same ∙ ap (cast_unsigned w64) e)).0 in absurd (cc)
+    let at : c.displacement.result ≡ begin_field region = same ∙ ap (cast_unsigned w64) e ∙ omega arith in
+    let bad : false ≡ true = (c.in_err-known.ensures.begin region lends (c.in_ok-a.ensures.context 0 p).1 z (omega arith) at).0 in absurd (cc)
 
 pub returns-in_err-known-clause-end : goal.returns-in_err-known-clause-end
-returns-in_err-known-clause-end c = λ e z p.
+returns-in_err-known-clause-end c = λ region lends e z p.
+    let low = end_low region in
     let same : c.displacement.result ≡ cast_unsigned w64 c.args.offset = c.displacement.ensures ∙ ap (cast_unsigned w64) (to_z-of_z w16 c.args.offset c.ranges.offset) in
-    let bad : false ≡ true = (c.in_err-known.ensures.end (c.in_ok-a.ensures.context 0 p).1 z (same ∙ ap (cast_unsigned w64) e)).0 in absurd (cc)
+    let at : c.displacement.result ≡ end_field region = same ∙ ap (cast_unsigned w64) e ∙ omega arith in
+    let bad : false ≡ true = (c.in_err-known.ensures.end region lends (c.in_ok-a.ensures.context 0 p).1 z (omega arith) at).0 in absurd (cc)
 
-pub returns-in_err-known-clause-text : goal.returns-in_err-known-clause-text
-returns-in_err-known-clause-text c = λ o low high t e h short within.
+pub returns-in_err-known-clause-lent : goal.returns-in_err-known-clause-lent
+returns-in_err-known-clause-lent c = λ region o low high t e h short within.
     let same : c.displacement.result ≡ cast_unsigned w64 c.args.offset = c.displacement.ensures ∙ ap (cast_unsigned w64) (to_z-of_z w16 c.args.offset c.ranges.offset) in
     let at : c.displacement.result ≡ o = same ∙ ap (cast_unsigned w64) e ∙ omega arith in
-    let text = text_is low high t c.in_ok-a.a (c.in_ok-a.ensures.holds (TextIn low high t) h).1 in
-    let end : text.0.offset.range.high ≡ high = text.3.1 in
-    let bad : false ≡ true = c.in_err-known.ensures.text text.0 text.1 text.2 (omega arith) (omega arith) in absurd (cc)
+    let place = lent_is region low high t c.in_ok-a.a (c.in_ok-a.ensures.holds (LentIn region low high t) h).1 in
+    let end : place.0.offset.range.high ≡ high = place.3.1 in
+    let bad : false ≡ true = c.in_err-known.ensures.lent region place.0 place.1 place.2 (omega arith) (omega arith) in absurd (cc)
 
 pub returns-clause-begin : goal.returns-clause-begin
-returns-clause-begin c = λ e z p.
+returns-clause-begin c = λ region lends e z p.
+    let low = begin_low region in
     let same : c.displacement.result ≡ cast_unsigned w64 c.args.offset = c.displacement.ensures ∙ ap (cast_unsigned w64) (to_z-of_z w16 c.args.offset c.ranges.offset) in
-    (refl, c.write.ensures.holds (TextIn 0 0 (Some 0)) (c.in_ok-known.ensures.begin (c.in_ok-a.ensures.context 0 p).1 z (same ∙ ap (cast_unsigned w64) e)).1)
+    let at : c.displacement.result ≡ begin_field region = same ∙ ap (cast_unsigned w64) e ∙ omega arith in
+    (refl, c.write.ensures.holds (LentIn region 0 0 (Some 0)) (c.in_ok-known.ensures.begin region lends (c.in_ok-a.ensures.context 0 p).1 z (omega arith) at).1)
 
 pub returns-clause-end : goal.returns-clause-end
-returns-clause-end c = λ e z p.
+returns-clause-end c = λ region lends e z p.
+    let low = end_low region in
     let same : c.displacement.result ≡ cast_unsigned w64 c.args.offset = c.displacement.ensures ∙ ap (cast_unsigned w64) (to_z-of_z w16 c.args.offset c.ranges.offset) in
-    (refl, c.write.ensures.holds (TextIn 0 131072 (Some 0)) (c.in_ok-known.ensures.end (c.in_ok-a.ensures.context 0 p).1 z (same ∙ ap (cast_unsigned w64) e)).1)
+    let at : c.displacement.result ≡ end_field region = same ∙ ap (cast_unsigned w64) e ∙ omega arith in
+    (refl, c.write.ensures.holds (LentIn region 0 (limit_of region) (Some 0)) (c.in_ok-known.ensures.end region lends (c.in_ok-a.ensures.context 0 p).1 z (omega arith) at).1)
 
-pub returns-clause-text : goal.returns-clause-text
-returns-clause-text c = λ o low high t e h short within.
-    let text = text_is low high t c.in_ok-a.a (c.in_ok-a.ensures.holds (TextIn low high t) h).1 in
-    (refl, c.write.ensures.holds AnyNumber (any_number c.in_ok-known.known (c.in_ok-known.ensures.text_numbers text.0 text.1)))
+pub returns-clause-lent : goal.returns-clause-lent
+returns-clause-lent c = λ region o low high t e h short within.
+    let place = lent_is region low high t c.in_ok-a.a (c.in_ok-a.ensures.holds (LentIn region low high t) h).1 in
+    (refl, c.write.ensures.holds AnyNumber (any_number c.in_ok-known.known (c.in_ok-known.ensures.lent_numbers place.0 place.1)))

@@ -14,6 +14,6 @@ returns-clause-sound c = λ span s held.
     let v = c.in_ok-load_signed.ensures span s a.0 held a.2 in (
       _,
       loads_signed span s c.args.size c.args.destination c.args.base c.args.offset a.0 v.0 c.requires a.1
-          (subst (λ (o : ℕ). load span.context span.text s.stack ((a.0 + o) % 2 ^ 64) (bytes_in_signed c.args.size) ≡ Ok v.0) same v.1),
+          (subst (λ (o : ℕ). load span.bytes s.stack ((a.0 + o) % 2 ^ 64) (bytes_in_signed c.args.size) ≡ Ok v.0) same v.1),
       c.write.ensures.sound (lengths_of span) s (with_sign c.args.size v.0) held (_, refl, c.unknown.ensures (lengths_of span) (with_sign c.args.size v.0) (sign_fits c.args.size v.0)),
     )

@@ -1,5 +1,5 @@
 use Rattle.std.proofs.Common.{◌≡◌, true, false, None, refl}
-use Rattle.abstract_state.specs.Exact.{TextIn, NumberIn}
+use Rattle.abstract_state.specs.Exact.{LentIn, NumberIn}
 use Rattle.abstract_state.specs.State.{lengths_of}
 use Rattle.abstract_state.proofs.Steps.{moves}
 use Rattle.abstract_state.proofs.state.AbsState.move_to.Goals as goal
@@ -12,17 +12,17 @@ returns-clause-sound c = λ span s a.
       c.write.ensures.sound (lengths_of span) s _ a (c.in_ok-known.ensures.sound (lengths_of span) b.0 b.2),
     )
 
-pub returns-in_err-b-clause-text : goal.returns-in_err-b-clause-text
-returns-in_err-b-clause-text c = λ r n t w e h. let bad : false ≡ true = (c.in_err-b.ensures.holds r (TextIn n n t) e h).0 in absurd (cc)
+pub returns-in_err-b-clause-lent : goal.returns-in_err-b-clause-lent
+returns-in_err-b-clause-lent c = λ region r n t w e h. let bad : false ≡ true = (c.in_err-b.ensures.holds r (LentIn region n n t) e h).0 in absurd (cc)
 
-pub returns-in_err-known-clause-text : goal.returns-in_err-known-clause-text
-returns-in_err-known-clause-text c = λ r n t w e h.
-    let bad : false ≡ true = (c.in_err-known.ensures.text w n t (c.in_ok-b.ensures.holds r (TextIn n n t) e h).1).0 in absurd (cc)
+pub returns-in_err-known-clause-lent : goal.returns-in_err-known-clause-lent
+returns-in_err-known-clause-lent c = λ region r n t w e h.
+    let bad : false ≡ true = (c.in_err-known.ensures.lent region w n t (c.in_ok-b.ensures.holds r (LentIn region n n t) e h).1).0 in absurd (cc)
 
-pub returns-clause-text : goal.returns-clause-text
-returns-clause-text c = λ r n t w e h.
-    (refl, c.write.ensures.holds (TextIn n n t) (c.in_ok-known.ensures.text w n t (c.in_ok-b.ensures.holds r (TextIn n n t) e h).1).1)
+pub returns-clause-lent : goal.returns-clause-lent
+returns-clause-lent c = λ region r n t w e h.
+    (refl, c.write.ensures.holds (LentIn region n n t) (c.in_ok-known.ensures.lent region w n t (c.in_ok-b.ensures.holds r (LentIn region n n t) e h).1).1)
 
 pub returns-clause-constant : goal.returns-clause-constant
-returns-clause-constant c = λ k w e small.
-    (refl, c.write.ensures.holds (NumberIn k k None) (c.in_ok-known.ensures.constant w k None (c.in_ok-b.ensures.constant k e small).1))
+returns-clause-constant c = λ region k w e small.
+    (refl, c.write.ensures.holds (NumberIn region k k None) (c.in_ok-known.ensures.constant region w k None (c.in_ok-b.ensures.constant region k e small).1))

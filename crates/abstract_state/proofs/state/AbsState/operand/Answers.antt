@@ -1,4 +1,4 @@
-use Rattle.std.proofs.Common.{◌≡◌, Ok, ℕ, ℤ, subst, sym, ap, ◌∙◌, rules}
+use Rattle.std.proofs.Common.{◌≡◌, Ok, ℕ, ℤ, pos, refl, subst, sym, ap, ◌∙◌, rules, arith}
 use Rattle.std.proofs.lemmas.Int.{to_z-of_z}
 use Rattle.std.specs.Int.{w32, w64, cast_unsigned}
 use mir.Val.{SFits}
@@ -21,3 +21,11 @@ pub returns-in-Source-clause-holds : goal.returns-in-Source-clause-holds
 returns-in-Source-clause-holds c = λ r fact e h.
     let same : r ≡ c.in-Source.register = cc in
     c.read.ensures.holds fact (subst (λ (k : ℕ). Holds fact (register_at c.args.self.now.registers k)) same h)
+
+pub returns-in-Immediate-clause-constant : goal.returns-in-Immediate-clause-constant
+returns-in-Immediate-clause-constant c = λ region k e small.
+    let fits : SFits w32 c.in-Immediate.value = search rules in
+    let value : c.in-Immediate.value ≡ pos k = cc in
+    let is : c.extended.result ≡ k = c.extended.ensures ∙ ap (cast_unsigned w64) (to_z-of_z w32 c.in-Immediate.value fits ∙ value) ∙ omega arith in
+    let found = c.constant.ensures.is region in
+    (refl, (found.0 ∙ is, found.1 ∙ is, found.2))

@@ -1,11 +1,17 @@
-use Rattle.std.proofs.Common.{◌≤◌, refl, subst, Option, arith}
+use Rattle.std.proofs.Common.{◌≤◌, refl, subst, ◌∙◌, Option, arith}
 use Rattle.std.specs.Option.{IfSome}
 use Rattle.abstract_state.specs.declared.branch.Pair.{Pair}
 use Rattle.abstract_state.specs.declared.state.AbsState.{AbsState}
+use Rattle.abstract_state.specs.Lent.{bound_of}
 use Rattle.abstract_state.specs.Branch.{LongFrom}
 use Rattle.abstract_state.proofs.Options.{where_some, some_is}
 use Rattle.abstract_state.proofs.Registers.{state_at, state_none}
+use Rattle.abstract_state.specs.declared.step.Flow.{Flow}
+use Rattle.abstract_state.specs.declared.step.Flow.TheVariants.{Live, Dead}
+use Rattle.abstract_state.specs.Steps.{after}
+use Rattle.abstract_state.specs.Kinds.{KeepsAll, AreBothNumbers, AreNumbersOn}
 use Rattle.abstract_state.proofs.Branches.{pair_left, pair_right}
+use Rattle.abstract_state.proofs.KindLaws.{keeps_on, number_kept}
 use Rattle.abstract_state.proofs.state.AbsState.refine.Goals as goal
 
 pub returns-in-Dead-clause-sound : goal.returns-in-Dead-clause-sound
@@ -24,7 +30,19 @@ returns-in-Live-clause-sound c = λ lengths s m n held el er w.
     c.raise-in-Live.ensures.sound lengths s n one r
 
 pub returns-in-Live-clause-raised : goal.returns-in-Live-clause-raised
-returns-in-Live-clause-raised c = λ n long.
-    let one : n ≤ c.raise.new.self.bounds.text = c.in-Live.ensures.raised n (subst (λ (o : Option Pair). IfSome o (λ p. LongFrom n p.left)) c.in-Some.is long) in
-    where_some (λ (b : AbsState). n ≤ b.bounds.text) _
-    (λ b is. let more : c.raise.new.self.bounds.text ≤ b.bounds.text = some_is (λ (v : AbsState). c.raise.new.self.bounds.text ≤ v.bounds.text) _ b is c.raise-in-Live.ensures.grows in omega arith)
+returns-in-Live-clause-raised c = λ region n long.
+    let one : n ≤ bound_of c.raise.new.self.bounds region = c.in-Live.ensures.raised region n (subst (λ (o : Option Pair). IfSome o (λ p. LongFrom region n p.left)) c.in-Some.is long) in
+    where_some (λ (b : AbsState). n ≤ bound_of b.bounds region) _
+    (λ b is. let more : bound_of c.raise.new.self.bounds region ≤ bound_of b.bounds region = some_is (λ (v : AbsState). bound_of c.raise.new.self.bounds region ≤ bound_of v.bounds region) _ b is (c.raise-in-Live.ensures.grows region) in omega arith)
+
+after_any : (flow : Flow) (s : AbsState) (P : AbsState → Type 0) → P s → IfSome (after flow s) P
+after_any Live s P h = h
+after_any Dead s P h = tt
+
+pub returns-in-Live-clause-kinds : goal.returns-in-Live-clause-kinds
+returns-in-Live-clause-kinds c = λ left right numbers.
+    let both : AreBothNumbers c.in-Some.pair = subst AreNumbersOn c.in-Some.is numbers in
+    let one = c.keep.ensures.kinds left both.0 in
+    let two = c.keep_right.ensures.kinds (number_kept c.args.self.now c.keep.new.self c.args.right.now one right) both.1 in
+    after_any c.raise-in-Live.result c.raise-in-Live.new.self (λ (b : AbsState). KeepsAll c.args.self.now b)
+    (keeps_on c.args.self.now c.keep.new.self c.keep_right.new.self c.raise-in-Live.new.self one two (c.raise-in-Live.ensures.same ∙ c.raise.ensures.same))

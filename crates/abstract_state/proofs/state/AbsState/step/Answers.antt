@@ -6,55 +6,55 @@ use Rattle.std.specs.Option.{IfSome}
 use Rattle.abstract_state.specs.Kinds.{ReadsNumbers, IsNumberField, Carries}
 use mir.Val.{SFits}
 use Rattle.bpf_words.specs.declared.instruction.Insn.TheVariants.{Load, LoadSigned, Store}
-use Rattle.abstract_state.specs.State.{StepsBy}
+use Rattle.abstract_state.specs.State.{StepsIn, StepsBy}
 use Rattle.std.proofs.lemmas.Result.{IfOk-weaker}
 use Rattle.bpf_words.specs.declared.instruction.Insn.{Insn}
 use Rattle.abstract_state.specs.Steps.{after}
 use Rattle.abstract_state.proofs.Guards.{load_rows}
-use Rattle.abstract_state.proofs.Steps.{lands_by, stays, ends}
+use Rattle.abstract_state.proofs.Steps.{lands_in, lands_by, stays, ends}
 use Rattle.abstract_state.proofs.state.AbsState.step.Goals as goal
 
 pub returns-in-Compute-clause-sound : goal.returns-in-Compute-clause-sound
-returns-in-Compute-clause-sound c = IfOk-weaker c.arithmetic.result _ _ (λ flow h. lands_by c.args.self.now c.args.insn.now _ _ (after flow c.arithmetic.new.self) c.in-Compute.is refl h) c.arithmetic.ensures.sound
+returns-in-Compute-clause-sound c = IfOk-weaker c.arithmetic.result _ _ (λ flow h. lands_by c.args.profile c.args.self.now c.args.insn.now _ _ (after flow c.arithmetic.new.self) c.in-Compute.is refl h) c.arithmetic.ensures.sound
 
 pub returns-in-Negate-clause-sound : goal.returns-in-Negate-clause-sound
-returns-in-Negate-clause-sound c = IfOk-weaker c.negate.result _ _ (λ flow h. lands_by c.args.self.now c.args.insn.now _ _ (after flow c.negate.new.self) c.in-Negate.is refl h) c.negate.ensures.sound
+returns-in-Negate-clause-sound c = IfOk-weaker c.negate.result _ _ (λ flow h. lands_by c.args.profile c.args.self.now c.args.insn.now _ _ (after flow c.negate.new.self) c.in-Negate.is refl h) c.negate.ensures.sound
 
 pub returns-in-Extend-clause-sound : goal.returns-in-Extend-clause-sound
-returns-in-Extend-clause-sound c = IfOk-weaker c.extend.result _ _ (λ flow h. lands_by c.args.self.now c.args.insn.now _ _ (after flow c.extend.new.self) c.in-Extend.is refl h) c.extend.ensures.sound
+returns-in-Extend-clause-sound c = IfOk-weaker c.extend.result _ _ (λ flow h. lands_by c.args.profile c.args.self.now c.args.insn.now _ _ (after flow c.extend.new.self) c.in-Extend.is refl h) c.extend.ensures.sound
 
 pub returns-in-Convert-clause-sound : goal.returns-in-Convert-clause-sound
-returns-in-Convert-clause-sound c = IfOk-weaker c.convert.result _ _ (λ flow h. lands_by c.args.self.now c.args.insn.now _ _ (after flow c.convert.new.self) c.in-Convert.is refl h) c.convert.ensures.sound
+returns-in-Convert-clause-sound c = IfOk-weaker c.convert.result _ _ (λ flow h. lands_by c.args.profile c.args.self.now c.args.insn.now _ _ (after flow c.convert.new.self) c.in-Convert.is refl h) c.convert.ensures.sound
 
 pub returns-in-Load-clause-sound : goal.returns-in-Load-clause-sound
 returns-in-Load-clause-sound c =
     let fits : SFits w16 c.in-Load.offset = search rules in IfOk-weaker c.load_into.result _ _
-    (λ flow h. lands_by c.args.self.now c.args.insn.now _ _ (after flow c.load_into.new.self) c.in-Load.is refl (subst (λ (z : ℤ). StepsBy c.args.self.now (Load c.in-Load.size c.in-Load.destination c.in-Load.base z) (pos 0) (after flow c.load_into.new.self)) (to_z-of_z w16 c.in-Load.offset fits) h))
+    (λ flow h. lands_in c.args.profile c.args.self.now c.args.insn.now _ _ (after flow c.load_into.new.self) c.in-Load.is refl (subst (λ (z : ℤ). StepsIn c.args.profile c.args.self.now (Load c.in-Load.size c.in-Load.destination c.in-Load.base z) (pos 0) (after flow c.load_into.new.self)) (to_z-of_z w16 c.in-Load.offset fits) h))
     c.load_into.ensures.sound
 
 pub returns-in-LoadSigned-clause-sound : goal.returns-in-LoadSigned-clause-sound
 returns-in-LoadSigned-clause-sound c =
     let fits : SFits w16 c.in-LoadSigned.offset = search rules in IfOk-weaker c.load_signed_into.result _ _
-    (λ flow h. lands_by c.args.self.now c.args.insn.now _ _ (after flow c.load_signed_into.new.self) c.in-LoadSigned.is refl (subst (λ (z : ℤ). StepsBy c.args.self.now (LoadSigned c.in-LoadSigned.size c.in-LoadSigned.destination c.in-LoadSigned.base z) (pos 0) (after flow c.load_signed_into.new.self)) (to_z-of_z w16 c.in-LoadSigned.offset fits) h))
+    (λ flow h. lands_by c.args.profile c.args.self.now c.args.insn.now _ _ (after flow c.load_signed_into.new.self) c.in-LoadSigned.is refl (subst (λ (z : ℤ). StepsBy c.args.self.now (LoadSigned c.in-LoadSigned.size c.in-LoadSigned.destination c.in-LoadSigned.base z) (pos 0) (after flow c.load_signed_into.new.self)) (to_z-of_z w16 c.in-LoadSigned.offset fits) h))
     c.load_signed_into.ensures.sound
 
 pub returns-in-Store-clause-sound : goal.returns-in-Store-clause-sound
 returns-in-Store-clause-sound c =
     let fits : SFits w16 c.in-Store.offset = search rules in IfOk-weaker c.store_at.result _ _
-    (λ flow h. lands_by c.args.self.now c.args.insn.now _ _ (after flow c.store_at.new.self) c.in-Store.is refl (subst (λ (z : ℤ). StepsBy c.args.self.now (Store c.in-Store.size c.in-Store.base z c.in-Store.value) (pos 0) (after flow c.store_at.new.self)) (to_z-of_z w16 c.in-Store.offset fits) h))
+    (λ flow h. lands_by c.args.profile c.args.self.now c.args.insn.now _ _ (after flow c.store_at.new.self) c.in-Store.is refl (subst (λ (z : ℤ). StepsBy c.args.self.now (Store c.in-Store.size c.in-Store.base z c.in-Store.value) (pos 0) (after flow c.store_at.new.self)) (to_z-of_z w16 c.in-Store.offset fits) h))
     c.store_at.ensures.sound
 
 pub returns-in-LoadWide-clause-sound : goal.returns-in-LoadWide-clause-sound
-returns-in-LoadWide-clause-sound c = lands_by c.args.self.now c.args.insn.now _ _ _ c.in-LoadWide.is refl c.load_wide.ensures.sound
+returns-in-LoadWide-clause-sound c = lands_by c.args.profile c.args.self.now c.args.insn.now _ _ _ c.in-LoadWide.is refl c.load_wide.ensures.sound
 
 pub returns-in-Jump-clause-sound : goal.returns-in-Jump-clause-sound
-returns-in-Jump-clause-sound c = stays c.args.self.now c.args.insn.now _ c.in-Jump.is (λ span s. refl)
+returns-in-Jump-clause-sound c = stays c.args.profile c.args.self.now c.args.insn.now _ c.in-Jump.is (λ span s. refl)
 
 pub returns-in-JumpLong-clause-sound : goal.returns-in-JumpLong-clause-sound
-returns-in-JumpLong-clause-sound c = stays c.args.self.now c.args.insn.now _ c.in-JumpLong.is (λ span s. refl)
+returns-in-JumpLong-clause-sound c = stays c.args.profile c.args.self.now c.args.insn.now _ c.in-JumpLong.is (λ span s. refl)
 
 pub returns-in_ok-exit-in-Exit-clause-sound : goal.returns-in_ok-exit-in-Exit-clause-sound
-returns-in_ok-exit-in-Exit-clause-sound c = ends c.args.self.now c.args.insn.now c.in-Exit.is c.in_ok-exit-in-Exit.ensures.sound
+returns-in_ok-exit-in-Exit-clause-sound c = ends c.args.profile c.args.self.now c.args.insn.now c.in-Exit.is c.in_ok-exit-in-Exit.ensures.sound
 
 pub returns-in-Load-clause-floor : goal.returns-in-Load-clause-floor
 returns-in-Load-clause-floor c = λ reads.
@@ -73,7 +73,7 @@ pub returns-in-Load-clause-yields : goal.returns-in-Load-clause-yields
 returns-in-Load-clause-yields c = λ d fact y.
     let fits : SFits w16 c.in-Load.offset = search rules in
     let same = to_z-of_z w16 c.in-Load.offset fits in
-    load_rows c.args.self.now c.args.insn.now d fact c.in-Load.size c.in-Load.destination c.in-Load.base _ c.load_into.result c.load_into.new.self y c.in-Load.is
-    (λ e z p. c.load_into.ensures.begin (same ∙ e) z p)
-    (λ e z p. c.load_into.ensures.end (same ∙ e) z p)
-    (λ o low high t e h short within. c.load_into.ensures.text o low high t (same ∙ e) h short within)
+    load_rows c.args.profile c.args.self.now c.args.insn.now d fact c.in-Load.size c.in-Load.destination c.in-Load.base _ c.load_into.result c.load_into.new.self y c.in-Load.is
+    (λ region lends e z p. c.load_into.ensures.begin region lends (same ∙ e) z p)
+    (λ region lends e z p. c.load_into.ensures.end region lends (same ∙ e) z p)
+    (λ region o low high t e h short within. c.load_into.ensures.lent region o low high t (same ∙ e) h short within)

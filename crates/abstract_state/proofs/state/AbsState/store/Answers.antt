@@ -18,9 +18,9 @@ returns-then-p-eq0-clause-sound c = λ span s n v a kb kv.
     let slots = c.spill.ensures (lengths_of span) (bytes_of s.stack) new v a.stack kv
     (subst (λ (m : ℕ). HasNumber new m v) (sym whole) (store_number s.stack c.in_ok-p.p v a.long within))
     (subst (λ (m : ℕ). Spares m 8 (bytes_of s.stack) new) (sym whole) (store_spares s.stack c.in_ok-p.p 8 v a.long within)) in
-    subst (λ (k : ℕ). (x : List (Option ℕ)) × (store span.context span.text s.stack ((n + c.args.offset) % 2 ^ 64) k v ≡ Ok x) × Contains (record c.args.self.now { stack = c.spill.new.slots }) (lengths_of span) (with_stack s x)) eight (
+    subst (λ (k : ℕ). (x : List (Option ℕ)) × (store span.bytes s.stack ((n + c.args.offset) % 2 ^ 64) k v ≡ Ok x) × Contains (record c.args.self.now { stack = c.spill.new.slots }) (lengths_of span) (with_stack s x)) eight (
       stored s.stack c.in_ok-p.p 8 v,
-      ap (λ (m : ℕ). store span.context span.text s.stack m 8 v) address ∙ stores_stack span.context span.text s.stack c.in_ok-p.p 8 v within,
+      ap (λ (m : ℕ). store span.bytes s.stack m 8 v) address ∙ stores_stack span.bytes s.stack c.in_ok-p.p 8 v within,
       after_store c.args.self.now (record c.args.self.now { stack = c.spill.new.slots }) (lengths_of span) s c.in_ok-p.p 8 v a within refl refl slots,
     )
 
@@ -33,8 +33,8 @@ returns-clause-sound c = λ span s n v a kb kv.
     let new : Bytes = bytes_of (stored s.stack c.in_ok-p.p count v) in
     let slots = c.overwrite.ensures (lengths_of span) (bytes_of s.stack) new a.stack
     (store_spares s.stack c.in_ok-p.p count v a.long within) (store_fills s.stack c.in_ok-p.p count v a.long within) in
-    subst (λ (k : ℕ). (x : List (Option ℕ)) × (store span.context span.text s.stack ((n + c.args.offset) % 2 ^ 64) k v ≡ Ok x) × Contains (record c.args.self.now { stack = c.overwrite.new.slots }) (lengths_of span) (with_stack s x)) c.count-count.ensures.value (
+    subst (λ (k : ℕ). (x : List (Option ℕ)) × (store span.bytes s.stack ((n + c.args.offset) % 2 ^ 64) k v ≡ Ok x) × Contains (record c.args.self.now { stack = c.overwrite.new.slots }) (lengths_of span) (with_stack s x)) c.count-count.ensures.value (
       stored s.stack c.in_ok-p.p count v,
-      ap (λ (m : ℕ). store span.context span.text s.stack m count v) address ∙ stores_stack span.context span.text s.stack c.in_ok-p.p count v within,
+      ap (λ (m : ℕ). store span.bytes s.stack m count v) address ∙ stores_stack span.bytes s.stack c.in_ok-p.p count v within,
       after_store c.args.self.now (record c.args.self.now { stack = c.overwrite.new.slots }) (lengths_of span) s c.in_ok-p.p count v a within refl refl slots,
     )

@@ -14,6 +14,6 @@ returns-clause-sound c = λ span s held.
     let t = c.in_ok-store.ensures.sound span s a.0 b.0 held a.2 b.2 in (
       _,
       stores span s c.args.size c.args.base c.args.offset c.args.value a.0 b.0 t.0 a.1 b.1
-          (subst (λ (o : ℕ). store span.context span.text s.stack ((a.0 + o) % 2 ^ 64) (bytes_in c.args.size) b.0 ≡ Ok t.0) same t.1),
+          (subst (λ (o : ℕ). store span.bytes s.stack ((a.0 + o) % 2 ^ 64) (bytes_in c.args.size) b.0 ≡ Ok t.0) same t.1),
       (_, refl, t.2),
     )

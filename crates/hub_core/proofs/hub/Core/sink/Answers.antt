@@ -1,5 +1,5 @@
-use Rattle.std.proofs.Common.{◌<◌, length, arith}
-use Rattle.hub_core.proofs.Sound.{sink_there}
+use Rattle.std.proofs.Common.{◌<◌, ◌≤◌, length, arith}
+use Rattle.hub_core.proofs.Sound.{sink_there, safe_there, none_there}
 use Rattle.hub_core.proofs.Streams.{begins}
 use Rattle.hub_core.proofs.hub.Core.sink.Goals as goal
 
@@ -13,3 +13,13 @@ pub returns-clause-value : goal.returns-clause-value
 returns-clause-value g c =
     let within : c.args.id < length c.self.inside.subs.items = omega arith in
     sink_there c.args.self.now _ c.args.id c.index.result.now c.sink.result.now c.self.view_is within c.index.ensures c.sink.ensures.value
+
+pub returns-then-id-len-clause-safe : goal.returns-then-id-len-clause-safe
+returns-then-id-len-clause-safe g c =
+    let past : length c.self.inside.subs.items ≤ c.args.id = omega arith in
+    none_there c.args.self.now _ c.args.id c.self.view_is past
+
+pub returns-clause-safe : goal.returns-clause-safe
+returns-clause-safe g c =
+    let within : c.args.id < length c.self.inside.subs.items = omega arith in
+    safe_there c.args.self.now _ c.args.id c.index.result.now c.self.view_is within c.index.ensures c.sink.ensures.safe

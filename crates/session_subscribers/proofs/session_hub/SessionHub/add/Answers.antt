@@ -11,34 +11,34 @@ returns-in_err-program-clause-err g c =
 
 pub returns-in_err-check-clause-err : goal.returns-in_err-check-clause-err
 returns-in_err-check-clause-err g c =
-    let safe = safe_bytes c.in_ok-program.program c.args.bytes.now c.in_ok-program.ensures.ok in
-    passed_on c.from_residual-in_err-check.result c.in_err-check.field-0.0 _ c.from_residual-in_err-check.ensures.1 (refl, c.in_err-check.ensures c.args.capacity c.args.bytes.now safe)
+    let safe = safe_bytes c.args.profile c.in_ok-program.program c.args.bytes.now c.in_ok-program.ensures.ok in
+    passed_on c.from_residual-in_err-check.result c.in_err-check.field-0.0 _ c.from_residual-in_err-check.ensures.1 (refl, c.in_err-check.ensures c.args.profile c.args.capacity c.args.bytes.now safe)
 
 pub returns-then-is_err-clause-err : goal.returns-then-is_err-clause-err
 returns-then-is_err-clause-err g c =
-    (c.reserve.ensures.items, safe_bytes c.in_ok-program.program c.args.bytes.now c.in_ok-program.ensures.ok)
+    (c.reserve.ensures.items, safe_bytes c.args.profile c.in_ok-program.program c.args.bytes.now c.in_ok-program.ensures.ok)
 
 pub returns-in_err-sink-clause-err : goal.returns-in_err-sink-clause-err
 returns-in_err-sink-clause-err g c =
     passed_on c.from_residual-in_err-sink.result c.in_err-sink.field-0.0 _ c.from_residual-in_err-sink.ensures.1
-    (c.reserve.ensures.items, c.in_err-sink.ensures.err c.args.bytes.now c.args.first (safe_bytes c.in_ok-program.program c.args.bytes.now c.in_ok-program.ensures.ok))
+    (c.reserve.ensures.items, c.in_err-sink.ensures.err c.args.profile c.args.bytes.now c.args.first (safe_bytes c.args.profile c.in_ok-program.program c.args.bytes.now c.in_ok-program.ensures.ok))
 
 pub returns-in_err-token-clause-err : goal.returns-in_err-token-clause-err
 returns-in_err-token-clause-err g c =
-    let safe = safe_bytes c.in_ok-program.program c.args.bytes.now c.in_ok-program.ensures.ok in
+    let safe = safe_bytes c.args.profile c.in_ok-program.program c.args.bytes.now c.in_ok-program.ensures.ok in
     passed_on c.from_residual-in_err-token.result c.in_err-token.field-0.0 _ c.from_residual-in_err-token.ensures.1
-    (c.reserve.ensures.items, subst (IsNotSubscribed c.args.capacity c.args.bytes.now c.args.first) (sym c.in_err-token.ensures.err) safe)
+    (c.reserve.ensures.items, subst (IsNotSubscribed c.args.profile c.args.capacity c.args.bytes.now c.args.first) (sym c.in_err-token.ensures.err) safe)
 
 pub returns-in_err-id-clause-err : goal.returns-in_err-id-clause-err
 returns-in_err-id-clause-err g c =
-    let safe = safe_bytes c.in_ok-program.program c.args.bytes.now c.in_ok-program.ensures.ok in
+    let safe = safe_bytes c.args.profile c.in_ok-program.program c.args.bytes.now c.in_ok-program.ensures.ok in
     passed_on c.from_residual-in_err-id.result c.in_err-id.field-0.0 _ c.from_residual-in_err-id.ensures.1
-    (c.reserve.ensures.items, c.in_err-id.ensures.err c.args.capacity c.args.bytes.now safe)
+    (c.reserve.ensures.items, c.in_err-id.ensures.err c.args.profile c.args.capacity c.args.bytes.now safe)
 
 pub returns-clause-ok : goal.returns-clause-ok
 returns-clause-ok g c =
     let one : c.push_reserved.new.self.items ≡ c.args.held.now.items ++ record { id = c.in_ok-id.id; taken = [] } ∷ [] = search rules in
-    let safe = safe_bytes c.in_ok-program.program c.args.bytes.now c.in_ok-program.ensures.ok in (
+    let safe = safe_bytes c.args.profile c.in_ok-program.program c.args.bytes.now c.in_ok-program.ensures.ok in (
       one,
       record {
         program = safe.0;

@@ -18,8 +18,8 @@ returns-clause-added c = λ lengths s contains.
     added_there c.self.inside.states.items c.args.slot c.take.new.self c.in_ok-joined.joined lengths s within (c.in_ok-joined.ensures.added lengths s contains)
 
 pub returns-clause-arises : goal.returns-clause-arises
-returns-clause-arises c = λ program all target arises.
+returns-clause-arises c = λ profile program all target arises.
     let within : c.args.slot < length c.self.inside.states.items = search rules in
-    let every = subst (λ v. AllArise program v) (sym c.self.view_is) all in
-    arise_added program c.self.inside.states.items c.args.slot c.take.new.self c.in_ok-joined.joined within every target
-    (c.in_ok-joined.ensures.arises program c.args.slot target (λ a e. (read_arises program c.self.inside.states.items c.args.slot c.index_mut.result.now c.take.result a within c.index_mut.ensures.value c.take.ensures.value every e).1) arises)
+    let every = subst (λ v. AllArise profile program v) (sym c.self.view_is) all in
+    arise_added profile program c.self.inside.states.items c.args.slot c.take.new.self c.in_ok-joined.joined within every target
+    (c.in_ok-joined.ensures.arises profile program c.args.slot target (λ a e. (read_arises profile program c.self.inside.states.items c.args.slot c.index_mut.result.now c.take.result a within c.index_mut.ensures.value c.take.ensures.value every e).1) arises)

@@ -29,29 +29,29 @@ returns-in_default-flow-clause-arrives c = λ lengths s waits.
     (c.into_inner.result, refl, subst (λ a. Contains a lengths s) (sym c.into_inner.ensures) found)
 
 pub returns-clause-arises : goal.returns-clause-arises
-returns-clause-arises c = λ program all falls.
+returns-clause-arises c = λ profile program all falls.
     let within : c.args.slot < length c.self.inside.states.items = search rules in
-    let every = subst (λ v. AllArise program v) (sym c.self.view_is) all in
-    let waits = read_arises program c.self.inside.states.items c.args.slot c.index_mut.result.now c.take.result c.in-Some.waiting.value within c.index_mut.ensures.value c.take.ensures.value every (ap unboxed c.in-Some.is) in
+    let every = subst (λ v. AllArise profile program v) (sym c.self.view_is) all in
+    let waits = read_arises profile program c.self.inside.states.items c.args.slot c.index_mut.result.now c.take.result c.in-Some.waiting.value within c.index_mut.ensures.value c.take.ensures.value every (ap unboxed c.in-Some.is) in
     let fell = falls c.args.state.now (ap (λ f. after f c.args.state.now) c.in-Live.is) in (
-      arise_taken program c.self.inside.states.items c.args.slot c.take.new.self within c.take.ensures.after every,
-      at_one program c.args.slot c.join.new.self (joined waits.0 fell (subst (λ a. Arises program c.args.slot a) (sym c.deref.ensures) waits.1) c.join.ensures.kinds),
+      arise_taken profile program c.self.inside.states.items c.args.slot c.take.new.self within c.take.ensures.after every,
+      at_one profile program c.args.slot c.join.new.self (joined waits.0 fell (subst (λ a. Arises profile program c.args.slot a) (sym c.deref.ensures) waits.1) c.join.ensures.kinds),
     )
 
 pub returns-in_default-flow-clause-arises : goal.returns-in_default-flow-clause-arises
-returns-in_default-flow-clause-arises c = λ program all falls.
+returns-in_default-flow-clause-arises c = λ profile program all falls.
     let within : c.args.slot < length c.self.inside.states.items = search rules in
-    let every = subst (λ v. AllArise program v) (sym c.self.view_is) all in
-    let waits = read_arises program c.self.inside.states.items c.args.slot c.index_mut.result.now c.take.result c.in-Some.waiting.value within c.index_mut.ensures.value c.take.ensures.value every (ap unboxed c.in-Some.is) in (
-      arise_taken program c.self.inside.states.items c.args.slot c.take.new.self within c.take.ensures.after every,
-      at_one program c.args.slot c.into_inner.result (subst (λ a. Arises program c.args.slot a) (sym c.into_inner.ensures) waits.1),
+    let every = subst (λ v. AllArise profile program v) (sym c.self.view_is) all in
+    let waits = read_arises profile program c.self.inside.states.items c.args.slot c.index_mut.result.now c.take.result c.in-Some.waiting.value within c.index_mut.ensures.value c.take.ensures.value every (ap unboxed c.in-Some.is) in (
+      arise_taken profile program c.self.inside.states.items c.args.slot c.take.new.self within c.take.ensures.after every,
+      at_one profile program c.args.slot c.into_inner.result (subst (λ a. Arises profile program c.args.slot a) (sym c.into_inner.ensures) waits.1),
     )
 
 pub returns-in_default-clause-arises : goal.returns-in_default-clause-arises
-returns-in_default-clause-arises c = λ program all falls.
+returns-in_default-clause-arises c = λ profile program all falls.
     let within : c.args.slot < length c.self.inside.states.items = search rules in
-    let every = subst (λ v. AllArise program v) (sym c.self.view_is) all in
-    (arise_taken program c.self.inside.states.items c.args.slot c.take.new.self within c.take.ensures.after every, falls)
+    let every = subst (λ v. AllArise profile program v) (sym c.self.view_is) all in
+    (arise_taken profile program c.self.inside.states.items c.args.slot c.take.new.self within c.take.ensures.after every, falls)
 
 pub returns-clause-alone : goal.returns-clause-alone
 returns-clause-alone c = λ none.
@@ -66,16 +66,16 @@ returns-in_default-flow-clause-alone c = λ none.
     (subst (λ v. waiting_at v c.args.slot ≡ None) (sym c.self.view_is) none))
 
 pub returns-clause-waits : goal.returns-clause-waits
-returns-clause-waits c = λ program all.
+returns-clause-waits c = λ profile program all.
     let within : c.args.slot < length c.self.inside.states.items = search rules in
-    arise_taken program c.self.inside.states.items c.args.slot c.take.new.self within c.take.ensures.after (subst (λ v. AllArise program v) (sym c.self.view_is) all)
+    arise_taken profile program c.self.inside.states.items c.args.slot c.take.new.self within c.take.ensures.after (subst (λ v. AllArise profile program v) (sym c.self.view_is) all)
 
 pub returns-in_default-flow-clause-waits : goal.returns-in_default-flow-clause-waits
-returns-in_default-flow-clause-waits c = λ program all.
+returns-in_default-flow-clause-waits c = λ profile program all.
     let within : c.args.slot < length c.self.inside.states.items = search rules in
-    arise_taken program c.self.inside.states.items c.args.slot c.take.new.self within c.take.ensures.after (subst (λ v. AllArise program v) (sym c.self.view_is) all)
+    arise_taken profile program c.self.inside.states.items c.args.slot c.take.new.self within c.take.ensures.after (subst (λ v. AllArise profile program v) (sym c.self.view_is) all)
 
 pub returns-in_default-clause-waits : goal.returns-in_default-clause-waits
-returns-in_default-clause-waits c = λ program all.
+returns-in_default-clause-waits c = λ profile program all.
     let within : c.args.slot < length c.self.inside.states.items = search rules in
-    arise_taken program c.self.inside.states.items c.args.slot c.take.new.self within c.take.ensures.after (subst (λ v. AllArise program v) (sym c.self.view_is) all)
+    arise_taken profile program c.self.inside.states.items c.args.slot c.take.new.self within c.take.ensures.after (subst (λ v. AllArise profile program v) (sym c.self.view_is) all)

@@ -1,0 +1,710 @@
+"""What `hub check` says of a program, and what the verifier knows before each slot, apart from the code of the hub.
+
+The verifier takes the slots once, in their order. Of each register, and of each eight bytes of the stack, it knows before a slot
+either nothing or a pair: ("number", quantity); ("text", quantity) or ("link", quantity), an address so far behind the region's
+start; ("context", place) or ("stack", place), an address so far behind the context's start, or behind the stack's end. Of the text
+and of the link it knows how long they are at least. verifier_checks.py compares what is said here with what the hub must print.
+"""
+
+from typing import NamedTuple
+
+from machine import MASK, fields, kind_of, line_of, refusal, signed
+
+REASONS = {10: "BackwardJump", 11: "JumpOut", 12: "JumpIntoWide", 13: "FallOff", 14: "WriteR10", 15: "UnsetRegister",
+           16: "PointerArithmetic", 17: "PointerCompare", 18: "ContextField", 19: "StackBounds", 20: "StackUnset", 21: "TextBounds",
+           22: "TextOffset", 23: "ReadOnlyStore", 24: "NotAnAddress", 25: "PointerStore", 26: "ReturnPointer"}
+# The regions that are lent, with the most bytes that each may have, and how far behind its start an address may lie.
+REGIONS = ("text", "link")
+LIMITS = (131072, 1024)
+NEAR = 1 << 20
+# How many bytes of the context each profile lets a program read.
+CONTEXT_LENGTHS = {1: 56, 2: 72}
+NEGATED = {"jeq": "jne", "jne": "jeq", "jgt": "jle", "jle": "jgt", "jlt": "jge", "jge": "jlt"}
+
+
+class Dead(Exception):
+    """No run comes there."""
+
+
+class Refused(Exception):
+    """An instruction is refused, with this number."""
+
+
+# Quantities.
+
+class Quantity(NamedTuple):
+    """What is known of a number: which bits are 1 for sure, which ones are unknown, the interval, and for each region a tail, if
+    there is one: the number and the tail are together at most the region's length."""
+    ones: int
+    unknown: int
+    low: int
+    high: int
+    tails: tuple = (None, None)
+
+
+def constant(value):
+    return Quantity(value, 0, value, value)
+
+
+def anything(bits):
+    """Every number of so many bits."""
+    greatest = (1 << bits) - 1
+    return Quantity(0, greatest, 0, greatest)
+
+
+def up_to_end(bits, region):
+    """Every number of so many bits up to the region's length."""
+    return normal(anything(bits)._replace(tails=ending(region)))
+
+
+def ending(region):
+    return tuple(0 if name == region else None for name in REGIONS)
+
+
+def only(quantity):
+    """The one number, where there is one."""
+    return quantity.low if quantity.low == quantity.high else None
+
+
+def most_bits(quantity):
+    """The bits that may be 1."""
+    return quantity.ones | quantity.unknown
+
+
+def narrowed(quantity):
+    """The interval is cut to what the bits and the tails allow."""
+    low, high = max(quantity.low, quantity.ones), min(quantity.high, most_bits(quantity))
+    for tail, limit in zip(quantity.tails, LIMITS):
+        if tail is not None:
+            high = min(high, limit - tail)
+    if low > high:
+        raise Dead
+    return quantity._replace(low=low, high=high)
+
+
+def normal(quantity):
+    """The interval is narrowed, then the bits by what its ends have in common, then the interval once more."""
+    quantity = narrowed(quantity)
+    differing = (1 << (quantity.low ^ quantity.high).bit_length()) - 1
+    common = MASK[64] & ~differing
+    if (quantity.ones ^ quantity.low) & common & ~quantity.unknown:
+        raise Dead
+    ones = quantity.ones & differing | quantity.low & common
+    return narrowed(quantity._replace(ones=ones, unknown=quantity.unknown & differing))
+
+
+def cut(quantity):
+    """The low 32 bits."""
+    if quantity.high <= MASK[32]:
+        return normal(quantity)
+    ones, unknown = quantity.ones & MASK[32], quantity.unknown & MASK[32]
+    return normal(Quantity(ones, unknown, 0, MASK[32], quantity.tails))
+
+
+def greater(first, second):
+    """The greater one of two tails, or the one that is known."""
+    if first is None or second is None:
+        return second if first is None else first
+    return max(first, second)
+
+
+def lesser(first, second):
+    """The lesser one of two tails, if both are known."""
+    return None if first is None or second is None else min(first, second)
+
+
+def both_tails(choice, first, second):
+    return tuple(choice(*pair) for pair in zip(first, second))
+
+
+def raised(tails, by):
+    return tuple(None if tail is None else tail + by for tail in tails)
+
+
+def joined_quantity(first, second):
+    """What either may be."""
+    unknown = first.unknown | second.unknown | (first.ones ^ second.ones)
+    return normal(Quantity(first.ones & second.ones & ~unknown, unknown, min(first.low, second.low), max(first.high, second.high),
+                           both_tails(lesser, first.tails, second.tails)))
+
+
+# Operations on quantities of a width, in bits. Their results aren't normal yet.
+
+def in_width(bits, quantity, low, high):
+    """The quantity with this interval, or with all of the width where the interval leaves it."""
+    if high > MASK[bits]:
+        low, high = 0, MASK[bits]
+    return quantity._replace(low=low, high=high)
+
+
+def tail_of_sum(tail, high, other_tail, other_high):
+    """The tail of the sum of a number up to `high` with the one tail and of a number up to `other_high` with the other."""
+    if tail is not None and tail >= other_high:
+        return tail - other_high
+    if other_tail is not None and other_tail >= high:
+        return other_tail - high
+    return None
+
+
+def plain_sum(bits, first, second):
+    if most_bits(first) & most_bits(second) == 0:
+        ones, unknown = first.ones | second.ones, first.unknown | second.unknown
+    elif only(first) is not None and only(second) is not None:
+        ones, unknown = first.low + second.low & MASK[bits], 0
+    else:
+        ones, unknown = 0, MASK[bits]
+    tails = tuple(tail_of_sum(tail, first.high, other, second.high) for tail, other in zip(first.tails, second.tails))
+    return in_width(bits, Quantity(ones, unknown, 0, 0, tails), first.low + second.low, first.high + second.high)
+
+
+def plain_difference(bits, first, second):
+    if most_bits(second) & ~first.ones == 0:
+        unknown = first.unknown | second.unknown
+        ones = (first.ones ^ second.ones) & ~unknown
+    elif only(first) is not None and only(second) is not None:
+        ones, unknown = first.low - second.low & MASK[bits], 0
+    else:
+        ones, unknown = 0, MASK[bits]
+    if first.low < second.high:
+        return Quantity(ones, unknown, 0, MASK[bits])
+    return Quantity(ones, unknown, first.low - second.high, first.high - second.low, raised(first.tails, second.low))
+
+
+def complement(bits, quantity):
+    """What a constant whose sign bit is set lacks to the width, or nothing."""
+    value = only(quantity)
+    return None if value is None or value < 1 << bits - 1 else constant((1 << bits) - value)
+
+
+def added(bits, first, second):
+    """The sum; what a great constant lacks is taken away instead."""
+    lacking = complement(bits, second)
+    return plain_sum(bits, first, second) if lacking is None else plain_difference(bits, first, lacking)
+
+
+def taken_away(bits, first, second):
+    """The difference; what a great constant lacks is added instead."""
+    lacking = complement(bits, second)
+    return plain_difference(bits, first, second) if lacking is None else plain_sum(bits, first, lacking)
+
+
+def bits_of_both(_bits, first, second):
+    ones = first.ones & second.ones
+    unknown = most_bits(first) & most_bits(second) & ~ones
+    return Quantity(ones, unknown, 0, min(first.high, second.high), both_tails(greater, first.tails, second.tails))
+
+
+def bits_of_either(bits, first, second):
+    ones = first.ones | second.ones
+    return Quantity(ones, (first.unknown | second.unknown) & ~ones, 0, MASK[bits])
+
+
+def bits_of_one(bits, first, second):
+    unknown = first.unknown | second.unknown
+    return Quantity((first.ones ^ second.ones) & ~unknown, unknown, 0, MASK[bits])
+
+
+def product(bits, first, second):
+    return in_width(bits, anything(bits), first.low * second.low, first.high * second.high)
+
+
+def quotient(bits, first, second):
+    low, high = (first.low // second.high, first.high // second.low) if second.low > 0 else (0, first.high)
+    return Quantity(0, MASK[bits], low, high, first.tails)
+
+
+def remainder(bits, first, second):
+    high = min(first.high, second.high - 1) if second.low > 0 else first.high
+    return Quantity(0, MASK[bits], 0, high, first.tails)
+
+
+def shift_count(bits, quantity):
+    """The one number of places, where it is known."""
+    return only(normal(bits_of_both(bits, quantity, constant(bits - 1))))
+
+
+def shifted_left(bits, first, second):
+    count = shift_count(bits, second)
+    if count is None:
+        return anything(bits)
+    moved = Quantity(first.ones << count & MASK[bits], first.unknown << count & MASK[bits], 0, 0)
+    return in_width(bits, moved, first.low << count, first.high << count)
+
+
+def shifted_right(bits, first, second):
+    count = shift_count(bits, second)
+    if count is None:
+        return Quantity(0, MASK[bits], 0, first.high, first.tails)
+    return Quantity(first.ones >> count, first.unknown >> count, first.low >> count, first.high >> count, first.tails)
+
+
+def shifted_with_sign(bits, first, second):
+    if shift_count(bits, second) is None or first.high >= 1 << bits - 1:
+        return anything(bits)
+    return shifted_right(bits, first, second)
+
+
+def moved_over(_bits, _first, second):
+    return second
+
+
+OPERATIONS = {"add": added, "sub": taken_away, "mul": product, "div": quotient, "mod": remainder, "and": bits_of_both,
+              "or": bits_of_either, "xor": bits_of_one, "lsh": shifted_left, "rsh": shifted_right, "arsh": shifted_with_sign,
+              "mov": moved_over}
+
+
+def transfer(name, bits, offset, first, second):
+    """What an operation makes of two numbers; an offset makes it a division or a move with sign."""
+    if bits == 32:
+        first, second = cut(first), cut(second)
+    if offset:
+        return anything(bits)
+    return normal(OPERATIONS[name](bits, first, second))
+
+
+# What is known of the machine.
+
+def number(quantity):
+    return "number", quantity
+
+
+def is_number(known):
+    return known[0] == "number"
+
+
+def moved_place(profile, name, known, by):
+    """An address in the context or the stack behind a constant's addition; it must stay there, or at the end."""
+    kind, place = known
+    if only(by) is None:
+        raise Refused(16)
+    place += signed(by.low, 64) if name == "add" else -signed(by.low, 64)
+    low, high = (0, CONTEXT_LENGTHS[profile]) if kind == "context" else (-512, 0)
+    if not low <= place <= high:
+        raise Refused(16)
+    return kind, place
+
+
+def computed(profile, name, bits, offset, first, second):
+    """What an operation other than a move makes of what is known of both sides."""
+    if is_number(first) and is_number(second):
+        return number(transfer(name, bits, offset, first[1], second[1]))
+    if bits == 32 or name not in ("add", "sub"):
+        raise Refused(16)
+    if first[0] in ("context", "stack") and is_number(second):
+        return moved_place(profile, name, first, second[1])
+    if first[0] in REGIONS and is_number(second):
+        kind = first[0]
+    elif name == "add" and is_number(first) and second[0] in REGIONS:
+        kind = second[0]
+    else:
+        raise Refused(16)
+    quantity = transfer(name, 64, 0, first[1], second[1])
+    if quantity.high > NEAR:
+        raise Refused(22)
+    return kind, quantity
+
+
+def moved(bits, offset, known):
+    """What a move makes of what is known; one of all 64 bits leaves it as it is."""
+    if bits == 64 and not offset:
+        return known
+    if not is_number(known):
+        raise Refused(16)
+    return number(transfer("mov", bits, offset, constant(0), known[1]))
+
+
+def joined_known(first, second):
+    """What either may be, or None where that has no form."""
+    if first is None or second is None or first[0] != second[0]:
+        return None
+    if first[0] in ("context", "stack"):
+        return first if first[1] == second[1] else None
+    return first[0], joined_quantity(first[1], second[1])
+
+
+# Of eight bytes of the stack it is known either what they hold, where they were stored at once, or which of them are set.
+NONE_SET, ALL_SET = (False,) * 8, (True,) * 8
+
+
+def marks_of(eight):
+    """Which of eight bytes are set for sure, as a number's bytes; those of an address aren't."""
+    if eight[0] == "marks":
+        return eight[1]
+    return ALL_SET if is_number(eight[1]) else NONE_SET
+
+
+def joined_bytes(first, second):
+    if first[0] == second[0] == "spilled":
+        known = joined_known(first[1], second[1])
+        return ("marks", NONE_SET) if known is None else ("spilled", known)
+    marks, other = marks_of(first), marks_of(second)
+    return "marks", marks if marks == other else tuple(map(min, marks, other))
+
+
+class State:
+    """What is known of the machine before an instruction. A copy is changed; a state that waits at a slot never is."""
+
+    def __init__(self, registers, stack, lengths):
+        self.registers, self.stack, self.lengths = registers, stack, lengths
+
+    def copy(self):
+        return State(list(self.registers), list(self.stack), list(self.lengths))
+
+    def read(self, register):
+        if self.registers[register] is None:
+            raise Refused(15)
+        return self.registers[register]
+
+    def operand(self, is_register, register, imm, bits=64):
+        return self.read(register) if is_register else number(constant(imm & MASK[bits]))
+
+    def lengthen(self, quantity):
+        """The regions are as long as the tails of a number that stands there say."""
+        for region, tail in enumerate(quantity.tails):
+            if tail is not None:
+                self.lengths[region] = max(self.lengths[region], quantity.low + tail)
+                if self.lengths[region] > LIMITS[region]:
+                    raise Dead
+
+
+def start():
+    registers = [None] * 11
+    registers[1], registers[10] = ("context", 0), ("stack", 0)
+    return State(registers, [("marks", NONE_SET)] * 64, [0, 0])
+
+
+def joined(first, second):
+    """What is known on either of two ways."""
+    return State([joined_known(*pair) for pair in zip(first.registers, second.registers)],
+                 [joined_bytes(*pair) for pair in zip(first.stack, second.stack)],
+                 [min(pair) for pair in zip(first.lengths, second.lengths)])
+
+
+# Loads and stores.
+
+# The places of the context's fields that say something of a region: of its start, of its end, of its length.
+STARTS, ENDS, LENGTHS = {0: "text", 56: "link"}, {8: "text", 64: "link"}, {16: "text", 32: "link"}
+
+
+def field(profile, place, size):
+    """What a whole field of the context holds; by the first profile the link's length is a number of which nothing is known."""
+    if place + size > CONTEXT_LENGTHS[profile]:
+        raise Refused(18)
+    if size == 8 and place in STARTS:
+        return STARTS[place], constant(0)._replace(tails=ending(STARTS[place]))
+    if size == 8 and place in ENDS:
+        return ENDS[place], up_to_end(64, ENDS[place])
+    if size == 4 and place in LENGTHS and (profile == 2 or LENGTHS[place] == "text"):
+        return number(up_to_end(32, LENGTHS[place]))
+    if size == 8 and place == 48 or size == 4 and place in range(20, 48, 4):
+        return number(anything(8 * size))
+    raise Refused(18)
+
+
+def stack_place(place, size):
+    """A place on the stack, counted from its lowest byte."""
+    if place < -512 or place + size > 0:
+        raise Refused(19)
+    return place + 512
+
+
+def reaches(state, known, offset, size):
+    """Whether the bytes lie in the region, by its length or by the address's tail."""
+    kind, quantity = known
+    region = REGIONS.index(kind)
+    tail = quantity.tails[region]
+    by_length = quantity.high + offset + size <= state.lengths[region]
+    return quantity.low + offset >= 0 and (by_length or tail is not None and offset + size <= tail)
+
+
+def loaded(profile, state, base, offset, size, is_signed):
+    """What a load gives."""
+    kind, place = base
+    result = number(anything(64 if is_signed else 8 * size))
+    if kind == "number":
+        raise Refused(24)
+    if kind == "context":
+        if is_signed:
+            raise Refused(18)
+        return field(profile, place + offset, size)
+    if kind in REGIONS:
+        if not reaches(state, base, offset, size):
+            raise Refused(21)
+        return result
+    at = stack_place(place + offset, size)
+    if size == 8 and at % 8 == 0 and state.stack[at // 8][0] == "spilled":
+        return state.stack[at // 8][1]
+    if not all(marks_of(state.stack[byte // 8])[byte % 8] for byte in range(at, at + size)):
+        raise Refused(20)
+    return result
+
+
+def store(state, base, offset, size, value):
+    """Notes a store in the state."""
+    kind, place = base
+    if kind != "stack":
+        raise Refused(24 if kind == "number" else 23)
+    at = stack_place(place + offset, size)
+    if size == 8 and at % 8 == 0:
+        state.stack[at // 8] = ("spilled", value)
+        return
+    if not is_number(value):
+        raise Refused(25)
+    for byte in range(at, at + size):
+        marks = list(marks_of(state.stack[byte // 8]))
+        marks[byte % 8] = True
+        state.stack[byte // 8] = ("marks", tuple(marks))
+
+
+# Comparisons: what is known of both sides where they hold.
+
+def ordered(left, right, by):
+    """Both sides where the left one and so much more is at most the right one."""
+    below = left._replace(high=min(left.high, right.high - by), tails=both_tails(greater, left.tails, raised(right.tails, by)))
+    above = right._replace(low=max(right.low, left.low + by))
+    return normal(below), normal(above)
+
+
+def equal(left, right):
+    if (left.ones ^ right.ones) & ~left.unknown & ~right.unknown:
+        raise Dead
+    unknown = left.unknown & right.unknown
+    both = normal(Quantity((left.ones | right.ones) & ~unknown, unknown, max(left.low, right.low), min(left.high, right.high),
+                           both_tails(greater, left.tails, right.tails)))
+    return both, both
+
+
+def apart(quantity, value):
+    """The quantity without a number, if that is one of its ends."""
+    low, high = quantity.low, quantity.high
+    if value is not None:
+        low, high = low + (low == value), high - (high == value)
+    return normal(quantity._replace(low=low, high=high))
+
+
+def related(name, left, right):
+    """Both sides where a comparison without sign holds."""
+    if name == "jeq":
+        return equal(left, right)
+    if name == "jne":
+        return apart(left, only(right)), apart(right, only(left))
+    by = 1 if name in ("jlt", "jgt") else 0
+    if name in ("jlt", "jle"):
+        return ordered(left, right, by)
+    right, left = ordered(right, left, by)
+    return left, right
+
+
+def told(name, bits, is_taken, left, right):
+    """Both sides on an edge; as they are where the comparison says nothing of such numbers."""
+    if name == "jset":
+        return left, right
+    is_signed = name.startswith("js")
+    reach = 1 << (bits - 1 if is_signed else bits)
+    if left.high >= reach or right.high >= reach:
+        return left, right
+    name = "j" + name[2:] if is_signed else name
+    return related(name if is_taken else NEGATED[name], left, right)
+
+
+def on_edge(before, instruction, is_taken):
+    """What is known behind a comparison that holds, or doesn't."""
+    opcode, dst, src, _, imm = instruction
+    _, name, bits, is_register = kind_of(opcode)
+    kind, left = before.read(dst)
+    right_kind, right = before.operand(is_register, src, imm, bits)
+    after = before.copy()
+    if not is_register or src != dst:
+        left, right = told(name, bits, is_taken, left, right)
+        after.registers[dst] = kind, left
+        if is_register:
+            after.registers[src] = right_kind, right
+    after.lengthen(left)
+    after.lengthen(right)
+    return after
+
+
+def check_sides(before, instruction):
+    """Numbers are compared by any comparison, addresses in one region for equality or for order without sign, by 64 bits."""
+    opcode, dst, src, _, imm = instruction
+    _, name, bits, is_register = kind_of(opcode)
+    left, right = before.read(dst)[0], before.operand(is_register, src, imm)[0]
+    if left == right == "number":
+        return
+    if left != right or left not in REGIONS or bits != 64 or name not in NEGATED:
+        raise Refused(17)
+
+
+# The walk.
+
+def starts(data):
+    """The slots at which instructions start."""
+    at = 0
+    while at * 8 < len(data):
+        yield at
+        at += 2 if data[at * 8] == 0x18 else 1
+
+
+def distance_of(instruction):
+    """How far an instruction jumps, if it does."""
+    opcode, _, _, offset, imm = instruction
+    kind = kind_of(opcode)[0]
+    if kind == "ja32":
+        return imm
+    return offset if kind in ("ja", "compare") else None
+
+
+def misplaced(data):
+    """The refusal of an instruction's place or target, of the first one at fault: number and slot; or None."""
+    slots, places = len(data) // 8, list(starts(data))
+    is_start = set(places)
+    for at in places:
+        instruction = fields(data, at)
+        distance, kind = distance_of(instruction), kind_of(instruction[0])[0]
+        if distance is not None:
+            target = at + 1 + distance
+            if distance < 0:
+                return 10, at
+            if target >= slots or target not in is_start:
+                return 11 if target >= slots else 12, at
+        if at == places[-1] and kind != "exit":
+            return 13, at
+        if kind in ("arithmetic", "neg", "order", "wide", "load") and instruction[1] == 10:
+            return 14, at
+    return None
+
+
+def result_of(profile, before, instruction):
+    """What an operation with two sides, or a move, gives."""
+    opcode, dst, src, offset, imm = instruction
+    _, name, bits, is_register = kind_of(opcode)
+    if name == "mov":
+        return moved(bits, offset, before.operand(is_register, src, imm))
+    first = before.read(dst)
+    return computed(profile, name, bits, offset, first, before.operand(is_register, src, imm))
+
+
+def stepped(profile, before, data, at):
+    """What is known behind an instruction that goes on at the next one."""
+    opcode, dst, src, offset, imm = fields(data, at)
+    kind = kind_of(opcode)
+    after = before.copy()
+    if kind[0] == "wide":
+        high = fields(data, at + 1)[4]
+        after.registers[dst] = number(constant((high & MASK[32]) << 32 | imm & MASK[32]))
+    elif kind[0] == "arithmetic":
+        after.registers[dst] = result_of(profile, before, fields(data, at))
+    elif kind[0] in ("neg", "order"):
+        if not is_number(before.read(dst)):
+            raise Refused(16)
+        after.registers[dst] = number(anything(imm if kind[0] == "order" else kind[1]))
+    elif kind[0] == "load":
+        after.registers[dst] = loaded(profile, before, before.read(src), offset, kind[2], kind[3])
+    else:
+        base = before.read(dst)
+        store(after, base, offset, kind[2], before.operand(kind[3], src, imm))
+    return after
+
+
+class Walk:
+    """One walk over words whose places and targets are right. What is known on each edge waits at its slot. `states` has what was
+    known before each slot to which a run may come, up to the one that is refused, if one is."""
+
+    def __init__(self, data, profile):
+        self.data, self.profile = data, profile
+        self.waiting, self.states = {0: [start()]}, {}
+        self.refused = self.all_slots()
+
+    def all_slots(self):
+        """Number and slot of the refusal, or None."""
+        for at in starts(self.data):
+            if at not in self.waiting:
+                continue
+            state = self.waiting[at][0]
+            for other in self.waiting[at][1:]:
+                state = joined(state, other)
+            self.states[at] = state
+            try:
+                self.one_slot(at, state)
+            except Dead:
+                pass
+            except Refused as refused:
+                return refused.args[0], at
+        return None
+
+    def wait(self, at, state):
+        self.waiting.setdefault(at, []).append(state)
+
+    def one_slot(self, at, before):
+        """Leaves what is known behind the instruction at each slot to which a run goes on."""
+        instruction = fields(self.data, at)
+        kind = kind_of(instruction[0])[0]
+        distance = distance_of(instruction)
+        if kind == "exit":
+            if not is_number(before.read(0)):
+                raise Refused(26)
+        elif kind in ("ja", "ja32"):
+            self.wait(at + 1 + distance, before)
+        elif kind == "compare":
+            check_sides(before, instruction)
+            for is_taken, target in ((True, at + 1 + distance), (False, at + 1)):
+                try:
+                    self.wait(target, on_edge(before, instruction, is_taken))
+                except Dead:
+                    pass
+        else:
+            self.wait(at + (2 if kind == "wide" else 1), stepped(self.profile, before, self.data, at))
+
+
+# What is printed.
+
+def quantity_text(quantity):
+    if (quantity.low, quantity.high) == (0, MASK[64]):
+        text = "any number"
+    else:
+        text = str(quantity.low) if only(quantity) is not None else f"{quantity.low}..={quantity.high}"
+    if quantity.unknown != (1 << (quantity.low ^ quantity.high).bit_length()) - 1:
+        text += f", bits ({quantity.ones:#x}; {quantity.unknown:#x})"
+    for name, tail in zip(("tail", "link tail"), quantity.tails):
+        text += "" if tail is None else f", {name} {tail}"
+    return text
+
+
+def known_text(known):
+    kind, detail = known
+    if kind == "number":
+        return quantity_text(detail)
+    if kind == "context":
+        return f"context+{detail}"
+    return f"stack-{-detail}" if kind == "stack" else f"{kind}+{quantity_text(detail)}"
+
+
+def state_lines(state, profile):
+    lines = [f"  r{register} = {known_text(known)}" for register, known in enumerate(state.registers) if known is not None]
+    for at, (kind, detail) in enumerate(state.stack):
+        place = f"  [stack-{512 - 8 * at}] = "
+        if kind == "spilled":
+            lines.append(place + known_text(detail))
+        elif any(detail):
+            lines.append(place + "".join("x" if is_set else "-" for is_set in detail))
+    lines.append(f"  length >= {state.lengths[0]}")
+    return lines + [f"  link length >= {state.lengths[1]}"] * (profile == 2)
+
+
+def answer(data, profile, explains=False):
+    """What `hub check` prints of bytes, with its exit status; of an accepted program the first line alone."""
+    refused = refusal(data)
+    if refused:
+        return 1, [refused]
+    found, states = misplaced(data), {}
+    if found is None:
+        walk = Walk(data, profile)
+        found, states = walk.refused, walk.states
+    if found is None:
+        return 0, [f"accepted {len(data) // 8}"]
+    reason, at = found
+    lines = [f"refused {reason} {REASONS[reason]} slot {at}"]
+    if explains:
+        lines.append(f"slot {at}: {line_of(data, at)}")
+        lines += state_lines(states[at], profile) if at in states else []
+    return 1, lines
