@@ -107,10 +107,11 @@ pairs of hexadecimal digits of either case; spaces, tabs and line breaks are
 skipped. Printed is `accepted <slots>`, or the refusal of the first slot at fault.
 
 With --explain more lines follow. Of an accepted program: the greatest number of
-steps, the fields of the context that it can read, and the bytes of the text. Of
-one that is refused with 10 to 26: the instruction at that slot, and from 15 on
-what is known before it, a line for each register and each eight bytes of the
-stack that are set, and one for the least length of the text (docs/PROGRAMS.md).",
+steps, the fields of the context that it can read, and the bytes of the text and
+of the link. Of one that is refused with 10 to 26: the instruction at that slot,
+and from 15 on what is known before it, a line for each register and each eight
+bytes of the stack that are set, and one for the least length of the text, with
+--context 2 one for that of the link (docs/PROGRAMS.md).",
         )
         .after_help(STATUSES)
         .arg(context)?

@@ -2,6 +2,7 @@
 use Rattle.std.specs.Prelude.{◌≡◌, ℕ, ℤ, pos, ◌+◌, ◌<◌, ◌≤◌, ◌⊎◌, length, Option, Some, None, Ok, Err, true, slice_get}
 use Rattle.bpf_words.specs.declared.profile.Profile.{Profile}
 use Rattle.bpf_words.specs.declared.instruction.Insn.{Insn}
+use Rattle.bpf_words.specs.declared.instruction.Insn.TheVariants.{Compute, Negate, Extend, Convert, Jump, JumpLong, Branch, Load, LoadSigned, Store, LoadWide, Exit}
 use Rattle.bpf_words.specs.Flow.{StartsAt, jump_of, slots_of, falls_through}
 use Rattle.meaning.specs.State.{State}
 use Rattle.meaning.specs.Step.{Program, Moved, On, Returns}
@@ -53,3 +54,18 @@ Keeps old new = (slot : ℕ) (lengths : Lengths) (s : State) → WithinState (wa
 -- a jump of an instruction leads forward, to a slot below the count
 abbrev pub JumpsWithin : ℕ → ℕ → Insn → Type 0
 JumpsWithin count slot insn = (distance : ℤ) → jump_of insn ≡ Some distance → (n : ℕ) × (distance ≡ pos n) × (slot + 1 + n < count)
+
+-- an instruction with edges of its own
+abbrev pub IsComparison : Insn → Type 0
+IsComparison (Compute width operation destination operand) = ⊥
+IsComparison (Negate width destination) = ⊥
+IsComparison (Extend extension destination source) = ⊥
+IsComparison (Convert conversion bits destination) = ⊥
+IsComparison (Jump distance) = ⊥
+IsComparison (JumpLong distance) = ⊥
+IsComparison (Branch width comparison left right distance) = Unit {0}
+IsComparison (Load size destination base offset) = ⊥
+IsComparison (LoadSigned size destination base offset) = ⊥
+IsComparison (Store size base offset value) = ⊥
+IsComparison (LoadWide destination value) = ⊥
+IsComparison Exit = ⊥

@@ -18,8 +18,9 @@ use bpf_words::profile::Profile;
 use bpf_words::words::Words;
 use std::alloc::Global;
 
-/// What `verify` knows of the machine before a slot: it contains each state that a run comes to there, on any context, text and link's
-/// text that fit, and it is nothing only where no run comes there. Refused is what `verify` refuses for its structure or at a slot below.
+/// What `verify` knows of the machine before a slot: it contains each state to which a run comes there, on whatever the profile
+/// lends of a span, and it is nothing only where no run comes there. Refused is what `verify` refuses for its structure or at a
+/// slot below.
 pub fn state_before(
     alloc: Global,
     words: &Words<'_>,

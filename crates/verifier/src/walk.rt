@@ -12,7 +12,7 @@ ghost use Rattle.abstract_state.specs.Steps.{after};
 ghost use Rattle.verifier.specs.Structure.{IsOfState, IsStructured};
 ghost use Rattle.verifier.specs.Arises.{Arises, ArisesAt, AllArise, IsTarget, IsGranted, IsCause, FallsAs, FallsFrom};
 ghost use Rattle.verifier.specs.Waiting.{waiting_at};
-ghost use Rattle.verifier.specs.Walk.{Advances, Follows, JumpsWithin, Keeps};
+ghost use Rattle.verifier.specs.Walk.{Advances, Follows, IsComparison, JumpsWithin, Keeps};
 ghost use Rattle.verifier.specs.Reaches.{ContainsRuns, ContainAllRuns, AriseEverywhere, Covers, IsStateBelow};
 
 use crate::refusal::VerifyError;
@@ -98,6 +98,40 @@ fn live(flow: Flow, state: &AbsState) -> Option<AbsState>
     }
 }
 
+/// Makes of what is known before a comparison what is known on its edges. The two edges are large: kept out of `pass`,
+/// they are cleared once for each comparison, not for each instruction.
+#[inline(never)]
+fn compare(
+    profile: Profile,
+    slot: usize,
+    insn: &Insn,
+    state: &mut AbsState,
+    waiting: &mut Waiting,
+) -> Result<Flow, Stop>
+    requires few { slot < 4096 }
+    requires jumps { JumpsWithin (length waiting.old) slot insn.now }
+    requires compares { IsComparison insn.now }
+    ensures size { length waiting.new ≡ length waiting.old }
+    ensures kept { IfOk result (λ _. Keeps waiting.old waiting.new) }
+    ensures sound { IfOk result (λ flow. (span : Span) (s : State) → span.profile ≡ profile → Contains state.old (lengths_of span) s → Advances (lengths_of span) slot insn.now (after flow state.new) waiting.new (does span s insn.now)) }
+    ensures floor { IsGranted profile state.old insn.now → IfErr result (λ stop. stop ≡ Stop.OutOfMemory) }
+    ensures arises { (program : Program) → StartsAt program slot insn.now → Arises profile program slot state.old → AllArise profile program waiting.old → IfOk result (λ flow. AllArise profile program waiting.new × FallsFrom profile program slot insn.now (after flow state.new)) }
+{
+    let Insn::Branch {
+        width,
+        comparison,
+        left,
+        right,
+        ..
+    } = *insn
+    else {
+        unreachable!()
+    };
+    let edges = state.branch(width, comparison, left, &right)?;
+    record(target(slot, insn), &edges.taken, waiting)?;
+    Ok(go_on(state, &edges.untaken))
+}
+
 /// Makes of what is known before an instruction what is known on its edges: of a jump at its target, else in the state.
 fn pass(
     profile: Profile,
@@ -124,17 +158,7 @@ fn pass(
             waiting.add(target(slot, insn), state)?;
             Ok(Flow::Dead)
         }
-        Insn::Branch {
-            width,
-            comparison,
-            left,
-            right,
-            ..
-        } => {
-            let edges = state.branch(width, comparison, left, &right)?;
-            record(target(slot, insn), &edges.taken, waiting)?;
-            Ok(go_on(state, &edges.untaken))
-        }
+        Insn::Branch { .. } => compare(profile, slot, insn, state, waiting),
         Insn::Exit => {
             state.exit()?;
             Ok(Flow::Dead)

@@ -1,19 +1,16 @@
-use Rattle.std.proofs.Common.{◌≡◌, ◌+◌, ◌≤◌, Some, refl, sym, ap, ◌∙◌, subst, arith}
+use Rattle.std.proofs.Common.{◌≡◌, ◌+◌, Some, refl, sym, ap, ◌∙◌, subst, arith}
 use Rattle.bpf_words.specs.Flow.{jump_of}
 use Rattle.abstract_state.specs.State.{lengths_of, WithinState, does}
 use Rattle.verifier.specs.Waiting.{waiting_at}
-use Rattle.verifier.proofs.Passing.{jump_advances, straight, lands_advances, insn_advances}
+use Rattle.verifier.proofs.Passing.{jump_advances, straight, lands_advances}
 use Rattle.verifier.proofs.walk.pass.Goals as goal
 use Rattle.std.proofs.lemmas.Bool.{false≢true}
 use Rattle.abstract_state.specs.Steps.{after}
-use Rattle.bpf_words.specs.Flow.{written_by, falls_through}
+use Rattle.bpf_words.specs.Flow.{written_by}
 use Rattle.bpf_words.specs.declared.instruction.Insn.{Insn}
-use Rattle.abstract_state.specs.Lent.{bound_of}
-use Rattle.abstract_state.specs.Branch.{IsOrder}
 use Rattle.abstract_state.specs.Guard.{LeavesOthers}
-use Rattle.verifier.specs.Arises.{FallsFrom}
-use Rattle.verifier.proofs.Taking.{step_granted, exit_granted, branch_granted, guard_is, step_takes, jump_takes, edge_takes, at_some}
-use Rattle.verifier.proofs.Arising.{jump_target, jump_arises, edge_falls, step_falls, no_falls}
+use Rattle.verifier.proofs.Taking.{step_granted, exit_granted, step_takes, jump_takes}
+use Rattle.verifier.proofs.Arising.{jump_target, jump_arises, step_falls, no_falls}
 
 pub add-requires : goal.add-requires
 add-requires c =
@@ -28,14 +25,6 @@ add-requires-in-JumpLong c =
     let jumps = ap jump_of c.in-JumpLong.is in
     let j = c.requires.jumps _ jumps in
     let t : c.target-in-JumpLong.result ≡ c.args.slot + 1 + j.0 = c.target-in-JumpLong.ensures j.0 (jumps ∙ ap Some j.1) in
-    let below = j.2 in
-    omega arith
-
-pub record-requires : goal.record-requires
-record-requires c =
-    let jumps = ap jump_of c.in-Branch.is in
-    let j = c.requires.jumps _ jumps in
-    let t : c.target-in-Branch.result ≡ c.args.slot + 1 + j.0 = c.target-in-Branch.ensures j.0 (jumps ∙ ap Some j.1) in
     let below = j.2 in
     omega arith
 
@@ -54,15 +43,6 @@ returns-in_ok-add-in-JumpLong-clause-sound c = λ span s which contains.
     let t : c.target-in-JumpLong.result ≡ c.args.slot + 1 + j.0 = c.target-in-JumpLong.ensures j.0 (jumps ∙ ap Some j.1) in
     jump_advances span s c.args.slot j.0 c.args.insn.now _ c.add-in-JumpLong.new.self (ap (does span s) c.in-JumpLong.is) jumps j.1
     (subst (λ k. WithinState (waiting_at c.add-in-JumpLong.new.self k) (lengths_of span) s) t (c.in_ok-add-in-JumpLong.ensures.added (lengths_of span) s contains))
-
-pub returns-in_ok-record-in-Branch-clause-sound : goal.returns-in_ok-record-in-Branch-clause-sound
-returns-in_ok-record-in-Branch-clause-sound c = λ span s which contains.
-    let jumps = ap jump_of c.in-Branch.is in
-    let j = c.requires.jumps _ jumps in
-    let t : c.target-in-Branch.result ≡ c.args.slot + 1 + j.0 = c.target-in-Branch.ensures j.0 (jumps ∙ ap Some j.1) in
-    insn_advances span s c.args.slot j.0 c.target-in-Branch.result c.args.insn.now c.in-Branch.width c.in-Branch.comparison c.in-Branch.left c.in-Branch.right _ c.args.state.now c.in_ok-edges-in-Branch.edges.taken c.in_ok-edges-in-Branch.edges.untaken _ c.record.new.waiting c.in-Branch.is c.go_on.ensures t j.1
-    c.in_ok-edges-in-Branch.ensures.taken c.in_ok-edges-in-Branch.ensures.untaken
-    (c.in_ok-record-in-Branch.ensures.added (lengths_of span) s) contains
 
 pub returns-in_ok-step-in_default : goal.returns-in_ok-step-in_default
 returns-in_ok-step-in_default c = record {
@@ -103,28 +83,6 @@ returns-in_ok-add-in-JumpLong-clause-arises c = λ program starts from all.
       no_falls c.args.profile program c.args.slot c.args.insn.now,
     )
 
-pub returns-in_ok-record-in-Branch-clause-arises : goal.returns-in_ok-record-in-Branch-clause-arises
-returns-in_ok-record-in-Branch-clause-arises c = λ program starts from all.
-    let jumps = ap jump_of c.in-Branch.is in
-    let j = c.requires.jumps _ jumps in
-    let t : c.target-in-Branch.result ≡ c.args.slot + 1 + j.0 = c.target-in-Branch.ensures j.0 (jumps ∙ ap Some j.1) in
-    let e = c.in_ok-edges-in-Branch.ensures in (
-      c.in_ok-record-in-Branch.ensures.arises c.args.profile program all (jump_target program c.args.slot j.0 c.target-in-Branch.result c.args.insn.now _ starts jumps j.1 t)
-          (λ b live.
-          jump_arises c.args.profile program c.args.slot j.0 c.target-in-Branch.result c.args.insn.now _ c.args.state.now b starts from jumps j.1 t
-          (edge_takes c.args.profile c.args.state.now b c.args.insn.now c.in-Branch.width c.in-Branch.comparison c.in-Branch.left c.in-Branch.right _ c.in_ok-edges-in-Branch.edges.taken c.in-Branch.is live e.taken_others e.taken_kinds)),
-      subst (λ o. FallsFrom c.args.profile program c.args.slot c.args.insn.now o) (sym c.go_on.ensures)
-          (edge_falls c.args.profile program c.args.slot c.args.insn.now c.args.state.now c.in_ok-edges-in-Branch.edges.untaken starts from (ap falls_through c.in-Branch.is)
-          (λ b live. (
-            edge_takes c.args.profile c.args.state.now b c.args.insn.now c.in-Branch.width c.in-Branch.comparison c.in-Branch.left c.in-Branch.right _ c.in_ok-edges-in-Branch.edges.untaken c.in-Branch.is live e.untaken_others e.untaken_kinds,
-            λ region n guard.
-                guard_is c.args.state.now c.args.insn.now c.in-Branch.width c.in-Branch.comparison c.in-Branch.left c.in-Branch.right _ (λ at m. m ≤ bound_of b.bounds at) region n c.in-Branch.is
-                (λ at r m high low2 high2 q tail side apart wide greater one two.
-                at_some c.in_ok-edges-in-Branch.edges.untaken (λ x. m ≤ bound_of x.bounds at) b (e.guards at r m high low2 high2 q tail side apart wide greater one two) live)
-                guard,
-          ))),
-    )
-
 pub returns-in_err-step-in_default-clause-floor : goal.returns-in_err-step-in_default-clause-floor
 returns-in_err-step-in_default-clause-floor c = λ granted.
     absurd (false≢true
@@ -135,12 +93,3 @@ returns-in_err-step-in_default-clause-floor c = λ granted.
 
 pub returns-in_err-exit-in-Exit-clause-floor : goal.returns-in_err-exit-in-Exit-clause-floor
 returns-in_err-exit-in-Exit-clause-floor c = λ granted. absurd (false≢true (c.in_err-exit-in-Exit.ensures.floor (exit_granted c.args.profile c.args.state.now c.args.insn.now c.in-Exit.is granted)))
-
-pub returns-in_err-edges-in-Branch-clause-floor : goal.returns-in_err-edges-in-Branch-clause-floor
-returns-in_err-edges-in-Branch-clause-floor c = λ granted.
-    absurd (false≢true
-    (branch_granted c.args.profile c.args.state.now c.args.insn.now c.in-Branch.width c.in-Branch.comparison c.in-Branch.left c.in-Branch.right _ _ c.in-Branch.is
-    c.in_err-edges-in-Branch.ensures.floor
-    (λ region r n high low2 high2 t tail side apart wide greater one two.
-    c.in_err-edges-in-Branch.ensures.regions region r n high low2 high2 tail (Some t) side wide (subst IsOrder (sym greater) tt) one two)
-    granted))

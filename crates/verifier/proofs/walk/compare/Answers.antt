@@ -1,0 +1,59 @@
+use Rattle.std.proofs.Common.{◌≡◌, ◌+◌, ◌≤◌, Some, sym, ap, ◌∙◌, subst, arith}
+use Rattle.bpf_words.specs.Flow.{jump_of, falls_through}
+use Rattle.abstract_state.specs.State.{lengths_of}
+use Rattle.abstract_state.specs.Lent.{bound_of}
+use Rattle.abstract_state.specs.Branch.{IsOrder}
+use Rattle.verifier.specs.Arises.{FallsFrom}
+use Rattle.verifier.proofs.Passing.{insn_advances}
+use Rattle.verifier.proofs.Taking.{branch_granted, guard_is, edge_takes, at_some}
+use Rattle.verifier.proofs.Arising.{jump_target, jump_arises, edge_falls}
+use Rattle.std.proofs.lemmas.Bool.{false≢true}
+use Rattle.verifier.proofs.walk.compare.Goals as goal
+
+pub record-requires : goal.record-requires
+record-requires c =
+    let jumps = ap jump_of c.in-Branch.is in
+    let j = c.requires.jumps _ jumps in
+    let t : c.target.result ≡ c.args.slot + 1 + j.0 = c.target.ensures j.0 (jumps ∙ ap Some j.1) in
+    let below = j.2 in
+    omega arith
+
+pub returns-clause-sound : goal.returns-clause-sound
+returns-clause-sound c = λ span s which contains.
+    let jumps = ap jump_of c.in-Branch.is in
+    let j = c.requires.jumps _ jumps in
+    let t : c.target.result ≡ c.args.slot + 1 + j.0 = c.target.ensures j.0 (jumps ∙ ap Some j.1) in
+    insn_advances span s c.args.slot j.0 c.target.result c.args.insn.now c.in-Branch.width c.in-Branch.comparison c.in-Branch.left c.in-Branch.right _ c.args.state.now c.in_ok-edges.edges.taken c.in_ok-edges.edges.untaken _ c.record.new.waiting c.in-Branch.is c.go_on.ensures t j.1
+    c.in_ok-edges.ensures.taken c.in_ok-edges.ensures.untaken
+    (c.in_ok-record.ensures.added (lengths_of span) s) contains
+
+pub returns-clause-arises : goal.returns-clause-arises
+returns-clause-arises c = λ program starts from all.
+    let jumps = ap jump_of c.in-Branch.is in
+    let j = c.requires.jumps _ jumps in
+    let t : c.target.result ≡ c.args.slot + 1 + j.0 = c.target.ensures j.0 (jumps ∙ ap Some j.1) in
+    let e = c.in_ok-edges.ensures in (
+      c.in_ok-record.ensures.arises c.args.profile program all (jump_target program c.args.slot j.0 c.target.result c.args.insn.now _ starts jumps j.1 t)
+          (λ b live.
+          jump_arises c.args.profile program c.args.slot j.0 c.target.result c.args.insn.now _ c.args.state.now b starts from jumps j.1 t
+          (edge_takes c.args.profile c.args.state.now b c.args.insn.now c.in-Branch.width c.in-Branch.comparison c.in-Branch.left c.in-Branch.right _ c.in_ok-edges.edges.taken c.in-Branch.is live e.taken_others e.taken_kinds)),
+      subst (λ o. FallsFrom c.args.profile program c.args.slot c.args.insn.now o) (sym c.go_on.ensures)
+          (edge_falls c.args.profile program c.args.slot c.args.insn.now c.args.state.now c.in_ok-edges.edges.untaken starts from (ap falls_through c.in-Branch.is)
+          (λ b live. (
+            edge_takes c.args.profile c.args.state.now b c.args.insn.now c.in-Branch.width c.in-Branch.comparison c.in-Branch.left c.in-Branch.right _ c.in_ok-edges.edges.untaken c.in-Branch.is live e.untaken_others e.untaken_kinds,
+            λ region n guard.
+                guard_is c.args.state.now c.args.insn.now c.in-Branch.width c.in-Branch.comparison c.in-Branch.left c.in-Branch.right _ (λ at m. m ≤ bound_of b.bounds at) region n c.in-Branch.is
+                (λ at r m high low2 high2 q tail side apart wide greater one two.
+                at_some c.in_ok-edges.edges.untaken (λ x. m ≤ bound_of x.bounds at) b (e.guards at r m high low2 high2 q tail side apart wide greater one two) live)
+                guard,
+          ))),
+    )
+
+pub returns-in_err-edges-clause-floor : goal.returns-in_err-edges-clause-floor
+returns-in_err-edges-clause-floor c = λ granted.
+    absurd (false≢true
+    (branch_granted c.args.profile c.args.state.now c.args.insn.now c.in-Branch.width c.in-Branch.comparison c.in-Branch.left c.in-Branch.right _ _ c.in-Branch.is
+    c.in_err-edges.ensures.floor
+    (λ region r n high low2 high2 t tail side apart wide greater one two.
+    c.in_err-edges.ensures.regions region r n high low2 high2 tail (Some t) side wide (subst IsOrder (sym greater) tt) one two)
+    granted))
