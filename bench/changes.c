@@ -35,13 +35,17 @@ void begin_change(Changes *changes, uint32_t node, uint32_t count) {
     add(changes, "change %u %u\n", node, count);
 }
 
-void insert_line(Changes *changes, Id id, Id place, uint32_t code) {
-    add(changes, "i %llu@%u ", (unsigned long long)id.counter, id.node);
+static void add_place(Changes *changes, Id place) {
     if (place.node == 0) {
         add(changes, "-");
     } else {
         add(changes, "%llu@%u", (unsigned long long)place.counter, place.node);
     }
+}
+
+void insert_line(Changes *changes, Id id, Id place, uint32_t code) {
+    add(changes, "i %llu@%u ", (unsigned long long)id.counter, id.node);
+    add_place(changes, place);
     add(changes, " %x\n", code);
 }
 
@@ -61,12 +65,29 @@ Id type_change(Changes *changes, Id first, Id place, uint32_t count) {
     return place;
 }
 
-Id type_text(Changes *changes, Id first, uint32_t count) {
+Id run_change(Changes *changes, Id first, Id place, uint32_t count) {
+    changes->changes++;
+    add(changes, "change2 %u 1\nr %llu@%u ", first.node, (unsigned long long)first.counter, first.node);
+    add_place(changes, place);
+    add(changes, " %u", count);
+    for (uint32_t at = 0; at < count; at++) {
+        add(changes, " %x", 'a' + at % 26);
+    }
+    add(changes, "\n");
+    first.counter += count - 1;
+    return first;
+}
+
+Id type_text_by(Typing *typing, Changes *changes, Id first, uint32_t count) {
     Id last = START;
     for (uint32_t done = 0; done < count; done += 256) {
         uint32_t next = count - done < 256 ? count - done : 256;
-        last = type_change(changes, first, last, next);
+        last = typing(changes, first, last, next);
         first.counter += next;
     }
     return last;
+}
+
+Id type_text(Changes *changes, Id first, uint32_t count) {
+    return type_text_by(type_change, changes, first, count);
 }

@@ -32,7 +32,14 @@ void mark_line(Changes *changes, Id id, const char *key_and_value, Id from, Id t
 
 /* A whole change of characters, each behind the one before it and the first at a place. It answers the last one's id. */
 Id type_change(Changes *changes, Id first, Id place, uint32_t count);
+/* The same change of the second form, the characters as one run: 2 to 256. */
+Id run_change(Changes *changes, Id first, Id place, uint32_t count);
+
+/* How a change of characters is written: type_change or run_change. */
+typedef Id Typing(Changes *changes, Id first, Id place, uint32_t count);
+
 /* So many characters, in changes of 256. */
+Id type_text_by(Typing *typing, Changes *changes, Id first, uint32_t count);
 Id type_text(Changes *changes, Id first, uint32_t count);
 
 #endif

@@ -209,8 +209,31 @@ static void versions(void) {
     let_go(&text);
 }
 
+/* What `hub spans` does with a whole text, but for its printing. */
+static void whole_text_by(Typing *typing, const char *how) {
+    char line[96];
+    Changes text = no_changes();
+    type_text_by(typing, &text, FIRST, CHARACTERS);
+    const uint8_t *bytes = (const uint8_t *)text.bytes;
+    expect(bench_read(bytes, text.length, text.changes), 0, "read");
+    expect(bench_accept(bytes, text.length, text.changes - 1, 1), 1, "accepted");
+    double reading = LEAST_TIME(RUNS, bench_read(bytes, text.length, text.changes));
+    double all = LEAST_TIME(RUNS, bench_accept(bytes, text.length, text.changes - 1, 1));
+    snprintf(line, sizeof line, "a text in %u changes, %s, read", text.changes, how);
+    row(line, reading / 1e6, "ms");
+    row("  read, accepted, and its version made", all / 1e6, "ms");
+    row("  its bytes", (double)text.length / 1024, "KiB");
+    let_go(&text);
+}
+
+static void whole_text(void) {
+    whole_text_by(type_change, "a line for each character");
+    whole_text_by(run_change, "a run each");
+}
+
 void measure_texts(void) {
     puts("\nTexts of 32,768 characters");
+    whole_text();
     at_the_end();
     at_the_start();
     at_random();

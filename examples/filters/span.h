@@ -34,7 +34,7 @@ struct linked_span {
 _Static_assert(sizeof(struct linked_span) == 72, "72 bytes");
 _Static_assert(__builtin_offsetof(struct linked_span, link) == 56, "the link stands at 56");
 
-enum { STRONG = 1, EM = 2, LINK = 4, COLOR = 8, COMMENT = 16 };
+enum { STRONG = 1, EM = 2, LINK = 4, COLOR = 8, COMMENT = 16, CODE = 32 };
 
 /* The verdict: 0 says nothing, and any other number is sent to the subscriber. A file has one of the two, and no other function. */
 u64 filter(const struct span *span);

@@ -43,21 +43,24 @@ class Bad(Exception):
 
 
 def read_change(text):
-    """A change's operations: kind, id, parent or removed or start, letter or end."""
+    """The operations of each line of a change: kind, id, parent or removed or start, letter or end."""
     lines = text.split('\n')
-    head = re.fullmatch(r'change (\d+) (\d+)', lines[0])
+    head = re.fullmatch(r'(change2?) (\d+) (\d+)', lines[0])
     if not head:
         raise Bad('40 BadLine line 1')
-    node, count = int(head[1]), int(head[2])
-    operations = []
+    node, count = int(head[2]), int(head[3])
+    change = []
     for at in range(1, count + 1):
         if at >= len(lines) - 1:
             raise Bad('41 Truncated')
-        operations.append(read_operation(lines[at], at + 1))
+        if head[1] == 'change2' and lines[at].startswith('r '):
+            change.append(read_run(lines[at], at + 1))
+        else:
+            change.append([read_operation(lines[at], at + 1)])
     if lines[count + 1:] != ['']:
         raise Bad(f'40 BadLine line {count + 2}')
-    assert all(o[1][1] == node for o in operations)
-    return operations
+    assert all(o[1][1] == node for line in change for o in line)
+    return change
 
 
 def read_id(word):
@@ -67,6 +70,15 @@ def read_id(word):
 
 def read_place(word):
     return (word[0], None) if word in '^$' else (word[0], read_id(word[1:]))
+
+
+def read_run(line, number):
+    _, first, place, count, *codes = line.split(' ')
+    (counter, node), parent = read_id(first), None if place == '-' else read_id(place)
+    if len(codes) != int(count):
+        raise Bad(f'40 BadLine line {number}')
+    ids = [(counter + at, node) for at in range(len(codes))]
+    return [('i', i, p, chr(int(code, 16))) for i, p, code in zip(ids, [parent] + ids, codes)]
 
 
 def read_operation(line, number):
@@ -137,8 +149,9 @@ class History:
     def submit(self, change):
         if self.latest() == 4096:
             return None, '50 HistoryFull'
-        before = len(self.operations), dict(self.last), set(self.there) if len(change) > 1 else self.there, self.marks
-        for index, o in enumerate(change):
+        operations = [(index, o) for index, line in enumerate(change) for o in line]
+        before = len(self.operations), dict(self.last), set(self.there) if len(operations) > 1 else self.there, self.marks
+        for index, o in operations:
             why = self.refusal(o)
             if why:
                 del self.operations[before[0]:]

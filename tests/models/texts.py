@@ -171,7 +171,7 @@ FIRST_LINES = [
     ("change 65536 1\n", "42 Limit change 1 line 1"),
     ("change 0 1\n", "42 Limit change 1 line 1"),
     ("change 1 36893488147419103233\n", "42 Limit change 1 line 1"),
-    ("change2 1 1\n", "40 BadLine change 1 line 1"),
+    ("change2 1 1\n", "41 Truncated change 1"),
     ("change 1  1\n", "40 BadLine change 1 line 1"),
     ("change 1 1\r\n", "40 BadLine change 1 line 1"),
     ("change 1 2\ni 1@1 - 0\n", "43 CharRefused change 1 line 2"),

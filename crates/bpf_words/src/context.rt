@@ -38,7 +38,7 @@ pub struct Facts {
     /// In bytes.
     pub text_len: u32,
     pub characters: u32,
-    /// The sum of 1 for strong, 2 for em, 4 for a link, 8 for a color, 16 for at least one comment.
+    /// The sum of 1 for strong, 2 for em, 4 for a link, 8 for a color, 16 for at least one comment, 32 for code.
     pub flags: u32,
     /// 0 where there is none.
     pub color: u32,

@@ -1,24 +1,26 @@
 -- How a history goes on from one accepted change to the next.
-use Rattle.std.proofs.Common.{◌≡◌, ℕ, zero, suc, ◌+◌, ◌-◌, ◌<◌, ◌≤◌, List, [], ◌∷◌, ◌++◌, Option, Some, None, Result, Ok, Err, IfOk, is_ok, OnOk, IsErrAnd, MatchResult, if◌then◌else◌, refl, sym, ap, ◌∙◌, subst, ◌⊎◌, inl, inr, ⊎_elim, arith, rules, length, get_or, take, append_assoc, add-one, length-take}
+use Rattle.std.proofs.Common.{◌≡◌, ℕ, zero, suc, ◌+◌, ◌-◌, ◌<◌, ◌≤◌, List, [], ◌∷◌, ◌++◌, Option, Some, None, Result, Ok, Err, IfOk, is_ok, OnOk, IsErrAnd, MatchResult, if◌then◌else◌, refl, sym, ap, ◌∙◌, subst, ◌⊎◌, inl, inr, ⊎_elim, arith, rules, length, get_or, take, append_assoc, add-one, length-take, length-append}
 use Rattle.std.specs.List.{slice_get}
-use Rattle.std.proofs.lemmas.List.{length_push, take_at}
+use Rattle.std.proofs.lemmas.List.{length_push, take_at, append-nil}
 use Rattle.std.proofs.lemmas.Option.{none-some, same_Some, slice_get_within, slice_get_read, slice_get-get_or}
 use Rattle.std.proofs.Math.Seq.{take-length}
 use Rattle.change_ops.specs.declared.operation.Op.{Op}
-use Rattle.change_ops.specs.Changes.{Edit}
+use Rattle.change_ops.specs.Changes.{Edit, operations}
+use Rattle.change_ops.specs.Lines.{ops_of, ops_of_lines}
+use Rattle.change_ops.specs.declared.line.Line.{Line}
 use Rattle.change_history.specs.declared.parts.Parts.{Parts}
-use Rattle.change_history.specs.Accepted.{operations_of, MayFollow, AllFollow, IsAccepted, IsRefused, AreAccepted}
+use Rattle.change_history.specs.Accepted.{operations_of, MayFollow, AllFollow, IsFirstRefused, IsAccepted, IsRefused, AreAccepted}
 use Rattle.change_history.specs.declared.refusal.ApplyError.{ApplyError}
 use Rattle.change_history.specs.declared.refusal.SubmitError.{SubmitError}
 use Rattle.change_history.specs.declared.refusal.ApplyError.TheVariants as apply
 use Rattle.change_history.specs.declared.refusal.SubmitError.TheVariants as submit
 use Rattle.change_history.specs.declared.history.Draft.{Draft}
-use Rattle.change_history.specs.Kept.{Keeps, IsHistory, IsSpare, IsDraft, Applied, AreApplied, IsNotApplied, error_at}
+use Rattle.change_history.specs.Kept.{Keeps, IsHistory, IsSpare, IsDraft, Applied, StandAt, StretchApplied, AreApplied, IsNotApplied, error_at}
 
-pub operations_of-push : (changes : List Edit) (change : Edit) → operations_of (changes ++ change ∷ []) ≡ operations_of changes ++ change.operations
+pub operations_of-push : (changes : List Edit) (change : Edit) → operations_of (changes ++ change ∷ []) ≡ operations_of changes ++ operations change
 unfolding operations_of
 operations_of-push [] change = search rules
-operations_of-push (c ∷ changes) change = ap (λ ops. c.operations ++ ops) (operations_of-push changes change) ∙ sym (append_assoc c.operations (operations_of changes) change.operations)
+operations_of-push (c ∷ changes) change = ap (λ ops. operations c ++ ops) (operations_of-push changes change) ∙ sym (append_assoc (operations c) (operations_of changes) (operations change))
 
 -- an element of a list with one more at its end is one of the list, after the same elements, or the last
 pub pushed_place : {X : Type 0} (xs : List X) (y : X) (n : ℕ) (x : X) → slice_get (xs ++ y ∷ []) n ≡ Some x → ((slice_get xs n ≡ Some x) × (take n (xs ++ y ∷ []) ≡ take n xs)) ⊎ ((y ≡ x) × (take n (xs ++ y ∷ []) ≡ xs))
@@ -73,26 +75,117 @@ kept_more ops added count o new here k =
 pub applied_more : (ops added : List Op) (index : ℕ) (o : Op) (new : Parts) → slice_get added index ≡ Some o → AllFollow ops added index → MayFollow (ops ++ take index added) o × Keeps ((ops ++ take index added) ++ o ∷ []) new → AllFollow ops added (index + 1) × Keeps (ops ++ take (index + 1) added) new
 applied_more ops added index o new here before m = (follow_more ops added index o here before m.0, kept_more ops added index o new here m.1)
 
-pub refused_at : (ops added : List Op) (index : ℕ) (o : Op) (new : Parts) (error : ApplyError) → slice_get added index ≡ Some o → AllFollow ops added index → Applied (ops ++ take index added) o new (Err error) → IsNotApplied ops added (error_at index error)
-refused_at ops added index o new (apply.Refused refusal) here before h = record { operation = o; here = here; refused = h; before = before }
-refused_at ops added index o new apply.OutOfMemory here before h = tt
+-- one operation, at this place of several
+pub one_applied : (ops added : List Op) (from : ℕ) (o : Op) (new : Parts) (r : Result (Unit {0}) ApplyError) → slice_get added from ≡ Some o → AllFollow ops added from → Applied (ops ++ take from added) o new r → StretchApplied ops added from 1 new r
+one_applied ops added from o new (Ok done) here before h = applied_more ops added from o new here before h
+one_applied ops added from o new (Err (apply.Refused refusal)) here before h =
+    let first : from + 0 ≡ from = omega arith in
+    (0, omega arith, subst (λ (n : ℕ). IsFirstRefused ops added n refusal) (sym first) (record { operation = o; here = here; refused = h; before = before }))
+one_applied ops added from o new (Err apply.OutOfMemory) here before h = tt
 
-pub applied_all : (ops added : List Op) (count : ℕ) (new : Parts) → count ≡ length added → AllFollow ops added count × Keeps (ops ++ take count added) new → AreApplied ops added new
-applied_all ops added count new whole h = record {
-  follow = λ i op below g. h.0 i op (omega arith) g;
-  kept = subst (λ (ts : List Op). Keeps (ops ++ ts) new) (ap (λ k. take k added) whole ∙ take-length added) h.1;
-}
+-- the next one of a stretch is refused
+pub stretch_refused : (ops added : List Op) (from index count : ℕ) (o : Op) (new : Parts) (error : ApplyError) → index < count → slice_get added (from + index) ≡ Some o → AllFollow ops added (from + index) → Applied (ops ++ take (from + index) added) o new (Err error) → StretchApplied ops added from count new (Err error)
+stretch_refused ops added from index count o new (apply.Refused refusal) below here before h = (index, below, record { operation = o; here = here; refused = h; before = before })
+stretch_refused ops added from index count o new apply.OutOfMemory below here before h = tt
+
+-- a run, its inserts one after the other
+pub run_begun : (ops added : List Op) (from : ℕ) (parts : Parts) → AllFollow ops added from → Keeps (ops ++ take from added) parts → AllFollow ops added (from + 0) × Keeps (ops ++ take (from + 0) added) parts
+run_begun ops added from parts before k =
+    let same : from + 0 ≡ from = omega arith in
+    subst (λ (n : ℕ). AllFollow ops added n × Keeps (ops ++ take n added) parts) (sym same) (before, k)
+
+pub run_more : (ops added : List Op) (from index : ℕ) (o : Op) (new : Parts) → slice_get added (from + index) ≡ Some o → AllFollow ops added (from + index) → MayFollow (ops ++ take (from + index) added) o × Keeps ((ops ++ take (from + index) added) ++ o ∷ []) new
+    → AllFollow ops added (from + (index + 1)) × Keeps (ops ++ take (from + (index + 1)) added) new
+run_more ops added from index o new here before m =
+    let same : from + index + 1 ≡ from + (index + 1) = omega arith in
+    subst (λ (n : ℕ). AllFollow ops added n × Keeps (ops ++ take n added) new) same (applied_more ops added (from + index) o new here before m)
+
+-- operations stand among themselves
+pub stand_alone : (ops : List Op) → StandAt ops 0 ops
+stand_alone ops = λ i op g. let same : 0 + i ≡ i = omega arith in ap (slice_get ops) same ∙ g
+
+pub alone_kept : (ops : List Op) (parts : Parts) (added : List Op) → Keeps ops parts → Keeps (ops ++ take 0 added) parts
+alone_kept ops parts added k = subst (λ (xs : List Op). Keeps xs parts) (sym (append-nil ops)) k
+
+-- ---- the lines of a change
+-- where the operations of the line at an index begin
+abbrev pub begin_of : List Line → ℕ → ℕ
+begin_of lines index = length (ops_of_lines (take index lines))
+
+pub none_before : (lines : List Line) → begin_of lines 0 ≡ 0
+unfolding ops_of_lines
+none_before lines = refl
+
+get_right : {X : Type 0} (xs ys : List X) (i : ℕ) → slice_get (xs ++ ys) (length xs + i) ≡ slice_get ys i
+get_right [] ys i = ap (slice_get ys) (omega arith)
+get_right (x ∷ xs) ys i = let e : length (x ∷ xs) + i ≡ suc (length xs + i) = omega arith in ap (slice_get (x ∷ (xs ++ ys))) e ∙ get_right xs ys i
+
+get_left : {X : Type 0} (xs ys : List X) (i : ℕ) (x : X) → slice_get xs i ≡ Some x → slice_get (xs ++ ys) i ≡ Some x
+get_left [] ys i x g = absurd (none-some x g)
+get_left (z ∷ zs) ys zero x g = g
+get_left (z ∷ zs) ys (suc i) x g = get_left zs ys i x g
+
+pub line_stands : (lines : List Line) (index : ℕ) (line : Line) → slice_get lines index ≡ Some line → StandAt (ops_of_lines lines) (begin_of lines index) (ops_of line)
+unfolding ops_of_lines
+line_stands [] index line g = absurd (none-some line g)
+line_stands (first ∷ lines) zero line g = λ i op here.
+    let same : first ≡ line = same_Some first line g in
+    let none = none_before (first ∷ lines) in
+    let place : begin_of (first ∷ lines) 0 + i ≡ i = omega arith in
+    ap (slice_get (ops_of first ++ ops_of_lines lines)) place ∙ get_left (ops_of first) (ops_of_lines lines) i op (subst (λ (l : Line). slice_get (ops_of l) i ≡ Some op) (sym same) here)
+line_stands (first ∷ lines) (suc index) line g = λ i op here.
+    let front = ops_of first in
+    let rest = ops_of_lines (take index lines) in
+    let place : length (front ++ rest) + i ≡ length front + (length rest + i) = omega (arith, length-append front rest) in
+    ap (slice_get (front ++ ops_of_lines lines)) place ∙ get_right front (ops_of_lines lines) (length rest + i) ∙ line_stands lines index line g i op here
+
+ops_pushed : (ls : List Line) (l : Line) → length (ops_of_lines (ls ++ l ∷ [])) ≡ length (ops_of_lines ls) + length (ops_of l)
+unfolding ops_of_lines
+ops_pushed [] l = omega (arith, length-append (ops_of l) [])
+ops_pushed (x ∷ ls) l = let e = ops_pushed ls l in omega (arith, length-append (ops_of x) (ops_of_lines (ls ++ l ∷ [])), length-append (ops_of x) (ops_of_lines ls))
+
+pub begin_next : (lines : List Line) (index : ℕ) (line : Line) → slice_get lines index ≡ Some line → begin_of lines (index + 1) ≡ begin_of lines index + length (ops_of line)
+begin_next lines index line g = ap (λ (ls : List Line). length (ops_of_lines ls)) (take_push lines index line g) ∙ ops_pushed (take index lines) line
+
+pub lines_begun : (ops : List Op) (lines : List Line) (parts : Parts) → Keeps ops parts → AllFollow ops (ops_of_lines lines) (begin_of lines 0) × Keeps (ops ++ take (begin_of lines 0) (ops_of_lines lines)) parts
+lines_begun ops lines parts k =
+    let none = none_before lines in
+    let all = ops_of_lines lines in (
+      subst (λ (n : ℕ). AllFollow ops all n) (sym none) (follow_none ops all),
+      subst (λ (n : ℕ). Keeps (ops ++ take n all) parts) (sym none) (subst (λ (xs : List Op). Keeps xs parts) (sym (append-nil ops)) k),
+    )
+
+pub line_applied : (ops : List Op) (lines : List Line) (index : ℕ) (line : Line) (new : Parts) (done : Unit {0}) → slice_get lines index ≡ Some line
+    → StretchApplied ops (ops_of_lines lines) (begin_of lines index) (length (ops_of line)) new (Ok done)
+    → AllFollow ops (ops_of_lines lines) (begin_of lines (index + 1)) × Keeps (ops ++ take (begin_of lines (index + 1)) (ops_of_lines lines)) new
+line_applied ops lines index line new done g h =
+    let all = ops_of_lines lines in
+    subst (λ (n : ℕ). AllFollow ops all n × Keeps (ops ++ take n all) new) (sym (begin_next lines index line g)) h
+
+pub refused_at : (ops : List Op) (lines : List Line) (index : ℕ) (line : Line) (new : Parts) (error : ApplyError) → slice_get lines index ≡ Some line
+    → StretchApplied ops (ops_of_lines lines) (begin_of lines index) (length (ops_of line)) new (Err error) → IsNotApplied ops lines (error_at index error)
+refused_at ops lines index line new (apply.Refused refusal) here h = record { line = line; here = here; place = h.0; within = h.1; first = h.2 }
+refused_at ops lines index line new apply.OutOfMemory here h = tt
+
+pub applied_all : (ops : List Op) (lines : List Line) (count : ℕ) (new : Parts) → count ≡ length lines → AllFollow ops (ops_of_lines lines) (begin_of lines count) × Keeps (ops ++ take (begin_of lines count) (ops_of_lines lines)) new → AreApplied ops lines new
+applied_all ops lines count new whole h =
+    let all = ops_of_lines lines in
+    let end : begin_of lines count ≡ length all = ap (λ (ls : List Line). length (ops_of_lines ls)) (ap (λ k. take k lines) whole ∙ take-length lines) in
+    record {
+      follow = subst (λ (n : ℕ). AllFollow ops all n) end h.0;
+      kept = subst (λ (ts : List Op). Keeps (ops ++ ts) new) (ap (λ k. take k all) end ∙ take-length all) h.1;
+    }
 
 -- ---- a change more
 -- the operations of the change were all applied
-pub drafted : (changes xs : List Edit) (change : Edit) (added : List Op) (draft : Draft) → changes ≡ xs → draft.added ≡ change ∷ [] → added ≡ change.operations → length changes < 4096 → AreApplied (operations_of xs) added draft.parts → IsDraft xs change draft
-drafted changes xs change added draft same alone e few h = record {
+pub drafted : (changes xs : List Edit) (change : Edit) (lines : List Line) (draft : Draft) → changes ≡ xs → draft.added ≡ change ∷ [] → lines ≡ change.lines → length changes < 4096 → AreApplied (operations_of xs) lines draft.parts → IsDraft xs change draft
+drafted changes xs change lines draft same alone e few h = record {
   added = alone;
   accepted = record {
     room = omega (arith, ap length same);
-    follow = subst (λ (ops : List Op). AllFollow (operations_of xs) ops (length ops)) e h.follow;
+    follow = subst (λ (ls : List Line). AllFollow (operations_of xs) (ops_of_lines ls) (length (ops_of_lines ls))) e h.follow;
   };
-  kept = subst (λ (ops : List Op). Keeps ops draft.parts) (ap (λ (ops : List Op). operations_of xs ++ ops) e ∙ sym (operations_of-push xs change)) h.kept;
+  kept = subst (λ (ops : List Op). Keeps ops draft.parts) (ap (λ (ls : List Line). operations_of xs ++ ops_of_lines ls) e ∙ sym (operations_of-push xs change)) h.kept;
 }
 
 -- a draft put in place
@@ -123,12 +216,12 @@ last_change changes change g =
     let all : (length changes - 1) + 1 ≡ length changes = omega arith in
     sym (take-length changes) ∙ ap (λ n. take n changes) (sym all) ∙ take_push changes (length changes - 1) change g
 
-pub operations_of-last : (changes : List Edit) (change : Edit) → slice_get changes (length changes - 1) ≡ Some change → operations_of (take (length changes - 1) changes) ++ change.operations ≡ operations_of changes
+pub operations_of-last : (changes : List Edit) (change : Edit) → slice_get changes (length changes - 1) ≡ Some change → operations_of (take (length changes - 1) changes) ++ operations change ≡ operations_of changes
 operations_of-last changes change g = sym (operations_of-push (take (length changes - 1) changes) change) ∙ ap operations_of (sym (last_change changes change g))
 
-pub caught_up_last : (changes : List Edit) (change : Edit) (added : List Op) (new : Parts) → slice_get changes (length changes - 1) ≡ Some change → added ≡ change.operations → Keeps (operations_of (take (length changes - 1) changes) ++ added) new → Keeps (operations_of changes) new
-caught_up_last changes change added new g e k =
-    subst (λ (ops : List Op). Keeps ops new) (ap (λ (xs : List Op). operations_of (take (length changes - 1) changes) ++ xs) e ∙ operations_of-last changes change g) k
+pub caught_up_last : (changes : List Edit) (change : Edit) (lines : List Line) (new : Parts) → slice_get changes (length changes - 1) ≡ Some change → lines ≡ change.lines → Keeps (operations_of (take (length changes - 1) changes) ++ ops_of_lines lines) new → Keeps (operations_of changes) new
+caught_up_last changes change lines new g e k =
+    subst (λ (ops : List Op). Keeps ops new) (ap (λ (ls : List Line). operations_of (take (length changes - 1) changes) ++ ops_of_lines ls) e ∙ operations_of-last changes change g) k
 
 -- without a change there is nothing to catch up with
 pub caught_up_none : (changes : List Edit) (parts : Parts) → (0 < length changes → ⊥) → Keeps (operations_of (take (length changes - 1) changes)) parts → Keeps (operations_of changes) parts
@@ -146,10 +239,10 @@ spare_after changes change parts spare h is = λ p same.
 pub no_spare : (changes : List Edit) (spare : Option Parts) → spare ≡ None → IsSpare changes spare
 no_spare changes spare is = λ p same. absurd (none-some p (sym is ∙ same))
 
-pub caught_up_result : (changes : List Edit) (change : Edit) (added : List Op) (new : Parts) (r : Result (Unit {0}) SubmitError) → 0 < length changes → change ≡ get_or changes (length changes - 1) change → added ≡ change.operations → MatchResult r (λ _. AreApplied (operations_of (take (length changes - 1) changes)) added new) (IsNotApplied (operations_of (take (length changes - 1) changes)) added) → OnOk r (Keeps (operations_of changes) new)
-caught_up_result changes change added new (Ok done) some is e applied =
-    caught_up_last changes change added new (slice_get_read changes (length changes) (length changes - 1) change refl (omega arith) is) e applied.kept
-caught_up_result changes change added new (Err error) some is e applied = tt
+pub caught_up_result : (changes : List Edit) (change : Edit) (lines : List Line) (new : Parts) (r : Result (Unit {0}) SubmitError) → 0 < length changes → change ≡ get_or changes (length changes - 1) change → lines ≡ change.lines → MatchResult r (λ _. AreApplied (operations_of (take (length changes - 1) changes)) lines new) (IsNotApplied (operations_of (take (length changes - 1) changes)) lines) → OnOk r (Keeps (operations_of changes) new)
+caught_up_result changes change lines new (Ok done) some is e applied =
+    caught_up_last changes change lines new (slice_get_read changes (length changes) (length changes - 1) change refl (omega arith) is) e applied.kept
+caught_up_result changes change lines new (Err error) some is e applied = tt
 
 -- a copy of the parts
 pub kept_copy : {E : Type 0} (r : Result Parts E) (parts : Parts) (changes xs : List Edit) → changes ≡ xs → Keeps (operations_of changes) parts → IfOk r (λ p. p ≡ parts) → IfOk r (Keeps (operations_of xs))
@@ -157,9 +250,9 @@ kept_copy (Ok p) parts changes xs same kept is = subst (λ (x : List Edit × Par
 kept_copy (Err e) parts changes xs same kept is = tt
 
 -- ---- an error handed on
-pub not_applied : (r : Result Parts SubmitError) (ops added : List Op) (error : SubmitError) → IsErrAnd r (λ e. e ≡ error) → IsNotApplied ops added error → MatchResult r (AreApplied ops added) (IsNotApplied ops added)
-not_applied (Ok p) ops added error same why = absurd same
-not_applied (Err e) ops added error same why = subst (IsNotApplied ops added) (sym same) why
+pub not_applied : (r : Result Parts SubmitError) (ops : List Op) (lines : List Line) (error : SubmitError) → IsErrAnd r (λ e. e ≡ error) → IsNotApplied ops lines error → MatchResult r (AreApplied ops lines) (IsNotApplied ops lines)
+not_applied (Ok p) ops lines error same why = absurd same
+not_applied (Err e) ops lines error same why = subst (IsNotApplied ops lines) (sym same) why
 
 pub no_memory : (r : Result Draft SubmitError) (changes xs : List Edit) (change : Edit) → changes ≡ xs → length changes < 4096 → IsErrAnd r (λ e. e ≡ submit.OutOfMemory) → MatchResult r (IsDraft xs change) (IsRefused xs change)
 no_memory (Ok d) changes xs change along few same = absurd same

@@ -1,3 +1,4 @@
 pub mod Chronicle
 pub mod Edits
 pub mod Keeping
+pub mod AlikeLaws

@@ -1,5 +1,5 @@
 -- What is kept of accepted operations, beside the operations themselves.
-use Rattle.std.specs.Prelude.{◌≡◌, ℕ, ◌-◌, List, ◌++◌, ◌∷◌, [], length, take, Option, Some, Result, Ok, Err}
+use Rattle.std.specs.Prelude.{◌≡◌, ℕ, ◌+◌, ◌-◌, ◌<◌, List, ◌++◌, ◌∷◌, [], length, take, slice_get, Option, Some, Result, Ok, Err}
 use Rattle.std.specs.List.{filter}
 use Rattle.change_ops.specs.declared.operation.Op.{Op}
 use Rattle.change_ops.specs.Operations.{is_edit, is_mark}
@@ -7,9 +7,11 @@ use Rattle.char_sequence.specs.Order.{Shows}
 use Rattle.char_sequence.specs.Held.{Holds}
 use Rattle.char_sequence.specs.Newest.{IsNewest}
 use Rattle.change_ops.specs.Changes.{Edit}
+use Rattle.change_ops.specs.Lines.{ops_of_lines}
+use Rattle.change_ops.specs.declared.line.Line.{Line}
 use Rattle.change_history.specs.declared.parts.Parts.{Parts}
 use Rattle.change_history.specs.declared.history.Draft.{Draft}
-use Rattle.change_history.specs.Accepted.{MayFollow, MayNotFollow, AllFollow, FirstRefused, IsAccepted, AreAccepted, operations_of}
+use Rattle.change_history.specs.Accepted.{MayFollow, MayNotFollow, AllFollow, IsFirstRefused, FirstRefused, IsAccepted, AreAccepted, operations_of}
 use Rattle.char_sequence.specs.declared.sequence.SequenceError.{SequenceError}
 use Rattle.char_sequence.specs.declared.sequence.SequenceError.TheVariants as sequence
 use Rattle.change_history.specs.declared.refusal.Refusal.{Refusal}
@@ -38,21 +40,31 @@ Applied ops op new (Ok done) = MayFollow ops op × Keeps (ops ++ op ∷ []) new
 Applied ops op new (Err (apply.Refused refusal)) = MayNotFollow ops op refusal
 Applied ops op new (Err apply.OutOfMemory) = MayFollow ops op
 
--- the error of an operation as one of its change
+-- the operations stand among others, from this place on
+abbrev pub StandAt : List Op → ℕ → List Op → Type 0
+StandAt all from ops = (i : ℕ) (op : Op) → slice_get ops i ≡ Some op → slice_get all (from + i) ≡ Some op
+
+-- what the application of so many operations, of several those from this place on, answers, and leaves
+abbrev pub StretchApplied : List Op → List Op → ℕ → ℕ → Parts → Result (Unit {0}) ApplyError → Type 0
+StretchApplied ops added from count new (Ok done) = AllFollow ops added (from + count) × Keeps (ops ++ take (from + count) added) new
+StretchApplied ops added from count new (Err (apply.Refused refusal)) = (place : ℕ) × (place < count) × IsFirstRefused ops added (from + place) refusal
+StretchApplied ops added from count new (Err apply.OutOfMemory) = Unit {0}
+
+-- the error of a line as one of its change
 abbrev pub error_at : ℕ → ApplyError → SubmitError
 error_at index (apply.Refused refusal) = Refused index refusal
 error_at index apply.OutOfMemory = OutOfMemory
 
--- operations were all accepted and applied, in their order, and these are the parts then
-pub record AreApplied (ops added : List Op) (new : Parts) : Type 0 where
-  pub follow : AllFollow ops added (length added)
-  pub kept : Keeps (ops ++ added) new
+-- the operations of lines were all accepted and applied, in their order, and these are the parts then
+pub record AreApplied (ops : List Op) (lines : List Line) (new : Parts) : Type 0 where
+  pub follow : AllFollow ops (ops_of_lines lines) (length (ops_of_lines lines))
+  pub kept : Keeps (ops ++ ops_of_lines lines) new
 
 -- why they were not: the first that is refused
-abbrev pub IsNotApplied : List Op → List Op → SubmitError → Type 0
-IsNotApplied ops added HistoryFull = ⊥
-IsNotApplied ops added (Refused index refusal) = FirstRefused ops added index refusal
-IsNotApplied ops added OutOfMemory = Unit {0}
+abbrev pub IsNotApplied : List Op → List Line → SubmitError → Type 0
+IsNotApplied ops lines HistoryFull = ⊥
+IsNotApplied ops lines (Refused index refusal) = FirstRefused ops lines index refusal
+IsNotApplied ops lines OutOfMemory = Unit {0}
 
 -- the changes were accepted one after another, and these are the parts of their operations
 pub record IsHistory (changes : List Edit) (parts : Parts) : Type 0 where

@@ -1,3 +1,4 @@
 pub mod Accepted
 pub mod Kept
 pub mod VersionAt
+pub mod Alike

@@ -1,19 +1,23 @@
-ghost use Rattle.std.specs.Prelude.{◌≡◌, ◌≤◌, ◌+◌, ◌-◌, List, [], ◌++◌, ◌∷◌, length, take, MatchResult, MatchOption, IfOk, OnOk};
-ghost use Rattle.change_ops.specs.Changes.{Edit};
+ghost use Rattle.std.specs.Prelude.{◌≡◌, ℕ, ◌≤◌, ◌+◌, ◌-◌, List, [], ◌++◌, ◌∷◌, length, take, MatchResult, MatchOption, IfOk, OnOk};
+ghost use Rattle.change_ops.specs.Changes.{Edit, operations};
+ghost use Rattle.change_ops.specs.Runs.{inserts_of};
+ghost use Rattle.change_ops.specs.Lines.{ops_of};
 ghost use Rattle.change_ops.specs.declared.operation.Op.{Op};
 ghost use Rattle.char_sequence.specs.Order.{SameSet};
 ghost use Rattle.char_sequence.specs.Tree.{Present};
 ghost use Rattle.mark_anchors.specs.Format.{IsFormat};
 ghost use Rattle.span_flatten.specs.Spans.{Span, AreSpans};
 ghost use Rattle.span_flatten.specs.Version.{IsVersion};
-ghost use Rattle.change_history.specs.Accepted.{IsAccepted, IsRefused, AreAccepted, operations_of};
-ghost use Rattle.change_history.specs.Kept.{Keeps, AreApplied, IsNotApplied, IsDraft, error_at};
+ghost use Rattle.change_history.specs.Accepted.{AllFollow, IsAccepted, IsRefused, AreAccepted, operations_of};
+ghost use Rattle.change_history.specs.Alike.{FormsAreAlike};
+ghost use Rattle.change_history.specs.Kept.{Keeps, StandAt, StretchApplied, AreApplied, IsNotApplied, IsDraft, error_at};
 
 use crate::parts::Parts;
 use crate::refusal::{ApplyError, SubmitError};
 use change_ops::change::Change;
 use change_ops::id::OpId;
-use change_ops::operation::Op;
+use change_ops::line::Line;
+use change_ops::run::Run;
 use mark_anchors::format::Format;
 use span_flatten::version::Version;
 use std::alloc::{AllocError, Global};
@@ -29,7 +33,7 @@ pub struct History {
     // A linked list, since a draft brings the node of its change: to put it in place takes no memory.
     changes: LinkedList<Change>,
     parts: Parts,
-    // The parts without the last change: the next one is applied to these, since one of its operations may be refused
+    // The parts without the last change: the next one is applied to these, since one of its lines may be refused
     // after others were applied. None where they were used up; a copy then takes their place.
     spare: Option<Parts>,
 }
@@ -66,13 +70,35 @@ fn at_index(index: usize, error: ApplyError) -> SubmitError
     }
 }
 
-/// Applies operations in their order, up to the first that is refused; after an error the parts are of no use.
-fn apply_all(parts: &mut Parts, operations: &[Op]) -> Result<(), SubmitError>
+/// Applies the inserts of a run in their order, up to the first that is refused; after an error the parts are of no use.
+fn apply_run(parts: &mut Parts, run: &Run) -> Result<(), ApplyError>
     requires { (ops : List Op) × Keeps ops parts.old }
-    ensures { (ops : List Op) → Keeps ops parts.old → MatchResult result (λ _. AreApplied ops operations.now parts.new) (IsNotApplied ops operations.now) }
+    ensures { (ops added : List Op) (from : ℕ) → StandAt added from (inserts_of run.now) → AllFollow ops added from → Keeps (ops ++ take from added) parts.old → StretchApplied ops added from (length (inserts_of run.now)) parts.new result }
 {
-    for index in 0..operations.len() {
-        if let Err(error) = parts.apply(&operations[index]) {
+    for index in 0..run.characters().len() {
+        parts.apply(&run.insert(index))?;
+    }
+    Ok(())
+}
+
+/// Applies the operations of a line in the same way.
+fn apply_line(parts: &mut Parts, line: &Line) -> Result<(), ApplyError>
+    requires { (ops : List Op) × Keeps ops parts.old }
+    ensures { (ops added : List Op) (from : ℕ) → StandAt added from (ops_of line.now) → AllFollow ops added from → Keeps (ops ++ take from added) parts.old → StretchApplied ops added from (length (ops_of line.now)) parts.new result }
+{
+    match line {
+        Line::Operation(op) => parts.apply(op),
+        Line::Run(run) => apply_run(parts, run),
+    }
+}
+
+/// Applies lines in their order, up to the first that is refused; after an error the parts are of no use.
+fn apply_all(parts: &mut Parts, lines: &[Line]) -> Result<(), SubmitError>
+    requires { (ops : List Op) × Keeps ops parts.old }
+    ensures { (ops : List Op) → Keeps ops parts.old → MatchResult result (λ _. AreApplied ops lines.now parts.new) (IsNotApplied ops lines.now) }
+{
+    for index in 0..lines.len() {
+        if let Err(error) = apply_line(parts, &lines[index]) {
             return Err(at_index(index, error));
         }
     }
@@ -85,7 +111,7 @@ fn catch_up(parts: &mut Parts, changes: &LinkedList<Change>) -> Result<(), Submi
     ensures { OnOk result (Keeps (operations_of changes.now) parts.new) }
 {
     match changes.back() {
-        Some(change) => apply_all(parts, change.operations()),
+        Some(change) => apply_all(parts, change.lines()),
         None => Ok(()),
     }
 }
@@ -143,13 +169,13 @@ impl History {
         self.parts.clone()
     }
 
-    /// The parts that follow the operations, if these are accepted next.
-    fn parts_after(&mut self, operations: &[Op]) -> Result<Parts, SubmitError>
-        ensures applied { MatchResult result (AreApplied (operations_of self.old) operations.now) (IsNotApplied (operations_of self.old) operations.now) }
+    /// The parts that follow the lines, if these are accepted next.
+    fn parts_after(&mut self, lines: &[Line]) -> Result<Parts, SubmitError>
+        ensures applied { MatchResult result (AreApplied (operations_of self.old) lines.now) (IsNotApplied (operations_of self.old) lines.now) }
         ensures same { self.new ≡ self.old }
     {
         let mut parts = self.working_parts()?;
-        apply_all(&mut parts, operations)?;
+        apply_all(&mut parts, lines)?;
         Ok(parts)
     }
 
@@ -161,7 +187,7 @@ impl History {
         if self.changes.len() >= CHANGE_LIMIT {
             return Err(SubmitError::HistoryFull);
         }
-        let parts = self.parts_after(change.operations())?;
+        let parts = self.parts_after(change.lines())?;
         let added = alone(*self.changes.allocator(), change)?;
         Ok(Draft { added, parts })
     }
@@ -214,3 +240,9 @@ impl History {
         self.parts.same_set_same_spans();
     }
 }
+
+/// The law of the two forms: changes of the same operations are accepted alike, refused alike, and make the same version, in
+/// whatever lines the operations stand.
+pub fn forms_are_alike()
+    ensures { FormsAreAlike }
+{}

@@ -31,7 +31,7 @@ pub enum SubmitError {
     /// 4,096 changes were accepted.
     #[error("50 HistoryFull")]
     HistoryFull,
-    /// The operation at this index, from 0, is the first that is refused.
+    /// The first operation that is refused is of the line at this index, from 0.
     #[error("{refusal}")]
     Refused { index: usize, refusal: Refusal },
     /// No memory was found.

@@ -1,74 +1,82 @@
 -- A change is read as what it spells, and spells what it is read as.
-use Rattle.std.proofs.Common.{◌≡◌, ℕ, zero, suc, ◌+◌, ◌<◌, ◌≤◌, Bool, true, false, cond, eqb, leb, List, [], ◌∷◌, ◌++◌, length, Option, Some, None, Result, Ok, Err, refl, sym, ap, subst, ◌∙◌, arith, append_assoc, length-append, lit≤}
-use Rattle.std.specs.Prelude.{◌&&◌, not, codes, if◌then◌else◌, IfOk, IsTrue}
-use Rattle.std.specs.Str.{bytes_eq}
+use Rattle.std.proofs.Common.{◌≡◌, ℕ, zero, suc, ◌+◌, ◌-◌, ◌<◌, ◌≤◌, Bool, true, false, cond, eqb, leb, List, [], ◌∷◌, ◌++◌, length, Option, Some, None, Result, Ok, Err, refl, sym, ap, subst, ◌∙◌, inl, inr, arith, append_assoc, length-append, lit≤}
+use Rattle.std.specs.Prelude.{◌&&◌, not, IfOk}
 use Rattle.std.specs.Fmt.{decimal}
 use Rattle.std.specs.List.{AllByRecursion}
 use Rattle.std.proofs.lemmas.Bool.{and_parts, and_from, leb-true, le-leb, eqb-true, eq-eqb}
 use Rattle.change_ops.specs.Ids.{is_node}
-use Rattle.change_ops.specs.Operations.{id_of}
-use Rattle.change_ops.specs.Limits.{op_within, has_character}
+use Rattle.change_ops.specs.Lines.{ops_of, ops_of_lines, count_of, first_id, line_within, line_has_characters}
 use Rattle.change_ops.specs.Words.{split, number_in}
-use Rattle.change_ops.specs.Reading.{header_at, op_at, judged, line_verdict}
+use Rattle.change_ops.specs.Reading.{form_at, header_at, line_in, judged, line_verdict, Reads}
 use Rattle.change_ops.specs.Reading as reading
-use Rattle.change_ops.specs.Changes.{Edit, IsChange, OwnOps, ◌>>=◌, Gives, placed, ended, limited_header, within_header, header_verdict, next_at, ops_at, change_at}
-use Rattle.change_ops.specs.Spelling.{◌␣◌, op_text, lines_text, change_text, Spells, Answers, NoneBeginsAnother}
-use Rattle.change_ops.specs.declared.operation.Op.{Op}
+use Rattle.change_ops.specs.Changes.{Edit, IsLine, IsChange, OwnLines, Header, ◌>>=◌, Gives, placed, ended, limited_header, within_header, header_verdict, next_at, lines_at, change_at}
+use Rattle.change_ops.specs.Spelling.{◌␣◌, line_text, lines_text, form_text, change_text, Spells, Answers, NoneBeginsAnother}
+use Rattle.change_ops.specs.declared.line.Form.{Form}
+use Rattle.change_ops.specs.declared.line.Line.{Line}
+use Rattle.change_ops.specs.declared.line.Line.TheVariants.{Operation, Run}
 use Rattle.change_ops.specs.declared.refusal.LineFault.{LineFault}
-use Rattle.change_ops.specs.declared.refusal.LineFault.TheVariants as line
+use Rattle.change_ops.specs.declared.refusal.LineFault.TheVariants as why
 use Rattle.change_ops.specs.declared.refusal.ChangeError.{ChangeError}
 use Rattle.change_ops.specs.declared.refusal.ChangeError.TheVariants.{BadLine, Truncated, Limit, CharRefused, WrongPeer, OutOfMemory}
 use Rattle.change_ops.proofs.Grammar.{Lacks, bind_some, split_again, split_takes}
-use Rattle.change_ops.proofs.Phrases.{lacks_joined, decimal_again, decimal_takes, decimal_lacks, same_bytes}
-use Rattle.change_ops.proofs.Keys.{lacks_all}
-use Rattle.change_ops.proofs.LineLaws.{both, op_again, op_takes, op_lacks}
+use Rattle.change_ops.proofs.Phrases.{lacks_joined, decimal_again, decimal_takes, decimal_lacks}
+use Rattle.change_ops.proofs.LineLaws.{both}
+use Rattle.change_ops.proofs.RunLaws.{run_limits}
+use Rattle.change_ops.proofs.SpelledLines.{ops_count, in_again, in_takes, line_takes, line_lacks}
+use Rattle.change_ops.proofs.LineForms.{form_takes, form_again, form_lacks}
 
 abbrev pub Parts : Type 0
 Parts = List ℕ × List ℕ
 
 abbrev pub One : Type 0
-One = Op × List ℕ
+One = Line × List ℕ
 
-abbrev pub Ops : Type 0
-Ops = List Op × List ℕ
+abbrev pub Lines : Type 0
+Lines = List Line × List ℕ
 
 pub bind_ok : {A B : Type 0} (r : Result A ChangeError) (f : A → Result B ChangeError) (y : B) → (r >>= f) ≡ Ok y → (x : A) × (r ≡ Ok x) × (f x ≡ Ok y)
 bind_ok (Ok x) f y e = (x, refl, e)
 bind_ok (Err d) f y e = absurd cc
 
--- an operation within the limits
-abbrev pub Named : Op → Type 0
-Named op = IsTrue (op_within op && has_character op)
+pub same_ok : {A : Type 0} (x y : A) (r : Result A ChangeError) → r ≡ Ok x → r ≡ Ok y → x ≡ y
+same_ok x y r e f = cc
 
-abbrev pub Own : ℕ → Op → Type 0
-Own peer op = (id_of op).node ≡ peer
+-- what a verdict says of the line that it accepts
 
--- what a verdict says of the operation that it accepts
+pub record Judged (peer room : ℕ) (line : Line) : Type 0 where
+  pub within : line_within line ≡ true
+  pub fits : count_of line ≤ room
+  pub characters : line_has_characters line ≡ true
+  pub own : (first_id line).node ≡ peer
 
-choose : (within character same : Bool) (op op' : Op) → cond (not within) (Err line.Limit) (cond (not character) (Err line.CharRefused) (cond same (Ok op) (Err line.WrongPeer))) ≡ Ok op' → (within ≡ true) × (character ≡ true) × (same ≡ true) × (op ≡ op')
-choose true true true op op' e = (refl, refl, refl, cc)
-choose true true false op op' e = absurd cc
-choose true false same op op' e = absurd cc
-choose false character same op op' e = absurd cc
-
-abbrev Accepted : ℕ → Option Op → Op → Type 0
-Accepted peer read op = (read ≡ Some op) × Named op × Own peer op
+choose : (within character same : Bool) (line line' : Line) → cond (not within) (Err why.Limit) (cond (not character) (Err why.CharRefused) (cond same (Ok line) (Err why.WrongPeer))) ≡ Ok line' → (within ≡ true) × (character ≡ true) × (same ≡ true) × (line ≡ line')
+choose true true true line line' e = (refl, refl, refl, cc)
+choose true true false line line' e = absurd cc
+choose true false same line line' e = absurd cc
+choose false character same line line' e = absurd cc
 
 pub placed_takes : {A : Type 0} (n : ℕ) (r : Result A LineFault) (x : A) → placed n r ≡ Ok x → r ≡ Ok x
 placed_takes n (Ok y) x e = cc
 placed_takes n (Err fault) x e = absurd cc
 
-pub verdict_takes : (peer : ℕ) (read : Option Op) (op : Op) → line_verdict peer read ≡ Ok op → Accepted peer read op
-verdict_takes peer None op e = absurd cc
-verdict_takes peer (Some x) op e =
-    let c = choose (op_within x) (has_character x) (eqb (id_of x).node peer) x op e in
-    let same = c.3 in
-    (ap (λ (y : Op). Some y) same, subst Named same (and_from (op_within x) (has_character x) c.0 c.1), subst (Own peer) same (eqb-true _ _ c.2))
+pub record Verdict (peer room : ℕ) (o : Option Line) (line : Line) : Type 0 where
+  pub read : o ≡ Some line
+  pub judged : Judged peer room line
 
-verdict_again : (peer : ℕ) (op : Op) → Named op → Own peer op → judged peer op ≡ Ok op
-verdict_again peer op h own =
-    let a = and_parts (op_within op) (has_character op) h in
-    rw (a.0, a.1, eq-eqb _ _ own) refl
+pub verdict_takes : (peer room : ℕ) (read : Option Line) (line : Line) → line_verdict peer room read ≡ Ok line → Verdict peer room read line
+verdict_takes peer room None line e = absurd cc
+verdict_takes peer room (Some x) line e =
+    let c = choose (line_within x && leb (count_of x) room) (line_has_characters x) (eqb (first_id x).node peer) x line e in
+    let w = and_parts (line_within x) (leb (count_of x) room) c.0 in
+    let found : Judged peer room x = record { within = w.0; fits = leb-true _ _ w.1; characters = c.1; own = eqb-true _ _ c.2 } in
+    subst (λ (y : Line). Verdict peer room (Some x) y) c.3 (record { read = refl; judged = found })
+
+pub verdict_fits : (peer room : ℕ) (read : Option Line) (line : Line) → Reads (Ok line) (line_verdict peer room read) → count_of line ≤ room
+verdict_fits peer room read line (inl memory) = absurd cc
+verdict_fits peer room read line (inr same) = let v = verdict_takes peer room read line (sym same) in v.judged.fits
+
+verdict_again : (peer room : ℕ) (line : Line) → Judged peer room line → judged peer room line ≡ Ok line
+verdict_again peer room line h = rw (and_from (line_within line) (leb (count_of line) room) h.within (le-leb _ _ h.fits), h.characters, eq-eqb _ _ h.own) refl
 
 -- one line
 
@@ -78,132 +86,195 @@ ended_takes bytes parts e = go (split 10 bytes) refl e where
   go None f e = absurd cc
   go (Some x) f e = let same : x ≡ parts = cc in (split_takes 10 bytes parts.0 parts.1 (f ∙ ap (λ (y : Parts). Some y) same)).0
 
-next_again : (peer n : ℕ) (op : Op) (rest : List ℕ) → Named op → Own peer op → next_at peer n (op_text op ++ 10 ∷ rest) ≡ Ok (op, rest)
+next_again : (form : Form) (peer room n : ℕ) (line : Line) (rest : List ℕ) → IsLine form peer line → count_of line ≤ room → next_at form peer room n (line_text line ++ 10 ∷ rest) ≡ Ok (line, rest)
 unfolding next_at
-next_again peer n op rest h own =
-    let a = and_parts (op_within op) (has_character op) h in
-    rw (split_again 10 (op_text op) rest (op_lacks op a.0 a.1), op_again op a.0 a.1, verdict_again peer op h own) refl
+next_again form peer room n line rest h fits =
+    let judged : Judged peer room line = record { within = h.within; fits = fits; characters = h.characters; own = h.own } in
+    rw (split_again 10 (line_text line) rest (line_lacks line h.within h.characters), in_again form line h.within h.characters h.formed, verdict_again peer room line judged) refl
 
-abbrev LineTaken : ℕ → List ℕ → One → Type 0
-LineTaken peer bytes x = (bytes ≡ op_text x.0 ++ 10 ∷ x.1) × Named x.0 × Own peer x.0
+pub record LineTaken (form : Form) (peer room : ℕ) (bytes : List ℕ) (x : One) : Type 0 where
+  pub text : bytes ≡ line_text x.0 ++ 10 ∷ x.1
+  pub line : IsLine form peer x.0
+  pub fits : count_of x.0 ≤ room
 
-next_takes : (peer n : ℕ) (bytes : List ℕ) (x : One) → next_at peer n bytes ≡ Ok x → LineTaken peer bytes x
+pub next_takes : (form : Form) (peer room n : ℕ) (bytes : List ℕ) (x : One) → next_at form peer room n bytes ≡ Ok x → LineTaken form peer room bytes x
 unfolding next_at
-next_takes peer n bytes x e =
-    let a = bind_ok (ended (split 10 bytes)) (λ parts. placed n (line_verdict peer (op_at parts.0)) >>= λ op. Ok (op, parts.1)) x e in
-    let b = bind_ok (placed n (line_verdict peer (op_at a.0.0))) (λ op. Ok (op, a.0.1)) x a.2 in
-    let made : One = (b.0, a.0.1) in
-    let same : made ≡ x = cc (b.2) in
-    let v = verdict_takes peer (op_at a.0.0) b.0 (placed_takes n (line_verdict peer (op_at a.0.0)) b.0 b.1) in
-    let w = and_parts (op_within b.0) (has_character b.0) v.1 in
-    let text = ended_takes bytes a.0 a.1 ∙ ap (λ (y : List ℕ). y ++ 10 ∷ a.0.1) (op_takes a.0.0 b.0 v.0 w.0 w.1) in
-    subst (LineTaken peer bytes) same (text, v.1, v.2)
+next_takes form peer room n bytes x e =
+    let a = bind_ok (ended (split 10 bytes)) (λ parts. placed n (line_verdict peer room (line_in form parts.0)) >>= λ found. made found parts.1) x e in
+    let b = bind_ok (placed n (line_verdict peer room (line_in form a.0.0))) (λ found. made found a.0.1) x a.2 in
+    let read : One = (b.0, a.0.1) in
+    let same : read ≡ x = same_ok read x (Ok read) refl b.2 in
+    let v = verdict_takes peer room (line_in form a.0.0) b.0 (placed_takes n (line_verdict peer room (line_in form a.0.0)) b.0 b.1) in
+    let had = in_takes form a.0.0 b.0 v.read in
+    let line : IsLine form peer b.0 = record { own = v.judged.own; within = v.judged.within; characters = v.judged.characters; formed = had.had } in
+    let text = ended_takes bytes a.0 a.1 ∙ ap (λ (y : List ℕ). y ++ 10 ∷ a.0.1) (line_takes a.0.0 b.0 had.read v.judged.within v.judged.characters) in
+    let taken : LineTaken form peer room bytes read = record { text = text; line = line; fits = v.judged.fits } in
+    subst (LineTaken form peer room bytes) same taken
+  where
+    made : Line → List ℕ → Result One ChangeError
+    made found rest = Ok (found, rest)
 
 -- all lines
 
-pub record OpsTaken (peer count : ℕ) (bytes : List ℕ) (x : Ops) : Type 0 where
+pub record LinesTaken (form : Form) (peer room count : ℕ) (bytes : List ℕ) (x : Lines) : Type 0 where
   pub whole : bytes ≡ lines_text x.0 ++ x.1
-  pub named : AllByRecursion Named x.0
-  pub own : AllByRecursion (Own peer) x.0
+  pub lines : AllByRecursion (IsLine form peer) x.0
   pub counted : length x.0 ≡ count
+  pub few : length (ops_of_lines x.0) ≤ room
 
-pub ops_takes : (peer n count : ℕ) (bytes : List ℕ) (x : Ops) → ops_at peer n count bytes ≡ Ok x → OpsTaken peer count bytes x
-unfolding ops_at lines_text
-ops_takes peer n zero bytes x e = let made : Ops = ([], bytes) in let same : made ≡ x = cc in subst (OpsTaken peer 0 bytes) same (record { whole = refl; named = tt; own = tt; counted = refl })
-ops_takes peer n (suc count) bytes x e =
-    let a = bind_ok (next_at peer n bytes) (λ first. ops_at peer (n + 1) count first.1 >>= λ others. Ok (first.0 ∷ others.0, others.1)) x e in
-    let b = bind_ok (ops_at peer (n + 1) count a.0.1) (λ others. Ok (a.0.0 ∷ others.0, others.1)) x a.2 in
-    let first = next_takes peer n bytes a.0 a.1 in
-    let rest = ops_takes peer (n + 1) count a.0.1 b.0 b.1 in
-    let made : Ops = (a.0.0 ∷ b.0.0, b.0.1) in
-    let same : made ≡ x = cc (b.2) in
-    let text = first.0 ∙ ap (λ (y : List ℕ). op_text a.0.0 ++ 10 ∷ y) rest.whole ∙ sym (append_assoc (op_text a.0.0) (10 ∷ lines_text b.0.0) b.0.1) in
-    subst (OpsTaken peer (suc count) bytes) same (record { whole = text; named = (first.1, rest.named); own = (first.2, rest.own); counted = ap suc rest.counted })
+-- how many operations a line and those behind it mean
+pub more_ops : (line : Line) (lines : List Line) → length (ops_of_lines (line ∷ lines)) ≡ count_of line + length (ops_of_lines lines)
+unfolding ops_of_lines
+more_ops line lines = length-append (ops_of line) (ops_of_lines lines) ∙ ap (λ (k : ℕ). k + length (ops_of_lines lines)) (ops_count line)
 
-pub ops_own : (peer n count : ℕ) (bytes : List ℕ) (x : Ops) → ops_at peer n count bytes ≡ Ok x → OwnOps peer count x.0
-ops_own peer n count bytes x e = let t = ops_takes peer n count bytes x e in (t.counted, t.own, t.named)
+pub no_ops : length (ops_of_lines []) ≡ 0
+unfolding ops_of_lines
+no_ops = refl
 
-ops_again : (peer n : ℕ) (ops : List Op) (rest : List ℕ) → AllByRecursion Named ops → AllByRecursion (Own peer) ops → ops_at peer n (length ops) (lines_text ops ++ rest) ≡ Ok (ops, rest)
-unfolding ops_at lines_text
-ops_again peer n [] rest h own = refl
-ops_again peer n (op ∷ ops) rest h own =
-    rw (append_assoc (op_text op) (10 ∷ lines_text ops) rest, next_again peer n op (lines_text ops ++ rest) h.0 own.0, ops_again peer (n + 1) ops rest h.1 own.1) refl
+pub lines_taken : (form : Form) (peer room n count : ℕ) (bytes : List ℕ) (x : Lines) → lines_at form peer room n count bytes ≡ Ok x → LinesTaken form peer room count bytes x
+unfolding lines_at lines_text
+lines_taken form peer room n zero bytes x e =
+    let read : Lines = ([], bytes) in
+    let same : read ≡ x = cc in
+    let none = no_ops in
+    let few : length (ops_of_lines []) ≤ room = omega arith in
+    let taken : LinesTaken form peer room 0 bytes read = record { whole = refl; lines = tt; counted = refl; few = few } in
+    subst (LinesTaken form peer room 0 bytes) same taken
+lines_taken form peer room n (suc count) bytes x e =
+    let a = bind_ok (next_at form peer room n bytes) (λ first. lines_at form peer (room - count_of first.0) (n + 1) count first.1 >>= λ others. made first.0 others) x e in
+    let b = bind_ok (lines_at form peer (room - count_of a.0.0) (n + 1) count a.0.1) (λ others. made a.0.0 others) x a.2 in
+    let first = next_takes form peer room n bytes a.0 a.1 in
+    let rest = lines_taken form peer (room - count_of a.0.0) (n + 1) count a.0.1 b.0 b.1 in
+    let read : Lines = (a.0.0 ∷ b.0.0, b.0.1) in
+    let same : read ≡ x = same_ok read x (Ok read) refl b.2 in
+    let text = first.text ∙ ap (λ (y : List ℕ). line_text a.0.0 ++ 10 ∷ y) rest.whole ∙ sym (append_assoc (line_text a.0.0) (10 ∷ lines_text b.0.0) b.0.1) in
+    let fits = first.fits in
+    let others = rest.few in
+    let all = more_ops a.0.0 b.0.0 in
+    let few : length (ops_of_lines (a.0.0 ∷ b.0.0)) ≤ room = omega arith in
+    let taken : LinesTaken form peer room (suc count) bytes read = record { whole = text; lines = (first.line, rest.lines); counted = ap suc rest.counted; few = few } in
+    subst (LinesTaken form peer room (suc count) bytes) same taken
+  where
+    made : Line → Lines → Result Lines ChangeError
+    made line others = Ok (line ∷ others.0, others.1)
+
+pub lines_own : (form : Form) (peer room n count : ℕ) (bytes : List ℕ) (x : Lines) → lines_at form peer room n count bytes ≡ Ok x → OwnLines form peer room count x.0
+lines_own form peer room n count bytes x e = let t = lines_taken form peer room n count bytes x e in record { counted = t.counted; few = t.few; lines = t.lines }
+
+lines_again : (form : Form) (peer room n : ℕ) (lines : List Line) (rest : List ℕ) → AllByRecursion (IsLine form peer) lines → length (ops_of_lines lines) ≤ room → lines_at form peer room n (length lines) (lines_text lines ++ rest) ≡ Ok (lines, rest)
+unfolding lines_at lines_text
+lines_again form peer room n [] rest h few = refl
+lines_again form peer room n (line ∷ lines) rest h few =
+    let all = more_ops line lines in
+    let fits : count_of line ≤ room = omega arith in
+    let left : length (ops_of_lines lines) ≤ room - count_of line = omega arith in
+    rw (append_assoc (line_text line) (10 ∷ lines_text lines) rest, next_again form peer room n line (lines_text lines ++ rest) h.0 fits, lines_again form peer (room - count_of line) (n + 1) lines rest h.1 left) refl
 
 -- the first line
 
-abbrev header : ℕ → ℕ → List ℕ
-header node count = codes "change" ␣ decimal node ␣ decimal count
+abbrev header : Form → ℕ → ℕ → List ℕ
+header form node count = form_text form ␣ decimal node ␣ decimal count
 
-header_again : (node count : ℕ) → 0 < node → node ≤ 65535 → 0 < count → count ≤ 256 → header_at (header node count) ≡ Some (node, count)
+header_again : (form : Form) (node count : ℕ) → 0 < node → node ≤ 65535 → 0 < count → count ≤ 256 → header_at (header form node count) ≡ Some (form, node, count)
 unfolding header_at
-header_again node count n1 n2 c1 c2 =
-    let one = split_again 32 (codes "change") (decimal node ␣ decimal count) (lacks_all 32 (codes "change") refl) in
+header_again form node count n1 n2 c1 c2 =
+    let one = split_again 32 (form_text form) (decimal node ␣ decimal count) (form_lacks 32 form (omega arith)) in
     let two = split_again 32 (decimal node) (decimal count) (decimal_lacks 32 node (lit≤ tt) n1 (omega arith)) in
-    rw (one, two, decimal_again node n1 (omega arith), decimal_again count c1 (omega arith)) refl
+    rw (one, two, form_again form, decimal_again node n1 (omega arith), decimal_again count c1 (omega arith)) refl
 
-header_lacks : (node count : ℕ) → 0 < node → node ≤ 65535 → 0 < count → count ≤ 256 → Lacks 10 (header node count)
-header_lacks node count n1 n2 c1 c2 =
-    lacks_joined 10 (codes "change") (decimal node ␣ decimal count) 32 (lacks_all 10 (codes "change") refl) refl
+header_lacks : (form : Form) (node count : ℕ) → 0 < node → node ≤ 65535 → 0 < count → count ≤ 256 → Lacks 10 (header form node count)
+header_lacks form node count n1 n2 c1 c2 =
+    lacks_joined 10 (form_text form) (decimal node ␣ decimal count) 32 (form_lacks 10 form (omega arith)) refl
     (lacks_joined 10 (decimal node) (decimal count) 32 (decimal_lacks 10 node (lit≤ tt) n1 (omega arith)) refl (decimal_lacks 10 count (lit≤ tt) c1 (omega arith)))
 
-abbrev pub Header : Type 0
-Header = ℕ × ℕ
+-- the limits of a header's numbers
+pub record HeaderLimits (h : Header) : Type 0 where
+  pub named : 1 ≤ h.1
+  pub known : h.1 ≤ 65535
+  pub some : 1 ≤ h.2
+  pub few : h.2 ≤ 256
 
-header_within : (h : Header) → 1 ≤ h.0 → h.0 ≤ 65535 → 1 ≤ h.1 → h.1 ≤ 256 → limited_header h ≡ Some h
-header_within h n1 n2 c1 c2 = rw (le-leb 1 h.0 n1, le-leb h.0 65535 n2, le-leb 1 h.1 c1, le-leb h.1 256 c2) refl
+header_within : (h : Header) → HeaderLimits h → limited_header h ≡ Some h
+header_within h l = rw (le-leb 1 h.1 l.named, le-leb h.1 65535 l.known, le-leb 1 h.2 l.some, le-leb h.2 256 l.few) refl
+
+-- each line means an operation at least
+line_counts : (line : Line) → line_within line ≡ true → 1 ≤ count_of line
+line_counts (Operation op) h = omega arith
+line_counts (Run run) h = let l = run_limits run h in let s = l.some in omega arith
+
+lines_count : (form : Form) (peer : ℕ) (lines : List Line) → AllByRecursion (IsLine form peer) lines → length lines ≤ length (ops_of_lines lines)
+lines_count form peer [] h = omega arith
+lines_count form peer (line ∷ lines) h =
+    let one = line_counts line h.0.within in
+    let others = lines_count form peer lines h.1 in
+    let all = more_ops line lines in
+    omega arith
 
 pub change_again : (change : Edit) (rest : List ℕ) → IsChange change → change_at (change_text change ++ rest) ≡ Ok (change, rest)
 unfolding change_at change_text
 change_again change rest h =
-    let count = length change.operations in
-    let line = header change.node count in
-    let grouped : (line ++ 10 ∷ lines_text change.operations) ++ rest ≡ line ++ 10 ∷ (lines_text change.operations ++ rest) = append_assoc line (10 ∷ lines_text change.operations) rest in
-    let parts = split_again 10 line (lines_text change.operations ++ rest) (header_lacks change.node count h.named h.known h.some h.few) in
-    rw (grouped, parts, header_again change.node count h.named h.known h.some h.few, header_within (change.node, count) h.named h.known h.some h.few, ops_again change.node 2 change.operations rest h.within h.own) refl
+    let count = length change.lines in
+    let line = header change.form change.node count in
+    let each = lines_count change.form change.node change.lines h.lines in
+    let all = h.few in
+    let few : count ≤ 256 = omega arith in
+    let limits : HeaderLimits (change.form, change.node, count) = record { named = h.named; known = h.known; some = h.some; few = few } in
+    let grouped : (line ++ 10 ∷ lines_text change.lines) ++ rest ≡ line ++ 10 ∷ (lines_text change.lines ++ rest) = append_assoc line (10 ∷ lines_text change.lines) rest in
+    let parts = split_again 10 line (lines_text change.lines ++ rest) (header_lacks change.form change.node count h.named h.known h.some few) in
+    rw (grouped, parts, header_again change.form change.node count h.named h.known h.some few, header_within (change.form, change.node, count) limits, lines_again change.form change.node 256 2 change.lines rest h.lines h.few) refl
 
-limited_takes : (h x : Header) → limited_header h ≡ Some x → (h ≡ x) × (1 ≤ x.0) × (x.0 ≤ 65535) × (1 ≤ x.1) × (x.1 ≤ 256)
-limited_takes h x e = go (is_node h.0 && leb 1 h.1 && leb h.1 256) refl e where
-  go : (b : Bool) → (is_node h.0 && leb 1 h.1 && leb h.1 256) ≡ b → cond b (Some h) None ≡ Some x → (h ≡ x) × (1 ≤ x.0) × (x.0 ≤ 65535) × (1 ≤ x.1) × (x.1 ≤ 256)
+record HeaderTaken (h x : Header) : Type 0 where
+  same : h ≡ x
+  limits : HeaderLimits x
+
+limited_takes : (h x : Header) → limited_header h ≡ Some x → HeaderTaken h x
+limited_takes h x e = go (is_node h.1 && leb 1 h.2 && leb h.2 256) refl e where
+  go : (b : Bool) → (is_node h.1 && leb 1 h.2 && leb h.2 256) ≡ b → cond b (Some h) None ≡ Some x → HeaderTaken h x
   go false f g = absurd cc
   go true f g =
       let same : h ≡ x = cc in
-      let a = and_parts (is_node h.0 && leb 1 h.1) (leb h.1 256) f in
-      let b = and_parts (is_node h.0) (leb 1 h.1) a.0 in
-      let c = and_parts (leb 1 h.0) (leb h.0 65535) b.0 in
-      let P : Header → Type 0 = λ y. (1 ≤ y.0) × (y.0 ≤ 65535) × (1 ≤ y.1) × (y.1 ≤ 256) in
-      let all : P x = subst P same (leb-true _ _ c.0, leb-true _ _ c.1, leb-true _ _ b.1, leb-true _ _ a.1) in
-      (same, all.0, all.1, all.2, all.3)
+      let a = and_parts (is_node h.1 && leb 1 h.2) (leb h.2 256) f in
+      let b = and_parts (is_node h.1) (leb 1 h.2) a.0 in
+      let c = and_parts (leb 1 h.1) (leb h.1 65535) b.0 in
+      let limits : HeaderLimits h = record { named = leb-true _ _ c.0; known = leb-true _ _ c.1; some = leb-true _ _ b.1; few = leb-true _ _ a.1 } in
+      record { same = same; limits = subst HeaderLimits same limits }
 
-verdict_header : (o : Option Header) (x : Header) → header_verdict o ≡ Ok x → (o ≡ Some x) × (1 ≤ x.0) × (x.0 ≤ 65535) × (1 ≤ x.1) × (x.1 ≤ 256)
+pub record HeaderRead (o : Option Header) (x : Header) : Type 0 where
+  pub read : o ≡ Some x
+  pub limits : HeaderLimits x
+
+pub verdict_header : (o : Option Header) (x : Header) → header_verdict o ≡ Ok x → HeaderRead o x
 verdict_header None x e = absurd cc
 verdict_header (Some h) x e = go (limited_header h) refl e where
-  go : (o : Option Header) → limited_header h ≡ o → within_header o ≡ Ok x → (Some h ≡ Some x) × (1 ≤ x.0) × (x.0 ≤ 65535) × (1 ≤ x.1) × (x.1 ≤ 256)
+  go : (o : Option Header) → limited_header h ≡ o → within_header o ≡ Ok x → HeaderRead (Some h) x
   go None f g = absurd cc
   go (Some y) f g =
       let same : y ≡ x = cc in
       let l = limited_takes h x (f ∙ ap (λ (z : Header). Some z) same) in
-      (ap (λ (z : Header). Some z) l.0, l.1, l.2, l.3, l.4)
+      record { read = ap (λ (z : Header). Some z) l.same; limits = l.limits }
 
-header_takes : (text : List ℕ) (h : Header) → 1 ≤ h.0 → h.0 ≤ 65535 → 1 ≤ h.1 → h.1 ≤ 256 → header_at text ≡ Some h → text ≡ header h.0 h.1
+header_takes : (text : List ℕ) (h : Header) → HeaderLimits h → header_at text ≡ Some h → text ≡ header h.0 h.1 h.2
 unfolding header_at
-header_takes text h n1 n2 c1 c2 e =
-    let a = bind_some (split 32 text) (λ first. reading.◌>>=◌ (split 32 first.1) (λ second. if not (bytes_eq first.0 (codes "change")) then None else (reading.◌>>=◌ (number_in 10 second.0) (λ node. reading.◌>>=◌ (number_in 10 second.1) (λ count. Some (node, count)))))) h e in
-    let b = bind_some (split 32 a.0.1) (λ second. if not (bytes_eq a.0.0 (codes "change")) then None else (reading.◌>>=◌ (number_in 10 second.0) (λ node. reading.◌>>=◌ (number_in 10 second.1) (λ count. Some (node, count))))) h a.2 in
+header_takes text h l e =
+    let a = bind_some (split 32 text) (λ first. reading.◌>>=◌ (split 32 first.1) (λ second. reading.◌>>=◌ (form_at first.0) (λ form. reading.◌>>=◌ (number_in 10 second.0) (λ node. reading.◌>>=◌ (number_in 10 second.1) (λ count. made form node count))))) h e in
+    let b = bind_some (split 32 a.0.1) (λ second. reading.◌>>=◌ (form_at a.0.0) (λ form. reading.◌>>=◌ (number_in 10 second.0) (λ node. reading.◌>>=◌ (number_in 10 second.1) (λ count. made form node count)))) h a.2 in
+    let f = bind_some (form_at a.0.0) (λ form. reading.◌>>=◌ (number_in 10 b.0.0) (λ node. reading.◌>>=◌ (number_in 10 b.0.1) (λ count. made form node count))) h b.2 in
+    let c = bind_some (number_in 10 b.0.0) (λ node. reading.◌>>=◌ (number_in 10 b.0.1) (λ count. made f.0 node count)) h f.2 in
+    let d = bind_some (number_in 10 b.0.1) (λ count. made f.0 c.0 count) h c.2 in
+    let read : Header = (f.0, c.0, d.0) in
+    let same : read ≡ h = some_header read h d.2 in
     let one = (split_takes 32 text a.0.0 a.0.1 a.1).0 in
     let two = (split_takes 32 a.0.1 b.0.0 b.0.1 b.1).0 in
-    named a.0.0 b.0.0 b.0.1 (one ∙ both refl two) (bytes_eq a.0.0 (codes "change")) refl b.2
+    let limits : HeaderLimits read = subst HeaderLimits (sym same) l in
+    let node = decimal_takes c.0 b.0.0 limits.named (let k = limits.known in omega arith) c.1 in
+    let count = decimal_takes d.0 b.0.1 limits.some (let k = limits.few in omega arith) d.1 in
+    one ∙ both (form_takes a.0.0 f.0 f.1) (two ∙ both node count) ∙ ap (λ (x : Header). header x.0 x.1 x.2) same
   where
-    named : (name node count : List ℕ) → text ≡ name ␣ node ␣ count → (t : Bool) → bytes_eq name (codes "change") ≡ t
-        → cond (not t) None (reading.◌>>=◌ (number_in 10 node) (λ n. reading.◌>>=◌ (number_in 10 count) (λ c. Some (n, c)))) ≡ Some h → text ≡ header h.0 h.1
-    named name node count whole false f g = absurd cc
-    named name node count whole true f g =
-        let c = bind_some (number_in 10 node) (λ n. reading.◌>>=◌ (number_in 10 count) (λ c. Some (n, c))) h g in
-        let d = bind_some (number_in 10 count) (λ k. Some (c.0, k)) h c.2 in
-        let made : Header = (c.0, d.0) in
-        let same : made ≡ h = cc (d.2) in
-        let n : number_in 10 node ≡ Some h.0 = c.1 ∙ ap (λ (y : Header). Some y.0) same in
-        let k : number_in 10 count ≡ Some h.1 = d.1 ∙ ap (λ (y : Header). Some y.1) same in
-        whole ∙ both (same_bytes name (codes "change") f) (both (decimal_takes h.0 node n1 (omega arith) n) (decimal_takes h.1 count c1 (omega arith) k))
+    made : Form → ℕ → ℕ → Option Header
+    made form node count = Some (form, node, count)
+
+    some_header : (x y : Header) → Some x ≡ Some y → x ≡ y
+    some_header x y e = cc
 
 abbrev pub Pair : Type 0
 Pair = Edit × List ℕ
@@ -214,18 +285,23 @@ Taken text x = Spells text x.0 x.1
 pub change_takes : (text : List ℕ) (x : Pair) → change_at text ≡ Ok x → Spells text x.0 x.1
 unfolding change_at change_text
 change_takes text x e =
-    let a = bind_ok (ended (split 10 text)) (λ parts. placed 1 (header_verdict (header_at parts.0)) >>= λ header. ops_at header.0 2 header.1 parts.1 >>= λ ops. Ok (record { node = header.0; operations = ops.0 }, ops.1)) x e in
-    let b = bind_ok (placed 1 (header_verdict (header_at a.0.0))) (λ header. ops_at header.0 2 header.1 a.0.1 >>= λ ops. Ok (record { node = header.0; operations = ops.0 }, ops.1)) x a.2 in
-    let d = bind_ok (ops_at b.0.0 2 b.0.1 a.0.1) (λ ops. Ok (record { node = b.0.0; operations = ops.0 }, ops.1)) x b.2 in
-    let made : Pair = (record { node = b.0.0; operations = d.0.0 }, d.0.1) in
-    let same : made ≡ x = cc (d.2) in
-    let v = verdict_header (header_at a.0.0) b.0 (placed_takes 1 (header_verdict (header_at a.0.0)) b.0 b.1) in
-    let o = ops_takes b.0.0 2 b.0.1 a.0.1 d.0 d.1 in
-    let first : a.0.0 ≡ header b.0.0 (length d.0.0) = header_takes a.0.0 b.0 v.1 v.2 v.3 v.4 v.0 ∙ ap (λ (k : ℕ). header b.0.0 k) (sym o.counted) in
-    let joined : a.0.0 ++ 10 ∷ a.0.1 ≡ header b.0.0 (length d.0.0) ++ 10 ∷ (lines_text d.0.0 ++ d.0.1) = (λ i. first i ++ 10 ∷ o.whole i) in
-    let whole = ended_takes text a.0 a.1 ∙ joined ∙ sym (append_assoc (header b.0.0 (length d.0.0)) (10 ∷ lines_text d.0.0) d.0.1) in
-    let limits : IsChange made.0 = record { named = v.1; known = v.2; some = rw (← o.counted) at v.3; few = rw (← o.counted) at v.4; own = o.own; within = o.named } in
+    let a = bind_ok (ended (split 10 text)) (λ parts. placed 1 (header_verdict (header_at parts.0)) >>= λ h. lines_at h.0 h.1 256 2 h.2 parts.1 >>= λ found. edited h found) x e in
+    let b = bind_ok (placed 1 (header_verdict (header_at a.0.0))) (λ h. lines_at h.0 h.1 256 2 h.2 a.0.1 >>= λ found. edited h found) x a.2 in
+    let h = b.0 in
+    let d = bind_ok (lines_at h.0 h.1 256 2 h.2 a.0.1) (λ found. edited h found) x b.2 in
+    let change : Edit = record { form = h.0; node = h.1; lines = d.0.0 } in
+    let read : Pair = (change, d.0.1) in
+    let same : read ≡ x = same_ok read x (Ok read) refl d.2 in
+    let v = verdict_header (header_at a.0.0) h (placed_takes 1 (header_verdict (header_at a.0.0)) h b.1) in
+    let o = lines_taken h.0 h.1 256 2 h.2 a.0.1 d.0 d.1 in
+    let first : a.0.0 ≡ header h.0 h.1 (length d.0.0) = header_takes a.0.0 h v.limits v.read ∙ ap (λ (k : ℕ). header h.0 h.1 k) (sym o.counted) in
+    let joined : a.0.0 ++ 10 ∷ a.0.1 ≡ header h.0 h.1 (length d.0.0) ++ 10 ∷ (lines_text d.0.0 ++ d.0.1) = (λ i. first i ++ 10 ∷ o.whole i) in
+    let whole = ended_takes text a.0 a.1 ∙ joined ∙ sym (append_assoc (header h.0 h.1 (length d.0.0)) (10 ∷ lines_text d.0.0) d.0.1) in
+    let limits : IsChange change = record { named = v.limits.named; known = v.limits.known; some = rw (← o.counted) at v.limits.some; few = o.few; lines = o.lines } in
     subst (Taken text) same (limits, whole)
+  where
+    edited : Header → Lines → Result Pair ChangeError
+    edited h found = Ok (record { form = h.0; node = h.1; lines = found.0 }, found.1)
 
 -- from what reading on lists gives to what is answered
 
@@ -248,7 +324,7 @@ gives_answers view r text h change rest s = gives_answer view r (change_at text)
 -- what follows a change is shorter
 some_text : (change : Edit) → 0 < length (change_text change)
 unfolding change_text
-some_text change = omega arith
+some_text change = omega (arith, length-append (header change.form change.node (length change.lines)) (10 ∷ lines_text change.lines))
 
 change_longer : (change : Edit) (rest : List ℕ) → length rest < length (change_text change ++ rest)
 change_longer change rest = omega (arith, length-append (change_text change) rest, some_text change)

@@ -1,6 +1,6 @@
 -- A line is read as an operation just where it has the operation's form.
 use Rattle.std.proofs.Common.{◌≡◌, ℕ, ◌<◌, ◌≤◌, Bool, true, false, cond, ltb, leb, eqb, List, [], ◌∷◌, ◌++◌, length, Option, Some, None, refl, sym, ap, subst, ◌∙◌, arith, inl, inr}
-use Rattle.std.specs.Prelude.{◌&&◌, not, codes, if◌then◌else◌}
+use Rattle.std.specs.Prelude.{◌&&◌, codes, if◌then◌else◌}
 use Rattle.std.specs.Str.{bytes_eq}
 use Rattle.std.specs.List.{list_all, AllByRecursion}
 use Rattle.std.proofs.lemmas.Bool.{cases_lt, and_parts, and_from, leb-true, le-leb, ltb-true, lt-ltb, le-ltb, eq-eqb, eqb-true}
@@ -9,9 +9,9 @@ use Rattle.change_ops.specs.Ids.{Id}
 use Rattle.change_ops.specs.Attributes.{is_link_byte}
 use Rattle.change_ops.specs.Operations.{key_of}
 use Rattle.change_ops.specs.Words.{split, digit_of, digits_after, number_in}
-use Rattle.change_ops.specs.Reading.{◌>>=◌, id_at, hex_at, place_at, beside, anchor_at, anchors_at, comment_at, key_at, color_at, link_at, bare, value_at, attribute_at, insert_at, remove_at, marked_at, mark_at, unmarked_at, unmark_at, op_at, header_at}
+use Rattle.change_ops.specs.Reading.{◌>>=◌, id_at, hex_at, place_at, beside, anchor_at, anchors_at, comment_at, key_at, color_at, link_at, bare, value_at, attribute_at, insert_at, remove_at, marked_at, mark_at, unmarked_at, unmark_at, op_at}
 use Rattle.change_ops.specs.Spelling.{◌␣◌}
-use Rattle.change_ops.specs.Forms.{LinesAreForms, HeadersAreForms, Numeral, Joined, ◌⎵◌, Word, IdForm, PlaceForm, CodeForm, SignedId, AnchorForm, KeyForm, LinkForm, ColorForm, ValueForm, LineForm, HeaderForm}
+use Rattle.change_ops.specs.Forms.{Numeral, Joined, ◌⎵◌, Word, IdForm, PlaceForm, CodeForm, SignedId, AnchorForm, KeyForm, LinkForm, ColorForm, ValueForm, OpForm}
 use Rattle.change_ops.specs.declared.attribute.Key.{Key}
 use Rattle.change_ops.specs.declared.attribute.Key.TheVariants as key
 use Rattle.change_ops.specs.declared.attribute.Attribute.{Attribute}
@@ -26,25 +26,25 @@ use Rattle.change_ops.proofs.Keys.{lacks_all, lacks_printed, no_digit_below, abo
 use Rattle.change_ops.proofs.LineLaws.{kind}
 use Rattle.change_ops.proofs.NumeralForms.{number_takes, number_again, digits_takes, digits_again}
 
-joined_again : (mark : ℕ) (word : List ℕ) {First Second : List ℕ → Type 0} (j : Joined mark First Second word) → Lacks mark j.first → split mark word ≡ Some (j.first, j.second)
+pub joined_again : (mark : ℕ) (word : List ℕ) {First Second : List ℕ → Type 0} (j : Joined mark First Second word) → Lacks mark j.first → split mark word ≡ Some (j.first, j.second)
 joined_again mark word j lacks = ap (split mark) j.whole ∙ split_again mark j.first j.second lacks
 
 -- words without a space
 
-word_lacks : (mark : ℕ) (name word : List ℕ) → mark < 33 → list_all (λ b. leb 33 b) name ≡ true → word ≡ name → Lacks mark word
+pub word_lacks : (mark : ℕ) (name word : List ℕ) → mark < 33 → list_all (λ b. leb 33 b) name ≡ true → word ≡ name → Lacks mark word
 word_lacks mark name word s h e = subst (Lacks mark) (sym e) (lacks_printed mark name s h)
 
-numeral_lacks : (base mark n : ℕ) (word : List ℕ) → base ≤ 16 → base ≤ digit_of mark → Numeral base n word → Lacks mark word
+pub numeral_lacks : (base mark n : ℕ) (word : List ℕ) → base ≤ 16 → base ≤ digit_of mark → Numeral base n word → Lacks mark word
 numeral_lacks base mark n word high h form = number_lacks base mark word n h (number_again base n word high form)
 
-decimal_lacks : (mark n : ℕ) (word : List ℕ) → mark < 33 → Numeral 10 n word → Lacks mark word
+pub decimal_lacks : (mark n : ℕ) (word : List ℕ) → mark < 33 → Numeral 10 n word → Lacks mark word
 decimal_lacks mark n word s form = numeral_lacks 10 mark n word (omega arith) (let d = no_digit_below mark s in omega arith) form
 
-id_lacks : (mark : ℕ) (id : Id) (word : List ℕ) → mark < 33 → IdForm id word → Lacks mark word
+pub id_lacks : (mark : ℕ) (id : Id) (word : List ℕ) → mark < 33 → IdForm id word → Lacks mark word
 id_lacks mark id word s j =
     subst (Lacks mark) (sym j.whole) (lacks_joined mark j.first j.second 64 (decimal_lacks mark id.counter j.first s j.before) (above 64 mark s (omega arith)) (decimal_lacks mark id.node j.second s j.after))
 
-place_lacks : (mark : ℕ) (place : Option Id) (word : List ℕ) → mark < 33 → PlaceForm place word → Lacks mark word
+pub place_lacks : (mark : ℕ) (place : Option Id) (word : List ℕ) → mark < 33 → PlaceForm place word → Lacks mark word
 place_lacks mark None word s h = word_lacks mark (codes "-") word s refl h
 place_lacks mark (Some id) word s h = id_lacks mark id word s h
 
@@ -57,9 +57,10 @@ anchor_lacks mark (BeforeCharacter id) word s h = signed_lacks mark 60 id word s
 anchor_lacks mark (AfterCharacter id) word s h = signed_lacks mark 62 id word s (omega arith) h
 anchor_lacks mark TextEnd word s h = word_lacks mark (codes "$") word s refl h
 
-key_lacks : (mark : ℕ) (k : Key) (word : List ℕ) → mark < 33 → KeyForm k word → Lacks mark word
+pub key_lacks : (mark : ℕ) (k : Key) (word : List ℕ) → mark < 33 → KeyForm k word → Lacks mark word
 key_lacks mark key.Strong word s h = word_lacks mark (codes "strong") word s refl h
 key_lacks mark key.Em word s h = word_lacks mark (codes "em") word s refl h
+key_lacks mark key.Code word s h = word_lacks mark (codes "code") word s refl h
 key_lacks mark key.Link word s h = word_lacks mark (codes "link") word s refl h
 key_lacks mark key.Color word s h = word_lacks mark (codes "color") word s refl h
 key_lacks mark (key.Comment n) word s j =
@@ -85,13 +86,14 @@ color_lacks mark rgb word s h = no_digit 16 mark word (no_digit_below mark s) (a
 value_lacks : (mark : ℕ) (a : Attribute) (word : List ℕ) → mark < 33 → ValueForm a word → Lacks mark word
 value_lacks mark attribute.Strong word s h = word_lacks mark (codes "-") word s refl h
 value_lacks mark attribute.Em word s h = word_lacks mark (codes "-") word s refl h
+value_lacks mark attribute.Code word s h = word_lacks mark (codes "-") word s refl h
 value_lacks mark (attribute.Link target) word s h = word_lacks mark target word s (printable_lacks mark target s h.printable) h.whole
 value_lacks mark (attribute.Color rgb) word s h = color_lacks mark rgb word s h
 value_lacks mark (attribute.Comment n) word s h = word_lacks mark (codes "-") word s refl h
 
 -- ids, places, codes, anchors
 
-id_form : (word : List ℕ) (id : Id) → id_at word ≡ Some id → IdForm id word
+pub id_form : (word : List ℕ) (id : Id) → id_at word ≡ Some id → IdForm id word
 unfolding id_at
 id_form word id e =
     let a = bind_some (split 64 word) (λ parts. number_in 10 parts.0 >>= λ counter. number_in 10 parts.1 >>= λ node. Some (record { counter = counter; node = node })) id e in
@@ -105,13 +107,13 @@ id_form word id e =
     some_id : (x y : Id) → Some x ≡ Some y → x ≡ y
     some_id x y e = cc
 
-id_read : (word : List ℕ) (id : Id) → IdForm id word → id_at word ≡ Some id
+pub id_read : (word : List ℕ) (id : Id) → IdForm id word → id_at word ≡ Some id
 unfolding id_at
 id_read word id j =
     let parts = joined_again 64 word j (numeral_lacks 10 64 id.counter j.first (omega arith) (omega arith) j.before) in
     rw (parts, number_again 10 id.counter j.first (omega arith) j.before, number_again 10 id.node j.second (omega arith) j.after) refl
 
-place_form : (word : List ℕ) (place : Option Id) → place_at word ≡ Some place → PlaceForm place word
+pub place_form : (word : List ℕ) (place : Option Id) → place_at word ≡ Some place → PlaceForm place word
 unfolding place_at
 place_form word place e = go (bytes_eq word (codes "-")) refl e where
   go : (b : Bool) → bytes_eq word (codes "-") ≡ b → cond b (Some None) (id_at word >>= λ id. Some (Some id)) ≡ Some place → PlaceForm place word
@@ -121,19 +123,19 @@ place_form word place e = go (bytes_eq word (codes "-")) refl e where
       let same : Some a.0 ≡ place = cc (a.2) in
       subst (λ (p : Option Id). PlaceForm p word) same (id_form word a.0 a.1)
 
-place_read : (word : List ℕ) (place : Option Id) → PlaceForm place word → place_at word ≡ Some place
+pub place_read : (word : List ℕ) (place : Option Id) → PlaceForm place word → place_at word ≡ Some place
 unfolding place_at
 place_read word None h = ap place_at h
 place_read word (Some id) h = let e = id_read word id h in rw (other_word word (codes "-") id e no_dash, e) refl
 
-code_form : (word : List ℕ) (n : ℕ) → hex_at word ≡ Some n → CodeForm n word
+pub code_form : (word : List ℕ) (n : ℕ) → hex_at word ≡ Some n → CodeForm n word
 unfolding hex_at
 code_form word n e = elim (cases_lt 6 (length word)) [
   | inl more ↦ absurd (let f = rw (lt-ltb 6 (length word) more) at e in cc)
   | inr few ↦ record { numeral = number_takes 16 n word (omega arith) (rw (le-ltb 6 (length word) few) at e); short = few }
 ]
 
-code_read : (word : List ℕ) (n : ℕ) → CodeForm n word → hex_at word ≡ Some n
+pub code_read : (word : List ℕ) (n : ℕ) → CodeForm n word → hex_at word ≡ Some n
 unfolding hex_at
 code_read word n h = rw (le-ltb 6 (length word) h.short) (number_again 16 n word (omega arith) h.numeral)
 
@@ -193,17 +195,18 @@ comment_read n digits h =
 
 key_form : (word : List ℕ) (k : Key) → key_at word ≡ Some k → KeyForm k word
 unfolding key_at
-key_form word k e = go (bytes_eq word (codes "strong")) (bytes_eq word (codes "em")) (bytes_eq word (codes "link")) (bytes_eq word (codes "color")) refl refl refl refl e where
+key_form word k e = go (bytes_eq word (codes "strong")) (bytes_eq word (codes "em")) (bytes_eq word (codes "code")) (bytes_eq word (codes "link")) (bytes_eq word (codes "color")) refl refl refl refl refl e where
   at : (x : Key) → x ≡ k → KeyForm x word → KeyForm k word
   at x same h = subst (λ (y : Key). KeyForm y word) same h
 
-  go : (a b c d : Bool) → bytes_eq word (codes "strong") ≡ a → bytes_eq word (codes "em") ≡ b → bytes_eq word (codes "link") ≡ c → bytes_eq word (codes "color") ≡ d
-      → cond a (Some key.Strong) (cond b (Some key.Em) (cond c (Some key.Link) (cond d (Some key.Color) (comment_at word >>= λ number. Some (key.Comment number))))) ≡ Some k → KeyForm k word
-  go true b c d f1 f2 f3 f4 e = let same : key.Strong ≡ k = cc in at key.Strong same (same_bytes word (codes "strong") f1)
-  go false true c d f1 f2 f3 f4 e = let same : key.Em ≡ k = cc in at key.Em same (same_bytes word (codes "em") f2)
-  go false false true d f1 f2 f3 f4 e = let same : key.Link ≡ k = cc in at key.Link same (same_bytes word (codes "link") f3)
-  go false false false true f1 f2 f3 f4 e = let same : key.Color ≡ k = cc in at key.Color same (same_bytes word (codes "color") f4)
-  go false false false false f1 f2 f3 f4 e =
+  go : (a b x c d : Bool) → bytes_eq word (codes "strong") ≡ a → bytes_eq word (codes "em") ≡ b → bytes_eq word (codes "code") ≡ x → bytes_eq word (codes "link") ≡ c → bytes_eq word (codes "color") ≡ d
+      → cond a (Some key.Strong) (cond b (Some key.Em) (cond x (Some key.Code) (cond c (Some key.Link) (cond d (Some key.Color) (comment_at word >>= λ number. Some (key.Comment number)))))) ≡ Some k → KeyForm k word
+  go true b x c d f1 f2 f f3 f4 e = let same : key.Strong ≡ k = cc in at key.Strong same (same_bytes word (codes "strong") f1)
+  go false true x c d f1 f2 f f3 f4 e = let same : key.Em ≡ k = cc in at key.Em same (same_bytes word (codes "em") f2)
+  go false false true c d f1 f2 f f3 f4 e = let same : key.Code ≡ k = cc in at key.Code same (same_bytes word (codes "code") f)
+  go false false false true d f1 f2 f f3 f4 e = let same : key.Link ≡ k = cc in at key.Link same (same_bytes word (codes "link") f3)
+  go false false false false true f1 f2 f f3 f4 e = let same : key.Color ≡ k = cc in at key.Color same (same_bytes word (codes "color") f4)
+  go false false false false false f1 f2 f f3 f4 e =
       let a = bind_some (comment_at word) (λ number. Some (key.Comment number)) k e in
       let same : key.Comment a.0 ≡ k = cc (a.2) in at (key.Comment a.0) same (comment_form word a.0 a.1)
 
@@ -211,6 +214,7 @@ key_read : (word : List ℕ) (k : Key) → KeyForm k word → key_at word ≡ So
 unfolding key_at
 key_read word key.Strong h = ap key_at h
 key_read word key.Em h = ap key_at h
+key_read word key.Code h = ap key_at h
 key_read word key.Link h = ap key_at h
 key_read word key.Color h = ap key_at h
 key_read word (key.Comment n) j =
@@ -271,6 +275,7 @@ value_form : (k : Key) (word : List ℕ) (a : Attribute) → value_at k word ≡
 unfolding value_at
 value_form key.Strong word a e = bare_form attribute.Strong a word (λ h. h) e
 value_form key.Em word a e = bare_form attribute.Em a word (λ h. h) e
+value_form key.Code word a e = bare_form attribute.Code a word (λ h. h) e
 value_form key.Link word a e =
     let b = bind_some (link_at word) (λ target. Some (attribute.Link target)) a e in
     let same : attribute.Link b.0 ≡ a = cc (b.2) in
@@ -285,6 +290,7 @@ value_read : (word : List ℕ) (a : Attribute) → ValueForm a word → value_at
 unfolding value_at
 value_read word attribute.Strong h = ap (bare attribute.Strong) h
 value_read word attribute.Em h = ap (bare attribute.Em) h
+value_read word attribute.Code h = ap (bare attribute.Code) h
 value_read word (attribute.Link target) h = rw (link_read word target h) refl
 value_read word (attribute.Color rgb) h = rw (color_read rgb word h) refl
 value_read word (attribute.Comment n) h = ap (bare (attribute.Comment n)) h
@@ -330,7 +336,7 @@ anchors_read fields anchors j =
 abbrev InsertForm : Id → Option Id → ℕ → List ℕ → Type 0
 InsertForm id parent character = IdForm id ⎵ PlaceForm parent ⎵ CodeForm character
 
-insert_form : (line fields : List ℕ) (op : Op) → line ≡ codes "i" ␣ fields → insert_at fields ≡ Some op → LineForm op line
+insert_form : (line fields : List ℕ) (op : Op) → line ≡ codes "i" ␣ fields → insert_at fields ≡ Some op → OpForm op line
 unfolding insert_at
 insert_form line fields op text e =
     let a = bind_some (split 32 fields) (λ first. split 32 first.1 >>= λ second. id_at first.0 >>= λ id. place_at second.0 >>= λ parent. hex_at second.1 >>= λ character. Some (Insert id parent character)) op e in
@@ -341,8 +347,8 @@ insert_form line fields op text e =
     let same : Insert c.0 d.0 f.0 ≡ op = cc (f.2) in
     let inner : Joined 32 (PlaceForm d.0) (CodeForm f.0) a.0.1 = record { first = b.0.0; second = b.0.1; whole = (split_takes 32 a.0.1 b.0.0 b.0.1 b.1).0; before = place_form b.0.0 d.0 d.1; after = code_form b.0.1 f.0 f.1 } in
     let behind : InsertForm c.0 d.0 f.0 fields = record { first = a.0.0; second = a.0.1; whole = (split_takes 32 fields a.0.0 a.0.1 a.1).0; before = id_form a.0.0 c.0 c.1; after = inner } in
-    let form : LineForm (Insert c.0 d.0 f.0) line = record { first = codes "i"; second = fields; whole = text; before = refl; after = behind } in
-    subst (λ (x : Op). LineForm x line) same form
+    let form : OpForm (Insert c.0 d.0 f.0) line = record { first = codes "i"; second = fields; whole = text; before = refl; after = behind } in
+    subst (λ (x : Op). OpForm x line) same form
 
 insert_read : (fields : List ℕ) (id : Id) (parent : Option Id) (character : ℕ) → InsertForm id parent character fields → insert_at fields ≡ Some (Insert id parent character)
 unfolding insert_at
@@ -359,7 +365,7 @@ insert_read fields id parent character j =
 abbrev RemoveForm : Id → Id → List ℕ → Type 0
 RemoveForm id target = IdForm id ⎵ IdForm target
 
-remove_form : (line fields : List ℕ) (op : Op) → line ≡ codes "d" ␣ fields → remove_at fields ≡ Some op → LineForm op line
+remove_form : (line fields : List ℕ) (op : Op) → line ≡ codes "d" ␣ fields → remove_at fields ≡ Some op → OpForm op line
 unfolding remove_at
 remove_form line fields op text e =
     let a = bind_some (split 32 fields) (λ first. id_at first.0 >>= λ id. id_at first.1 >>= λ target. Some (Remove id target)) op e in
@@ -367,8 +373,8 @@ remove_form line fields op text e =
     let c = bind_some (id_at a.0.1) (λ target. Some (Remove b.0 target)) op b.2 in
     let same : Remove b.0 c.0 ≡ op = cc (c.2) in
     let behind : RemoveForm b.0 c.0 fields = record { first = a.0.0; second = a.0.1; whole = (split_takes 32 fields a.0.0 a.0.1 a.1).0; before = id_form a.0.0 b.0 b.1; after = id_form a.0.1 c.0 c.1 } in
-    let form : LineForm (Remove b.0 c.0) line = record { first = codes "d"; second = fields; whole = text; before = refl; after = behind } in
-    subst (λ (x : Op). LineForm x line) same form
+    let form : OpForm (Remove b.0 c.0) line = record { first = codes "d"; second = fields; whole = text; before = refl; after = behind } in
+    subst (λ (x : Op). OpForm x line) same form
 
 remove_read : (fields : List ℕ) (id target : Id) → RemoveForm id target fields → remove_at fields ≡ Some (Remove id target)
 unfolding remove_at
@@ -406,7 +412,7 @@ marked_read fields marked j =
       attribute_read j.first k.first marked.0 j.before k.before,
     ) refl
 
-mark_form : (line fields : List ℕ) (op : Op) → line ≡ codes "m" ␣ fields → mark_at fields ≡ Some op → LineForm op line
+mark_form : (line fields : List ℕ) (op : Op) → line ≡ codes "m" ␣ fields → mark_at fields ≡ Some op → OpForm op line
 unfolding mark_at
 mark_form line fields op text e =
     let a = bind_some (split 32 fields) (λ first. id_at first.0 >>= λ id. marked_at first.1 >>= λ marked. Some (AddMark id marked.0 marked.1.0 marked.1.1)) op e in
@@ -414,8 +420,8 @@ mark_form line fields op text e =
     let c = bind_some (marked_at a.0.1) (λ marked. Some (AddMark b.0 marked.0 marked.1.0 marked.1.1)) op b.2 in
     let same : AddMark b.0 c.0.0 c.0.1.0 c.0.1.1 ≡ op = cc (c.2) in
     let behind : Joined 32 (IdForm b.0) (MarkedForm c.0) fields = record { first = a.0.0; second = a.0.1; whole = (split_takes 32 fields a.0.0 a.0.1 a.1).0; before = id_form a.0.0 b.0 b.1; after = marked_form a.0.1 c.0 c.1 } in
-    let form : LineForm (AddMark b.0 c.0.0 c.0.1.0 c.0.1.1) line = record { first = codes "m"; second = fields; whole = text; before = refl; after = behind } in
-    subst (λ (x : Op). LineForm x line) same form
+    let form : OpForm (AddMark b.0 c.0.0 c.0.1.0 c.0.1.1) line = record { first = codes "m"; second = fields; whole = text; before = refl; after = behind } in
+    subst (λ (x : Op). OpForm x line) same form
 
 mark_read : (fields : List ℕ) (id : Id) (marked : Marked) → Joined 32 (IdForm id) (MarkedForm marked) fields → mark_at fields ≡ Some (AddMark id marked.0 marked.1.0 marked.1.1)
 unfolding mark_at
@@ -444,7 +450,7 @@ unfolding unmarked_at
 unmarked_read fields unmarked j =
     rw (joined_again 32 fields j (key_lacks 32 unmarked.0 j.first (omega arith) j.before), key_read j.first unmarked.0 j.before, anchors_read j.second unmarked.1 j.after) refl
 
-unmark_form : (line fields : List ℕ) (op : Op) → line ≡ codes "u" ␣ fields → unmark_at fields ≡ Some op → LineForm op line
+unmark_form : (line fields : List ℕ) (op : Op) → line ≡ codes "u" ␣ fields → unmark_at fields ≡ Some op → OpForm op line
 unfolding unmark_at
 unmark_form line fields op text e =
     let a = bind_some (split 32 fields) (λ first. id_at first.0 >>= λ id. unmarked_at first.1 >>= λ unmarked. Some (RemoveMark id unmarked.0 unmarked.1.0 unmarked.1.1)) op e in
@@ -452,8 +458,8 @@ unmark_form line fields op text e =
     let c = bind_some (unmarked_at a.0.1) (λ unmarked. Some (RemoveMark b.0 unmarked.0 unmarked.1.0 unmarked.1.1)) op b.2 in
     let same : RemoveMark b.0 c.0.0 c.0.1.0 c.0.1.1 ≡ op = cc (c.2) in
     let behind : Joined 32 (IdForm b.0) (UnmarkedForm c.0) fields = record { first = a.0.0; second = a.0.1; whole = (split_takes 32 fields a.0.0 a.0.1 a.1).0; before = id_form a.0.0 b.0 b.1; after = unmarked_form a.0.1 c.0 c.1 } in
-    let form : LineForm (RemoveMark b.0 c.0.0 c.0.1.0 c.0.1.1) line = record { first = codes "u"; second = fields; whole = text; before = refl; after = behind } in
-    subst (λ (x : Op). LineForm x line) same form
+    let form : OpForm (RemoveMark b.0 c.0.0 c.0.1.0 c.0.1.1) line = record { first = codes "u"; second = fields; whole = text; before = refl; after = behind } in
+    subst (λ (x : Op). OpForm x line) same form
 
 unmark_read : (fields : List ℕ) (id : Id) (unmarked : Unmarked) → Joined 32 (IdForm id) (UnmarkedForm unmarked) fields → unmark_at fields ≡ Some (RemoveMark id unmarked.0 unmarked.1.0 unmarked.1.1)
 unfolding unmark_at
@@ -462,19 +468,19 @@ unmark_read fields id unmarked j =
 
 -- whole lines
 
-pub line_form : (line : List ℕ) (op : Op) → op_at line ≡ Some op → LineForm op line
+pub op_form : (line : List ℕ) (op : Op) → op_at line ≡ Some op → OpForm op line
 unfolding op_at
-line_form line op e =
+op_form line op e =
     let a = bind_some (split 32 line) (λ first. if bytes_eq first.0 (codes "i") then insert_at first.1 else if bytes_eq first.0 (codes "d") then remove_at first.1 else if bytes_eq first.0 (codes "m") then mark_at first.1 else if bytes_eq first.0 (codes "u") then unmark_at first.1 else None) op e in
     kinds a.0.0 a.0.1 (split_takes 32 line a.0.0 a.0.1 a.1).0 a.2
   where
-    kinds : (name fields : List ℕ) → line ≡ name ␣ fields → (if bytes_eq name (codes "i") then insert_at fields else if bytes_eq name (codes "d") then remove_at fields else if bytes_eq name (codes "m") then mark_at fields else if bytes_eq name (codes "u") then unmark_at fields else None) ≡ Some op → LineForm op line
+    kinds : (name fields : List ℕ) → line ≡ name ␣ fields → (if bytes_eq name (codes "i") then insert_at fields else if bytes_eq name (codes "d") then remove_at fields else if bytes_eq name (codes "m") then mark_at fields else if bytes_eq name (codes "u") then unmark_at fields else None) ≡ Some op → OpForm op line
     kinds name fields whole e = go (bytes_eq name (codes "i")) (bytes_eq name (codes "d")) (bytes_eq name (codes "m")) (bytes_eq name (codes "u")) refl refl refl refl e where
       named : (word : List ℕ) → bytes_eq name word ≡ true → line ≡ word ␣ fields
       named word f = whole ∙ ap (λ (x : List ℕ). x ␣ fields) (same_bytes name word f)
 
       go : (a b c d : Bool) → bytes_eq name (codes "i") ≡ a → bytes_eq name (codes "d") ≡ b → bytes_eq name (codes "m") ≡ c → bytes_eq name (codes "u") ≡ d
-          → cond a (insert_at fields) (cond b (remove_at fields) (cond c (mark_at fields) (cond d (unmark_at fields) None))) ≡ Some op → LineForm op line
+          → cond a (insert_at fields) (cond b (remove_at fields) (cond c (mark_at fields) (cond d (unmark_at fields) None))) ≡ Some op → OpForm op line
       go true b c d f1 f2 f3 f4 e = insert_form line fields op (named (codes "i") f1) e
       go false true c d f1 f2 f3 f4 e = remove_form line fields op (named (codes "d") f2) e
       go false false true d f1 f2 f3 f4 e = mark_form line fields op (named (codes "m") f3) e
@@ -482,53 +488,12 @@ line_form line op e =
       go false false false false f1 f2 f3 f4 e = absurd cc
 
 -- the first word is of one letter
-lettered : (b : ℕ) (line : List ℕ) {Rest : List ℕ → Type 0} (j : Joined 32 (Word (b ∷ [])) Rest line) → eqb b 32 ≡ false → split 32 line ≡ Some (b ∷ [], j.second)
+pub lettered : (b : ℕ) (line : List ℕ) {Rest : List ℕ → Type 0} (j : Joined 32 (Word (b ∷ [])) Rest line) → eqb b 32 ≡ false → split 32 line ≡ Some (b ∷ [], j.second)
 lettered b line j h = ap (split 32) (j.whole ∙ ap (λ (x : List ℕ). x ++ 32 ∷ j.second) j.before) ∙ kind b j.second h
 
-pub line_read : (line : List ℕ) (op : Op) → LineForm op line → op_at line ≡ Some op
+pub op_read : (line : List ℕ) (op : Op) → OpForm op line → op_at line ≡ Some op
 unfolding op_at
-line_read line (Insert id parent character) j = rw (lettered 105 line j refl, insert_read j.second id parent character j.after) refl
-line_read line (Remove id target) j = rw (lettered 100 line j refl, remove_read j.second id target j.after) refl
-line_read line (AddMark id attribute start end) j = rw (lettered 109 line j refl, mark_read j.second id (attribute, (start, end)) j.after) refl
-line_read line (RemoveMark id key start end) j = rw (lettered 117 line j refl, unmark_read j.second id (key, (start, end)) j.after) refl
-
--- the first line
-
-abbrev Header : Type 0
-Header = ℕ × ℕ
-
-abbrev HeaderOf : Header → List ℕ → Type 0
-HeaderOf h = HeaderForm h.0 h.1
-
-pub header_form : (line : List ℕ) (h : Header) → header_at line ≡ Some h → HeaderForm h.0 h.1 line
-unfolding header_at
-header_form line h e =
-    let a = bind_some (split 32 line) (λ first. split 32 first.1 >>= λ second. if not (bytes_eq first.0 (codes "change")) then None else (number_in 10 second.0 >>= λ node. number_in 10 second.1 >>= λ count. Some (node, count))) h e in
-    let b = bind_some (split 32 a.0.1) (λ second. if not (bytes_eq a.0.0 (codes "change")) then None else (number_in 10 second.0 >>= λ node. number_in 10 second.1 >>= λ count. Some (node, count))) h a.2 in
-    named (bytes_eq a.0.0 (codes "change")) a.0.0 a.0.1 b.0.0 b.0.1 (split_takes 32 line a.0.0 a.0.1 a.1).0 (split_takes 32 a.0.1 b.0.0 b.0.1 b.1).0 refl b.2
-  where
-    named : (t : Bool) (name fields node count : List ℕ) → line ≡ name ␣ fields → fields ≡ node ␣ count → bytes_eq name (codes "change") ≡ t
-        → cond (not t) None (number_in 10 node >>= λ n. number_in 10 count >>= λ c. Some (n, c)) ≡ Some h → HeaderForm h.0 h.1 line
-    named false name fields node count one two f g = absurd cc
-    named true name fields node count one two f g =
-        let c = bind_some (number_in 10 node) (λ n. number_in 10 count >>= λ k. Some (n, k)) h g in
-        let d = bind_some (number_in 10 count) (λ k. Some (c.0, k)) h c.2 in
-        let made : Header = (c.0, d.0) in
-        let same : made ≡ h = cc (d.2) in
-        let inner : Joined 32 (Numeral 10 c.0) (Numeral 10 d.0) fields = record { first = node; second = count; whole = two; before = number_takes 10 c.0 node (omega arith) c.1; after = number_takes 10 d.0 count (omega arith) d.1 } in
-        let form : HeaderOf made line = record { first = name; second = fields; whole = one; before = same_bytes name (codes "change") f; after = inner } in
-        subst (λ (x : Header). HeaderOf x line) same form
-
-pub header_read : (line : List ℕ) (node count : ℕ) → HeaderForm node count line → header_at line ≡ Some (node, count)
-unfolding header_at
-header_read line node count j =
-    let k = j.after in
-    let one : split 32 line ≡ Some (codes "change", j.second) = ap (split 32) (j.whole ∙ ap (λ (x : List ℕ). x ++ 32 ∷ j.second) j.before) ∙ split_again 32 (codes "change") j.second (lacks_all 32 (codes "change") refl) in
-    let two = joined_again 32 j.second k (decimal_lacks 32 node k.first (omega arith) k.before) in
-    rw (one, two, number_again 10 node k.first (omega arith) k.before, number_again 10 count k.second (omega arith) k.after) refl
-
-pub lines_are_forms : LinesAreForms
-lines_are_forms line op = (line_form line op, line_read line op)
-
-pub headers_are_forms : HeadersAreForms
-headers_are_forms line node count = (header_form line (node, count), header_read line node count)
+op_read line (Insert id parent character) j = rw (lettered 105 line j refl, insert_read j.second id parent character j.after) refl
+op_read line (Remove id target) j = rw (lettered 100 line j refl, remove_read j.second id target j.after) refl
+op_read line (AddMark id attribute start end) j = rw (lettered 109 line j refl, mark_read j.second id (attribute, (start, end)) j.after) refl
+op_read line (RemoveMark id key start end) j = rw (lettered 117 line j refl, unmark_read j.second id (key, (start, end)) j.after) refl

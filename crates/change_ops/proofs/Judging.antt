@@ -6,7 +6,7 @@ use Rattle.change_ops.specs.Ids.{Id, within_limits, is_character}
 use Rattle.change_ops.specs.Limits.{place_within, anchors_within, key_within, attribute_within, op_within, has_character}
 use Rattle.change_ops.specs.Attributes.{is_comment_number}
 use Rattle.change_ops.specs.Words.{split}
-use Rattle.change_ops.specs.Reading.{◌>>=◌, id_at, place_at, hex_at, key_at, comment_at, value_at, attribute_at, bare, anchors_at, insert_at, remove_at, marked_at, mark_at, unmarked_at, unmark_at, line_verdict, owned, within, encoded, unvalued, both, Reads}
+use Rattle.change_ops.specs.Reading.{◌>>=◌, id_at, place_at, hex_at, key_at, comment_at, value_at, attribute_at, bare, anchors_at, insert_at, remove_at, marked_at, mark_at, unmarked_at, unmark_at, op_verdict, owned, within, encoded, unvalued, both, Reads}
 use Rattle.change_ops.specs.declared.refusal.LineFault.{LineFault}
 use Rattle.change_ops.specs.declared.refusal.LineFault.TheVariants.{BadLine, Limit, CharRefused, OutOfMemory}
 use Rattle.change_ops.specs.declared.attribute.Attribute.{Attribute}
@@ -45,7 +45,7 @@ within_both {A} {B} t u (Some x) (Some y) = go (t x) (u y) where
 
 -- what is made of a part that is within its limits
 pub within_made : {A : Type 0} (peer : ℕ) (t : A → Bool) (op : A → Op) (read : Option A) → ((x : A) → op_within (op x) ≡ t x) → ((x : A) → has_character (op x) ≡ true)
-    → line_verdict peer (read >>= λ x. Some (op x)) ≡ made (within t read) (λ x. owned peer (op x))
+    → op_verdict peer (read >>= λ x. Some (op x)) ≡ made (within t read) (λ x. owned peer (op x))
 within_made peer t op None limits code = refl
 within_made peer t op (Some x) limits code = rw (limits x, code x) (go (t x)) where
   go : (b : Bool) → cond (not b) (Err Limit) (owned peer (op x)) ≡ made (cond b (Ok x) (Err Limit)) (λ y. owned peer (op y))
@@ -53,7 +53,7 @@ within_made peer t op (Some x) limits code = rw (limits x, code x) (go (t x)) wh
   go false = refl
 
 pub insert_judged : (peer : ℕ) (id : Option Id) (place : Option (Option Id)) (code : Option ℕ)
-    → line_verdict peer (id >>= λ i. place >>= λ p. code >>= λ c. Some (Insert i p c)) ≡ made (both (both (within within_limits id) (within place_within place)) (encoded code)) (λ x. owned peer (Insert x.0.0 x.0.1 x.1))
+    → op_verdict peer (id >>= λ i. place >>= λ p. code >>= λ c. Some (Insert i p c)) ≡ made (both (both (within within_limits id) (within place_within place)) (encoded code)) (λ x. owned peer (Insert x.0.0 x.0.1 x.1))
 insert_judged peer id place code = rw (within_both within_limits place_within id place) (go id place code) where
   one : (i : Id) (p : Option Id) (c : ℕ) (a b d : Bool) → cond (not (a && b)) (Err Limit) (cond (not d) (Err CharRefused) (owned peer (Insert i p c))) ≡ made (both (cond (a && b) (Ok (i, p)) (Err Limit)) (cond d (Ok c) (Err CharRefused))) (λ (x : (Id × Option Id) × ℕ). owned peer (Insert x.0.0 x.0.1 x.1))
   one i p c true true true = refl
@@ -72,7 +72,7 @@ insert_judged peer id place code = rw (within_both within_limits place_within id
   coded c false = refl
 
   go : (id : Option Id) (place : Option (Option Id)) (code : Option ℕ)
-      → line_verdict peer (id >>= λ i. place >>= λ p. code >>= λ c. Some (Insert i p c)) ≡ made (both (within (λ (x : Id × Option Id). within_limits x.0 && place_within x.1) (id >>= λ i. place >>= λ p. Some (i, p))) (encoded code)) (λ x. owned peer (Insert x.0.0 x.0.1 x.1))
+      → op_verdict peer (id >>= λ i. place >>= λ p. code >>= λ c. Some (Insert i p c)) ≡ made (both (within (λ (x : Id × Option Id). within_limits x.0 && place_within x.1) (id >>= λ i. place >>= λ p. Some (i, p))) (encoded code)) (λ x. owned peer (Insert x.0.0 x.0.1 x.1))
   go (Some i) (Some p) (Some c) = one i p c (within_limits i) (place_within p) (is_character c)
   go (Some i) (Some p) None = none i p (within_limits i && place_within p)
   go (Some i) None (Some c) = coded c (is_character c)
@@ -87,10 +87,10 @@ and_comm false true = refl
 and_comm false false = refl
 
 pub remove_judged : (peer : ℕ) (id target : Option Id)
-    → line_verdict peer (id >>= λ i. target >>= λ t. Some (Remove i t)) ≡ made (both (within within_limits id) (within within_limits target)) (λ x. owned peer (Remove x.0 x.1))
+    → op_verdict peer (id >>= λ i. target >>= λ t. Some (Remove i t)) ≡ made (both (within within_limits id) (within within_limits target)) (λ x. owned peer (Remove x.0 x.1))
 remove_judged peer id target =
     rw within_both (go id target) where
-      go : (id target : Option Id) → line_verdict peer (id >>= λ i. target >>= λ t. Some (Remove i t)) ≡ made (within (λ (x : Id × Id). within_limits x.0 && within_limits x.1) (id >>= λ x. target >>= λ y. Some (x, y))) (λ x. owned peer (Remove x.0 x.1))
+      go : (id target : Option Id) → op_verdict peer (id >>= λ i. target >>= λ t. Some (Remove i t)) ≡ made (within (λ (x : Id × Id). within_limits x.0 && within_limits x.1) (id >>= λ x. target >>= λ y. Some (x, y))) (λ x. owned peer (Remove x.0 x.1))
       go None target = refl
       go (Some i) None = refl
       go (Some i) (Some t) = within_made peer (λ (x : Id × Id). within_limits x.0 && within_limits x.1) (λ x. Remove x.0 x.1) (Some (i, t)) (λ x. refl) (λ x. refl)
@@ -98,10 +98,10 @@ remove_judged peer id target =
 -- a value and its two anchors, and then the id: of what a mark and the removal of one are made
 pub marks_judged : {A : Type 0} (peer : ℕ) (t : A → Bool) (op : Id → A → Anchor × Anchor → Op) (id : Option Id) (value : Option A) (anchors : Option (Anchor × Anchor))
     → ((i : Id) (a : A) (n : Anchor × Anchor) → op_within (op i a n) ≡ (within_limits i && (t a && anchors_within n))) → ((i : Id) (a : A) (n : Anchor × Anchor) → has_character (op i a n) ≡ true)
-    → line_verdict peer (id >>= λ i. value >>= λ a. anchors >>= λ n. Some (op i a n)) ≡ made (both (both (within t value) (within anchors_within anchors)) (within within_limits id)) (λ x. owned peer (op x.1 x.0.0 x.0.1))
+    → op_verdict peer (id >>= λ i. value >>= λ a. anchors >>= λ n. Some (op i a n)) ≡ made (both (both (within t value) (within anchors_within anchors)) (within within_limits id)) (λ x. owned peer (op x.1 x.0.0 x.0.1))
 marks_judged {A} peer t op id value anchors limits code = rw (within_both t anchors_within value anchors, within_both (λ (x : A × (Anchor × Anchor)). t x.0 && anchors_within x.1) within_limits (value >>= λ a. anchors >>= λ n. Some (a, n)) id) (go id value anchors) where
   go : (id : Option Id) (value : Option A) (anchors : Option (Anchor × Anchor))
-      → line_verdict peer (id >>= λ i. value >>= λ a. anchors >>= λ n. Some (op i a n)) ≡ made (within (λ (x : (A × (Anchor × Anchor)) × Id). (t x.0.0 && anchors_within x.0.1) && within_limits x.1) ((value >>= λ a. anchors >>= λ n. Some (a, n)) >>= λ p. id >>= λ i. Some (p, i))) (λ x. owned peer (op x.1 x.0.0 x.0.1))
+      → op_verdict peer (id >>= λ i. value >>= λ a. anchors >>= λ n. Some (op i a n)) ≡ made (within (λ (x : (A × (Anchor × Anchor)) × Id). (t x.0.0 && anchors_within x.0.1) && within_limits x.1) ((value >>= λ a. anchors >>= λ n. Some (a, n)) >>= λ p. id >>= λ i. Some (p, i))) (λ x. owned peer (op x.1 x.0.0 x.0.1))
   go None None anchors = refl
   go None (Some a) None = refl
   go None (Some a) (Some n) = refl
@@ -112,39 +112,39 @@ marks_judged {A} peer t op id value anchors limits code = rw (within_both t anch
 -- the lines
 
 pub insert_line : (peer : ℕ) (fields own rest place code : List ℕ) (read : Result ((Id × Option Id) × ℕ) LineFault) → split 32 fields ≡ Some (own, rest) → split 32 rest ≡ Some (place, code)
-    → read ≡ both (both (within within_limits (id_at own)) (within place_within (place_at place))) (encoded (hex_at code)) → line_verdict peer (insert_at fields) ≡ made read (λ x. owned peer (Insert x.0.0 x.0.1 x.1))
+    → read ≡ both (both (within within_limits (id_at own)) (within place_within (place_at place))) (encoded (hex_at code)) → op_verdict peer (insert_at fields) ≡ made read (λ x. owned peer (Insert x.0.0 x.0.1 x.1))
 unfolding insert_at
 insert_line peer fields own rest place code read e f same = rw (e, f, same) (insert_judged peer (id_at own) (place_at place) (hex_at code))
 
 pub remove_line : (peer : ℕ) (fields own target : List ℕ) (read : Result (Id × Id) LineFault) → split 32 fields ≡ Some (own, target)
-    → read ≡ both (within within_limits (id_at own)) (within within_limits (id_at target)) → line_verdict peer (remove_at fields) ≡ made read (λ x. owned peer (Remove x.0 x.1))
+    → read ≡ both (within within_limits (id_at own)) (within within_limits (id_at target)) → op_verdict peer (remove_at fields) ≡ made read (λ x. owned peer (Remove x.0 x.1))
 unfolding remove_at
 remove_line peer fields own target read e same = rw (e, same) (remove_judged peer (id_at own) (id_at target))
 
 pub unmark_line : (peer : ℕ) (fields own rest name anchors : List ℕ) (read : Result ((Key × (Anchor × Anchor)) × Id) LineFault) → split 32 fields ≡ Some (own, rest) → split 32 rest ≡ Some (name, anchors)
     → read ≡ both (both (within key_within (key_at name)) (within anchors_within (anchors_at anchors))) (within within_limits (id_at own))
-    → line_verdict peer (unmark_at fields) ≡ made read (λ x. owned peer (RemoveMark x.1 x.0.0 x.0.1.0 x.0.1.1))
+    → op_verdict peer (unmark_at fields) ≡ made read (λ x. owned peer (RemoveMark x.1 x.0.0 x.0.1.0 x.0.1.1))
 unfolding unmark_at unmarked_at
 unmark_line peer fields own rest name anchors read e f same =
     rw (e, f, same) (go (id_at own) (key_at name) (anchors_at anchors)) where
       go : (id : Option Id) (key : Option Key) (anchors : Option (Anchor × Anchor))
-          → line_verdict peer (id >>= λ i. (key >>= λ k. anchors >>= λ n. Some (paired k n)) >>= λ u. Some (RemoveMark i u.0 u.1.0 u.1.1))
+          → op_verdict peer (id >>= λ i. (key >>= λ k. anchors >>= λ n. Some (paired k n)) >>= λ u. Some (RemoveMark i u.0 u.1.0 u.1.1))
           ≡ made (both (both (within key_within key) (within anchors_within anchors)) (within within_limits id)) (λ x. owned peer (RemoveMark x.1 x.0.0 x.0.1.0 x.0.1.1))
       go id key anchors = regroup id key anchors ∙ marks_judged peer key_within (λ i k n. RemoveMark i k n.0 n.1) id key anchors (λ i k n. refl) (λ i k n. refl) where
         regroup : (id : Option Id) (key : Option Key) (anchors : Option (Anchor × Anchor))
-            → line_verdict peer (id >>= λ i. (key >>= λ k. anchors >>= λ n. Some (paired k n)) >>= λ u. Some (RemoveMark i u.0 u.1.0 u.1.1)) ≡ line_verdict peer (id >>= λ i. key >>= λ k. anchors >>= λ n. Some (RemoveMark i k n.0 n.1))
+            → op_verdict peer (id >>= λ i. (key >>= λ k. anchors >>= λ n. Some (paired k n)) >>= λ u. Some (RemoveMark i u.0 u.1.0 u.1.1)) ≡ op_verdict peer (id >>= λ i. key >>= λ k. anchors >>= λ n. Some (RemoveMark i k n.0 n.1))
         regroup None key anchors = refl
         regroup (Some i) None anchors = refl
         regroup (Some i) (Some k) None = refl
         regroup (Some i) (Some k) (Some n) = refl
 
 mark_read : (peer : ℕ) (fields own rest name more value anchors : List ℕ) → split 32 fields ≡ Some (own, rest) → split 32 rest ≡ Some (name, more) → split 32 more ≡ Some (value, anchors)
-    → line_verdict peer (mark_at fields) ≡ made (both (both (within attribute_within (attribute_at name value)) (within anchors_within (anchors_at anchors))) (within within_limits (id_at own))) (λ x. owned peer (AddMark x.1 x.0.0 x.0.1.0 x.0.1.1))
+    → op_verdict peer (mark_at fields) ≡ made (both (both (within attribute_within (attribute_at name value)) (within anchors_within (anchors_at anchors))) (within within_limits (id_at own))) (λ x. owned peer (AddMark x.1 x.0.0 x.0.1.0 x.0.1.1))
 unfolding mark_at marked_at
 mark_read peer fields own rest name more value anchors e f g =
     rw (e, f, g) (regroup (id_at own) (attribute_at name value) (anchors_at anchors) ∙ marks_judged peer attribute_within (λ i a n. AddMark i a n.0 n.1) (id_at own) (attribute_at name value) (anchors_at anchors) (λ i a n. refl) (λ i a n. refl)) where
       regroup : (id : Option Id) (attribute : Option Attribute) (anchors : Option (Anchor × Anchor))
-          → line_verdict peer (id >>= λ i. (anchors >>= λ n. attribute >>= λ a. Some (paired a n)) >>= λ m. Some (AddMark i m.0 m.1.0 m.1.1)) ≡ line_verdict peer (id >>= λ i. attribute >>= λ a. anchors >>= λ n. Some (AddMark i a n.0 n.1))
+          → op_verdict peer (id >>= λ i. (anchors >>= λ n. attribute >>= λ a. Some (paired a n)) >>= λ m. Some (AddMark i m.0 m.1.0 m.1.1)) ≡ op_verdict peer (id >>= λ i. attribute >>= λ a. anchors >>= λ n. Some (AddMark i a n.0 n.1))
       regroup None attribute anchors = refl
       regroup (Some i) None None = refl
       regroup (Some i) None (Some n) = refl
@@ -177,7 +177,7 @@ memory_told peer (Some i) (Some n) attribute = inl (go (anchors_within n) (withi
 pub mark_line : (peer : ℕ) (fields own rest name more value anchors : List ℕ) (attribute : Result Attribute LineFault) (read : Result ((Attribute × (Anchor × Anchor)) × Id) LineFault)
     → split 32 fields ≡ Some (own, rest) → split 32 rest ≡ Some (name, more) → split 32 more ≡ Some (value, anchors) → Reads attribute (within attribute_within (attribute_at name value))
     → read ≡ both (both attribute (within anchors_within (anchors_at anchors))) (within within_limits (id_at own))
-    → Reads (made read (λ x. owned peer (AddMark x.1 x.0.0 x.0.1.0 x.0.1.1))) (line_verdict peer (mark_at fields))
+    → Reads (made read (λ x. owned peer (AddMark x.1 x.0.0 x.0.1.0 x.0.1.1))) (op_verdict peer (mark_at fields))
 mark_line peer fields own rest name more value anchors attribute read e f g (inr same) is = inr (rw (is, same) (sym (mark_read peer fields own rest name more value anchors e f g)))
 mark_line peer fields own rest name more value anchors attribute read e f g (inl memory) is =
     rw (is, memory, mark_read peer fields own rest name more value anchors e f g) (memory_told peer (id_at own) (anchors_at anchors) (attribute_at name value))
@@ -196,10 +196,10 @@ bare_judged (Some n) value = go (bytes_eq value (codes "-")) (is_comment_number 
   go false true e = rw e refl
   go false false e = rw e refl
 
-pub comment_attribute : (name value : List ℕ) → bytes_eq name (codes "strong") ≡ false → bytes_eq name (codes "em") ≡ false → bytes_eq name (codes "link") ≡ false → bytes_eq name (codes "color") ≡ false
+pub comment_attribute : (name value : List ℕ) → bytes_eq name (codes "strong") ≡ false → bytes_eq name (codes "em") ≡ false → bytes_eq name (codes "code") ≡ false → bytes_eq name (codes "link") ≡ false → bytes_eq name (codes "color") ≡ false
     → within attribute_within (attribute_at name value) ≡ made (both (within is_comment_number (comment_at name)) (unvalued value)) (λ x. Ok (attribute.Comment x.0))
 unfolding attribute_at key_at value_at
-comment_attribute name value e f g h = rw (e, f, g, h) (go (comment_at name)) where
+comment_attribute name value e f k g h = rw (e, f, k, g, h) (go (comment_at name)) where
   go : (o : Option ℕ) → within attribute_within ((o >>= λ n. Some (key.Comment n)) >>= λ k. value_at k value) ≡ made (both (within is_comment_number o) (unvalued value)) (λ x. Ok (attribute.Comment x.0))
   go None = bare_judged None value
   go (Some n) = bare_judged (Some n) value

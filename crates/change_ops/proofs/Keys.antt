@@ -49,6 +49,7 @@ comment_limits n h = let a = and_parts (leb 1 n) (leb n 0xffffffff) h in let low
 pub key_lacks : (mark : ℕ) (k : Key) → mark < 33 → key_within k ≡ true → Lacks mark (key_text k)
 key_lacks mark key.Strong s h = lacks_printed mark (codes "strong") s refl
 key_lacks mark key.Em s h = lacks_printed mark (codes "em") s refl
+key_lacks mark key.Code s h = lacks_printed mark (codes "code") s refl
 key_lacks mark key.Link s h = lacks_printed mark (codes "link") s refl
 key_lacks mark key.Color s h = lacks_printed mark (codes "color") s refl
 key_lacks mark (key.Comment n) s h =
@@ -66,6 +67,7 @@ pub key_again : (k : Key) → key_within k ≡ true → key_at (key_text k) ≡ 
 unfolding key_at
 key_again key.Strong h = refl
 key_again key.Em h = refl
+key_again key.Code h = refl
 key_again key.Link h = refl
 key_again key.Color h = refl
 key_again (key.Comment n) h = rw (comment_again n h) refl
@@ -84,14 +86,15 @@ comment_takes word n h e =
 
 pub key_takes : (word : List ℕ) (k : Key) → key_within k ≡ true → key_at word ≡ Some k → word ≡ key_text k
 unfolding key_at
-key_takes word k h e = go (bytes_eq word (codes "strong")) (bytes_eq word (codes "em")) (bytes_eq word (codes "link")) (bytes_eq word (codes "color")) refl refl refl refl e where
-  go : (a b c d : Bool) → bytes_eq word (codes "strong") ≡ a → bytes_eq word (codes "em") ≡ b → bytes_eq word (codes "link") ≡ c → bytes_eq word (codes "color") ≡ d
-      → cond a (Some key.Strong) (cond b (Some key.Em) (cond c (Some key.Link) (cond d (Some key.Color) (comment_at word >>= λ number. Some (key.Comment number))))) ≡ Some k → word ≡ key_text k
-  go true b c d f1 f2 f3 f4 e = let same : key.Strong ≡ k = cc in same_bytes word (codes "strong") f1 ∙ ap key_text same
-  go false true c d f1 f2 f3 f4 e = let same : key.Em ≡ k = cc in same_bytes word (codes "em") f2 ∙ ap key_text same
-  go false false true d f1 f2 f3 f4 e = let same : key.Link ≡ k = cc in same_bytes word (codes "link") f3 ∙ ap key_text same
-  go false false false true f1 f2 f3 f4 e = let same : key.Color ≡ k = cc in same_bytes word (codes "color") f4 ∙ ap key_text same
-  go false false false false f1 f2 f3 f4 e =
+key_takes word k h e = go (bytes_eq word (codes "strong")) (bytes_eq word (codes "em")) (bytes_eq word (codes "code")) (bytes_eq word (codes "link")) (bytes_eq word (codes "color")) refl refl refl refl refl e where
+  go : (a b x c d : Bool) → bytes_eq word (codes "strong") ≡ a → bytes_eq word (codes "em") ≡ b → bytes_eq word (codes "code") ≡ x → bytes_eq word (codes "link") ≡ c → bytes_eq word (codes "color") ≡ d
+      → cond a (Some key.Strong) (cond b (Some key.Em) (cond x (Some key.Code) (cond c (Some key.Link) (cond d (Some key.Color) (comment_at word >>= λ number. Some (key.Comment number)))))) ≡ Some k → word ≡ key_text k
+  go true b x c d f1 f2 f f3 f4 e = let same : key.Strong ≡ k = cc in same_bytes word (codes "strong") f1 ∙ ap key_text same
+  go false true x c d f1 f2 f f3 f4 e = let same : key.Em ≡ k = cc in same_bytes word (codes "em") f2 ∙ ap key_text same
+  go false false true c d f1 f2 f f3 f4 e = let same : key.Code ≡ k = cc in same_bytes word (codes "code") f ∙ ap key_text same
+  go false false false true d f1 f2 f f3 f4 e = let same : key.Link ≡ k = cc in same_bytes word (codes "link") f3 ∙ ap key_text same
+  go false false false false true f1 f2 f f3 f4 e = let same : key.Color ≡ k = cc in same_bytes word (codes "color") f4 ∙ ap key_text same
+  go false false false false false f1 f2 f f3 f4 e =
       let a = bind_some (comment_at word) (λ number. Some (key.Comment number)) k e in
       let same : key.Comment a.0 ≡ k = cc (a.2) in
       comment_takes word a.0 (rw (← same) at h) a.1 ∙ ap key_text same
@@ -143,6 +146,7 @@ pub attribute_again : (attribute : Attribute) → attribute_within attribute ≡
 unfolding attribute_at value_at key_at
 attribute_again attribute.Strong h = record { name = codes "strong"; value = codes "-"; whole = refl; name_lacks = λ mark s. key_lacks mark key.Strong s refl; value_lacks = dash; read = refl }
 attribute_again attribute.Em h = record { name = codes "em"; value = codes "-"; whole = refl; name_lacks = λ mark s. key_lacks mark key.Em s refl; value_lacks = dash; read = refl }
+attribute_again attribute.Code h = record { name = codes "code"; value = codes "-"; whole = refl; name_lacks = λ mark s. key_lacks mark key.Code s refl; value_lacks = dash; read = refl }
 attribute_again (attribute.Link target) h =
     let a = and_parts (leb 1 (length target) && leb (length target) 1024) (list_all is_link_byte target) h in
     record { name = codes "link"; value = target; whole = refl; name_lacks = λ mark s. key_lacks mark key.Link s refl; value_lacks = λ mark s. lacks_printed mark target s (printed_link target a.1); read = rw (link_again target h) refl }
@@ -185,6 +189,7 @@ value_takes : (k : Key) (word : List ℕ) (a : Attribute) → attribute_within a
 unfolding value_at
 value_takes key.Strong word a h e = bare_takes key.Strong attribute.Strong a word refl refl h e
 value_takes key.Em word a h e = bare_takes key.Em attribute.Em a word refl refl h e
+value_takes key.Code word a h e = bare_takes key.Code attribute.Code a word refl refl h e
 value_takes key.Link word a h e =
     let b = bind_some (link_at word) (λ target. Some (attribute.Link target)) a e in
     let same : attribute.Link b.0 ≡ a = cc (b.2) in

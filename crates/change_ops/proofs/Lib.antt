@@ -10,8 +10,16 @@ pub mod Grammar
 pub mod Phrases
 pub mod Keys
 pub mod LineLaws
+pub mod RunLaws
+pub mod SpelledLines
 pub mod ChangeLaws
 pub mod Appending
 pub mod NumeralForms
 pub mod FormLaws
+pub mod LineForms
 pub mod RefusalLaws
+pub mod FirstForms
+pub mod CodeLines
+pub mod RunInserts
+pub mod CodeLoops
+pub mod RunReading

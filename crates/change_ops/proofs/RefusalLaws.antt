@@ -1,18 +1,18 @@
 -- A text is refused as the grammar says, and with no other refusal.
-use Rattle.std.proofs.Common.{◌≡◌, ◌≢◌, ℕ, zero, suc, ◌+◌, ◌<◌, Bool, true, false, cond, eqb, List, [], ◌∷◌, length, Option, Some, None, Result, Ok, Err, ◌⊎◌, inl, inr, refl, sym, ap, subst, ◌∙◌, arith}
-use Rattle.std.specs.Prelude.{not, IsTrue, IfErr}
+use Rattle.std.proofs.Common.{◌≡◌, ◌≢◌, ℕ, zero, suc, ◌+◌, ◌-◌, ◌<◌, Bool, true, false, cond, eqb, List, [], ◌∷◌, length, Option, Some, None, Result, Ok, Err, ◌⊎◌, inl, inr, refl, sym, ap, subst, ◌∙◌, arith}
+use Rattle.std.specs.Prelude.{not, ◌&&◌, nat_le, IsTrue, IfErr}
 use Rattle.std.specs.List.{position_or_len}
-use Rattle.std.proofs.lemmas.Bool.{cases_lt, and_parts, lt-ltb, eq-eqb}
+use Rattle.std.proofs.lemmas.Bool.{cases_lt, and_from, lt-ltb, le-leb, eq-eqb}
 use Rattle.std.proofs.lemmas.Bool.Decides.{eqb_tells}
 use Rattle.std.proofs.lemmas.List.Sums.{fails_before_first}
-use Rattle.change_ops.specs.Limits.{op_within, has_character}
-use Rattle.change_ops.specs.Operations.{id_of}
+use Rattle.change_ops.specs.Lines.{ops_of_lines, count_of, first_id, line_within, line_has_characters}
 use Rattle.change_ops.specs.Words.{split}
-use Rattle.change_ops.specs.Reading.{header_at, op_at, line_verdict}
-use Rattle.change_ops.specs.Changes.{◌>>=◌, Gives, at_line, placed, ended, is_header, within_header, header_verdict, next_at, ops_at, change_at}
+use Rattle.change_ops.specs.Reading.{header_at, line_in, line_verdict}
+use Rattle.change_ops.specs.Changes.{Header, ◌>>=◌, Gives, at_line, placed, ended, is_header, within_header, header_verdict, next_at, lines_at, change_at}
 use Rattle.change_ops.specs.Forms.{LineForm, HeaderForm}
 use Rattle.change_ops.specs.Refusals.{IsUnended, Line, IsFaulty, IsFaultyHeader, Accepted, AcceptedLines, Reached, IsFaultAt, IsRefused}
-use Rattle.change_ops.specs.declared.operation.Op.{Op}
+use Rattle.change_ops.specs.declared.line.Form.{Form}
+use Rattle.change_ops.specs.declared.line.Line.{Line as Spelled}
 use Rattle.change_ops.specs.declared.refusal.LineFault.{LineFault}
 use Rattle.change_ops.specs.declared.refusal.LineFault.TheVariants as why
 use Rattle.change_ops.specs.declared.refusal.ChangeError.{ChangeError}
@@ -20,8 +20,8 @@ use Rattle.change_ops.specs.declared.refusal.ChangeError.TheVariants.{BadLine, T
 use Rattle.change_ops.proofs.Grammar.{Lacks, split_again, split_takes}
 use Rattle.change_ops.proofs.Phrases.{lacks_nil, lacks_cons}
 use Rattle.change_ops.proofs.Splitting.{split_none}
-use Rattle.change_ops.proofs.FormLaws.{line_form, line_read, header_form, header_read}
-use Rattle.change_ops.proofs.ChangeLaws.{bind_ok, placed_takes, verdict_takes, Parts, One, Pair, Header}
+use Rattle.change_ops.proofs.LineForms.{line_form, line_read, header_form, header_read}
+use Rattle.change_ops.proofs.ChangeLaws.{bind_ok, same_ok, placed_takes, verdict_takes, more_ops, no_ops, Parts, One, Lines, Pair}
 
 -- a text's first line
 
@@ -70,76 +70,85 @@ placed_err : {A : Type 0} (n : ℕ) (r : Result A LineFault) (e : ChangeError) �
 placed_err n (Ok x) e h = absurd cc
 placed_err n (Err fault) e h = (fault, refl, cc)
 
--- one operation's line
+-- one line
 
-verdict_err : (peer : ℕ) (line : List ℕ) (read : Option Op) (fault : LineFault) → op_at line ≡ read → line_verdict peer read ≡ Err fault → IsFaulty peer line fault
-verdict_err peer line None fault e h =
+verdict_err : (form : Form) (peer room : ℕ) (text : List ℕ) (read : Option Spelled) (fault : LineFault) → line_in form text ≡ read → line_verdict peer room read ≡ Err fault → IsFaulty form peer room text fault
+verdict_err form peer room text None fault e h =
     let same : why.BadLine ≡ fault = cc in
-    subst (IsFaulty peer line) same (λ op form. let f = line_read line op form in absurd cc)
-verdict_err peer line (Some op) fault e h = go (op_within op) (has_character op) (eqb (id_of op).node peer) refl refl refl h where
-  form : LineForm op line
-  form = line_form line op e
+    subst (IsFaulty form peer room text) same (λ line spelled. let f = line_read form text line spelled in absurd cc)
+verdict_err form peer room text (Some line) fault e h = go (line_within line && nat_le (count_of line) room) (line_has_characters line) (eqb (first_id line).node peer) refl refl refl h where
+  spelled : LineForm form line text
+  spelled = line_form form text line e
 
-  other : eqb (id_of op).node peer ≡ false → (id_of op).node ≢ peer
-  other f same = let g : eqb (id_of op).node peer ≡ true = eq-eqb _ _ same in absurd cc
+  other : eqb (first_id line).node peer ≡ false → (first_id line).node ≢ peer
+  other f same = let g : eqb (first_id line).node peer ≡ true = eq-eqb _ _ same in absurd cc
 
-  go : (a b c : Bool) → op_within op ≡ a → has_character op ≡ b → eqb (id_of op).node peer ≡ c
-      → cond (not a) (Err why.Limit) (cond (not b) (Err why.CharRefused) (cond c (Ok op) (Err why.WrongPeer))) ≡ Err fault → IsFaulty peer line fault
-  go false b c f1 f2 f3 h = let same : why.Limit ≡ fault = cc in subst (IsFaulty peer line) same (op, form, f1)
-  go true false c f1 f2 f3 h = let same : why.CharRefused ≡ fault = cc in subst (IsFaulty peer line) same (op, form, f1, f2)
-  go true true false f1 f2 f3 h = let same : why.WrongPeer ≡ fault = cc in subst (IsFaulty peer line) same (op, form, f1, f2, other f3)
+  go : (a b c : Bool) → (line_within line && nat_le (count_of line) room) ≡ a → line_has_characters line ≡ b → eqb (first_id line).node peer ≡ c
+      → cond (not a) (Err why.Limit) (cond (not b) (Err why.CharRefused) (cond c (Ok line) (Err why.WrongPeer))) ≡ Err fault → IsFaulty form peer room text fault
+  go false b c f1 f2 f3 h = let same : why.Limit ≡ fault = cc in subst (IsFaulty form peer room text) same (line, spelled, f1)
+  go true false c f1 f2 f3 h = let same : why.CharRefused ≡ fault = cc in subst (IsFaulty form peer room text) same (line, spelled, f1, f2)
+  go true true false f1 f2 f3 h = let same : why.WrongPeer ≡ fault = cc in subst (IsFaulty form peer room text) same (line, spelled, f1, f2, other f3)
   go true true true f1 f2 f3 h = absurd cc
 
 -- the line of this number, which what remains begins with, is refused
-abbrev NextRefused : ℕ → ℕ → List ℕ → ChangeError → Type 0
-NextRefused peer n remains e = (IsUnended remains × (Truncated ≡ e)) ⊎ ((fault : LineFault) × (line : List ℕ) × (rest : List ℕ) × Line remains line rest × IsFaulty peer line fault × (at_line n fault ≡ e))
+abbrev NextRefused : Form → ℕ → ℕ → ℕ → List ℕ → ChangeError → Type 0
+NextRefused form peer room n remains e =
+    (IsUnended remains × (Truncated ≡ e)) ⊎ ((fault : LineFault) × (line : List ℕ) × (rest : List ℕ) × Line remains line rest × IsFaulty form peer room line fault × (at_line n fault ≡ e))
 
-next_err : (peer n : ℕ) (bytes : List ℕ) (e : ChangeError) → next_at peer n bytes ≡ Err e → NextRefused peer n bytes e
+next_err : (form : Form) (peer room n : ℕ) (bytes : List ℕ) (e : ChangeError) → next_at form peer room n bytes ≡ Err e → NextRefused form peer room n bytes e
 unfolding next_at
-next_err peer n bytes e h = elim (bind_err (ended (split 10 bytes)) (λ parts. placed n (line_verdict peer (op_at parts.0)) >>= λ op. Ok (op, parts.1)) e h) [
+next_err form peer room n bytes e h = elim (bind_err (ended (split 10 bytes)) (λ parts. placed n (line_verdict peer room (line_in form parts.0)) >>= λ line. Ok (line, parts.1)) e h) [
   | inl none ↦ let x = ended_err (split 10 bytes) e none in inl (unended bytes (split_nothing bytes x.0), x.1)
-  | inr some ↦ elim (bind_err (placed n (line_verdict peer (op_at some.0.0))) (λ op. Ok (op, some.0.1)) e some.2) [
+  | inr some ↦ elim (bind_err (placed n (line_verdict peer room (line_in form some.0.0))) (λ line. Ok (line, some.0.1)) e some.2) [
     | inl refused ↦
-        let p = placed_err n (line_verdict peer (op_at some.0.0)) e refused in
-        inr (p.0, some.0.0, some.0.1, first_line bytes some.0.0 some.0.1 (ended_ok (split 10 bytes) some.0 some.1), verdict_err peer some.0.0 (op_at some.0.0) p.0 refl p.1, p.2)
+        let p = placed_err n (line_verdict peer room (line_in form some.0.0)) e refused in
+        inr (p.0, some.0.0, some.0.1, first_line bytes some.0.0 some.0.1 (ended_ok (split 10 bytes) some.0 some.1), verdict_err form peer room some.0.0 (line_in form some.0.0) p.0 refl p.1, p.2)
     | inr read ↦ absurd (let f = read.2 in cc)
   ]
 ]
 
-next_ok : (peer n : ℕ) (bytes : List ℕ) (x : One) → next_at peer n bytes ≡ Ok x → Accepted peer x.0 bytes x.1
+next_ok : (form : Form) (peer room n : ℕ) (bytes : List ℕ) (x : One) → next_at form peer room n bytes ≡ Ok x → Accepted form peer room x.0 bytes x.1
 unfolding next_at
-next_ok peer n bytes x e =
-    let a = bind_ok (ended (split 10 bytes)) (λ parts. placed n (line_verdict peer (op_at parts.0)) >>= λ op. Ok (op, parts.1)) x e in
-    let b = bind_ok (placed n (line_verdict peer (op_at a.0.0))) (λ op. Ok (op, a.0.1)) x a.2 in
-    let made : One = (b.0, a.0.1) in
-    let same : made ≡ x = cc (b.2) in
-    let v = verdict_takes peer (op_at a.0.0) b.0 (placed_takes n (line_verdict peer (op_at a.0.0)) b.0 b.1) in
-    let w = and_parts (op_within b.0) (has_character b.0) v.1 in
-    let taken : Accepted peer b.0 bytes a.0.1 = record { line = a.0.0; first = first_line bytes a.0.0 a.0.1 (ended_ok (split 10 bytes) a.0 a.1); form = line_form a.0.0 b.0 v.0; within = w.0; character = w.1; own = v.2 } in
-    subst (λ (y : One). Accepted peer y.0 bytes y.1) same taken
+next_ok form peer room n bytes x e =
+    let a = bind_ok (ended (split 10 bytes)) (λ parts. placed n (line_verdict peer room (line_in form parts.0)) >>= λ line. Ok (line, parts.1)) x e in
+    let b = bind_ok (placed n (line_verdict peer room (line_in form a.0.0))) (λ line. Ok (line, a.0.1)) x a.2 in
+    let read : One = (b.0, a.0.1) in
+    let same : read ≡ x = same_ok read x (Ok read) refl b.2 in
+    let v = verdict_takes peer room (line_in form a.0.0) b.0 (placed_takes n (line_verdict peer room (line_in form a.0.0)) b.0 b.1) in
+    let j = v.judged in
+    let fits = and_from _ (nat_le (count_of b.0) room) j.within (le-leb _ _ j.fits) in
+    let taken : Accepted form peer room b.0 bytes a.0.1 = record { line = a.0.0; first = first_line bytes a.0.0 a.0.1 (ended_ok (split 10 bytes) a.0 a.1); spelled = line_form form a.0.0 b.0 v.read; within = fits; characters = j.characters; own = j.own } in
+    subst (λ (y : One). Accepted form peer room y.0 bytes y.1) same taken
 
 -- all lines
 
-record OpsRefused (peer n count : ℕ) (bytes : List ℕ) (e : ChangeError) : Type 0 where
-  before : List Op
+record LinesRefused (form : Form) (peer room n count : ℕ) (bytes : List ℕ) (e : ChangeError) : Type 0 where
+  before : List Spelled
   remains : List ℕ
+  left : ℕ
   wanted : length before < count
-  accepted : AcceptedLines peer before bytes remains
-  refused : NextRefused peer (length before + n) remains e
+  accepted : AcceptedLines form peer room before bytes remains
+  left_is : left ≡ room - length (ops_of_lines before)
+  refused : NextRefused form peer left (length before + n) remains e
 
-ops_err : (peer n count : ℕ) (bytes : List ℕ) (e : ChangeError) → ops_at peer n count bytes ≡ Err e → OpsRefused peer n count bytes e
-unfolding ops_at
-ops_err peer n zero bytes e h = absurd cc
-ops_err peer n (suc count) bytes e h = elim (bind_err (next_at peer n bytes) (λ first. ops_at peer (n + 1) count first.1 >>= λ others. Ok (first.0 ∷ others.0, others.1)) e h) [
+lines_err : (form : Form) (peer room n count : ℕ) (bytes : List ℕ) (e : ChangeError) → lines_at form peer room n count bytes ≡ Err e → LinesRefused form peer room n count bytes e
+unfolding lines_at
+lines_err form peer room n zero bytes e h = absurd cc
+lines_err form peer room n (suc count) bytes e h = elim (bind_err (next_at form peer room n bytes) (λ first. lines_at form peer (room - count_of first.0) (n + 1) count first.1 >>= λ others. Ok (first.0 ∷ others.0, others.1)) e h) [
   | inl refused ↦
       let here : 0 + n ≡ n = omega arith in
-      record { before = []; remains = bytes; wanted = omega arith; accepted = refl; refused = rw here (next_err peer n bytes e refused) }
-  | inr first ↦ elim (bind_err (ops_at peer (n + 1) count first.0.1) (λ others. Ok (first.0.0 ∷ others.0, others.1)) e first.2) [
+      let none = no_ops in
+      let left_is : room ≡ room - length (ops_of_lines []) = omega arith in
+      record { before = []; remains = bytes; left = room; wanted = omega arith; accepted = refl; left_is = left_is; refused = rw here (next_err form peer room n bytes e refused) }
+  | inr first ↦ elim (bind_err (lines_at form peer (room - count_of first.0.0) (n + 1) count first.0.1) (λ others. Ok (first.0.0 ∷ others.0, others.1)) e first.2) [
     | inl refused ↦
-        let r = ops_err peer (n + 1) count first.0.1 e refused in
+        let r = lines_err form peer (room - count_of first.0.0) (n + 1) count first.0.1 e refused in
         let place : length r.before + (n + 1) ≡ suc (length r.before) + n = omega arith in
         let small : length r.before < count = r.wanted in
-        record { before = first.0.0 ∷ r.before; remains = r.remains; wanted = omega arith; accepted = (first.0.1, next_ok peer n bytes first.0 first.1, r.accepted); refused = subst (λ (m : ℕ). NextRefused peer m r.remains e) place r.refused }
+        let all = more_ops first.0.0 r.before in
+        let less = r.left_is in
+        let left_is : r.left ≡ room - length (ops_of_lines (first.0.0 ∷ r.before)) = omega arith in
+        record { before = first.0.0 ∷ r.before; remains = r.remains; left = r.left; wanted = omega arith; accepted = (first.0.1, next_ok form peer room n bytes first.0 first.1, r.accepted); left_is = left_is; refused = subst (λ (m : ℕ). NextRefused form peer r.left m r.remains e) place r.refused }
     | inr read ↦ absurd (let f = read.2 in cc)
   ]
 ]
@@ -149,18 +158,18 @@ ops_err peer n (suc count) bytes e h = elim (bind_err (next_at peer n bytes) (λ
 header_err : (line : List ℕ) (read : Option Header) (fault : LineFault) → header_at line ≡ read → header_verdict read ≡ Err fault → IsFaultyHeader line fault
 header_err line None fault e h =
     let same : why.BadLine ≡ fault = cc in
-    subst (IsFaultyHeader line) same (λ node count form. let f = header_read line node count form in absurd cc)
+    subst (IsFaultyHeader line) same (λ form node count spelled. let f = header_read line form node count spelled in absurd cc)
 header_err line (Some x) fault e h = go (is_header x) refl h where
   go : (b : Bool) → is_header x ≡ b → within_header (cond b (Some x) None) ≡ Err fault → IsFaultyHeader line fault
   go true f h = absurd cc
-  go false f h = let same : why.Limit ≡ fault = cc in subst (IsFaultyHeader line) same (x.0, x.1, header_form line x e, f)
+  go false f h = let same : why.Limit ≡ fault = cc in subst (IsFaultyHeader line) same (x.0, x.1, x.2, header_form line x e, f)
 
-header_ok : (line : List ℕ) (read : Option Header) (x : Header) → header_at line ≡ read → header_verdict read ≡ Ok x → HeaderForm x.0 x.1 line × IsTrue (is_header x)
+header_ok : (line : List ℕ) (read : Option Header) (x : Header) → header_at line ≡ read → header_verdict read ≡ Ok x → HeaderForm x.0 x.1 x.2 line × IsTrue (is_header x)
 header_ok line None x e h = absurd cc
 header_ok line (Some y) x e h = go (is_header y) refl h where
-  go : (b : Bool) → is_header y ≡ b → within_header (cond b (Some y) None) ≡ Ok x → HeaderForm x.0 x.1 line × IsTrue (is_header x)
+  go : (b : Bool) → is_header y ≡ b → within_header (cond b (Some y) None) ≡ Ok x → HeaderForm x.0 x.1 x.2 line × IsTrue (is_header x)
   go false f h = absurd cc
-  go true f h = let same : y ≡ x = cc in subst (λ (z : Header). HeaderForm z.0 z.1 line × IsTrue (is_header z)) same (header_form line y e, f)
+  go true f h = let same : y ≡ x = cc in subst (λ (z : Header). HeaderForm z.0 z.1 z.2 line × IsTrue (is_header z)) same (header_form line y e, f)
 
 -- a fault of a line is the refusal with its number
 fault_at : (text : List ℕ) (n : ℕ) (fault : LineFault) (e : ChangeError) → at_line n fault ≡ e → IsFaultAt text n fault → IsRefused text e
@@ -169,32 +178,36 @@ fault_at text n why.Limit e same h = subst (IsRefused text) same h
 fault_at text n why.CharRefused e same h = subst (IsRefused text) same h
 fault_at text n why.WrongPeer e same h = subst (IsRefused text) same h
 fault_at text n why.OutOfMemory e same (inl h) = absurd h.1.3
-fault_at text n why.OutOfMemory e same (inr h) = absurd h.6
+fault_at text n why.OutOfMemory e same (inr h) = absurd h.8
 
-ops_refused : (text header rest : List ℕ) (x : Header) (e : ChangeError) → Line text header rest → HeaderForm x.0 x.1 header → IsTrue (is_header x) → OpsRefused x.0 2 x.1 rest e → IsRefused text e
-ops_refused text header rest x e first form within r =
-    let reached : Reached text (length r.before + 2) x.0 r.remains = record { header = header; rest = rest; count = x.1; first = first; form = form; within = within; before = r.before; numbered = refl; wanted = r.wanted; accepted = r.accepted } in
+lines_refused : (text header rest : List ℕ) (x : Header) (e : ChangeError) → Line text header rest → HeaderForm x.0 x.1 x.2 header → IsTrue (is_header x) → LinesRefused x.0 x.1 256 2 x.2 rest e → IsRefused text e
+lines_refused text header rest x e first spelled within r =
+    let n = length r.before + 2 in
+    let reached : Reached text n x.0 x.1 r.left r.remains = record { header = header; rest = rest; count = x.2; first = first; spelled = spelled; within = within; before = r.before; numbered = refl; wanted = r.wanted; accepted = r.accepted; left = r.left_is } in
     elim r.refused [
-      | inl none ↦ subst (IsRefused text) none.1 (inr (length r.before + 2, x.0, r.remains, reached, none.0))
-      | inr f ↦ fault_at text (length r.before + 2) f.0 e f.5 (inr (x.0, r.remains, f.1, f.2, reached, f.3, f.4))
+      | inl none ↦ subst (IsRefused text) none.1 (inr (n, x.0, x.1, r.left, r.remains, reached, none.0))
+      | inr f ↦ fault_at text n f.0 e f.5 (inr (x.0, x.1, r.left, r.remains, f.1, f.2, reached, f.3, f.4))
     ]
 
+edited : Header → Lines → Result Pair ChangeError
+edited header found = Ok (record { form = header.0; node = header.1; lines = found.0 }, found.1)
+
 pub change_err : (text : List ℕ) (e : ChangeError) → change_at text ≡ Err e → IsRefused text e
-unfolding change_at
-change_err text e h = elim (bind_err (ended (split 10 text)) (λ parts. placed 1 (header_verdict (header_at parts.0)) >>= λ header. ops_at header.0 2 header.1 parts.1 >>= λ ops. Ok (record { node = header.0; operations = ops.0 }, ops.1)) e h) [
+unfolding change_at edited
+change_err text e h = elim (bind_err (ended (split 10 text)) (λ parts. placed 1 (header_verdict (header_at parts.0)) >>= λ header. lines_at header.0 header.1 256 2 header.2 parts.1 >>= λ found. edited header found) e h) [
   | inl none ↦ let x = ended_err (split 10 text) e none in subst (IsRefused text) x.1 (inl (unended text (split_nothing text x.0)))
   | inr some ↦
       let parts = some.0 in
       let first = first_line text parts.0 parts.1 (ended_ok (split 10 text) parts some.1) in
-      elim (bind_err (placed 1 (header_verdict (header_at parts.0))) (λ header. ops_at header.0 2 header.1 parts.1 >>= λ ops. Ok (record { node = header.0; operations = ops.0 }, ops.1)) e some.2) [
+      elim (bind_err (placed 1 (header_verdict (header_at parts.0))) (λ header. lines_at header.0 header.1 256 2 header.2 parts.1 >>= λ found. edited header found) e some.2) [
         | inl refused ↦
             let p = placed_err 1 (header_verdict (header_at parts.0)) e refused in
             fault_at text 1 p.0 e p.2 (inl (refl, (parts.0, parts.1, first, header_err parts.0 (header_at parts.0) p.0 refl p.1)))
         | inr header ↦
             let x = header.0 in
             let fine = header_ok parts.0 (header_at parts.0) x refl (placed_takes 1 (header_verdict (header_at parts.0)) x header.1) in
-            elim (bind_err (ops_at x.0 2 x.1 parts.1) (λ ops. Ok (record { node = x.0; operations = ops.0 }, ops.1)) e header.2) [
-              | inl refused ↦ ops_refused text parts.0 parts.1 x e first fine.0 fine.1 (ops_err x.0 2 x.1 parts.1 e refused)
+            elim (bind_err (lines_at x.0 x.1 256 2 x.2 parts.1) (λ found. edited x found) e header.2) [
+              | inl refused ↦ lines_refused text parts.0 parts.1 x e first fine.0 fine.1 (lines_err x.0 x.1 256 2 x.2 parts.1 e refused)
               | inr read ↦ absurd (let f = read.2 in cc)
             ]
       ]
@@ -214,59 +227,65 @@ gives_refused view (Err (WrongPeer n)) text h = inr (change_err text (WrongPeer 
 
 -- a text at fault is refused with that refusal, and no other
 
-line_fault_again : (peer : ℕ) (line : List ℕ) (fault : LineFault) → IsFaulty peer line fault → line_verdict peer (op_at line) ≡ Err fault
-line_fault_again peer line why.BadLine h = go (op_at line) refl where
-  go : (o : Option Op) → op_at line ≡ o → line_verdict peer o ≡ Err why.BadLine
+line_fault_again : (form : Form) (peer room : ℕ) (text : List ℕ) (fault : LineFault) → IsFaulty form peer room text fault → line_verdict peer room (line_in form text) ≡ Err fault
+line_fault_again form peer room text why.BadLine h = go (line_in form text) refl where
+  go : (o : Option Spelled) → line_in form text ≡ o → line_verdict peer room o ≡ Err why.BadLine
   go None e = refl
-  go (Some op) e = absurd (h op (line_form line op e))
-line_fault_again peer line why.Limit h = rw (line_read line h.0 h.1, h.2) refl
-line_fault_again peer line why.CharRefused h = rw (line_read line h.0 h.1, h.2, h.3) refl
-line_fault_again peer line why.WrongPeer h =
-    let other : eqb (id_of h.0).node peer ≡ false = elim (eqb_tells (id_of h.0).node peer) [ inl same ↦ absurd (h.4 same.1) | inr differs ↦ differs.0 ] in
-    rw (line_read line h.0 h.1, h.2, h.3, other) refl
-line_fault_again peer line why.OutOfMemory h = absurd h
+  go (Some line) e = absurd (h line (line_form form text line e))
+line_fault_again form peer room text why.Limit h = let e = line_read form text h.0 h.1 in ap (line_verdict peer room) e ∙ rw h.2 refl
+line_fault_again form peer room text why.CharRefused h = let e = line_read form text h.0 h.1 in ap (line_verdict peer room) e ∙ rw (h.2, h.3) refl
+line_fault_again form peer room text why.WrongPeer h =
+    let other : eqb (first_id h.0).node peer ≡ false = elim (eqb_tells (first_id h.0).node peer) [ inl same ↦ absurd (h.4 same.1) | inr differs ↦ differs.0 ] in
+    let e = line_read form text h.0 h.1 in
+    ap (line_verdict peer room) e ∙ rw (h.2, h.3, other) refl
+line_fault_again form peer room text why.OutOfMemory h = absurd h
 
-next_fault_again : (peer n : ℕ) (bytes line rest : List ℕ) (fault : LineFault) → Line bytes line rest → IsFaulty peer line fault → next_at peer n bytes ≡ Err (at_line n fault)
+next_fault_again : (form : Form) (peer room n : ℕ) (bytes line rest : List ℕ) (fault : LineFault) → Line bytes line rest → IsFaulty form peer room line fault → next_at form peer room n bytes ≡ Err (at_line n fault)
 unfolding next_at
-next_fault_again peer n bytes line rest fault first h = rw (line_again bytes line rest first, line_fault_again peer line fault h) refl
+next_fault_again form peer room n bytes line rest fault first h = rw (line_again bytes line rest first, line_fault_again form peer room line fault h) refl
 
-next_none_again : (peer n : ℕ) (bytes : List ℕ) → IsUnended bytes → next_at peer n bytes ≡ Err Truncated
+next_none_again : (form : Form) (peer room n : ℕ) (bytes : List ℕ) → IsUnended bytes → next_at form peer room n bytes ≡ Err Truncated
 unfolding next_at
-next_none_again peer n bytes h = rw (none_again bytes h) refl
+next_none_again form peer room n bytes h = rw (none_again bytes h) refl
 
-accepted_again : (peer n : ℕ) (op : Op) (bytes rest : List ℕ) → Accepted peer op bytes rest → next_at peer n bytes ≡ Ok (op, rest)
+accepted_again : (form : Form) (peer room n : ℕ) (line : Spelled) (bytes rest : List ℕ) → Accepted form peer room line bytes rest → next_at form peer room n bytes ≡ Ok (line, rest)
 unfolding next_at
-accepted_again peer n op bytes rest a =
-    rw (line_again bytes a.line rest a.first, line_read a.line op a.form, a.within, a.character, eq-eqb _ _ a.own) refl
+accepted_again form peer room n line bytes rest a =
+    let read : line_verdict peer room (line_in form a.line) ≡ Ok line = ap (line_verdict peer room) (line_read form a.line line a.spelled) ∙ rw (a.within, a.characters, eq-eqb _ _ a.own) refl in
+    rw (line_again bytes a.line rest a.first, read) refl
 
-ops_fault_again : (peer n count : ℕ) (before : List Op) (bytes remains : List ℕ) (e : ChangeError) → AcceptedLines peer before bytes remains → length before < count
-    → next_at peer (length before + n) remains ≡ Err e → ops_at peer n count bytes ≡ Err e
-unfolding ops_at
-ops_fault_again peer n zero before bytes remains e accepted small h = absurd (omega arith)
-ops_fault_again peer n (suc count) [] bytes remains e accepted small h =
+lines_fault_again : (form : Form) (peer room n count : ℕ) (before : List Spelled) (bytes remains : List ℕ) (e : ChangeError) → AcceptedLines form peer room before bytes remains → length before < count
+    → next_at form peer (room - length (ops_of_lines before)) (length before + n) remains ≡ Err e → lines_at form peer room n count bytes ≡ Err e
+unfolding lines_at
+lines_fault_again form peer room n zero before bytes remains e accepted small h = absurd (omega arith)
+lines_fault_again form peer room n (suc count) [] bytes remains e accepted small h =
     let here : 0 + n ≡ n = omega arith in
-    let next : next_at peer n bytes ≡ Err e = ap (next_at peer n) accepted ∙ rw here at h in
+    let none = no_ops in
+    let all : room - length (ops_of_lines []) ≡ room = omega arith in
+    let next : next_at form peer room n bytes ≡ Err e = ap (next_at form peer room n) accepted ∙ rw (all, here) at h in
     rw next refl
-ops_fault_again peer n (suc count) (op ∷ before) bytes remains e accepted small h =
+lines_fault_again form peer room n (suc count) (line ∷ before) bytes remains e accepted small h =
     let place : suc (length before) + n ≡ length before + (n + 1) = omega arith in
-    let next : next_at peer (length before + (n + 1)) remains ≡ Err e = ap (λ (m : ℕ). next_at peer m remains) (sym place) ∙ h in
-    rw (accepted_again peer n op bytes accepted.0 accepted.1, ops_fault_again peer (n + 1) count before accepted.0 remains e accepted.2 (omega arith) next) refl
+    let more = more_ops line before in
+    let left : room - length (ops_of_lines (line ∷ before)) ≡ (room - count_of line) - length (ops_of_lines before) = omega arith in
+    let next : next_at form peer ((room - count_of line) - length (ops_of_lines before)) (length before + (n + 1)) remains ≡ Err e = (λ i. next_at form peer (sym left i) (sym place i) remains) ∙ h in
+    rw (accepted_again form peer room n line bytes accepted.0 accepted.1, lines_fault_again form peer (room - count_of line) (n + 1) count before accepted.0 remains e accepted.2 (omega arith) next) refl
 
 header_fault_again : (line : List ℕ) (fault : LineFault) → IsFaultyHeader line fault → header_verdict (header_at line) ≡ Err fault
 header_fault_again line why.BadLine h = go (header_at line) refl where
   go : (o : Option Header) → header_at line ≡ o → header_verdict o ≡ Err why.BadLine
   go None e = refl
-  go (Some x) e = absurd (h x.0 x.1 (header_form line x e))
-header_fault_again line why.Limit h = rw (header_read line h.0 h.1 h.2, h.3) refl
+  go (Some x) e = absurd (h x.0 x.1 x.2 (header_form line x e))
+header_fault_again line why.Limit h = rw (header_read line h.0 h.1 h.2 h.3, h.4) refl
 header_fault_again line why.CharRefused h = absurd h
 header_fault_again line why.WrongPeer h = absurd h
 header_fault_again line why.OutOfMemory h = absurd h
 
-reached_again : (text : List ℕ) (n node : ℕ) (remains : List ℕ) (e : ChangeError) → Reached text n node remains → next_at node n remains ≡ Err e → change_at text ≡ Err e
+reached_again : (text : List ℕ) (n : ℕ) (form : Form) (node room : ℕ) (remains : List ℕ) (e : ChangeError) → Reached text n form node room remains → next_at form node room n remains ≡ Err e → change_at text ≡ Err e
 unfolding change_at
-reached_again text n node remains e r h =
-    let next : next_at node (length r.before + 2) remains ≡ Err e = ap (λ (m : ℕ). next_at node m remains) (sym r.numbered) ∙ h in
-    rw (line_again text r.header r.rest r.first, header_read r.header node r.count r.form, r.within, ops_fault_again node 2 r.count r.before r.rest remains e r.accepted r.wanted next) refl
+reached_again text n form node room remains e r h =
+    let next : next_at form node (256 - length (ops_of_lines r.before)) (length r.before + 2) remains ≡ Err e = (λ i. next_at form node (sym r.left i) (sym r.numbered i) remains) ∙ h in
+    rw (line_again text r.header r.rest r.first, header_read r.header form node r.count r.spelled, r.within, lines_fault_again form node 256 2 r.count r.before r.rest remains e r.accepted r.wanted next) refl
 
 first_fault_again : (text line rest : List ℕ) (fault : LineFault) → Line text line rest → IsFaultyHeader line fault → change_at text ≡ Err (at_line 1 fault)
 unfolding change_at
@@ -274,7 +293,7 @@ first_fault_again text line rest fault first h = rw (line_again text line rest f
 
 fault_at_again : (text : List ℕ) (n : ℕ) (fault : LineFault) → IsFaultAt text n fault → change_at text ≡ Err (at_line n fault)
 fault_at_again text n fault (inl h) = first_fault_again text h.1.0 h.1.1 fault h.1.2 h.1.3 ∙ ap (λ (m : ℕ). Err (at_line m fault)) (sym h.0)
-fault_at_again text n fault (inr h) = reached_again text n h.0 h.1 (at_line n fault) h.4 (next_fault_again h.0 n h.1 h.2 h.3 fault h.5 h.6)
+fault_at_again text n fault (inr h) = reached_again text n h.0 h.1 h.2 h.3 (at_line n fault) h.6 (next_fault_again h.0 h.1 h.2 n h.3 h.4 h.5 fault h.7 h.8)
 
 unended_again : (text : List ℕ) → IsUnended text → change_at text ≡ Err Truncated
 unfolding change_at
@@ -284,7 +303,7 @@ pub refused_again : (text : List ℕ) (e : ChangeError) → IsRefused text e →
 refused_again text OutOfMemory h = absurd h
 refused_again text (BadLine n) h = fault_at_again text n why.BadLine h
 refused_again text Truncated (inl h) = unended_again text h
-refused_again text Truncated (inr h) = reached_again text h.0 h.1 h.2 Truncated h.3 (next_none_again h.1 h.0 h.2 h.4)
+refused_again text Truncated (inr h) = reached_again text h.0 h.1 h.2 h.3 h.4 Truncated h.5 (next_none_again h.1 h.2 h.3 h.0 h.4 h.6)
 refused_again text (Limit n) h = fault_at_again text n why.Limit h
 refused_again text (CharRefused n) h = fault_at_again text n why.CharRefused h
 refused_again text (WrongPeer n) h = fault_at_again text n why.WrongPeer h

@@ -1,21 +1,27 @@
 -- Reading a change from left to right, with the first fault that is met.
-use Rattle.std.specs.Prelude.{◌≡◌, ℕ, zero, suc, ◌+◌, ◌≤◌, nat_le, ◌&&◌, if◌then◌else◌, Bool, List, [], ◌∷◌, length, Option, Some, None, Result, Ok, Err, IsTrue}
+use Rattle.std.specs.Prelude.{◌≡◌, ℕ, zero, suc, ◌+◌, ◌-◌, ◌≤◌, nat_le, ◌&&◌, if◌then◌else◌, Bool, List, [], ◌∷◌, length, Option, Some, None, Result, Ok, Err, IsTrue}
 use Rattle.std.specs.List.{AllByRecursion}
 use Rattle.change_ops.specs.Ids.{is_node}
-use Rattle.change_ops.specs.Limits.{op_within, has_character}
 use Rattle.change_ops.specs.Words.{split}
-use Rattle.change_ops.specs.Operations.{id_of}
-use Rattle.change_ops.specs.Reading.{header_at, op_at, line_verdict}
+use Rattle.change_ops.specs.Lines.{ops_of_lines, count_of, first_id, line_within, line_has_characters, has_line}
+use Rattle.change_ops.specs.Reading.{header_at, line_in, line_verdict}
 use Rattle.change_ops.specs.declared.operation.Op.{Op}
+use Rattle.change_ops.specs.declared.line.Form.{Form}
+use Rattle.change_ops.specs.declared.line.Line.{Line}
 use Rattle.change_ops.specs.declared.refusal.LineFault.{LineFault}
 use Rattle.change_ops.specs.declared.refusal.LineFault.TheVariants as line
 use Rattle.change_ops.specs.declared.refusal.ChangeError.{ChangeError}
 use Rattle.change_ops.specs.declared.refusal.ChangeError.TheVariants.{BadLine, Truncated, Limit, CharRefused, WrongPeer, OutOfMemory}
 
--- a change: its peer's node, and its operations
+-- a change: its form, its peer's node, and its lines
 pub record Edit : Type 0 where
+  pub form : Form
   pub node : ℕ
-  pub operations : List Op
+  pub lines : List Line
+
+-- the operations that its lines mean
+abbrev pub operations : Edit → List Op
+operations change = ops_of_lines change.lines
 
 infixl 10 ◌>>=◌
 abbrev pub ◌>>=◌ : {A B : Type 0} → Result A ChangeError → (A → Result B ChangeError) → Result B ChangeError
@@ -51,33 +57,36 @@ abbrev pub ended : Option (List ℕ × List ℕ) → Result (List ℕ × List �
 ended None = Err Truncated
 ended (Some parts) = Ok parts
 
--- the operation on the line of this number, and what follows the line
-unfoldable pub next_at : ℕ → ℕ → List ℕ → Result (Op × List ℕ) ChangeError
-next_at peer n bytes = do
+-- the line of this number of a change that has room for so many operations, and what follows the line
+unfoldable pub next_at : Form → ℕ → ℕ → ℕ → List ℕ → Result (Line × List ℕ) ChangeError
+next_at form peer room n bytes = do
   parts ← ended (split 10 bytes)
-  op ← placed n (line_verdict peer (op_at parts.0))
-  Ok (op, parts.1)
+  found ← placed n (line_verdict peer room (line_in form parts.0))
+  Ok (found, parts.1)
 
--- so many operations, the first on the line of this number
-unfoldable pub ops_at : ℕ → ℕ → ℕ → List ℕ → Result (List Op × List ℕ) ChangeError
-ops_at peer n zero bytes = Ok ([], bytes)
-ops_at peer n (suc count) bytes = do
-  first ← next_at peer n bytes
-  others ← ops_at peer (n + 1) count first.1
+-- so many lines, the first of this number, with room for so many operations
+unfoldable pub lines_at : Form → ℕ → ℕ → ℕ → ℕ → List ℕ → Result (List Line × List ℕ) ChangeError
+lines_at form peer room n zero bytes = Ok ([], bytes)
+lines_at form peer room n (suc count) bytes = do
+  first ← next_at form peer room n bytes
+  others ← lines_at form peer (room - count_of first.0) (n + 1) count first.1
   Ok (first.0 ∷ others.0, others.1)
 
--- the limits of a header
-abbrev pub is_header : ℕ × ℕ → Bool
-is_header h = is_node h.0 && nat_le 1 h.1 && nat_le h.1 256
+-- form, node and count, and the limits of these
+abbrev pub Header : Type 0
+Header = Form × ℕ × ℕ
 
-abbrev pub limited_header : ℕ × ℕ → Option (ℕ × ℕ)
+abbrev pub is_header : Header → Bool
+is_header h = is_node h.1 && nat_le 1 h.2 && nat_le h.2 256
+
+abbrev pub limited_header : Header → Option Header
 limited_header h = if is_header h then Some h else None
 
-abbrev pub within_header : Option (ℕ × ℕ) → Result (ℕ × ℕ) LineFault
+abbrev pub within_header : Option Header → Result Header LineFault
 within_header None = Err line.Limit
 within_header (Some h) = Ok h
 
-abbrev pub header_verdict : Option (ℕ × ℕ) → Result (ℕ × ℕ) LineFault
+abbrev pub header_verdict : Option Header → Result Header LineFault
 header_verdict None = Err line.BadLine
 header_verdict (Some h) = within_header (limited_header h)
 
@@ -86,18 +95,26 @@ unfoldable pub change_at : List ℕ → Result (Edit × List ℕ) ChangeError
 change_at bytes = do
   parts ← ended (split 10 bytes)
   header ← placed 1 (header_verdict (header_at parts.0))
-  ops ← ops_at header.0 2 header.1 parts.1
-  Ok (record { node = header.0; operations = ops.0 }, ops.1)
+  found ← lines_at header.0 header.1 256 2 header.2 parts.1
+  Ok (record { form = header.0; node = header.1; lines = found.0 }, found.1)
 
--- a change within the limits, whose operations are its peer's
+-- a line of this peer's change, of the change's form and within the limits
+pub record IsLine (form : Form) (peer : ℕ) (found : Line) : Type 0 where
+  pub own : (first_id found).node ≡ peer
+  pub within : IsTrue (line_within found)
+  pub characters : IsTrue (line_has_characters found)
+  pub formed : IsTrue (has_line form found)
+
+-- a change within the limits, whose lines are its peer's
 pub record IsChange (change : Edit) : Type 0 where
   pub named : 1 ≤ change.node
   pub known : change.node ≤ 65535
-  pub some : 1 ≤ length change.operations
-  pub few : length change.operations ≤ 256
-  pub own : AllByRecursion (λ op. (id_of op).node ≡ change.node) change.operations
-  pub within : AllByRecursion (λ op. IsTrue (op_within op && has_character op)) change.operations
+  pub some : 1 ≤ length change.lines
+  pub few : length (operations change) ≤ 256
+  pub lines : AllByRecursion (IsLine change.form change.node) change.lines
 
--- so many operations, each of this peer and within the limits
-abbrev pub OwnOps : ℕ → ℕ → List Op → Type 0
-OwnOps peer count ops = (length ops ≡ count) × AllByRecursion (λ op. (id_of op).node ≡ peer) ops × AllByRecursion (λ op. IsTrue (op_within op && has_character op)) ops
+-- so many lines of this peer, which mean no more operations than there is room for
+pub record OwnLines (form : Form) (peer room count : ℕ) (found : List Line) : Type 0 where
+  pub counted : length found ≡ count
+  pub few : length (ops_of_lines found) ≤ room
+  pub lines : AllByRecursion (IsLine form peer) found

@@ -1,10 +1,12 @@
 -- The grammar of a change's lines, of numbers of any size: which words and lines have a form, whatever reads them.
-use Rattle.std.specs.Prelude.{◌≡◌, ℕ, ◌+◌, ◌*◌, ◌^◌, ◌<◌, ◌≤◌, false, List, [], ◌∷◌, ◌++◌, map, length, Option, Some, None, codes, ⊤, ◌↔◌}
+use Rattle.std.specs.Prelude.{◌≡◌, ℕ, ◌+◌, ◌*◌, ◌^◌, ◌<◌, ◌≤◌, false, List, [], ◌∷◌, ◌++◌, map, length, Option, Some, None, codes, ⊤, ◌↔◌, IsTrue}
 use Rattle.std.specs.List.{AllByRecursion}
 use Rattle.std.specs.Fmt.{digit_glyph}
 use Rattle.change_ops.specs.Ids.{Id}
 use Rattle.change_ops.specs.Operations.{key_of}
-use Rattle.change_ops.specs.Reading.{op_at, header_at}
+use Rattle.change_ops.specs.Runs.{RunView}
+use Rattle.change_ops.specs.Lines.{has_line}
+use Rattle.change_ops.specs.Reading.{line_in, header_at}
 use Rattle.change_ops.specs.declared.attribute.Key.{Key}
 use Rattle.change_ops.specs.declared.attribute.Key.TheVariants as key
 use Rattle.change_ops.specs.declared.attribute.Attribute.{Attribute}
@@ -13,6 +15,10 @@ use Rattle.change_ops.specs.declared.operation.Anchor.{Anchor}
 use Rattle.change_ops.specs.declared.operation.Anchor.TheVariants.{TextStart, BeforeCharacter, AfterCharacter, TextEnd}
 use Rattle.change_ops.specs.declared.operation.Op.{Op}
 use Rattle.change_ops.specs.declared.operation.Op.TheVariants.{Insert, Remove, AddMark, RemoveMark}
+use Rattle.change_ops.specs.declared.line.Form.{Form}
+use Rattle.change_ops.specs.declared.line.Form.TheVariants as form
+use Rattle.change_ops.specs.declared.line.Line.{Line}
+use Rattle.change_ops.specs.declared.line.Line.TheVariants.{Operation, Run}
 
 -- the sum of the digits, each times the power of the base for its place
 unfoldable pub place_value : ℕ → List ℕ → ℕ
@@ -81,6 +87,7 @@ AnchorForm TextEnd = Word (codes "$")
 abbrev pub KeyForm : Key → List ℕ → Type 0
 KeyForm key.Strong = Word (codes "strong")
 KeyForm key.Em = Word (codes "em")
+KeyForm key.Code = Word (codes "code")
 KeyForm key.Link = Word (codes "link")
 KeyForm key.Color = Word (codes "color")
 KeyForm (key.Comment number) = Joined 58 (Word (codes "comment")) (Numeral 10 number)
@@ -100,24 +107,53 @@ pub record ColorForm (rgb : ℕ) (word : List ℕ) : Type 0 where
 abbrev pub ValueForm : Attribute → List ℕ → Type 0
 ValueForm attribute.Strong = Word (codes "-")
 ValueForm attribute.Em = Word (codes "-")
+ValueForm attribute.Code = Word (codes "-")
 ValueForm (attribute.Link target) = LinkForm target
 ValueForm (attribute.Color rgb) = ColorForm rgb
 ValueForm (attribute.Comment number) = Word (codes "-")
 
 -- an operation's line, without its LF
-abbrev pub LineForm : Op → List ℕ → Type 0
-LineForm (Insert id parent character) = Word (codes "i") ⎵ IdForm id ⎵ PlaceForm parent ⎵ CodeForm character
-LineForm (Remove id target) = Word (codes "d") ⎵ IdForm id ⎵ IdForm target
-LineForm (AddMark id attribute start end) = Word (codes "m") ⎵ IdForm id ⎵ KeyForm (key_of attribute) ⎵ ValueForm attribute ⎵ AnchorForm start ⎵ AnchorForm end
-LineForm (RemoveMark id key start end) = Word (codes "u") ⎵ IdForm id ⎵ KeyForm key ⎵ AnchorForm start ⎵ AnchorForm end
+abbrev pub OpForm : Op → List ℕ → Type 0
+OpForm (Insert id parent character) = Word (codes "i") ⎵ IdForm id ⎵ PlaceForm parent ⎵ CodeForm character
+OpForm (Remove id target) = Word (codes "d") ⎵ IdForm id ⎵ IdForm target
+OpForm (AddMark id attribute start end) = Word (codes "m") ⎵ IdForm id ⎵ KeyForm (key_of attribute) ⎵ ValueForm attribute ⎵ AnchorForm start ⎵ AnchorForm end
+OpForm (RemoveMark id key start end) = Word (codes "u") ⎵ IdForm id ⎵ KeyForm key ⎵ AnchorForm start ⎵ AnchorForm end
+
+-- characters' codes with a space between them, at least one
+abbrev pub CharactersForm : List ℕ → List ℕ → Type 0
+CharactersForm [] = λ word. ⊥
+CharactersForm (character ∷ []) = CodeForm character
+CharactersForm (character ∷ next ∷ characters) = CodeForm character ⎵ CharactersForm (next ∷ characters)
+
+-- how many they are, and their codes
+abbrev pub CountedForm : List ℕ → List ℕ → Type 0
+CountedForm [] = Word (codes "0")
+CountedForm (character ∷ characters) = Numeral 10 (length (character ∷ characters)) ⎵ CharactersForm (character ∷ characters)
+
+-- a run's line, without its LF
+abbrev pub RunForm : RunView → List ℕ → Type 0
+RunForm run = Word (codes "r") ⎵ IdForm run.id ⎵ PlaceForm run.parent ⎵ CountedForm run.characters
+
+abbrev pub AnyForm : Line → List ℕ → Type 0
+AnyForm (Operation op) = OpForm op
+AnyForm (Run run) = RunForm run
+
+-- a line of a change of this form, without its LF
+pub record LineForm (form : Form) (line : Line) (text : List ℕ) : Type 0 where
+  pub had : IsTrue (has_line form line)
+  pub spelled : AnyForm line text
+
+abbrev pub FormWord : Form → List ℕ → Type 0
+FormWord form.First = Word (codes "change")
+FormWord form.Second = Word (codes "change2")
 
 -- a change's first line, without its LF
-abbrev pub HeaderForm : ℕ → ℕ → List ℕ → Type 0
-HeaderForm node count = Word (codes "change") ⎵ Numeral 10 node ⎵ Numeral 10 count
+abbrev pub HeaderForm : Form → ℕ → ℕ → List ℕ → Type 0
+HeaderForm form node count = FormWord form ⎵ Numeral 10 node ⎵ Numeral 10 count
 
--- A line is read as an operation just where it has the operation's form; so it has one operation's at most.
+-- A line is read as an operation or a run just where it has the form of it; so it has the form of one at most.
 abbrev pub LinesAreForms : Type 0
-LinesAreForms = (line : List ℕ) (op : Op) → (op_at line ≡ Some op) ↔ LineForm op line
+LinesAreForms = (form : Form) (text : List ℕ) (line : Line) → (line_in form text ≡ Some line) ↔ LineForm form line text
 
 abbrev pub HeadersAreForms : Type 0
-HeadersAreForms = (line : List ℕ) (node count : ℕ) → (header_at line ≡ Some (node, count)) ↔ HeaderForm node count line
+HeadersAreForms = (line : List ℕ) (form : Form) (node count : ℕ) → (header_at line ≡ Some (form, node, count)) ↔ HeaderForm form node count line

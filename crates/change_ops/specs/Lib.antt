@@ -2,9 +2,12 @@ pub mod Ids
 pub mod Attributes
 pub mod Operations
 pub mod Limits
+pub mod Runs
+pub mod Lines
 pub mod Words
 pub mod Reading
 pub mod Changes
 pub mod Spelling
 pub mod Forms
+pub mod FirstForm
 pub mod Refusals

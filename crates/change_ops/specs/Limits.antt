@@ -27,6 +27,7 @@ anchors_within anchors = anchor_within anchors.0 && anchor_within anchors.1
 abbrev pub key_within : Key → Bool
 key_within key.Strong = true
 key_within key.Em = true
+key_within key.Code = true
 key_within key.Link = true
 key_within key.Color = true
 key_within (key.Comment number) = is_comment_number number
@@ -34,6 +35,7 @@ key_within (key.Comment number) = is_comment_number number
 abbrev pub attribute_within : Attribute → Bool
 attribute_within attribute.Strong = true
 attribute_within attribute.Em = true
+attribute_within attribute.Code = true
 attribute_within (attribute.Link target) = is_link target
 attribute_within (attribute.Color rgb) = is_color rgb
 attribute_within (attribute.Comment number) = is_comment_number number

@@ -1,13 +1,15 @@
--- The operation that a line spells, and the first fault of a line.
-use Rattle.std.specs.Prelude.{◌≡◌, ◌⊎◌, ℕ, nat_lt, ◌==◌, ◌&&◌, not, Bool, if◌then◌else◌, List, [], ◌∷◌, length, Option, Some, None, Result, Ok, Err, option_and_then, codes}
+-- What a line spells, and the first fault of a line.
+use Rattle.std.specs.Prelude.{◌≡◌, ◌⊎◌, ℕ, zero, suc, nat_lt, nat_le, ◌==◌, ◌+◌, ◌^◌, ◌&&◌, ◌||◌, not, Bool, false, if◌then◌else◌, List, [], ◌∷◌, ◌++◌, length, Option, Some, None, Result, Ok, Err, option_and_then, codes}
 use Rattle.std.specs.List.{list_all}
 use Rattle.std.specs.Str.{bytes_eq}
 use Rattle.std.specs.Borrow.{Bor}
-use Rattle.change_ops.specs.Ids.{Id, is_character}
+use Rattle.change_ops.specs.Ids.{Id, within_limits, is_character}
 use Rattle.change_ops.specs.Attributes.{is_link_byte}
-use Rattle.change_ops.specs.Limits.{op_within, has_character}
+use Rattle.change_ops.specs.Limits.{place_within, op_within, has_character}
 use Rattle.change_ops.specs.Operations.{id_of}
-use Rattle.change_ops.specs.Words.{split, number_in, digits_after}
+use Rattle.change_ops.specs.Runs.{RunView, run_within, run_has_characters}
+use Rattle.change_ops.specs.Lines.{count_of, first_id, line_within, line_has_characters, has_line}
+use Rattle.change_ops.specs.Words.{split, number_in, digits_after, saturated}
 use Rattle.change_ops.specs.declared.attribute.Key.{Key}
 use Rattle.change_ops.specs.declared.attribute.Key.TheVariants as key
 use Rattle.change_ops.specs.declared.attribute.Attribute.{Attribute}
@@ -16,6 +18,10 @@ use Rattle.change_ops.specs.declared.operation.Anchor.{Anchor}
 use Rattle.change_ops.specs.declared.operation.Anchor.TheVariants.{TextStart, BeforeCharacter, AfterCharacter, TextEnd}
 use Rattle.change_ops.specs.declared.operation.Op.{Op}
 use Rattle.change_ops.specs.declared.operation.Op.TheVariants.{Insert, Remove, AddMark, RemoveMark}
+use Rattle.change_ops.specs.declared.line.Form.{Form}
+use Rattle.change_ops.specs.declared.line.Form.TheVariants.{First, Second}
+use Rattle.change_ops.specs.declared.line.Line.{Line}
+use Rattle.change_ops.specs.declared.line.Line.TheVariants.{Operation, Run}
 use Rattle.change_ops.specs.declared.refusal.LineFault.{LineFault}
 use Rattle.change_ops.specs.declared.refusal.LineFault.TheVariants.{BadLine, Limit, CharRefused, WrongPeer, OutOfMemory}
 
@@ -73,6 +79,7 @@ unfoldable pub key_at : List ℕ → Option Key
 key_at word =
     if bytes_eq word (codes "strong") then Some key.Strong else
     if bytes_eq word (codes "em") then Some key.Em else
+    if bytes_eq word (codes "code") then Some key.Code else
     if bytes_eq word (codes "link") then Some key.Link else
     if bytes_eq word (codes "color") then Some key.Color else (do
       number ← comment_at word
@@ -93,6 +100,7 @@ bare attribute word = if bytes_eq word (codes "-") then Some attribute else None
 unfoldable pub value_at : Key → List ℕ → Option Attribute
 value_at key.Strong word = bare attribute.Strong word
 value_at key.Em word = bare attribute.Em word
+value_at key.Code word = bare attribute.Code word
 value_at key.Link word = do
   target ← link_at word
   Some (attribute.Link target)
@@ -163,15 +171,67 @@ op_at line = do
       if bytes_eq first.0 (codes "m") then mark_at first.1 else
       if bytes_eq first.0 (codes "u") then unmark_at first.1 else None
 
--- the node and the count of a change's first line
-unfoldable pub header_at : List ℕ → Option (ℕ × ℕ)
+-- so many characters' codes with a space between them, at least one
+unfoldable pub characters_at : ℕ → List ℕ → Option (List ℕ)
+characters_at zero fields = None
+characters_at (suc zero) fields = do
+  code ← hex_at fields
+  Some (code ∷ [])
+characters_at (suc (suc others)) fields = do
+  first ← split 32 fields
+  code ← hex_at first.0
+  codes ← characters_at (suc others) first.1
+  Some (code ∷ codes)
+
+-- how many characters a run has, and just so many codes; none behind a count of 0
+unfoldable pub counted_at : List ℕ → Option (List ℕ)
+counted_at fields = if bytes_eq fields (codes "0") then Some [] else (do
+  first ← split 32 fields
+  count ← number_in 10 first.0
+  characters_at count first.1)
+
+-- a run of parts that are there
+abbrev pub run_parts : Option Id → Option (Option Id) → Option (List ℕ) → Option RunView
+run_parts id parent characters =
+    id >>= λ i. parent >>= λ p. characters >>= λ cs. Some (record { id = i; parent = p; characters = cs })
+
+unfoldable pub run_at : List ℕ → Option RunView
+run_at fields = do
+  first ← split 32 fields
+  second ← split 32 first.1
+  run_parts (id_at first.0) (place_at second.0) (counted_at second.1)
+
+-- a run, or an operation
+unfoldable pub line_at : List ℕ → Option Line
+line_at line = do
+  first ← split 32 line
+  if bytes_eq first.0 (codes "r") then (do
+    run ← run_at first.1
+    Some (Run run)) else (do
+      op ← op_at line
+      Some (Operation op))
+
+-- the same, where the form of the change has such lines
+abbrev pub line_in : Form → List ℕ → Option Line
+line_in form text = do
+  line ← line_at text
+  if has_line form line then Some line else None
+
+-- the word that a change of each form begins with
+abbrev pub form_at : List ℕ → Option Form
+form_at word =
+    if bytes_eq word (codes "change") then Some First else
+    if bytes_eq word (codes "change2") then Some Second else None
+
+-- the form, the node and the count of a change's first line
+unfoldable pub header_at : List ℕ → Option (Form × ℕ × ℕ)
 header_at line = do
   first ← split 32 line
   second ← split 32 first.1
-  if not (bytes_eq first.0 (codes "change")) then None else (do
-    node ← number_in 10 second.0
-    count ← number_in 10 second.1
-    Some (node, count))
+  form ← form_at first.0
+  node ← number_in 10 second.0
+  count ← number_in 10 second.1
+  Some (form, node, count)
 
 -- what has a form, or the fault of what has none
 abbrev pub formed : {A : Type 0} → Option A → Result A LineFault
@@ -213,16 +273,127 @@ abbrev pub owned : ℕ → Op → Result Op LineFault
 owned peer op = if (id_of op).node == peer then Ok op else Err WrongPeer
 
 -- an operation of a peer's change, or the first fault
-abbrev pub judged : ℕ → Op → Result Op LineFault
-judged peer op =
+abbrev pub op_judged : ℕ → Op → Result Op LineFault
+op_judged peer op =
     if not (op_within op) then Err Limit else
     if not (has_character op) then Err CharRefused else
     owned peer op
 
-abbrev pub line_verdict : ℕ → Option Op → Result Op LineFault
-line_verdict peer None = Err BadLine
-line_verdict peer (Some op) = judged peer op
+abbrev pub op_verdict : ℕ → Option Op → Result Op LineFault
+op_verdict peer None = Err BadLine
+op_verdict peer (Some op) = op_judged peer op
+
+-- a run that is the peer's own
+abbrev pub own_run : ℕ → RunView → Result RunView LineFault
+own_run peer run = if run.id.node == peer then Ok run else Err WrongPeer
+
+-- a run of a peer's change that has room for so many operations, or the first fault
+abbrev pub run_judged : ℕ → ℕ → RunView → Result RunView LineFault
+run_judged peer room run =
+    if not (run_within run && nat_le (length run.characters) room) then Err Limit else
+    if not (run_has_characters run) then Err CharRefused else
+    own_run peer run
+
+abbrev pub run_verdict : ℕ → ℕ → Option RunView → Result RunView LineFault
+run_verdict peer room None = Err BadLine
+run_verdict peer room (Some run) = run_judged peer room run
+
+-- the same in a change of this form
+abbrev pub run_verdict_in : Form → ℕ → ℕ → Option RunView → Result RunView LineFault
+run_verdict_in First peer room run = Err BadLine
+run_verdict_in Second peer room run = run_verdict peer room run
+
+-- a line of a peer's change that has room for so many operations, or the first fault
+abbrev pub judged : ℕ → ℕ → Line → Result Line LineFault
+judged peer room line =
+    if not (line_within line && nat_le (count_of line) room) then Err Limit else
+    if not (line_has_characters line) then Err CharRefused else
+    if (first_id line).node == peer then Ok line else Err WrongPeer
+
+abbrev pub line_verdict : ℕ → ℕ → Option Line → Result Line LineFault
+line_verdict peer room None = Err BadLine
+line_verdict peer room (Some line) = judged peer room line
 
 -- What a reader answered is what it should be, unless memory ran out.
 abbrev pub Reads : {A : Type 0} → Result A LineFault → Result A LineFault → Type 0
 Reads answer wanted = (answer ≡ Err OutOfMemory) ⊎ (answer ≡ wanted)
+
+-- the same of what is seen by a view
+abbrev pub ReadsAs : {A B : Type 0} → (A → B) → Result A LineFault → Result B LineFault → Type 0
+ReadsAs view (Ok x) wanted = wanted ≡ Ok (view x)
+ReadsAs view (Err BadLine) wanted = wanted ≡ Err BadLine
+ReadsAs view (Err Limit) wanted = wanted ≡ Err Limit
+ReadsAs view (Err CharRefused) wanted = wanted ≡ Err CharRefused
+ReadsAs view (Err WrongPeer) wanted = wanted ≡ Err WrongPeer
+ReadsAs view (Err OutOfMemory) wanted = Unit {0}
+
+-- what of an option that is there passes a test
+abbrev pub given : {A : Type 0} → Option A → (A → Bool) → Bool
+given None test = false
+given (Some x) test = test x
+
+-- the line of a mark, or of a removal of one, that names the key code
+unfoldable pub is_of_code : List ℕ → Bool
+is_of_code line =
+    given (split 32 line) (λ first. given (split 32 first.1) (λ second. given (split 32 second.1) (λ third. (bytes_eq first.0 (codes "m") || bytes_eq first.0 (codes "u")) && bytes_eq third.0 (codes "code"))))
+
+-- a line that a change of this form has not, though it may be one of an operation
+abbrev pub lacks_line : Form → List ℕ → Bool
+lacks_line First line = is_of_code line
+lacks_line Second line = false
+
+-- an operation's line of a peer's change that has this form and room for so many operations
+abbrev pub op_verdict_in : Form → ℕ → ℕ → Option Op → Result Op LineFault
+op_verdict_in form peer room None = Err BadLine
+op_verdict_in form peer room (Some op) =
+    if not (has_line form (Operation op)) then Err BadLine else
+    if not (nat_le 1 room) then Err Limit else op_judged peer op
+
+-- where there is no room: the fault of what has no form, else the room's
+abbrev pub unless_formless : Result Op LineFault → LineFault
+unless_formless (Ok op) = Limit
+unless_formless (Err BadLine) = BadLine
+unless_formless (Err Limit) = Limit
+unless_formless (Err CharRefused) = Limit
+unless_formless (Err WrongPeer) = Limit
+unless_formless (Err OutOfMemory) = OutOfMemory
+
+-- an id and a place of a run of so many characters, where there is room for so many operations
+abbrev pub within_run : ℕ → ℕ → Result (Id × Option Id) LineFault → Result (Id × Option Id) LineFault
+within_run count room (Err fault) = Err fault
+within_run count room (Ok named) = if nat_le 2 count && nat_le count room && nat_le (named.0.counter + count) (2 ^ 48) then Ok named else Err Limit
+
+abbrev pub limited_run : ℕ → ℕ → Option Id → Option (Option Id) → Result (Id × Option Id) LineFault
+limited_run count room id place = within_run count room (both (within within_limits id) (within place_within place))
+
+-- the characters of a run by their codes, or the first fault
+abbrev pub encoded_all : Option (List ℕ) → Result (List ℕ) LineFault
+encoded_all None = Err BadLine
+encoded_all (Some codes) = if list_all is_character codes then Ok codes else Err CharRefused
+
+-- the peer's own run of what was read as its characters
+abbrev pub made_verdict : ℕ → Id → Option Id → Result (List ℕ) LineFault → Result RunView LineFault
+made_verdict peer id parent (Ok characters) = own_run peer (record { id = id; parent = parent; characters = characters })
+made_verdict peer id parent (Err fault) = Err fault
+
+-- what was read before, and what is still read
+abbrev pub with_characters : List ℕ → Result (List ℕ) LineFault → Result (List ℕ) LineFault
+with_characters front (Ok characters) = Ok (front ++ characters)
+with_characters front (Err fault) = Err fault
+
+-- What was found is the first code, as a number of 64 bits, and what follows its space; or there is none.
+pub record NextCode (fields : List ℕ) (found : ℕ) (rest : List ℕ) : Type 0 where
+  pub word : List ℕ
+  pub code : ℕ
+  pub parts : split 32 fields ≡ Some (word, rest)
+  pub spelled : hex_at word ≡ Some code
+  pub value : found ≡ saturated code
+
+abbrev pub IsNextCode : List ℕ → Result (ℕ × Bor (List ℕ)) LineFault → Type 0
+IsNextCode fields (Ok x) = NextCode fields x.0 x.1.now
+IsNextCode fields (Err fault) = (fault ≡ BadLine) × ((word rest : List ℕ) → split 32 fields ≡ Some (word, rest) → hex_at word ≡ None)
+
+-- What was found is the first character, with so many others in what follows it; or the fault of them all.
+abbrev pub IsFirst : ℕ → List ℕ → Result (ℕ × Bor (List ℕ)) LineFault → Type 0
+IsFirst others fields (Ok x) = encoded_all (characters_at (others + 1) fields) ≡ with_characters (x.0 ∷ []) (encoded_all (characters_at others x.1.now))
+IsFirst others fields (Err fault) = encoded_all (characters_at (others + 1) fields) ≡ Err fault

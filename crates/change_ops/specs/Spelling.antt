@@ -2,6 +2,7 @@
 use Rattle.std.specs.Prelude.{◌≡◌, ℕ, zero, suc, ◌/◌, ◌%◌, false, List, [], ◌∷◌, ◌++◌, length, Option, Some, None, Result, Ok, Err, codes}
 use Rattle.std.specs.Fmt.{decimal, digits, digit_glyph}
 use Rattle.change_ops.specs.Ids.{Id}
+use Rattle.change_ops.specs.Runs.{RunView}
 use Rattle.change_ops.specs.Changes.{Edit, IsChange}
 use Rattle.change_ops.specs.declared.attribute.Key.{Key}
 use Rattle.change_ops.specs.declared.attribute.Key.TheVariants as key
@@ -11,6 +12,10 @@ use Rattle.change_ops.specs.declared.operation.Anchor.{Anchor}
 use Rattle.change_ops.specs.declared.operation.Anchor.TheVariants.{TextStart, BeforeCharacter, AfterCharacter, TextEnd}
 use Rattle.change_ops.specs.declared.operation.Op.{Op}
 use Rattle.change_ops.specs.declared.operation.Op.TheVariants.{Insert, Remove, AddMark, RemoveMark}
+use Rattle.change_ops.specs.declared.line.Form.{Form}
+use Rattle.change_ops.specs.declared.line.Form.TheVariants.{First, Second}
+use Rattle.change_ops.specs.declared.line.Line.{Line}
+use Rattle.change_ops.specs.declared.line.Line.TheVariants.{Operation, Run}
 use Rattle.change_ops.specs.declared.refusal.ChangeError.{ChangeError}
 use Rattle.change_ops.specs.declared.refusal.ChangeError.TheVariants.{BadLine, Truncated, Limit, CharRefused, WrongPeer, OutOfMemory}
 
@@ -44,6 +49,7 @@ anchor_text TextEnd = codes "$"
 abbrev pub key_text : Key → List ℕ
 key_text key.Strong = codes "strong"
 key_text key.Em = codes "em"
+key_text key.Code = codes "code"
 key_text key.Link = codes "link"
 key_text key.Color = codes "color"
 key_text (key.Comment number) = codes "comment" ++ 58 ∷ decimal number
@@ -52,6 +58,7 @@ key_text (key.Comment number) = codes "comment" ++ 58 ∷ decimal number
 abbrev pub attribute_text : Attribute → List ℕ
 attribute_text attribute.Strong = codes "strong" ␣ codes "-"
 attribute_text attribute.Em = codes "em" ␣ codes "-"
+attribute_text attribute.Code = codes "code" ␣ codes "-"
 attribute_text (attribute.Link target) = codes "link" ␣ target
 attribute_text (attribute.Color rgb) = codes "color" ␣ last_digits 6 rgb
 attribute_text (attribute.Comment number) = (codes "comment" ++ 58 ∷ decimal number) ␣ codes "-"
@@ -63,15 +70,32 @@ op_text (Remove id target) = codes "d" ␣ id_text id ␣ id_text target
 op_text (AddMark id attribute start end) = codes "m" ␣ id_text id ␣ attribute_text attribute ␣ anchor_text start ␣ anchor_text end
 op_text (RemoveMark id key start end) = codes "u" ␣ id_text id ␣ key_text key ␣ anchor_text start ␣ anchor_text end
 
-unfoldable pub lines_text : List Op → List ℕ
+-- characters' codes, each behind a space
+unfoldable pub codes_text : List ℕ → List ℕ
+codes_text [] = []
+codes_text (character ∷ characters) = 32 ∷ hexadecimal character ++ codes_text characters
+
+-- a run's line: how many characters it has, and these
+abbrev pub run_text : RunView → List ℕ
+run_text run = codes "r" ␣ id_text run.id ␣ place_text run.parent ␣ decimal (length run.characters) ++ codes_text run.characters
+
+abbrev pub line_text : Line → List ℕ
+line_text (Operation op) = op_text op
+line_text (Run run) = run_text run
+
+unfoldable pub lines_text : List Line → List ℕ
 lines_text [] = []
-lines_text (op ∷ ops) = op_text op ++ 10 ∷ lines_text ops
+lines_text (line ∷ lines) = line_text line ++ 10 ∷ lines_text lines
+
+abbrev pub form_text : Form → List ℕ
+form_text First = codes "change"
+form_text Second = codes "change2"
 
 abbrev pub header_text : Edit → List ℕ
-header_text change = codes "change" ␣ decimal change.node ␣ decimal (length change.operations)
+header_text change = form_text change.form ␣ decimal change.node ␣ decimal (length change.lines)
 
 unfoldable pub change_text : Edit → List ℕ
-change_text change = header_text change ++ 10 ∷ lines_text change.operations
+change_text change = header_text change ++ 10 ∷ lines_text change.lines
 
 -- The front of a text spells the change, and the rest follows it.
 abbrev pub Spells : List ℕ → Edit → List ℕ → Type 0

@@ -194,6 +194,7 @@ impl CommentNumber {
 pub enum Key {
     Strong,
     Em,
+    Code,
     Link,
     Color,
     Comment(CommentNumber),
@@ -204,6 +205,7 @@ pub enum Key {
 pub enum Attribute {
     Strong,
     Em,
+    Code,
     Link(Link),
     Color(Color),
     Comment(CommentNumber),
@@ -213,7 +215,8 @@ impl Drop for Attribute {
     fn drop(self) {
         match self {
             Attribute::Link(_) => {}
-            Attribute::Strong | Attribute::Em | Attribute::Color(_) | Attribute::Comment(_) => {}
+            Attribute::Strong | Attribute::Em | Attribute::Code => {}
+            Attribute::Color(_) | Attribute::Comment(_) => {}
         }
     }
 }
@@ -228,6 +231,7 @@ impl Attribute {
         match self {
             Attribute::Strong => Key::Strong,
             Attribute::Em => Key::Em,
+            Attribute::Code => Key::Code,
             Attribute::Link(_) => Key::Link,
             Attribute::Color(_) => Key::Color,
             Attribute::Comment(number) => Key::Comment(*number),

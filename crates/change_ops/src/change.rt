@@ -1,33 +1,37 @@
 //! A change, and reading it from its text.
 ghost use Rattle.std.specs.Prelude.{◌≡◌, ◌⊎◌, List, ℕ, ◌<◌, ◌≤◌, IfOk, IfErr, Ok, Err, length};
 ghost use Rattle.std.specs.Str.{IsUtf8};
-ghost use Rattle.change_ops.specs.Reading.{header_at};
+ghost use Rattle.change_ops.specs.Reading.{header_at, form_at, formed};
+ghost use Rattle.change_ops.specs.Lines.{count_of};
 ghost use Rattle.change_ops.specs.Forms.{LinesAreForms, HeadersAreForms};
+ghost use Rattle.change_ops.specs.FirstForm.{FirstFormIsPlain};
 ghost use Rattle.change_ops.specs.Refusals.{IsRefused};
 ghost use Rattle.change_ops.specs.declared.refusal.ChangeError.TheVariants.{OutOfMemory};
 ghost use Rattle.change_ops.specs.Spelling.{Spells, Answers, NoneBeginsAnother};
-ghost use Rattle.change_ops.specs.Changes.{Edit, Gives, OwnOps, at_line as fault_at, header_verdict, next_at, ops_at, change_at};
+ghost use Rattle.change_ops.specs.Changes.{Edit, Gives, OwnLines, at_line as fault_at, header_verdict, next_at, lines_at, change_at};
 
-use crate::lines::op_of;
+use crate::line::{Form, Line};
+use crate::lines::line_of_change;
 use crate::numbers::{line_of, number, word_of};
-use crate::operation::Op;
 use crate::refusal::{ChangeError, LineFault};
 use smallvec::SmallVec;
 use std::alloc::Global;
 use std::marker::Model;
 
-/// The operations of one peer, which are accepted together: 1 to 256, the id of each with the peer's
-/// node.
+/// Operations of one peer, which are accepted together: 1 to 256, the id of each with the peer's node.
+/// They stand in lines, of which one may mean many operations.
 pub struct Change {
+    form: Form,
     node: u16,
-    operations: SmallVec<Op, 4>,
+    lines: SmallVec<Line, 4>,
 }
 
 impl Drop for Change {
     fn drop(self) {
         let Change {
+            form: _,
             node: _,
-            operations: _,
+            lines: _,
         } = self;
     }
 }
@@ -37,13 +41,20 @@ impl Model for Change {
 
     ghost Value = { Edit };
 
-    ghost view = { λ c. record { node = c.node; operations = c.operations.items } };
+    ghost view = { λ c. record { form = c.form; node = c.node; lines = c.lines.items } };
 
-    ghost invariant = { λ c. IsChange (record { node = c.node; operations = c.operations.items }) };
+    ghost invariant = { λ c. IsChange (record { form = c.form; node = c.node; lines = c.lines.items }) };
 }
 
 impl Change {
     ghost use Rattle.change_ops.specs.Changes.{IsChange};
+
+    /// The form of the text that spells the change.
+    pub fn form(&self) -> Form
+        ensures { result ≡ self.now.form }
+    {
+        self.form
+    }
 
     /// The node of the peer that made the operations.
     pub fn node(&self) -> u16
@@ -53,12 +64,12 @@ impl Change {
         self.node
     }
 
-    /// The operations in their order.
-    pub fn operations(&self) -> &[Op]
-        ensures value { result.now ≡ self.now.operations }
+    /// The lines in their order.
+    pub fn lines(&self) -> &[Line]
+        ensures value { result.now ≡ self.now.lines }
         ensures limits { IsChange self.now }
     {
-        self.operations.as_slice()
+        self.lines.as_slice()
     }
 }
 
@@ -74,58 +85,82 @@ fn at_line(line: usize, fault: LineFault) -> ChangeError
     }
 }
 
+/// The line of this number of a peer's change, which has room for so many operations, and what follows it.
 #[tactic(auto, unfolding(crate::specs::Changes::next_at))]
-fn next_op(alloc: Global, peer: u16, line: usize, text: &str) -> Result<(Op, &str), ChangeError>
-    ensures read { Gives (λ x. (x.0, x.1.now)) result (next_at peer line text.now) }
+fn next_line(
+    alloc: Global,
+    form: Form,
+    peer: u16,
+    room: usize,
+    number: usize,
+    text: &str,
+) -> Result<(Line, &str), ChangeError>
+    requires { room ≤ 256 }
+    ensures read { Gives (λ x. (x.0, x.1.now)) result (next_at form peer room number text.now) }
+    ensures fits { IfOk result (λ x. count_of x.0 ≤ room) }
     ensures text { IfOk result (λ x. IsUtf8 x.1.now) }
 {
     let Some((words, rest)) = line_of(text) else {
         return Err(ChangeError::Truncated);
     };
-    match op_of(alloc, peer, words) {
-        Ok(op) => Ok((op, rest)),
-        Err(fault) => Err(at_line(line, fault)),
+    match line_of_change(alloc, form, peer, room, words) {
+        Ok(line) => Ok((line, rest)),
+        Err(fault) => Err(at_line(number, fault)),
     }
 }
 
 #[tactic(auto, using(crate::proofs::Loop::steps))]
-fn ops_of(
+fn lines_of(
     alloc: Global,
+    form: Form,
     peer: u16,
     count: usize,
     text: &str,
-) -> Result<(SmallVec<Op, 4>, &str), ChangeError>
+) -> Result<(SmallVec<Line, 4>, &str), ChangeError>
     requires { count ≤ 256 }
-    ensures read { Gives (λ x. (x.0.items, x.1.now)) result (ops_at peer 2 count text.now) }
-    ensures kept { IfOk result (λ x. OwnOps peer count x.0.items) }
+    ensures read { Gives (λ x. (x.0.items, x.1.now)) result (lines_at form peer 256 2 count text.now) }
+    ensures kept { IfOk result (λ x. OwnLines form peer 256 count x.0.items) }
     ensures text { IfOk result (λ x. IsUtf8 x.1.now) }
 {
-    let mut operations: SmallVec<Op, 4> = SmallVec::new(alloc);
+    let mut lines: SmallVec<Line, 4> = SmallVec::new(alloc);
     let mut rest: &str = text;
+    let mut room = 256;
     for index in 0..count {
-        let (op, after) = next_op(alloc, peer, index + 2, rest)?;
-        operations.push(op)?;
+        let (line, after) = next_line(alloc, form, peer, room, index + 2, rest)?;
+        room -= line.count();
+        lines.push(line)?;
         rest = after;
     }
-    Ok((operations, rest))
+    Ok((lines, rest))
 }
 
-/// The node and the count of a change's first line.
+/// The form that a change's first word names.
+fn form_of(word: &str) -> Result<Form, LineFault>
+    ensures { result ≡ formed (form_at word.now) }
+{
+    if word == "change" {
+        Ok(Form::First)
+    } else if word == "change2" {
+        Ok(Form::Second)
+    } else {
+        Err(LineFault::BadLine)
+    }
+}
+
+/// The form, the node and the count of a change's first line.
 #[tactic(auto, unfolding(crate::specs::Reading::header_at))]
-fn header_of(line: &str) -> Result<(u16, usize), LineFault>
+fn header_of(line: &str) -> Result<(Form, u16, usize), LineFault>
     ensures { result ≡ header_verdict (header_at line.now) }
 {
     let (name, fields) = word_of(line)?;
     let (node, count) = word_of(fields)?;
-    if name != "change" {
-        return Err(LineFault::BadLine);
-    }
+    let form = form_of(name)?;
     let node = number(10, node)?;
     let count = number(10, count)?;
     if node < 1 || node > 65535 || count < 1 || count > 256 {
         return Err(LineFault::Limit);
     }
-    Ok((node as u16, count as usize))
+    Ok((form, node as u16, count as usize))
 }
 
 /// The change at the front of a text, and what follows it.
@@ -137,12 +172,12 @@ fn change_of(alloc: Global, text: &str) -> Result<(Change, &str), ChangeError>
     let Some((line, rest)) = line_of(text) else {
         return Err(ChangeError::Truncated);
     };
-    let (node, count) = match header_of(line) {
+    let (form, node, count) = match header_of(line) {
         Ok(header) => header,
         Err(fault) => return Err(at_line(1, fault)),
     };
-    let (operations, rest) = ops_of(alloc, node, count, rest)?;
-    Ok((Change { node, operations }, rest))
+    let (lines, rest) = lines_of(alloc, form, node, count, rest)?;
+    Ok((Change { form, node, lines }, rest))
 }
 
 /// Reads the change at the front of a text; what follows it is lent. A text that begins with no
@@ -164,8 +199,13 @@ pub fn none_begins_another()
     ensures { NoneBeginsAnother }
 {}
 
-/// A line is read by its form alone, and no line has the forms of two operations.
+/// A line is read by its form alone, and no line has two.
 pub fn lines_have_one_form()
     ensures lines { LinesAreForms }
     ensures headers { HeadersAreForms }
+{}
+
+/// A change of the first form is read as its operations, a line each, as it is where there is no other form.
+pub fn first_form_is_plain()
+    ensures { FirstFormIsPlain }
 {}

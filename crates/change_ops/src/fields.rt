@@ -4,7 +4,9 @@ ghost use Rattle.std.specs.Prelude.{◌≡◌};
 ghost use Rattle.change_ops.specs.Ids.{within_limits};
 ghost use Rattle.change_ops.specs.Attributes.{is_color, is_comment_number, is_link};
 ghost use Rattle.change_ops.specs.Limits.{place_within, anchor_within, anchors_within, key_within, attribute_within};
-ghost use Rattle.change_ops.specs.Reading.{id_at, hex_at, place_at, anchor_at, comment_at, key_at, color_at, link_at, attribute_at, anchors_at, within, unvalued, encoded, both as both_parts, Reads};
+ghost use Rattle.std.specs.Option.{option_map};
+ghost use Rattle.change_ops.specs.Words.{saturated};
+ghost use Rattle.change_ops.specs.Reading.{id_at, hex_at, place_at, anchor_at, comment_at, key_at, color_at, link_at, attribute_at, anchors_at, formed, within, unvalued, encoded, both as both_parts, Reads};
 
 use crate::attribute::{Attribute, Color, CommentNumber, Key, Link, are_target_bytes};
 use crate::character::Character;
@@ -53,15 +55,23 @@ pub fn place_of(word: &str) -> Result<Option<OpId>, LineFault>
     Ok(Some(id))
 }
 
-/// A character by its code, in lower-case hexadecimal digits.
-#[tactic(auto, unfolding(crate::specs::Reading::hex_at), using(crate::proofs::Limits::character_saturated))]
-pub fn character_of(word: &str) -> Result<Character, LineFault>
-    ensures { result ≡ encoded (hex_at word.now) }
+/// A character's code, in lower-case hexadecimal digits.
+#[tactic(auto, unfolding(crate::specs::Reading::hex_at))]
+pub fn code_of(word: &str) -> Result<u64, LineFault>
+    ensures { result ≡ formed (option_map saturated (hex_at word.now)) }
 {
     if word.len() > 6 {
         return Err(LineFault::BadLine);
     }
-    let code = number(16, word)?;
+    number(16, word)
+}
+
+/// A character by its code.
+#[tactic(auto, using(crate::proofs::Limits::character_saturated))]
+pub fn character_of(word: &str) -> Result<Character, LineFault>
+    ensures { result ≡ encoded (hex_at word.now) }
+{
+    let code = code_of(word)?;
     Character::new(code).ok_or(LineFault::CharRefused)
 }
 
@@ -118,6 +128,8 @@ pub fn key_of(word: &str) -> Result<Key, LineFault>
         Ok(Key::Strong)
     } else if word == "em" {
         Ok(Key::Em)
+    } else if word == "code" {
+        Ok(Key::Code)
     } else if word == "link" {
         Ok(Key::Link)
     } else if word == "color" {
@@ -173,6 +185,9 @@ pub fn attribute_of(alloc: Global, name: &str, value: &str) -> Result<Attribute,
     } else if name == "em" {
         no_value(value)?;
         Ok(Attribute::Em)
+    } else if name == "code" {
+        no_value(value)?;
+        Ok(Attribute::Code)
     } else if name == "link" {
         let link = link_of(alloc, value)?;
         Ok(Attribute::Link(link))

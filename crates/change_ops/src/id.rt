@@ -1,4 +1,4 @@
-ghost use Rattle.std.specs.Prelude.{◌≡◌, ◌↔◌, IsTrue};
+ghost use Rattle.std.specs.Prelude.{◌≡◌, ◌↔◌, ◌+◌, ◌^◌, ◌<◌, IsTrue};
 ghost use Rattle.std.proofs.Common.{rules};
 ghost use Rattle.std.specs.Cmp.{partial_order_from_own_ties};
 ghost use Rattle.std.specs.Cmp.Rules.{comparing};
@@ -99,6 +99,17 @@ impl OpId {
         ensures limits { IsId self.counter self.node }
     {
         self.counter
+    }
+
+    /// The id of the same peer whose counter is greater by so much.
+    pub(crate) fn later(self, by: usize) -> Self
+        requires { self.counter + by < 2 ^ 48 }
+        ensures { result ≡ record { counter = self.counter + by; node = self.node } }
+    {
+        OpId {
+            counter: self.counter + by as u64,
+            node: self.node,
+        }
     }
 
     /// Whether this id is the lesser: by counter, then by node.

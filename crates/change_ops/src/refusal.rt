@@ -23,6 +23,14 @@ impl From<AllocError> for LineFault {
     }
 }
 
+impl<T: Drop> From<AllocFailed<T>> for LineFault {
+    ghost from_gives = { λ _ e. e ≡ fault.OutOfMemory };
+
+    fn from(_e: AllocFailed<T>) -> LineFault {
+        LineFault::OutOfMemory
+    }
+}
+
 /// Why a text isn't a change's.
 #[derive(Clone, Copy, Debug, PartialEq, Eq, Error)]
 pub enum ChangeError {

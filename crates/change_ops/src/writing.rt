@@ -1,13 +1,15 @@
 //! Writing the text of a change.
 ghost use Rattle.std.specs.Prelude.{◌≡◌, ◌++◌, [], ◌∷◌, OnOk, OnErr};
 ghost use Rattle.std.specs.String.{string_bytes};
-ghost use Rattle.change_ops.specs.Spelling.{◌␣◌, id_text, place_text, anchor_text, key_text, attribute_text, op_text, lines_text, header_text, change_text};
+ghost use Rattle.change_ops.specs.Spelling.{◌␣◌, id_text, place_text, anchor_text, key_text, attribute_text, op_text, codes_text, run_text, line_text, lines_text, form_text, header_text, change_text};
 
 use crate::attribute::{Attribute, Key};
 use crate::change::Change;
 use crate::character::Character;
 use crate::id::OpId;
+use crate::line::{Form, Line};
 use crate::operation::{Anchor, Op};
+use crate::run::Run;
 use std::alloc::AllocError;
 use std::fmt::Write;
 
@@ -49,6 +51,7 @@ fn write_key(key: Key, out: &mut String) -> Result<(), AllocError>
     match key {
         Key::Strong => out.push_str("strong"),
         Key::Em => out.push_str("em"),
+        Key::Code => out.push_str("code"),
         Key::Link => out.push_str("link"),
         Key::Color => out.push_str("color"),
         Key::Comment(number) => write!(out, "comment:{}", number.number()),
@@ -62,6 +65,7 @@ fn write_attribute(attribute: &Attribute, out: &mut String) -> Result<(), AllocE
     match attribute {
         Attribute::Strong => out.push_str("strong -"),
         Attribute::Em => out.push_str("em -"),
+        Attribute::Code => out.push_str("code -"),
         Attribute::Link(link) => write!(out, "link {}", link.target()),
         Attribute::Color(color) => write!(out, "color {:06x}", color.rgb()),
         Attribute::Comment(number) => write!(out, "comment:{} -", number.number()),
@@ -158,15 +162,53 @@ fn write_op(op: &Op, out: &mut String) -> Result<(), AllocError>
     }
 }
 
-#[tactic(auto, using(crate::proofs::Appending::line_more, crate::proofs::Appending::lines_done))]
-fn write_lines(operations: &[Op], out: &mut String) -> Result<(), AllocError>
-    ensures { OnOk result (string_bytes out.new ≡ string_bytes out.old ++ lines_text operations.now) }
+#[tactic(auto, using(crate::proofs::Appending::code_more, crate::proofs::Appending::codes_done))]
+fn write_codes(characters: &[Character], out: &mut String) -> Result<(), AllocError>
+    ensures { OnOk result (string_bytes out.new ≡ string_bytes out.old ++ codes_text characters.now) }
 {
-    for op in operations {
-        write_op(op, out)?;
+    for character in characters {
+        write!(out, " {:x}", character.value() as u32)?;
+    }
+    Ok(())
+}
+
+fn write_run(run: &Run, out: &mut String) -> Result<(), AllocError>
+    ensures { OnOk result (string_bytes out.new ≡ string_bytes out.old ++ run_text run.now) }
+{
+    write_front("r", run.id(), out)?;
+    write_place(run.parent(), out)?;
+    write!(out, " {}", run.characters().len())?;
+    write_codes(run.characters(), out)
+}
+
+fn write_line(line: &Line, out: &mut String) -> Result<(), AllocError>
+    ensures { OnOk result (string_bytes out.new ≡ string_bytes out.old ++ line_text line.now) }
+{
+    match line {
+        Line::Operation(op) => write_op(op, out),
+        Line::Run(run) => write_run(run, out),
+    }
+}
+
+#[tactic(auto, using(crate::proofs::Appending::line_more, crate::proofs::Appending::lines_done))]
+fn write_lines(lines: &[Line], out: &mut String) -> Result<(), AllocError>
+    ensures { OnOk result (string_bytes out.new ≡ string_bytes out.old ++ lines_text lines.now) }
+{
+    for line in lines {
+        write_line(line, out)?;
         out.push('\n')?;
     }
     Ok(())
+}
+
+/// The word that a change of the form begins with.
+fn word_of(form: Form) -> &'static str
+    ensures { result.now ≡ form_text form }
+{
+    match form {
+        Form::First => "change",
+        Form::Second => "change2",
+    }
 }
 
 #[tactic(auto, unfolding(crate::specs::Spelling::change_text))]
@@ -175,11 +217,12 @@ fn write_text(change: &Change, out: &mut String) -> Result<(), AllocError>
 {
     write!(
         out,
-        "change {} {}\n",
+        "{} {} {}\n",
+        word_of(change.form()),
         change.node(),
-        change.operations().len()
+        change.lines().len()
     )?;
-    write_lines(change.operations(), out)
+    write_lines(change.lines(), out)
 }
 
 /// Appends the text of a change, the one that reads as it; the string stays as it was where there is

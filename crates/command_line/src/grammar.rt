@@ -14,7 +14,7 @@ static FIELDS: [(&str, &str, &str); 5] = [
     (
         "flags",
         "0",
-        "The sum of 1 strong, 2 em, 4 link, 8 color, 16 comments",
+        "The sum of 1 strong, 2 em, 4 link, 8 color, 16 comments, 32 code",
     ),
     (
         "color",

@@ -76,7 +76,7 @@ impl From<AllocError> for Fault {
     }
 }
 
-/// The error, with the index of the operation that is refused.
+/// The error, with the index of the line that is refused.
 fn hub_error_text(alloc: Global, error: HubError) -> Result<String, AllocError> {
     match error {
         HubError::Submit(SubmitError::Refused { index, refusal }) => {

@@ -32,7 +32,7 @@
 //! | `work-commit-first WORKERS TURNS` | the same, where another commits the batch of version 1 first | the same |
 //! | `without-memory CALL` | nothing | what `sub`, `commit` or `queue` would say where no memory is found |
 //!
-//! A refusal is told by its number and name, and for a change by the index of its operation. What isn't there is `none`. These lines are no events:
+//! A refusal is told by its number and name, and for a change by the index of its line, as `op`. What isn't there is `none`. These lines are no events:
 //!
 //! | line | what it says |
 //! |---|---|

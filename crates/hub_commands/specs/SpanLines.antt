@@ -28,7 +28,7 @@ comment_key number = codes "comment:" ++ decimal number
 -- the keys that hold, with their values, in the order in which they are printed
 abbrev pub keys_of : Formatting → List (List ℕ)
 keys_of format =
-    flag_keys format.strong (codes "strong") ++ flag_keys format.em (codes "em") ++ link_keys format.link ++ color_keys format.color ++ map comment_key format.comments
+    flag_keys format.strong (codes "strong") ++ flag_keys format.em (codes "em") ++ flag_keys format.code (codes "code") ++ link_keys format.link ++ color_keys format.color ++ map comment_key format.comments
 
 -- a comma before each key
 abbrev pub behind_commas : List (List ℕ) → List ℕ

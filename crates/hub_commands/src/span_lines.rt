@@ -55,6 +55,7 @@ fn push_keys(keys: &mut String, format: &Format) -> Result<(), AllocError>
 {
     push_flag(keys, format.strong(), "strong")?;
     push_flag(keys, format.em(), "em")?;
+    push_flag(keys, format.code(), "code")?;
     push_link(keys, format.link())?;
     push_color(keys, format.color())?;
     push_comments(keys, format.comments())

@@ -42,14 +42,25 @@ struct Mark {
 }
 
 /// A key as a line of a change names it, with two values of its marks, each as the line has it and as it is printed.
-static KEYS: [(&str, &str, &str, &str, &str); 6] = [
+static KEYS: [(&str, &str, &str, &str, &str); 7] = [
     ("strong", "-", "strong", "-", "strong"),
     ("em", "-", "em", "-", "em"),
+    ("code", "-", "code", "-", "code"),
     ("link", "a", "link=a", "b/!", "link=b/!"),
     ("color", "00000a", "color=00000a", "ff0080", "color=ff0080"),
     ("comment:2", "-", "comment:2", "-", "comment:2"),
     ("comment:10", "-", "comment:10", "-", "comment:10"),
 ];
+
+/// The key that changes of the second form alone have, by its index.
+const CODE: usize = 2;
+
+/// The form of a change.
+#[derive(Clone, Copy)]
+enum Form {
+    First,
+    Second,
+}
 
 /// A history of three peers: its operations, and the text of each change by rounds. In a round the peers
 /// know what was there before it, so that its changes may be accepted in any order.
@@ -79,8 +90,43 @@ struct Choice {
     printed: &'static str,
 }
 
-fn any_choice(random: &mut Random) -> Option<Choice> {
+fn any_form(random: &mut Random) -> Form {
+    if random.below(2) == 0 {
+        Form::First
+    } else {
+        Form::Second
+    }
+}
+
+/// One of the keys that the form has, by its index.
+fn any_key(random: &mut Random, form: Form) -> usize {
     let key = random.below(KEYS.len());
+    match form {
+        Form::First if key == CODE => 0,
+        Form::First | Form::Second => key,
+    }
+}
+
+/// How many characters an insertion of the form has.
+fn any_count(random: &mut Random, form: Form) -> usize {
+    match form {
+        Form::First => 1,
+        Form::Second => random.below(3).saturating_add(1),
+    }
+}
+
+/// The character of an id; that of the next counter is another.
+fn code_of(id: Id) -> char {
+    match (id.node, id.counter % 2) {
+        (1, 0) => 'w',
+        (1, _) => 'x',
+        (_, 0) => 'y',
+        (_, _) => 'z',
+    }
+}
+
+fn any_choice(random: &mut Random, form: Form) -> Option<Choice> {
+    let key = any_key(random, form);
     let second = random.below(2) == 1;
     let &(name, first_value, first_printed, second_value, second_printed) = KEYS.get(key)?;
     Some(Choice {
@@ -96,9 +142,35 @@ fn any_choice(random: &mut Random) -> Option<Choice> {
 }
 
 impl History {
+    /// Adds so many letters, each behind the one before it, and writes their codes.
+    fn push_letters(
+        &mut self,
+        first: Id,
+        parent: Option<Id>,
+        count: usize,
+        text: &mut String,
+    ) -> Result<(), AllocError> {
+        let mut id = first;
+        let mut parent = parent;
+        for _ in 0..count {
+            let code = code_of(id);
+            write!(text, " {:x}", code as u32)?;
+            self.letters.push(Letter {
+                id,
+                parent,
+                code,
+                removed: false,
+            })?;
+            parent = Some(id);
+            id.counter = id.counter.saturating_add(1);
+        }
+        text.push('\n')
+    }
+
     fn insert(
         &mut self,
         random: &mut Random,
+        form: Form,
         id: Id,
         known: usize,
         text: &mut String,
@@ -108,16 +180,14 @@ impl History {
             Some(letter) if index < known => Some(letter.id),
             _ => None,
         };
-        let code = if id.node == 1 { 'x' } else { 'y' };
         let after = Parent(parent);
-        write!(text, "i {id} {after} {:x}\n", code as u32)?;
-        self.letters.push(Letter {
-            id,
-            parent,
-            code,
-            removed: false,
-        })?;
-        Ok(())
+        let count = any_count(random, form);
+        if count == 1 {
+            write!(text, "i {id} {after}")?;
+        } else {
+            write!(text, "r {id} {after} {count}")?;
+        }
+        self.push_letters(id, parent, count, text)
     }
 
     fn remove(
@@ -138,11 +208,12 @@ impl History {
     fn mark(
         &mut self,
         random: &mut Random,
+        form: Form,
         id: Id,
         known: usize,
         text: &mut String,
     ) -> Result<(), AllocError> {
-        let Some(choice) = any_choice(random) else {
+        let Some(choice) = any_choice(random, form) else {
             return Ok(());
         };
         let front = self.letters.get(..known).unwrap_or_default();
@@ -170,7 +241,7 @@ impl History {
         Ok(())
     }
 
-    /// A change of one operation.
+    /// A change of one line, of either form.
     fn change(
         &mut self,
         alloc: Global,
@@ -178,11 +249,16 @@ impl History {
         id: Id,
         known: usize,
     ) -> Result<String, AllocError> {
-        let mut text = format!(in alloc; "change {} 1\n", id.node)?;
+        let form = any_form(random);
+        let name = match form {
+            Form::First => "change",
+            Form::Second => "change2",
+        };
+        let mut text = format!(in alloc; "{name} {} 1\n", id.node)?;
         match random.below(10) {
             0 if known > 0 => self.remove(random, id, known, &mut text)?,
-            1..=4 if known > 0 => self.mark(random, id, known, &mut text)?,
-            _ => self.insert(random, id, known, &mut text)?,
+            1..=4 if known > 0 => self.mark(random, form, id, known, &mut text)?,
+            _ => self.insert(random, form, id, known, &mut text)?,
         }
         Ok(text)
     }
@@ -195,7 +271,9 @@ fn made_history(alloc: Global, seed: u64) -> Result<History, AllocError> {
         marks: Vec::new(alloc),
         rounds: Vec::new(alloc),
     };
-    for counter in 1..=16u64 {
+    for round in 0..16u64 {
+        // A round's runs have at most three characters.
+        let counter = round.saturating_mul(3).saturating_add(1);
         let known = history.letters.len();
         let first = history.change(alloc, &mut random, Id { counter, node: 1 }, known)?;
         let second = history.change(alloc, &mut random, Id { counter, node: 2 }, known)?;

@@ -15,7 +15,7 @@ IsOneChange text change = Spells text change []
 -- a change, and a line after its last one
 abbrev pub HasMore : List ℕ → ChangeError → Type 0
 HasMore text e =
-    (change : Edit) × (rest : List ℕ) × Spells text change rest × (¬ (rest ≡ [])) × (e ≡ BadLine (length change.operations + 2))
+    (change : Edit) × (rest : List ℕ) × Spells text change rest × (¬ (rest ≡ [])) × (e ≡ BadLine (length change.lines + 2))
 
 -- why it is not: it begins with no change, or has more than one. Want of memory is no fault of a text
 abbrev pub IsNotOne : List ℕ → ChangeError → Type 0

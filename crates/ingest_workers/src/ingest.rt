@@ -50,7 +50,7 @@ fn one_change(alloc: Global, text: &str) -> Result<Change, ChangeError>
 {
     let (change, rest) = read_change(alloc, text)?;
     if !rest.is_empty() {
-        return Err(ChangeError::BadLine(change.operations().len() + 2));
+        return Err(ChangeError::BadLine(change.lines().len() + 2));
     }
     Ok(change)
 }

@@ -1,5 +1,6 @@
-use crate::sequence_calls::deliver;
+use crate::sequence_calls::deliver_line;
 use change_ops::change::read_change;
+use change_ops::line::Line;
 use char_sequence::sequence::{Sequence, SequenceError};
 use std::alloc::{AllocError, Global};
 use std::test::Fail;
@@ -29,8 +30,8 @@ fn change_text(alloc: Global, count: usize, is_appended: bool) -> Result<String,
 /// Whether all operations of a change are taken.
 fn is_taken(alloc: Global, sequence: &mut Sequence, text: &str) -> Result<bool, Fail> {
     let (change, _) = read_change(alloc, text)?;
-    for op in change.operations() {
-        if !deliver(sequence, op)? {
+    for line in change.lines() {
+        if !deliver_line(sequence, line)? {
             return Ok(false);
         }
     }
@@ -74,9 +75,10 @@ fn is_in_chunks(sequence: &Sequence) -> bool {
 /// Whether one more character is one too many.
 fn is_full(alloc: Global, sequence: &Sequence) -> Result<bool, Fail> {
     let (change, _) = read_change(alloc, "change 1 1\ni 32769@1 - 61\n")?;
-    let first = change.operations().first();
-    let refusal = first.and_then(|op| sequence.check(op).err());
-    Ok(refusal == Some(SequenceError::DocumentFull))
+    match change.lines().first() {
+        Some(Line::Operation(op)) => Ok(sequence.check(op) == Err(SequenceError::DocumentFull)),
+        _ => Ok(false),
+    }
 }
 
 /// Whether a new sequence has no chunk, and one of 32,768 characters is in order, in chunks and full.

@@ -1,6 +1,7 @@
 use crate::lines::lines;
 use change_ops::change::read_change;
 use change_ops::id::OpId;
+use change_ops::line::Line;
 use change_ops::operation::{Anchor, Op};
 use mark_anchors::marks::Marks;
 use std::alloc::Global;
@@ -23,8 +24,10 @@ fn marks_of(alloc: Global, text: &str) -> Result<Marks, Fail> {
     let text = lines(alloc, text)?;
     let (change, _) = read_change(alloc, text.as_str())?;
     let mut marks = Marks::new(alloc);
-    for op in change.operations() {
-        add(&mut marks, op)?;
+    for line in change.lines() {
+        if let Line::Operation(op) = line {
+            add(&mut marks, op)?;
+        }
     }
     Ok(marks)
 }

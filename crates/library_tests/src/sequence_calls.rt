@@ -1,13 +1,14 @@
 use crate::lines::lines;
 use change_ops::change::read_change;
 use change_ops::id::OpId;
+use change_ops::line::Line;
 use change_ops::operation::Op;
 use char_sequence::sequence::{Sequence, SequenceError};
 use std::alloc::{AllocError, Global};
 use std::test::Fail;
 
 /// Takes an insert or a removal, if it is accepted.
-pub(crate) fn deliver(sequence: &mut Sequence, op: &Op) -> Result<bool, AllocError> {
+fn deliver(sequence: &mut Sequence, op: &Op) -> Result<bool, AllocError> {
     if sequence.check(op).is_err() {
         return Ok(false);
     }
@@ -17,6 +18,21 @@ pub(crate) fn deliver(sequence: &mut Sequence, op: &Op) -> Result<bool, AllocErr
         _ => {}
     }
     Ok(true)
+}
+
+/// Takes the operations of a line, if they are accepted.
+pub(crate) fn deliver_line(sequence: &mut Sequence, line: &Line) -> Result<bool, AllocError> {
+    match line {
+        Line::Operation(op) => deliver(sequence, op),
+        Line::Run(run) => {
+            for index in 0..run.characters().len() {
+                if !deliver(sequence, &run.insert(index))? {
+                    return Ok(false);
+                }
+            }
+            Ok(true)
+        }
+    }
 }
 
 /// A character, and after it two that two peers typed at once, of which one is removed again.
@@ -30,8 +46,8 @@ static CHANGES: [&str; 3] = [
 fn is_taken(alloc: Global, sequence: &mut Sequence, text: &str) -> Result<bool, Fail> {
     let text = lines(alloc, text)?;
     let (change, _) = read_change(alloc, text.as_str())?;
-    for op in change.operations() {
-        if !deliver(sequence, op)? {
+    for line in change.lines() {
+        if !deliver_line(sequence, line)? {
             return Ok(false);
         }
     }
@@ -53,8 +69,10 @@ fn sequence_of(alloc: Global, texts: &[&'static str]) -> Result<Option<Sequence>
 fn refusal(alloc: Global, sequence: &Sequence, text: &str) -> Result<Option<SequenceError>, Fail> {
     let text = lines(alloc, text)?;
     let (change, _) = read_change(alloc, text.as_str())?;
-    let first = change.operations().first();
-    Ok(first.and_then(|op| sequence.check(op).err()))
+    match change.lines().first() {
+        Some(Line::Operation(op)) => Ok(sequence.check(op).err()),
+        _ => Ok(None),
+    }
 }
 
 /// Whether a counter that was used and a character that isn't there are refused.

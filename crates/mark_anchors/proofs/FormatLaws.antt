@@ -7,7 +7,7 @@ use Rattle.change_ops.specs.Operations.{key_of}
 use Rattle.change_ops.specs.declared.id.OpId.{OpId}
 use Rattle.change_ops.specs.declared.attribute.Key.{Key}
 use Rattle.change_ops.specs.declared.attribute.Attribute.{Attribute}
-use Rattle.change_ops.specs.declared.attribute.Attribute.TheVariants.{Strong, Em, Link, Color, Comment}
+use Rattle.change_ops.specs.declared.attribute.Attribute.TheVariants.{Strong, Em, Code, Link, Color, Comment}
 use Rattle.change_ops.specs.declared.operation.Anchor.{Anchor}
 use Rattle.change_ops.specs.declared.operation.Anchor.TheVariants.{TextStart, BeforeCharacter, AfterCharacter, TextEnd}
 use Rattle.change_ops.specs.declared.operation.Op.{Op}
@@ -67,6 +67,7 @@ format_of_set ops others s e f is =
     record {
       strong = (λ t. there Strong (is.strong.0 t), λ b. is.strong.1 (back Strong b));
       em = (λ t. there Em (is.em.0 t), λ b. is.em.1 (back Em b));
+      code = (λ t. there Code (is.code.0 t), λ b. is.code.1 (back Code b));
       link = λ target. (λ t. there (Link target) ((is.link target).0 t), λ b. (is.link target).1 (back (Link target) b));
       color = λ rgb. (λ t. there (Color rgb) ((is.color rgb).0 t), λ b. (is.color rgb).1 (back (Color rgb) b));
       comments = λ n. (λ t. there (Comment n) ((is.comments n).0 t), λ b. (is.comments n).1 (back (Comment n) b));
@@ -88,6 +89,7 @@ one_format ops e f g is also =
     same_fields f g
     (one_answer f.strong g.strong is.strong also.strong)
     (one_answer f.em g.em is.em also.em)
+    (one_answer f.code g.code is.code also.code)
     (same_options (λ target. Bears ops e (Link target)) f.link g.link is.link also.link)
     (same_options (λ rgb. Bears ops e (Color rgb)) f.color g.color is.color also.color)
     (same_in_order (λ x y. x < y) (λ a b less more. omega arith) f.comments g.comments (rises f.comments is.rising) (rises g.comments also.rising)

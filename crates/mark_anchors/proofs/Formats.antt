@@ -18,16 +18,17 @@ options_Decides E decides (Some x) (Some y) = (λ e. ap Some ((decides x y).0 e)
 lists_Decides : (xs ys : List ℕ) → Decides (pointwise nat_eq xs ys) (xs ≡ ys)
 lists_Decides = pointwise_decides unsigned_Decides
 
-pub same_fields : (a b : Formatting) → a.strong ≡ b.strong → a.em ≡ b.em → a.link ≡ b.link → a.color ≡ b.color → a.comments ≡ b.comments → a ≡ b
-same_fields a b strong em link color comments = λ i. record { strong = strong i; em = em i; link = link i; color = color i; comments = comments i }
+pub same_fields : (a b : Formatting) → a.strong ≡ b.strong → a.em ≡ b.em → a.code ≡ b.code → a.link ≡ b.link → a.color ≡ b.color → a.comments ≡ b.comments → a ≡ b
+same_fields a b strong em code link color comments = λ i. record { strong = strong i; em = em i; code = code i; link = link i; color = color i; comments = comments i }
 
 pub formatting_eq_Decides : (a b : Formatting) → Decides (formatting_eq a b) (a ≡ b)
 formatting_eq_Decides a b =
     let all =
     Decides-and _ _ (booleans_Decides a.strong b.strong)
     (Decides-and _ _ (booleans_Decides a.em b.em)
+    (Decides-and _ _ (booleans_Decides a.code b.code)
     (Decides-and _ _ (options_Decides (pointwise nat_eq) lists_Decides a.link b.link)
-    (Decides-and _ _ (options_Decides nat_eq unsigned_Decides a.color b.color) (lists_Decides a.comments b.comments)))) in (
-      λ e. let f = all.0 e in same_fields a b f.0 f.1.0 f.1.1.0 f.1.1.1.0 f.1.1.1.1,
-      λ e. all.1 (ap (λ f. f.strong) e, (ap (λ f. f.em) e, (ap (λ f. f.link) e, (ap (λ f. f.color) e, ap (λ f. f.comments) e)))),
+    (Decides-and _ _ (options_Decides nat_eq unsigned_Decides a.color b.color) (lists_Decides a.comments b.comments))))) in (
+      λ e. let f = all.0 e in same_fields a b f.0 f.1.0 f.1.1.0 f.1.1.1.0 f.1.1.1.1.0 f.1.1.1.1.1,
+      λ e. all.1 (ap (λ f. f.strong) e, (ap (λ f. f.em) e, (ap (λ f. f.code) e, (ap (λ f. f.link) e, (ap (λ f. f.color) e, ap (λ f. f.comments) e))))),
     )

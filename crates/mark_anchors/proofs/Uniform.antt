@@ -8,7 +8,7 @@ use Rattle.change_ops.specs.Operations.{key_of, AnchorNames, Names}
 use Rattle.change_ops.specs.declared.id.OpId.{OpId}
 use Rattle.change_ops.specs.declared.attribute.Key.{Key}
 use Rattle.change_ops.specs.declared.attribute.Attribute.{Attribute}
-use Rattle.change_ops.specs.declared.attribute.Attribute.TheVariants.{Strong, Em, Link, Color, Comment}
+use Rattle.change_ops.specs.declared.attribute.Attribute.TheVariants.{Strong, Em, Code, Link, Color, Comment}
 use Rattle.change_ops.specs.declared.operation.Anchor.{Anchor}
 use Rattle.change_ops.specs.declared.operation.Anchor.TheVariants.{TextStart, BeforeCharacter, AfterCharacter, TextEnd}
 use Rattle.change_ops.specs.declared.operation.Op.{Op}
@@ -49,6 +49,7 @@ format_along ops e f alike g is =
     record {
       strong = (λ t. there Strong (is.strong.0 t), λ b. is.strong.1 (back Strong b));
       em = (λ t. there Em (is.em.0 t), λ b. is.em.1 (back Em b));
+      code = (λ t. there Code (is.code.0 t), λ b. is.code.1 (back Code b));
       link = λ target. (λ t. there (Link target) ((is.link target).0 t), λ b. (is.link target).1 (back (Link target) b));
       color = λ rgb. (λ t. there (Color rgb) ((is.color rgb).0 t), λ b. (is.color rgb).1 (back (Color rgb) b));
       comments = λ n. (λ t. there (Comment n) ((is.comments n).0 t), λ b. (is.comments n).1 (back (Comment n) b));

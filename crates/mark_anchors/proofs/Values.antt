@@ -8,7 +8,7 @@ use Rattle.change_ops.specs.Operations.{key_of}
 use Rattle.change_ops.specs.declared.id.OpId.{OpId}
 use Rattle.change_ops.specs.declared.attribute.Key.TheVariants as key
 use Rattle.change_ops.specs.declared.attribute.Attribute.{Attribute}
-use Rattle.change_ops.specs.declared.attribute.Attribute.TheVariants.{Strong, Em, Link, Color, Comment}
+use Rattle.change_ops.specs.declared.attribute.Attribute.TheVariants.{Strong, Em, Code, Link, Color, Comment}
 use Rattle.change_ops.specs.declared.operation.Op.{Op}
 use Rattle.mark_anchors.specs.Format.{Bears}
 use Rattle.mark_anchors.specs.Placed.{IsValue}
@@ -30,6 +30,7 @@ holds_from_value ops a e unique (Some b) v = (
 pub one_strong : (b : Attribute) → key_of b ≡ key_of Strong → b ≡ Strong
 one_strong Strong is = refl
 one_strong Em is = cc
+one_strong Code is = cc
 one_strong (Link target) is = cc
 one_strong (Color rgb) is = cc
 one_strong (Comment n) is = cc
@@ -37,13 +38,23 @@ one_strong (Comment n) is = cc
 pub one_em : (b : Attribute) → key_of b ≡ key_of Em → b ≡ Em
 one_em Strong is = cc
 one_em Em is = refl
+one_em Code is = cc
 one_em (Link target) is = cc
 one_em (Color rgb) is = cc
 one_em (Comment n) is = cc
 
+pub one_code : (b : Attribute) → key_of b ≡ key_of Code → b ≡ Code
+one_code Strong is = cc
+one_code Em is = cc
+one_code Code is = refl
+one_code (Link target) is = cc
+one_code (Color rgb) is = cc
+one_code (Comment n) is = cc
+
 pub one_comment : (n : ℕ) (b : Attribute) → key_of b ≡ key_of (Comment n) → b ≡ Comment n
 one_comment n Strong is = cc
 one_comment n Em is = cc
+one_comment n Code is = cc
 one_comment n (Link target) is = cc
 one_comment n (Color rgb) is = cc
 one_comment n (Comment m) is = let same : m ≡ n = cc in ap Comment same

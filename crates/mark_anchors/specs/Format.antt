@@ -7,7 +7,7 @@ use Rattle.change_ops.specs.Operations.{id_of, key_of}
 use Rattle.change_ops.specs.declared.id.OpId.{OpId}
 use Rattle.change_ops.specs.declared.attribute.Key.{Key}
 use Rattle.change_ops.specs.declared.attribute.Attribute.{Attribute}
-use Rattle.change_ops.specs.declared.attribute.Attribute.TheVariants.{Strong, Em, Link, Color, Comment}
+use Rattle.change_ops.specs.declared.attribute.Attribute.TheVariants.{Strong, Em, Code, Link, Color, Comment}
 use Rattle.change_ops.specs.declared.operation.Op.{Op}
 use Rattle.change_ops.specs.declared.operation.Op.TheVariants.{Insert, Remove, AddMark, RemoveMark}
 use Rattle.mark_anchors.specs.Anchors.{Covers}
@@ -41,6 +41,7 @@ Bears ops e attribute = (o : Op) × Decides ops (key_of attribute) e o × (added
 pub record IsFormat (ops : List Op) (e : OpId) (f : Formatting) : Type 0 where
   pub strong : IsTrue f.strong ↔ Bears ops e Strong
   pub em : IsTrue f.em ↔ Bears ops e Em
+  pub code : IsTrue f.code ↔ Bears ops e Code
   pub link : (target : List ℕ) → (f.link ≡ Some target) ↔ Bears ops e (Link target)
   pub color : (rgb : ℕ) → (f.color ≡ Some rgb) ↔ Bears ops e (Color rgb)
   pub comments : (n : ℕ) → Contains f.comments n ↔ Bears ops e (Comment n)

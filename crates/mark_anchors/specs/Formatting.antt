@@ -10,23 +10,24 @@ use Rattle.std.specs.Cmp.Lexicographic.{pointwise, options_equiv, nat_list_eq_eq
 pub record Formatting : Type 0 where
   pub strong : Bool
   pub em : Bool
+  pub code : Bool
   pub link : Option (List ℕ)
   pub color : Option ℕ
   pub comments : List ℕ
 
 -- no key holds
 abbrev pub plain : Formatting
-plain = record { strong = false; em = false; link = None; color = None; comments = [] }
+plain = record { strong = false; em = false; code = false; link = None; color = None; comments = [] }
 
 -- `==`, field by field
 abbrev pub formatting_eq : Formatting → Formatting → Bool
 formatting_eq =
-    eq_of_both (on (λ f. f.strong) beq) (eq_of_both (on (λ f. f.em) beq)
+    eq_of_both (on (λ f. f.strong) beq) (eq_of_both (on (λ f. f.em) beq) (eq_of_both (on (λ f. f.code) beq)
     (eq_of_both (on (λ f. f.link) (option_eq (pointwise nat_eq))) (eq_of_both (on (λ f. f.color) (option_eq nat_eq))
-    (on (λ f. f.comments) (pointwise nat_eq)))))
+    (on (λ f. f.comments) (pointwise nat_eq))))))
 
 pub formatting_eq_equiv : IsEquivalence formatting_eq
 formatting_eq_equiv =
-    and_equiv (on_equiv (λ f. f.strong) bool_eq_equiv) (and_equiv (on_equiv (λ f. f.em) bool_eq_equiv)
+    and_equiv (on_equiv (λ f. f.strong) bool_eq_equiv) (and_equiv (on_equiv (λ f. f.em) bool_eq_equiv) (and_equiv (on_equiv (λ f. f.code) bool_eq_equiv)
     (and_equiv (on_equiv (λ f. f.link) (options_equiv nat_list_eq_equiv)) (and_equiv (on_equiv (λ f. f.color) (options_equiv nat_eq_equiv))
-    (on_equiv (λ f. f.comments) nat_list_eq_equiv))))
+    (on_equiv (λ f. f.comments) nat_list_eq_equiv)))))

@@ -1,6 +1,6 @@
 -- What is seen of resolved marks, and what they keep.
 use Rattle.std.specs.Prelude.{List}
-use Rattle.change_ops.specs.declared.attribute.Key.TheVariants.{Strong, Em, Link, Color}
+use Rattle.change_ops.specs.declared.attribute.Key.TheVariants.{Strong, Em, Code, Link, Color}
 use Rattle.change_ops.specs.declared.operation.Op.{Op}
 use Rattle.char_sequence.specs.declared.sequence.Element.{Element}
 use Rattle.mark_anchors.specs.Placed.{AreAllPlaced, ArePlaced}
@@ -16,10 +16,11 @@ pub record Resolution : Type 0 where
   pub marks : List Op
 
 -- all marks, and those of each key
-pub record AreResolved (es : List Element) (operations : List Op) (marks : List PlacedMark) (strongs ems links colors : List PlacedMark) (commented : List CommentMarks) (stretches : List Stretch) : Type 0 where
+pub record AreResolved (es : List Element) (operations : List Op) (marks : List PlacedMark) (strongs ems codes links colors : List PlacedMark) (commented : List CommentMarks) (stretches : List Stretch) : Type 0 where
   pub all : AreAllPlaced es operations marks
   pub strong : ArePlaced es operations Strong strongs
   pub em : ArePlaced es operations Em ems
+  pub code : ArePlaced es operations Code codes
   pub link : ArePlaced es operations Link links
   pub color : ArePlaced es operations Color colors
   pub comments : AreCommented es operations commented

@@ -17,6 +17,7 @@ use std::marker::Model;
 pub struct Format {
     pub(crate) strong: bool,
     pub(crate) em: bool,
+    pub(crate) code: bool,
     pub(crate) link: Option<Link>,
     pub(crate) color: Option<Color>,
     pub(crate) comments: SmallVec<CommentNumber, 4>,
@@ -27,6 +28,7 @@ impl Drop for Format {
         let Format {
             strong: _,
             em: _,
+            code: _,
             link: _,
             color: _,
             comments: _,
@@ -40,7 +42,7 @@ impl Model for Format {
 
     ghost Value = { Formatting };
 
-    ghost view = { λ f. record { strong = f.strong; em = f.em; link = f.link; color = f.color; comments = f.comments.items } };
+    ghost view = { λ f. record { strong = f.strong; em = f.em; code = f.code; link = f.link; color = f.color; comments = f.comments.items } };
 
     ghost invariant = { λ f. IsStrictlyIncreasing f.comments.items };
 }
@@ -53,6 +55,7 @@ impl Clone for Format {
         Ok(Format {
             strong: self.strong,
             em: self.em,
+            code: self.code,
             link: self.link.clone()?,
             color: self.color,
             comments: SmallVec::from_slice(*comments.allocator(), comments.as_slice())?,
@@ -69,7 +72,7 @@ impl PartialEq for Format {
         ensures eq { result ≡ formatting_eq self.now other.now }
         ensures same { IsTrue result ↔ (self.now ≡ other.now) }
     {
-        let flags = self.strong == other.strong && self.em == other.em;
+        let flags = self.strong == other.strong && self.em == other.em && self.code == other.code;
         flags
             && self.link == other.link
             && self.color == other.color
@@ -89,6 +92,7 @@ impl Format {
         Format {
             strong: false,
             em: false,
+            code: false,
             link: None,
             color: None,
             comments: SmallVec::new(alloc),
@@ -101,6 +105,7 @@ impl Format {
     {
         !self.strong
             && !self.em
+            && !self.code
             && self.link.is_none()
             && self.color.is_none()
             && self.comments.is_empty()
@@ -118,6 +123,13 @@ impl Format {
         ensures { result ≡ self.now.em }
     {
         self.em
+    }
+
+    /// Whether the character is code.
+    pub fn code(&self) -> bool
+        ensures { result ≡ self.now.code }
+    {
+        self.code
     }
 
     /// The link that the character is part of.

@@ -30,6 +30,7 @@ pub struct ResolvedMarks<'a> {
     marks: Vec<PlacedMark>,
     strong: KeyMarks,
     em: KeyMarks,
+    code: KeyMarks,
     link: KeyMarks,
     color: KeyMarks,
     comments: Vec<CommentMarks>,
@@ -43,7 +44,7 @@ impl<'a> Model for ResolvedMarks<'a> {
 
     ghost view = { λ r. record { elements = r.sequence.now.elements; marks = r.operations.now } };
 
-    ghost invariant = { λ r. AreResolved r.sequence.now.elements r.operations.now r.marks.items r.strong r.em r.link r.color r.comments.items r.stretches.items };
+    ghost invariant = { λ r. AreResolved r.sequence.now.elements r.operations.now r.marks.items r.strong r.em r.code r.link r.color r.comments.items r.stretches.items };
 }
 
 impl Marks {
@@ -68,6 +69,7 @@ impl Marks {
             operations,
             strong: marks_of(alloc, &marks, &Key::Strong)?,
             em: marks_of(alloc, &marks, &Key::Em)?,
+            code: marks_of(alloc, &marks, &Key::Code)?,
             link: marks_of(alloc, &marks, &Key::Link)?,
             color: marks_of(alloc, &marks, &Key::Color)?,
             stretches: no_stretches(alloc, comments.len())?,
@@ -120,6 +122,7 @@ impl ResolvedMarks<'_> {
         Ok(Format {
             strong: holds_at(operations, &self.strong, place),
             em: holds_at(operations, &self.em, place),
+            code: holds_at(operations, &self.code, place),
             link,
             color: color_at(operations, &self.color, place),
             comments,

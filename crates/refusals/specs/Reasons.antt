@@ -71,7 +71,7 @@ unread_place (reading.CharRefused line) = Line line
 unread_place (reading.WrongPeer line) = Line line
 unread_place reading.OutOfMemory = Whole
 
--- why a change isn't accepted; its operations stand behind the first line, from line 2 on
+-- why a change isn't accepted; its other lines stand behind the first one, from line 2 on
 abbrev pub unaccepted_title : SubmitError → List ℕ
 unaccepted_title submit.HistoryFull = codes "50 HistoryFull"
 unaccepted_title (submit.Refused index refusal) = refusal_name refusal

@@ -160,7 +160,7 @@ fn unaccepted_title(error: SubmitError) -> &'static str
     }
 }
 
-/// A change's operations stand behind its first line, from line 2 on.
+/// A change's other lines stand behind its first one, from line 2 on.
 fn unaccepted_place(error: SubmitError) -> Place
     ensures { result ≡ unaccepted_place error }
 {

@@ -8,24 +8,28 @@ use crate::words::{first_word, number, word_of};
 use std::alloc::AllocError;
 use std::fmt::Write;
 
-/// The first word of a change's first line.
+/// The first word of the first line of a change of the first form.
 const CHANGE: &[u8] = b"change";
+
+/// That of a change of the second form.
+const CHANGE2: &[u8] = b"change2";
 
 /// Whether a line's first word is that of a change's first line.
 pub fn is_header(line: &[u8]) -> bool
     ensures { result ≡ is_header line.now }
 {
-    first_word(line) == CHANGE
+    let word = first_word(line);
+    word == CHANGE || word == CHANGE2
 }
 
-/// The count of operations in a change's first line, where it is a right one.
+/// The count of lines in a change's first line, where it is a right one.
 #[tactic(auto, unfolding(change_ops::specs::Reading::header_at))]
 fn count_of(line: &[u8]) -> Option<usize>
-    ensures { result ≡ option_map (λ header. header.1) (right_header line.now) }
+    ensures { result ≡ option_map (λ header. header.2) (right_header line.now) }
 {
     let (name, fields) = word_of(line)?;
     let (node, count) = word_of(fields)?;
-    if name != CHANGE {
+    if name != CHANGE && name != CHANGE2 {
         return None;
     }
     let node = number(node)?;

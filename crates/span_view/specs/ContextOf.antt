@@ -9,11 +9,11 @@ use Rattle.span_view.specs.Views.{LentSpan}
 abbrev pub flag : Bool → ℕ → ℕ
 flag holds bit = if holds then bit else 0
 
--- 1 strong, 2 em, 4 a link, 8 a color, 16 at least one comment
+-- 1 strong, 2 em, 4 a link, 8 a color, 16 at least one comment, 32 code
 abbrev pub flags_of : Formatting → ℕ
 flags_of format =
     flag format.strong 1 + flag format.em 2 + flag (is_some format.link) 4 + flag (is_some format.color) 8
-    + flag (nat_lt 0 (length format.comments)) 16
+    + flag (nat_lt 0 (length format.comments)) 16 + flag format.code 32
 
 -- the text of the span's link, none where it has no link
 abbrev pub link_of : LentSpan → List ℕ

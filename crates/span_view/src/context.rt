@@ -17,6 +17,8 @@ const COLOR: u32 = 8;
 
 const COMMENT: u32 = 16;
 
+const CODE: u32 = 32;
+
 fn flag(holds: bool, bit: u32) -> u32
     ensures { result ≡ flag holds bit }
 {
@@ -31,6 +33,7 @@ fn flags(format: &Format) -> u32
         + flag(format.link().is_some(), LINK)
         + flag(format.color().is_some(), COLOR)
         + flag(!format.comments().is_empty(), COMMENT)
+        + flag(format.code(), CODE)
 }
 
 fn character_count(text: &str) -> u32

@@ -1,4 +1,4 @@
-use Rattle.change_ops.proofs.FormLaws.{lines_are_forms, headers_are_forms}
+use Rattle.change_ops.proofs.LineForms.{lines_are_forms, headers_are_forms}
 use Rattle.change_ops.proofs.change.lines_have_one_form.Goals as goal
 
 pub returns-clause-lines : goal.returns-clause-lines

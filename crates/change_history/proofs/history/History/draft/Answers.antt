@@ -10,4 +10,4 @@ returns-in_err-added-clause-drafted c =
 pub returns-clause-drafted : goal.returns-clause-drafted
 returns-clause-drafted c =
     let few : length c.self.inside.changes < 4096 = omega arith in
-    drafted c.self.inside.changes c.args.self.now c.args.change c.operations.result.now _ c.self.view_is c.in_ok-added.ensures c.operations.ensures.value few c.in_ok-parts.ensures.applied
+    drafted c.self.inside.changes c.args.self.now c.args.change c.lines.result.now _ c.self.view_is c.in_ok-added.ensures c.lines.ensures.value few c.in_ok-parts.ensures.applied

@@ -4,5 +4,5 @@ use Rattle.change_history.proofs.history.History.parts_after.Goals as goal
 
 pub returns-in_err-apply_all-clause-applied : goal.returns-in_err-apply_all-clause-applied
 returns-in_err-apply_all-clause-applied c =
-    not_applied c.from_residual-in_err-apply_all.result (operations_of c.args.self.now) c.args.operations.now c.in_err-apply_all.field-0.0 c.from_residual-in_err-apply_all.ensures.1
+    not_applied c.from_residual-in_err-apply_all.result (operations_of c.args.self.now) c.args.lines.now c.in_err-apply_all.field-0.0 c.from_residual-in_err-apply_all.ensures.1
     (c.in_err-apply_all.ensures (operations_of c.args.self.now) c.in_ok-parts.ensures.kept)

@@ -1,11 +1,11 @@
 use Rattle.std.proofs.Common.{◌≡◌, ◌∙◌, ◌↔◌, Some, ap, refl, sym, subst}
 use Rattle.std.specs.List.{slice_get}
 use Rattle.std.specs.Option.{option_copied}
-use Rattle.change_ops.specs.declared.attribute.Attribute.TheVariants.{Strong, Em, Link}
+use Rattle.change_ops.specs.declared.attribute.Attribute.TheVariants.{Strong, Em, Code, Link}
 use Rattle.char_sequence.specs.Order.{Shows, IsAt}
 use Rattle.mark_anchors.specs.Format.{Bears}
 use Rattle.mark_anchors.specs.Marks.{AreMarks}
-use Rattle.mark_anchors.proofs.Values.{one_strong, one_em}
+use Rattle.mark_anchors.proofs.Values.{one_strong, one_em, one_code}
 use Rattle.mark_anchors.proofs.resolved.ResolvedMarks.format_with.Goals.{in-Some+in_ok-clone-in-Some, in-None}
 use Rattle.mark_anchors.proofs.resolved.ResolvedMarks.format_with.Goals as goal
 
@@ -26,6 +26,7 @@ returns c =
     record {
       strong = c.holds_at.ensures es ops Strong e.id one_strong h are held.strong stands;
       em = c.holds_at-2.ensures es ops Em e.id one_em h are held.em stands;
+      code = c.holds_at-3.ensures es ops Code e.id one_code h are held.code stands;
       link = λ target. subst (λ l. (l ≡ Some target) ↔ Bears ops e.id (Link target)) (sym link) (c.link_at.ensures es ops e.id h are held.link stands target);
       color = c.color_at.ensures es ops e.id h are held.color stands;
       comments = borne;

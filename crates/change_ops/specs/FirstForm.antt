@@ -1,0 +1,42 @@
+-- Changes of the first form: each of their lines is an operation, and they are read by these alone.
+use Rattle.std.specs.Prelude.{◌≡◌, ℕ, ◌≤◌, List, [], ◌∷◌, ◌++◌, map, length, codes, IsTrue, IsFalse}
+use Rattle.std.specs.Fmt.{decimal}
+use Rattle.std.specs.List.{AllByRecursion}
+use Rattle.change_ops.specs.Limits.{op_within, has_character}
+use Rattle.change_ops.specs.Operations.{id_of}
+use Rattle.change_ops.specs.Lines.{names_code}
+use Rattle.change_ops.specs.Changes.{Edit, IsChange, operations}
+use Rattle.change_ops.specs.Spelling.{◌␣◌, op_text, change_text}
+use Rattle.change_ops.specs.declared.operation.Op.{Op}
+use Rattle.change_ops.specs.declared.line.Form.TheVariants.{First}
+use Rattle.change_ops.specs.declared.line.Line.TheVariants.{Operation}
+
+-- operations, each on a line of its own
+unfoldable pub ops_text : List Op → List ℕ
+ops_text [] = []
+ops_text (op ∷ ops) = op_text op ++ 10 ∷ ops_text ops
+
+-- the change of the first form that spells operations out
+abbrev pub spelled_out : ℕ → List Op → Edit
+spelled_out node ops = record { form = First; node = node; lines = map Operation ops }
+
+-- an operation of this peer, within the limits, of another key than code
+pub record IsPlainOp (node : ℕ) (op : Op) : Type 0 where
+  pub own : (id_of op).node ≡ node
+  pub within : IsTrue (op_within op)
+  pub character : IsTrue (has_character op)
+  pub other : IsFalse (names_code op)
+
+-- 1 to 256 such operations
+pub record ArePlainOps (node : ℕ) (ops : List Op) : Type 0 where
+  pub named : 1 ≤ node
+  pub known : node ≤ 65535
+  pub some : 1 ≤ length ops
+  pub few : length ops ≤ 256
+  pub each : AllByRecursion (IsPlainOp node) ops
+
+-- The changes of the first form are those that spell such operations out, with a line for each.
+pub record FirstFormIsPlain : Type 0 where
+  pub each : (change : Edit) → IsChange change → change.form ≡ First → ArePlainOps change.node (operations change) × (change ≡ spelled_out change.node (operations change))
+  pub all : (node : ℕ) (ops : List Op) → ArePlainOps node ops → IsChange (spelled_out node ops) × (operations (spelled_out node ops) ≡ ops)
+  pub text : (node : ℕ) (ops : List Op) → change_text (spelled_out node ops) ≡ (codes "change" ␣ decimal node ␣ decimal (length ops)) ++ 10 ∷ ops_text ops
