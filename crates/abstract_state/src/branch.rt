@@ -163,6 +163,16 @@ fn compared(width: Width, value: i32) -> Quantity
     }
 }
 
+/// What is known, if a run can come there.
+fn live(flow: Flow, state: &AbsState) -> Option<AbsState>
+    ensures { result ≡ after flow state.now }
+{
+    match flow {
+        Flow::Live => Some(*state),
+        Flow::Dead => None,
+    }
+}
+
 impl AbsState {
     /// The right side of a comparison.
     fn right_side(&self, width: Width, right: &Operand) -> Result<Known, Refusal>
@@ -246,32 +256,28 @@ impl AbsState {
         }
     }
 
-    /// The state on the edge where the comparison holds, or on the other.
-    fn edge_on(
-        &self,
+    /// Goes along the edge where the comparison holds, or along the other.
+    fn take_edge(
+        &mut self,
         width: Width,
         comparison: Comparison,
         left: Register,
         right: &Operand,
         taken: bool,
-    ) -> Result<Option<AbsState>, Refusal>
-        ensures sound { IfOk result (λ o. Edge self.now width comparison left right.now taken o) }
-        ensures others { IfOk result (λ o. IfSome o (λ b. LeavesSides left right.now self.now b)) }
-        ensures regions { (region : Region) (r l1 h1 l2 h2 : ℕ) (t1 t2 : Option ℕ) → right.now ≡ Operand.Source r → width ≡ Full → IsOrder comparison → Holds (Fact.LentIn region l1 h1 t1) (register_at self.now.registers left) → Holds (Fact.LentIn region l2 h2 t2) (register_at self.now.registers r) → IsOk result }
-        ensures guards { (region : Region) (r n high l2 h2 t : ℕ) (t1 : Option ℕ) → right.now ≡ Operand.Source r → left ≢ r → width ≡ Full → comparison ≡ Comparison.Greater → taken ≡ false → Holds (Fact.LentIn region n high t1) (register_at self.now.registers left) → Holds (Fact.LentIn region l2 h2 (Some t)) (register_at self.now.registers r) → IfOk result (λ o. IfSome o (λ b. n ≤ bound_of b.bounds region)) }
-        ensures floor { HasNumberAt self.now left → HasNumberIn self.now right.now → IsOk result }
-        ensures kinds { HasNumberAt self.now left → HasNumberIn self.now right.now → IfOk result (λ o. IfSome o (λ b. KeepsAll self.now b)) }
+    ) -> Result<Flow, Refusal>
+        ensures sound { IfOk result (λ flow. Edge self.old width comparison left right.now taken (after flow self.new)) }
+        ensures others { IfOk result (λ flow. IfSome (after flow self.new) (λ b. LeavesSides left right.now self.old b)) }
+        ensures regions { (region : Region) (r l1 h1 l2 h2 : ℕ) (t1 t2 : Option ℕ) → right.now ≡ Operand.Source r → width ≡ Full → IsOrder comparison → Holds (Fact.LentIn region l1 h1 t1) (register_at self.old.registers left) → Holds (Fact.LentIn region l2 h2 t2) (register_at self.old.registers r) → IsOk result }
+        ensures guards { (region : Region) (r n high l2 h2 t : ℕ) (t1 : Option ℕ) → right.now ≡ Operand.Source r → left ≢ r → width ≡ Full → comparison ≡ Comparison.Greater → taken ≡ false → Holds (Fact.LentIn region n high t1) (register_at self.old.registers left) → Holds (Fact.LentIn region l2 h2 (Some t)) (register_at self.old.registers r) → IfOk result (λ flow. IfSome (after flow self.new) (λ b. n ≤ bound_of b.bounds region)) }
+        ensures floor { HasNumberAt self.old left → HasNumberIn self.old right.now → IsOk result }
+        ensures kinds { HasNumberAt self.old left → HasNumberIn self.old right.now → IfOk result (λ flow. IfSome (after flow self.new) (λ b. KeepsAll self.old b)) }
     {
         let a = self.read(left)?;
         let b = self.right_side(width, right)?;
         let pair = pair_on(width, comparison, taken, a, b)?;
         let same = is_one_register(left, right);
         let pair = unless(same, pair, a, b);
-        let mut edge = *self;
-        match edge.refine(left, right, pair) {
-            Flow::Live => Ok(Some(edge)),
-            Flow::Dead => Ok(None),
-        }
+        Ok(self.refine(left, right, pair))
     }
 
     /// The states after a comparison that holds, and after one that doesn't.
@@ -292,8 +298,13 @@ impl AbsState {
         ensures taken_kinds { HasNumberAt self.now left → HasNumberIn self.now right.now → IfOk result (λ edges. IfSome edges.taken (λ b. KeepsAll self.now b)) }
         ensures untaken_kinds { HasNumberAt self.now left → HasNumberIn self.now right.now → IfOk result (λ edges. IfSome edges.untaken (λ b. KeepsAll self.now b)) }
     {
-        let taken = self.edge_on(width, comparison, left, right, true)?;
-        let untaken = self.edge_on(width, comparison, left, right, false)?;
-        Ok(Edges { taken, untaken })
+        let mut taken = *self;
+        let holds = taken.take_edge(width, comparison, left, right, true)?;
+        let mut untaken = *self;
+        let fails = untaken.take_edge(width, comparison, left, right, false)?;
+        Ok(Edges {
+            taken: live(holds, &taken),
+            untaken: live(fails, &untaken),
+        })
     }
 }

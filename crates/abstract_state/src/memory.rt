@@ -166,7 +166,7 @@ fn reaches(bounds: Bounds, place: LentPlace, offset: u64, count: usize) -> bool
     let Some(tail) = place.offset.tails.of(place.region) else {
         return false;
     };
-    if end <= range.low.saturating_add(tail) {
+    if end <= range.low.saturating_add(u64::from(tail)) {
         return true;
     }
     false

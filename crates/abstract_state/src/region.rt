@@ -38,10 +38,11 @@ impl Region {
 }
 
 /// Of a number, for each lent region, where it is known: a number that can be added to it within the region's length.
+/// No region's length has more than 32 bits.
 #[derive(Clone, Copy)]
 pub struct Tails {
-    pub text: Option<u64>,
-    pub link: Option<u64>,
+    pub text: Option<u32>,
+    pub link: Option<u32>,
 }
 
 impl Tails {
@@ -74,7 +75,7 @@ impl Tails {
     }
 
     /// The tail for one region.
-    pub fn of(self, region: Region) -> Option<u64>
+    pub fn of(self, region: Region) -> Option<u32>
         ensures { (lengths : Lengths) (x : ℕ) → HasTails self lengths x → HasTail result (length_of lengths region) x }
     {
         match region {

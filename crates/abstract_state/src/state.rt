@@ -65,7 +65,7 @@ impl Bounds {
 }
 
 /// One bound where a number from `low` on with a tail stands; `None` where no region is so long.
-fn bound_raised(bound: u64, low: u64, tail: Option<u64>, limit: u64) -> Option<u64>
+fn bound_raised(bound: u64, low: u64, tail: Option<u32>, limit: u64) -> Option<u64>
     requires { bound ≤ limit }
     ensures short { IfSome result (λ b. b ≤ limit) }
     ensures sound { (long x : ℕ) → long ≤ limit → bound ≤ long → low ≤ x → HasTail tail long x → (b : ℕ) × (result ≡ Some b) × (b ≤ long) }
@@ -75,7 +75,7 @@ fn bound_raised(bound: u64, low: u64, tail: Option<u64>, limit: u64) -> Option<u
     let Some(t) = tail else {
         return Some(bound);
     };
-    let least = low.checked_add(t)?;
+    let least = low.checked_add(u64::from(t))?;
     if least > limit {
         return None;
     }

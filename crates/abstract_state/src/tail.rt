@@ -6,7 +6,7 @@ ghost use Rattle.abstract_state.specs.Exact.{tail_after};
 use intervals::Range;
 
 /// The interval cut to what the tail allows, where lengths are up to `limit`.
-pub fn narrow(tail: Option<u64>, limit: u64, range: Range) -> Option<Range>
+pub fn narrow(tail: Option<u32>, limit: u64, range: Range) -> Option<Range>
     ensures contains { (long x : ℕ) → long ≤ limit → InRange range x → HasTail tail long x → InRanges result x }
     ensures within { IfSome result (λ r. (range.low ≤ r.low) × (r.high ≤ range.high)) }
     ensures limits { (t : ℕ) → tail ≡ Some t → IfSome result (λ r. r.high + t ≤ limit) }
@@ -14,6 +14,7 @@ pub fn narrow(tail: Option<u64>, limit: u64, range: Range) -> Option<Range>
     let Some(t) = tail else {
         return Some(range);
     };
+    let t = u64::from(t);
     if t > limit {
         return None;
     }
@@ -21,18 +22,18 @@ pub fn narrow(tail: Option<u64>, limit: u64, range: Range) -> Option<Range>
 }
 
 /// The tail after up to `added` is added.
-pub fn after(tail: Option<u64>, added: u64) -> Option<u64>
+pub fn after(tail: Option<u32>, added: u64) -> Option<u32>
     ensures contains { (long x y : ℕ) → HasTail tail long x → y ≤ added → HasTail result long (x + y) }
     ensures value { result ≡ tail_after tail added }
 {
     match tail {
-        Some(t) if t >= added => Some(t - added),
+        Some(t) if u64::from(t) >= added => Some(t - added as u32),
         _ => None,
     }
 }
 
 /// The tail of the sum of a number up to `high` with this tail and of a number up to `added` with the other.
-pub fn sum(tail: Option<u64>, high: u64, other: Option<u64>, added: u64) -> Option<u64>
+pub fn sum(tail: Option<u32>, high: u64, other: Option<u32>, added: u64) -> Option<u32>
     ensures contains { (long x y : ℕ) → HasTail tail long x → x ≤ high → HasTail other long y → y ≤ added → HasTail result long (x + y) }
     ensures alone { other ≡ None → result ≡ tail_after tail added }
 {
@@ -42,18 +43,25 @@ pub fn sum(tail: Option<u64>, high: u64, other: Option<u64>, added: u64) -> Opti
     }
 }
 
+/// A tail that is greater by so much, or the greatest of 32 bits. That is past each region's limit, so that no number has it.
+fn more(tail: u32, by: u64) -> u32
+    ensures { result ≤ tail + by }
+{
+    u64::from(tail).saturating_add(by).min(u64::from(u32::MAX)) as u32
+}
+
 /// The tail after at least `taken` is taken away.
-pub fn difference(tail: Option<u64>, taken: u64) -> Option<u64>
+pub fn difference(tail: Option<u32>, taken: u64) -> Option<u32>
     ensures { (long x y : ℕ) → HasTail tail long (x + y) → taken ≤ y → HasTail result long x }
 {
     let Some(t) = tail else {
         return None;
     };
-    Some(t.saturating_add(taken))
+    Some(more(t, taken))
 }
 
 /// The tail of a number that is no greater than either.
-pub fn greater(a: Option<u64>, b: Option<u64>) -> Option<u64>
+pub fn greater(a: Option<u32>, b: Option<u32>) -> Option<u32>
     ensures contains { (long x y z : ℕ) → HasTail a long x → HasTail b long y → z ≤ x → z ≤ y → HasTail result long z }
     ensures there { (u : ℕ) → b ≡ Some u → (t : ℕ) × (result ≡ Some t) }
 {
@@ -65,7 +73,7 @@ pub fn greater(a: Option<u64>, b: Option<u64>) -> Option<u64>
 }
 
 /// The tail of a number that may be either.
-pub fn lesser(a: Option<u64>, b: Option<u64>) -> Option<u64>
+pub fn lesser(a: Option<u32>, b: Option<u32>) -> Option<u32>
     ensures left { (long x : ℕ) → HasTail a long x → HasTail result long x }
     ensures right { (long x : ℕ) → HasTail b long x → HasTail result long x }
 {
@@ -76,12 +84,12 @@ pub fn lesser(a: Option<u64>, b: Option<u64>) -> Option<u64>
 }
 
 /// The tail of a number that is less by at least so much.
-pub fn raised(tail: Option<u64>, by: u64) -> Option<u64>
+pub fn raised(tail: Option<u32>, by: u64) -> Option<u32>
     ensures contains { (long x y : ℕ) → HasTail tail long y → x + by ≤ y → HasTail result long x }
     ensures there { (t : ℕ) → tail ≡ Some t → (u : ℕ) × (result ≡ Some u) }
 {
     let Some(t) = tail else {
         return None;
     };
-    Some(t.saturating_add(by))
+    Some(more(t, by))
 }

@@ -1,11 +1,22 @@
-use Rattle.std.proofs.Common.{◌≡◌, true, false, refl}
+use Rattle.std.proofs.Common.{◌≡◌, ◌≤◌, Option, true, false, refl, sym, subst}
+use Rattle.std.specs.Option.{IfSome}
+use Rattle.abstract_state.specs.declared.state.AbsState.{AbsState}
+use Rattle.abstract_state.specs.Lent.{bound_of}
+use Rattle.abstract_state.specs.Branch.{Edge}
 use Rattle.abstract_state.proofs.state.AbsState.branch.Goals as goal
 
-pub returns-in_err-taken-clause-regions : goal.returns-in_err-taken-clause-regions
-returns-in_err-taken-clause-regions c = λ region r l1 h1 l2 h2 t1 t2 e w o a b. let bad : false ≡ true = c.in_err-taken.ensures.regions region r l1 h1 l2 h2 t1 t2 e w o a b in absurd (cc)
+pub returns-in_err-holds-clause-regions : goal.returns-in_err-holds-clause-regions
+returns-in_err-holds-clause-regions c = λ region r l1 h1 l2 h2 t1 t2 e w o a b. let bad : false ≡ true = c.in_err-holds.ensures.regions region r l1 h1 l2 h2 t1 t2 e w o a b in absurd (cc)
 
-pub returns-in_err-untaken-clause-regions : goal.returns-in_err-untaken-clause-regions
-returns-in_err-untaken-clause-regions c = λ region r l1 h1 l2 h2 t1 t2 e w o a b. let bad : false ≡ true = c.in_err-untaken.ensures.regions region r l1 h1 l2 h2 t1 t2 e w o a b in absurd (cc)
+pub returns-in_err-fails-clause-regions : goal.returns-in_err-fails-clause-regions
+returns-in_err-fails-clause-regions c = λ region r l1 h1 l2 h2 t1 t2 e w o a b. let bad : false ≡ true = c.in_err-fails.ensures.regions region r l1 h1 l2 h2 t1 t2 e w o a b in absurd (cc)
+
+pub returns-clause-taken : goal.returns-clause-taken
+returns-clause-taken c = subst (λ (o : Option AbsState). Edge c.args.self.now c.args.width c.args.comparison c.args.left c.args.right.now true o) (sym c.live.ensures) c.in_ok-holds.ensures.sound
+
+pub returns-clause-untaken : goal.returns-clause-untaken
+returns-clause-untaken c = subst (λ (o : Option AbsState). Edge c.args.self.now c.args.width c.args.comparison c.args.left c.args.right.now false o) (sym c.live-2.ensures) c.in_ok-fails.ensures.sound
 
 pub returns-clause-guards : goal.returns-clause-guards
-returns-clause-guards c = λ region r n high l2 h2 t t1 e other w greater a b. c.in_ok-untaken.ensures.guards region r n high l2 h2 t t1 e other w greater refl a b
+returns-clause-guards c = λ region r n high l2 h2 t t1 e other w greater a b.
+    subst (λ (o : Option AbsState). IfSome o (λ x. n ≤ bound_of x.bounds region)) (sym c.live-2.ensures) (c.in_ok-fails.ensures.guards region r n high l2 h2 t t1 e other w greater refl a b)

@@ -5,10 +5,10 @@ use Rattle.abstract_state.specs.declared.branch.Pair.{Pair}
 use Rattle.abstract_state.specs.Exact.{LentIn}
 use Rattle.abstract_state.specs.Branch.{LongFrom}
 use Rattle.abstract_state.specs.State.{lengths_of}
-use Rattle.abstract_state.proofs.state.AbsState.edge_on.Goals as goal
+use Rattle.abstract_state.proofs.state.AbsState.take_edge.Goals as goal
 
-pub returns-in-Live-clause-sound : goal.returns-in-Live-clause-sound
-returns-in-Live-clause-sound c = λ span s held.
+pub returns-clause-sound : goal.returns-clause-sound
+returns-clause-sound c = λ span s held.
     let lengths = lengths_of span in
     let m = c.in_ok-a.ensures.sound lengths s held in
     let n = c.in_ok-b.ensures.sound lengths s held in
@@ -18,23 +18,7 @@ returns-in-Live-clause-sound c = λ span s held.
         n.0,
         m.1,
         n.1.1,
-        (λ h. c.in-Live.ensures.sound lengths s m.0 n.1.0 held m.1 n.1.3
-            (c.unless-pair.ensures.sound lengths m.0 n.1.0 m.2 n.1.4 (c.in_ok-pair.ensures.sound lengths m.0 n.1.0 m.2 n.1.4 (same ∙ h)))),
-      ),
-    )
-
-pub returns-in-Dead-clause-sound : goal.returns-in-Dead-clause-sound
-returns-in-Dead-clause-sound c = λ span s held.
-    let lengths = lengths_of span in
-    let m = c.in_ok-a.ensures.sound lengths s held in
-    let n = c.in_ok-b.ensures.sound lengths s held in
-    let same = ap (λ (k : ℕ). holds_of c.args.comparison c.args.width (cut c.args.width m.0) k) n.1.2 in (
-      m.0,
-      (
-        n.0,
-        m.1,
-        n.1.1,
-        (λ h. c.in-Dead.ensures.sound lengths s m.0 n.1.0 held m.1 n.1.3
+        (λ h. c.refine.ensures.sound lengths s m.0 n.1.0 held m.1 n.1.3
             (c.unless-pair.ensures.sound lengths m.0 n.1.0 m.2 n.1.4 (c.in_ok-pair.ensures.sound lengths m.0 n.1.0 m.2 n.1.4 (same ∙ h)))),
       ),
     )
@@ -49,8 +33,8 @@ pub returns-in_err-pair-clause-regions : goal.returns-in_err-pair-clause-regions
 returns-in_err-pair-clause-regions c = λ region r l1 h1 l2 h2 t1 t2 e w o a b.
     let bad : false ≡ true = c.in_err-pair.ensures.regions region l1 h1 l2 h2 t1 t2 w o (c.in_ok-a.ensures.holds (LentIn region l1 h1 t1) a).1 (c.in_ok-b.ensures.holds r (LentIn region l2 h2 t2) e b).1 in absurd (cc)
 
-pub returns-in-Live-clause-guards : goal.returns-in-Live-clause-guards
-returns-in-Live-clause-guards c = λ region r n high l2 h2 t t1 e other w greater not a b.
+pub returns-clause-guards : goal.returns-clause-guards
+returns-clause-guards c = λ region r n high l2 h2 t t1 e other w greater not a b.
     let apart = c.is_one_register-same.ensures r e other in
     let long = c.in_ok-pair.ensures.guards region n high l2 h2 t t1 w greater not (c.in_ok-a.ensures.holds (LentIn region n high t1) a).1 (c.in_ok-b.ensures.holds r (LentIn region l2 h2 (Some t)) e b).1 in
-    c.in-Live.ensures.raised region n (subst (λ (o : Option Pair). IfSome o (λ p. LongFrom region n p.left)) (sym (c.unless-pair.ensures.apart apart)) long)
+    c.refine.ensures.raised region n (subst (λ (o : Option Pair). IfSome o (λ p. LongFrom region n p.left)) (sym (c.unless-pair.ensures.apart apart)) long)
