@@ -3,6 +3,8 @@
 #![tactic(auto)]
 
 #[cfg(test)]
+mod cut_changes;
+#[cfg(test)]
 mod full_text;
 #[cfg(test)]
 mod lines;
@@ -12,5 +14,7 @@ mod marks_calls;
 mod refusal_names;
 #[cfg(test)]
 mod sequence_calls;
+#[cfg(test)]
+mod spoiled_readers;
 #[cfg(test)]
 mod view_calls;
