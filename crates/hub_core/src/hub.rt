@@ -129,7 +129,7 @@ fn latest(history: &History) -> u64
 }
 
 impl<'p, N: Naming, S: Sink<Item<N>>> Core<'p, N, S> {
-    /// A core with no change and no subscriber, which publishes version 0.
+    /// A core with no change and no subscriber, which publishes version 0; all else that can fail comes before.
     pub fn new<R: Wait>(
         rt: &R,
         alloc: Global,
@@ -137,9 +137,10 @@ impl<'p, N: Naming, S: Sink<Item<N>>> Core<'p, N, S> {
     ) -> Result<Core<'p, N, S>, AllocError>
         ensures { IfOk result IsStart }
     {
-        let token = publish_start(rt, alloc, published)?;
         let mut versions = Vec::new(alloc);
-        versions.push(token)?;
+        versions.reserve(1)?;
+        let token = publish_start(rt, alloc, published)?;
+        versions.push_reserved(token);
         Ok(Core {
             alloc,
             published: published.again(),
