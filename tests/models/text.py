@@ -1,7 +1,7 @@
 """Changes of both forms read and taken in, and what `hub spans` and sessions say of them, apart from the code of the hub.
 
     text.py spans < CHANGES              prints what `hub spans` prints of them
-    text.py replay < LINES               prints what `hub replay` prints, where all programs are of PROGRAMS
+    text.py replay [--read] < LINES      prints what `hub replay` prints, where all programs are of PROGRAMS
     text.py check STDIN STDOUT           compares the cases of `spans` and of such sessions, as crates/hub_cases has them, with this model
     text.py rows FOLDER..                compares folders of worked rows (NAME, NAME.args, NAME.stdout) with it
     text.py cases FOLDER                 writes random cases of both forms, FOLDER/text.stdin and FOLDER/text.stdout
@@ -372,8 +372,9 @@ def number_of(word):
 
 
 class Session:
-    def __init__(self, data):
+    def __init__(self, data, reads=False):
         self.rest, self.text, self.versions, self.subscribers, self.out = data, Text(), [[]], [], []
+        self.reads, self.spellings, self.lines_of_spans = reads, [], [[]]
 
     def line(self):
         """The next line: None at the end, and else its bytes, and whether it has its line feed."""
@@ -403,6 +404,8 @@ class Session:
         lines, _ = read_change(gathered)
         self.text.accept(lines)
         self.versions.append(self.text.spans())
+        self.spellings.append(gathered.splitlines())
+        self.lines_of_spans.append(printed(self.text))
         return [f"ok version {self.text.changes}"]
 
     def subscribe(self, capacity, program, first=None):
@@ -441,6 +444,31 @@ class Session:
         self.subscribers[int(number)] = None
         return [f"ok closed {number}"]
 
+    def latest(self):
+        return [f"ok latest {self.text.changes}"]
+
+    def at_version(self, number):
+        if number_of(number) > self.text.changes:
+            raise Refused(55)
+        return int(number)
+
+    def show(self, number, first, count):
+        if not 1 <= number_of(count) <= 1024 or number_of(number) < 0 or number_of(first) < 0:
+            raise Refused(60)
+        spans = self.lines_of_spans[self.at_version(number)]
+        return ["span " + line for line in spans[int(first):int(first) + int(count)]] + [f"ok spans {len(spans)}"]
+
+    def changes(self, first, count):
+        if not 1 <= number_of(count) <= 64:
+            raise Refused(60)
+        told = self.spellings[self.at_version(first):][:int(count)]
+        return [line for lines in told for line in lines] + [f"ok changes {len(told)}"]
+
+    def newest(self, node):
+        if not 1 <= number_of(node) <= NODE:
+            raise Refused(42, 1)
+        return [f"ok newest {self.text.counters.get(int(node), 0)}"]
+
     def answer(self, line, ended):
         if line.split(b" ")[0] in (b"change", b"change2"):
             if not ended:
@@ -449,6 +477,9 @@ class Session:
         number = "(0|[1-9][0-9]*)"
         forms = [("sub2? %s ([^ ]+)(?: from %s)?" % (number, number), self.subscribe),
                  ("pull %s %s" % (number, number), self.pull), ("close %s" % number, self.close)]
+        if self.reads:
+            forms += [("latest", self.latest), ("show %s %s %s" % (number, number, number), self.show),
+                      ("changes %s %s" % (number, number), self.changes), ("newest %s" % number, self.newest)]
         for form, act in forms:
             found = re.fullmatch(form, line.decode("latin-1"))
             if found and ended:
@@ -511,6 +542,8 @@ def answer_of(words, data):
         return spans_of(data)
     if words == ["replay"] or words[:2] == ["replay", "--workers"] and words[2] in map(str, range(1, 17)):
         return Session(data).replies(), 0
+    if words == ["replay", "--read"]:
+        return Session(data, True).replies(), 0
     raise Foreign
 
 
@@ -756,18 +789,58 @@ def sessions(cases, rng):
         cases.add(f"session-of-both-forms-{at}", ["replay"], Session(input_of(lines)).replies(), lines=lines)
 
 
+LINES = ["latest", "latest ", "latest 0", " latest", "Latest", "show", "show 0", "show 0 0", "show 0 0 0", "show 0 0 1025", "show 0  0 1", "show 00 0 1", "show 0 0 1 ",
+         "show -1 0 1", "show 0 0 18446744073709551617", "show 18446744073709551616 0 1", "show 0 18446744073709551616 1", "changes", "changes 0", "changes 0 0", "changes 0 65",
+         "changes 0 1 1", "changes 00 1", "changes 0 +1", "changes 18446744073709551616 1", "newest", "newest ", "newest 1 1", "newest 01", "newest 18446744073709551616", "newest a",
+         "spans 0 0 1", "change"]
+RIGHT = ["show 1 0 1", "show 18446744073709551615 0 1", "show 0 18446744073709551615 1024", "changes 1 1", "changes 18446744073709551615 64", "newest 0", "newest 1", "newest 65535",
+         "newest 65536", "newest 18446744073709551615"]
+
+
+def reads(cases, rng):
+    cases.heading("Sessions that read of the text, with `--read`: random histories in which some changes are refused, and between them queries of all kinds.")
+    cases.heading("The changes that are told were told by their peers before, and the spans are those of the model's text.")
+    for at in range(1, 13):
+        writer, lines, number = Writer(rng), [], 0
+        for _ in range(rng.randrange(3, 9)):
+            form, node = rng.choice([1, 2, 2]), rng.choice([1, 2, 3])
+            made = writer.change(form, node)
+            made = writer.spoiled(made) if rng.random() < 0.25 else made
+            try:
+                writer.text.accept(made)
+                number += 1
+            except Refused:
+                pass
+            lines += change_lines(form, node, made)
+            lines += rng.sample(["latest", f"show {number} 0 1024", f"show {rng.randrange(number + 2)} {rng.randrange(4)} {rng.randrange(1, 4)}",
+                                 f"changes {rng.randrange(number + 2)} {rng.randrange(1, 65)}", f"newest {rng.randrange(1, 5)}"], 2)
+        lines += ["latest", f"show {number} 0 1024", "changes 0 64", "newest 1", "newest 2", "newest 3", "newest 4"]
+        cases.add(f"session-read-{at}", ["replay", "--read"], Session(input_of(lines), True).replies(), lines=lines)
+    typed = ["change 1 2", "i 1@1 - 61", "i 2@1 1@1 5c"]
+    cases.heading("Lines of no form, and of a form with numbers that name nothing, with `--read`; without it each is a line of no form.")
+    cases.add("session-read-lines", ["replay", "--read"], Session(input_of(LINES + RIGHT + typed + RIGHT + LINES), True).replies(), lines=LINES + RIGHT + typed + RIGHT + LINES)
+    cases.add("session-read-lines-without-read", ["replay"], Session(input_of(LINES + RIGHT + typed + RIGHT)).replies(), lines=LINES + RIGHT + typed + RIGHT)
+    cases.add("session-read-a-line-without-its-end", ["replay", "--read"], ["ok latest 0", "no 60 BadCommand"], lines=["latest"], text="latest")
+    many = ["change2 1 128"] + [f"r {1 + 256 * at}@1 {'-' if at == 0 else str(256 * at) + '@1'} 256" + " 62" * 256 for at in range(1)]
+    marks = [f"m {300 + at}@1 {key} - <{1 + at}@1 <{2 + at}@1" for at, key in zip(range(0, 120), ["strong", "em"] * 60)]
+    lines = ["change2 1 1", many[1], "change 1 120"] + marks
+    lines += ["show 2 0 1024", "show 2 0 7", "show 2 7 7", "show 2 119 7", "show 2 120 7", "show 2 121 1", "show 1 0 1"]
+    cases.add("session-read-many-spans-in-parts", ["replay", "--read"], Session(input_of(lines), True).replies(), lines=lines)
+
+
 def write_cases(folder):
     cases, rng = Cases(), random.Random(2026)
     histories(cases, rng)
     refused_histories(cases, rng)
     sessions(cases, rng)
+    reads(cases, random.Random(2027))
     cases.write(folder, "text")
 
 
 def main():
     command, words = (sys.argv[1:2] or [""])[0], sys.argv[2:]
-    if command in ("spans", "replay") and not words:
-        lines, status = answer_of([command], sys.stdin.buffer.read())
+    if command in ("spans", "replay") and words in ([], ["--read"][:command == "replay"]):
+        lines, status = answer_of([command] + words, sys.stdin.buffer.read())
         sys.stdout.write("".join(line + "\n" for line in lines))
         sys.exit(status)
     if command == "check" and len(words) == 2:

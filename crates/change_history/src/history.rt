@@ -5,6 +5,7 @@ ghost use Rattle.change_ops.specs.Lines.{ops_of};
 ghost use Rattle.change_ops.specs.declared.operation.Op.{Op};
 ghost use Rattle.char_sequence.specs.Order.{SameSet};
 ghost use Rattle.char_sequence.specs.Tree.{Present};
+ghost use Rattle.char_sequence.specs.Newest.{IsLastCounter};
 ghost use Rattle.mark_anchors.specs.Format.{IsFormat};
 ghost use Rattle.span_flatten.specs.Spans.{Span, AreSpans};
 ghost use Rattle.span_flatten.specs.Version.{IsVersion};
@@ -230,6 +231,13 @@ impl History {
         ensures { IfOk result (λ format. MatchOption format (Present (operations_of self.now) id → ⊥) (IsFormat (operations_of self.now) id)) }
     {
         self.parts.format_at(alloc, id)
+    }
+
+    /// The greatest counter of a peer's accepted operations, 0 where it has none.
+    pub fn last_counter(&self, node: u16) -> u64
+        ensures { IsLastCounter (operations_of self.now) node result }
+    {
+        self.parts.last_counter(node)
     }
 
     /// The law that replicas converge: histories of one set of operations have equal spans, in whatever

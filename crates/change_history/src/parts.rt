@@ -3,6 +3,7 @@ ghost use Rattle.change_ops.specs.Operations.{id_of, is_mark};
 ghost use Rattle.change_ops.specs.declared.operation.Op.{Op};
 ghost use Rattle.char_sequence.specs.Order.{SameSet};
 ghost use Rattle.char_sequence.specs.Tree.{Present};
+ghost use Rattle.char_sequence.specs.Newest.{IsLastCounter};
 ghost use Rattle.mark_anchors.specs.Format.{IsFormat};
 ghost use Rattle.span_flatten.specs.Spans.{Span, AreSpans};
 ghost use Rattle.span_flatten.specs.Version.{IsVersion};
@@ -142,6 +143,13 @@ impl Parts {
             Some(_) => Ok(Some(self.marks.format_at(alloc, &self.sequence, id)?)),
             None => Ok(None),
         }
+    }
+
+    /// The last counter of a peer, 0 where it has no operation.
+    pub fn last_counter(&self, node: u16) -> u64
+        ensures { (ops : List Op) → Keeps ops self.now → IsLastCounter ops node result }
+    {
+        self.newest.last_counter(node)
     }
 
     /// One set of operations has one list of spans.

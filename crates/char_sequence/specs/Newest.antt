@@ -1,5 +1,5 @@
 -- The last counter of each peer among a set of operations (Peritext, CSCW 2022).
-use Rattle.std.specs.Prelude.{◌≡◌, ℕ, ◌≤◌, List, Some, Contains}
+use Rattle.std.specs.Prelude.{◌≡◌, ◌⊎◌, ℕ, ◌≤◌, List, Some, Contains}
 use Rattle.std.specs.Ordering.{nat_cmp}
 use Rattle.std.specs.FinMap.{FinMap, get}
 use Rattle.change_ops.specs.Operations.{id_of}
@@ -9,3 +9,8 @@ use Rattle.change_ops.specs.declared.operation.Op.{Op}
 pub record IsNewest (ops : List Op) (newest : FinMap nat_cmp ℕ) : Type 0 where
   pub covered : (o : Op) → Contains ops o → (last : ℕ) × (get newest (id_of o).node ≡ Some last) × ((id_of o).counter ≤ last)
   pub reached : (node last : ℕ) → get newest node ≡ Some last → (o : Op) × Contains ops o × ((id_of o).node ≡ node) × ((id_of o).counter ≡ last)
+
+-- the greatest counter of a peer's operations, and 0 where it has none
+pub record IsLastCounter (ops : List Op) (node counter : ℕ) : Type 0 where
+  pub greatest : (o : Op) → Contains ops o → (id_of o).node ≡ node → (id_of o).counter ≤ counter
+  pub reached : (counter ≡ 0) ⊎ ((o : Op) × Contains ops o × ((id_of o).node ≡ node) × ((id_of o).counter ≡ counter))

@@ -2,7 +2,7 @@ ghost use Rattle.std.specs.Prelude.{◌≡◌, ◌++◌, ◌∷◌, [], List, Is
 ghost use Rattle.change_ops.specs.Operations.{id_of};
 ghost use Rattle.change_ops.specs.declared.operation.Op.{Op};
 ghost use Rattle.char_sequence.specs.Acceptance.{Used};
-ghost use Rattle.char_sequence.specs.Newest.{IsNewest};
+ghost use Rattle.char_sequence.specs.Newest.{IsNewest, IsLastCounter};
 
 use change_ops::id::OpId;
 use indexmap::IndexMap;
@@ -45,6 +45,16 @@ impl Newest {
         match self.counters.get(&id.node()) {
             Some(last) => id.counter() <= *last,
             None => false,
+        }
+    }
+
+    /// The last counter of a peer, 0 where it has no operation.
+    pub fn last_counter(&self, node: u16) -> u64
+        ensures { (ops : List Op) → IsNewest ops self.now → IsLastCounter ops node result }
+    {
+        match self.counters.get(&node) {
+            Some(last) => *last,
+            None => 0,
         }
     }
 

@@ -153,6 +153,14 @@ fn workers<'a>(alloc: Global) -> Arg<'a> {
         .help("How many threads run programs on the spans of versions, 1 to 16")
 }
 
+/// Whether sessions may read of the text.
+fn read<'a>(alloc: Global) -> Arg<'a> {
+    Arg::new(alloc, "read")
+        .long("read")
+        .action(ArgAction::SetTrue)
+        .help("Also answers the lines latest, show, changes and newest, which read of the text")
+}
+
 fn replay<'a>(alloc: Global) -> Result<Command<'a>, AllocError> {
     Command::new(alloc, "replay")
         .about("Answers a session")
@@ -162,7 +170,8 @@ changes, and subscriptions of programs. Printed are the replies. A request that 
 refused is answered `no <number> <Name>`, and the session goes on.",
         )
         .after_help(STATUSES)
-        .arg(workers(alloc))
+        .arg(workers(alloc))?
+        .arg(read(alloc))
 }
 
 fn serve<'a>(alloc: Global) -> Result<Command<'a>, AllocError> {
@@ -191,7 +200,8 @@ says.",
         .after_help(STATUSES)
         .arg(port)?
         .arg(sessions)?
-        .arg(workers(alloc))
+        .arg(workers(alloc))?
+        .arg(read(alloc))
 }
 
 /// The command line of the program.

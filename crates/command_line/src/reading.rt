@@ -85,6 +85,7 @@ fn serving(matches: &ArgMatches<'_>) -> Option<Request> {
         port: matches.get_one::<u16>("port")?,
         sessions: Sessions::new(matches.get_one::<u32>("sessions")?)?,
         workers: workers(matches),
+        reads: matches.get_flag("read"),
     })
 }
 
@@ -98,6 +99,7 @@ fn request_of(alloc: Global, matches: &ArgMatches<'_>) -> Result<Request, Unread
         Some(("dis", _)) => Some(Request::Perform(Command::Dis)),
         Some(("replay", replay)) => Some(Request::Replay {
             workers: workers(replay),
+            reads: replay.get_flag("read"),
         }),
         Some(("run", run)) => Some(Request::Perform(Command::Run {
             digits: String::from_str(alloc, run.get_str("HEX").unwrap_or(""))?,

@@ -82,7 +82,7 @@ fn failed_accept_on<
         move || {
             // The listener is closed once the sessions have ended, so that no client waits to be accepted.
             let listener = listener;
-            serve_shares(rt, alloc, hub, published, shares, &listener, 1)
+            serve_shares(rt, alloc, hub, published, shares, &listener, 1, false)
         },
         move || one_is_served(rt, alloc, port),
     );

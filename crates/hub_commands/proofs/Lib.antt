@@ -1,4 +1,2 @@
 pub mod Replies
 pub mod Accepting
-pub mod Commas
-pub mod SpanPrinting

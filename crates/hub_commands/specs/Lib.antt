@@ -2,7 +2,6 @@ pub mod Answers
 pub mod Hexadecimal
 pub mod Reasons
 pub mod Programs
-pub mod SpanLines
 pub mod SpansReply
 pub mod Stopping
 pub mod Requests

@@ -14,7 +14,7 @@ use Rattle.refusals.specs.declared.reason.ChangeReason.{ChangeReason}
 use Rattle.refusals.specs.declared.reason.Reason.TheVariants.{TextRefused, Unread, Unaccepted}
 use Rattle.hub_commands.specs.Answers.{Reply, done}
 use Rattle.hub_commands.specs.Reasons.{refusal, in_change, change_refusal}
-use Rattle.hub_commands.specs.SpanLines.{span_lines}
+use Rattle.span_lines.specs.SpanLines.{span_lines}
 
 -- The input begins with the texts of these changes, each accepted after those before it; the rest follows.
 pub record Begins (input : List ℕ) (changes : List Edit) (rest : List ℕ) : Type 0 where

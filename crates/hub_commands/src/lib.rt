@@ -14,5 +14,4 @@ mod output;
 pub mod perform;
 mod reads;
 mod run;
-mod span_lines;
 mod spans;

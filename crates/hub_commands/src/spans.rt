@@ -8,7 +8,7 @@ ghost use Rattle.change_history.specs.declared.refusal.SubmitError.TheVariants.{
 ghost use Rattle.refusals.specs.declared.reason.Reason.TheVariants.{Unread, Unaccepted};
 ghost use Rattle.hub_commands.specs.Answers.{done, IsAnswered};
 ghost use Rattle.hub_commands.specs.Reasons.{in_change};
-ghost use Rattle.hub_commands.specs.SpanLines.{span_lines};
+ghost use Rattle.span_lines.specs.SpanLines.{span_lines};
 ghost use Rattle.hub_commands.specs.SpansReply.{Begins, IsSpansReply};
 ghost use Rattle.hub_commands.specs.Stopping.{MatchStop, StopsAt, StopsWithin, Takes};
 
@@ -16,12 +16,12 @@ use crate::answer::Answer;
 use crate::failure::Failure;
 use crate::input::read_input;
 use crate::output::write_answer;
-use crate::span_lines::lines_of;
 use change_history::history::History;
 use change_history::refusal::SubmitError;
 use change_ops::change::read_change;
 use change_ops::refusal::ChangeError;
 use refusals::reason::{ChangeReason, Reason};
+use span_lines::printing::lines_of;
 use std::alloc::{AllocError, Global};
 use std::io::{Read, Write};
 

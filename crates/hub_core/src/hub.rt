@@ -1,5 +1,6 @@
 ghost use Rattle.std.specs.Prelude.{◌≡◌, ◌+◌, ◌<◌, ◌≤◌, ◌↔◌, ◌++◌, ◌∷◌, [], Some, length, map, slice_get, IsTrue, IfOk, OnOk, MatchOption, vec_len, vec_capacity};
 ghost use Rattle.change_ops.specs.Changes.{Edit};
+ghost use Rattle.char_sequence.specs.Newest.{IsLastCounter};
 ghost use Rattle.meaning.specs.Safe.{Safe};
 ghost use Rattle.span_flatten.specs.Version.{IsVersion};
 ghost use Rattle.batches.specs.Feed.{Sub};
@@ -175,6 +176,21 @@ impl<'p, N: Naming, S: Sink<Item<N>>> Core<'p, N, S> {
         ensures accepted { AreAccepted self.now.changes }
     {
         self.history.len()
+    }
+
+    /// The token of the version with this number; None where no version has it yet.
+    pub fn version(&self, number: u64) -> Option<VersionToken<N>>
+        ensures { result ≡ slice_get self.now.versions number }
+    {
+        let token = self.versions.get(number as usize)?;
+        Some(token.again())
+    }
+
+    /// The greatest counter of a peer's accepted operations, 0 where it has none.
+    pub fn last_counter(&self, node: u16) -> u64
+        ensures { IsLastCounter (operations_of self.now.changes) node result }
+    {
+        self.history.last_counter(node)
     }
 
     /// The law of what is so of a core between any two calls: what each sink was sent, with which tokens, and what is held.

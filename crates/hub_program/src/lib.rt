@@ -126,12 +126,15 @@ fn asked<
 ) -> Result<u8, CommandError> {
     match request {
         Request::Perform(command) => Ok(perform(alloc, command, reader, writer)?),
-        Request::Replay { workers } => replayed(rt, alloc, reader, writer, *workers),
+        Request::Replay { workers, reads } => {
+            replayed(rt, alloc, reader, writer, *workers, *reads)
+        }
         Request::Serve {
             port,
             sessions,
             workers,
-        } => served(rt, alloc, *port, *sessions, *workers, writer),
+            reads,
+        } => served(rt, alloc, *port, *sessions, *workers, *reads, writer),
     }
 }
 
@@ -142,8 +145,9 @@ fn replayed<H: Threads + Wait + Copy + Send + Sync, R: Read, W: Write>(
     reader: &mut R,
     writer: &mut W,
     workers: Workers,
+    reads: bool,
 ) -> Result<u8, CommandError> {
-    match replay(rt, alloc, reader, writer, workers.count()) {
+    match replay(rt, alloc, reader, writer, workers.count(), reads) {
         Ok(()) => Ok(0),
         Err(ReplayError::Session(SessionFault::Read)) => Err(CommandError::Input),
         Err(ReplayError::Session(SessionFault::Write)) => Err(CommandError::Output),
@@ -167,9 +171,19 @@ fn served<
     port: u16,
     sessions: Sessions,
     workers: Workers,
+    reads: bool,
     writer: &mut W,
 ) -> Result<u8, CommandError> {
-    match serve(*rt, alloc, port, sessions.count(), workers.count(), writer) {
+    let served = serve(
+        *rt,
+        alloc,
+        port,
+        sessions.count(),
+        workers.count(),
+        reads,
+        writer,
+    );
+    match served {
         Ok(()) => Ok(0),
         Err(ServeError::Port(error)) => {
             let _ = eprintln!(rt; "hub: port {port} of 127.0.0.1: {error}");

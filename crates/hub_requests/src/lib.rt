@@ -145,11 +145,15 @@ pub enum Request {
     /// To answer the session that its input is, line by line.
     Replay {
         workers: Workers,
+        /// Whether it may read of the text.
+        reads: bool,
     },
     /// To answer so many sessions over TCP, and then to end. At port 0 the system chooses one.
     Serve {
         port: u16,
         sessions: Sessions,
         workers: Workers,
+        /// Whether they may read of the text.
+        reads: bool,
     },
 }

@@ -1,5 +1,5 @@
 -- A session from its first line to its end: what came, and what was printed for it.
-use Rattle.std.specs.Prelude.{◌≡◌, ◌⊎◌, ℕ, ◌+◌, ◌≤◌, List, [], ◌∷◌, ◌++◌, Option, Result, Ok, Err, ⊤}
+use Rattle.std.specs.Prelude.{◌≡◌, ◌⊎◌, ℕ, ◌+◌, ◌≤◌, Bool, List, [], ◌∷◌, ◌++◌, Option, Result, Ok, Err, ⊤}
 use Rattle.std.specs.List.{flat_map}
 use Rattle.std.specs.Io.KnownBytes.{Appends, Keeps}
 use Rattle.change_ops.specs.Changes.{Edit}
@@ -14,6 +14,7 @@ use Rattle.session_lines.specs.declared.request.Next.TheVariants as next
 use Rattle.session_lines.specs.declared.request.SessionRequest.{SessionRequest}
 use Rattle.session_lines.specs.declared.request.SessionRequest.TheVariants as asked
 use Rattle.session_subscribers.specs.Holding.{Watched, Adds, Closes, PullsAny}
+use Rattle.session_reads.specs.Reads.{Reads}
 use Rattle.hub_sessions.specs.declared.conversation.SessionFault.{SessionFault}
 use Rattle.hub_sessions.specs.declared.conversation.SessionFault.TheVariants as fault
 use Rattle.hub_sessions.specs.declared.replaying.ReplayError.{ReplayError}
@@ -23,10 +24,11 @@ use Rattle.hub_sessions.specs.declared.conversation.Turn.TheVariants.{More, Last
 use Rattle.hub_sessions.specs.declared.conversation.TurnFault.{TurnFault}
 use Rattle.hub_sessions.specs.declared.conversation.TurnFault.TheVariants as turn_fault
 
--- how many of its changes were accepted, and the subscribers that it holds
+-- how many of its changes were accepted, the subscribers that it holds, and whether it may read of the text
 pub record Standing : Type 0 where
   pub count : ℕ
   pub held : List Watched
+  pub reads : Bool
 
 -- a change is submitted to the hub, and counted where it is accepted
 abbrev pub Submits : Edit → ℕ → Reply → ℕ → Type 0
@@ -36,12 +38,13 @@ Submits change count (reply.Refused (reason.Unaccepted error)) count' =
     (count' ≡ count) × InOneHolding (λ old new. Ingests old change (Err error) new)
 Submits change count _ count' = ⊥
 
--- what is done for a request, the lines of items that are printed, and the reply after them
+-- what is done for a request, the lines of items or of what is read that are printed, and the reply after them
 abbrev pub Answers : SessionRequest → Standing → List ℕ → List ℕ → Reply → Standing → Type 0
-Answers (asked.Change change) s out out' answer s' = Submits change s.count answer s'.count × (s'.held ≡ s.held) × (out' ≡ out)
-Answers (asked.Subscribe profile capacity program first) s out out' answer s' = Adds profile capacity program.items first s.held answer s'.held × (s'.count ≡ s.count) × (out' ≡ out)
-Answers (asked.Pull id count) s out out' answer s' = PullsAny id count s.held s'.held out out' answer × (s'.count ≡ s.count)
-Answers (asked.Close id) s out out' answer s' = Closes s.held id answer s'.held × (s'.count ≡ s.count) × (out' ≡ out)
+Answers (asked.Change change) s out out' answer s' = Submits change s.count answer s'.count × (s'.held ≡ s.held) × (out' ≡ out) × (s'.reads ≡ s.reads)
+Answers (asked.Subscribe profile capacity program first) s out out' answer s' = Adds profile capacity program.items first s.held answer s'.held × (s'.count ≡ s.count) × (out' ≡ out) × (s'.reads ≡ s.reads)
+Answers (asked.Pull id count) s out out' answer s' = PullsAny id count s.held s'.held out out' answer × (s'.count ≡ s.count) × (s'.reads ≡ s.reads)
+Answers (asked.Close id) s out out' answer s' = Closes s.held id answer s'.held × (s'.count ≡ s.count) × (out' ≡ out) × (s'.reads ≡ s.reads)
+Answers (asked.Read query) s out out' answer s' = (text : List ℕ) × (out' ≡ out ++ text) × Reads s.reads query text answer × (s' ≡ s)
 
 -- a request is answered, or what is none is refused and changes nothing
 abbrev pub Meets : Next → Standing → List ℕ → List ℕ → Reply → Standing → Type 0
@@ -129,7 +132,7 @@ Ends (Err fault.Read) s left old count new = BreaksAfter s left old count new
 Ends (Err fault.Write) s left old count new = ⊤
 
 -- a session on a hub of its own, which has no change yet; or no memory was found for the hub, and nothing was printed
-abbrev pub Replays : Result ⊤ ReplayError → Option (List ℕ) → Option (List ℕ) → Option (List ℕ) → Type 0
-Replays (Ok done) left old new = (count : ℕ) × Ends (Ok done) (record { count = 0; held = [] }) left old count new
-Replays (Err (replay.Session why)) left old new = (count : ℕ) × Ends (Err why) (record { count = 0; held = [] }) left old count new
-Replays (Err replay.OutOfMemory) left old new = Keeps old new
+abbrev pub Replays : Bool → Result ⊤ ReplayError → Option (List ℕ) → Option (List ℕ) → Option (List ℕ) → Type 0
+Replays reads (Ok done) left old new = (count : ℕ) × Ends (Ok done) (record { count = 0; held = []; reads = reads }) left old count new
+Replays reads (Err (replay.Session why)) left old new = (count : ℕ) × Ends (Err why) (record { count = 0; held = []; reads = reads }) left old count new
+Replays reads (Err replay.OutOfMemory) left old new = Keeps old new

@@ -15,6 +15,7 @@ use session_lines::fault::ReadFault;
 use session_lines::reader::LineReader;
 use session_lines::reply::Reply;
 use session_lines::request::{Next, SessionRequest, next_request};
+use session_reads::reading::read;
 use session_subscribers::session_hub::{Held, SessionHub};
 use std::alloc::{AllocError, Global};
 use std::io::{Read, Write};
@@ -23,7 +24,8 @@ use std::sync::ledger::Ledger;
 use std::thread::Threads;
 use version_history::published::{Naming, Published};
 
-/// The most bytes of the lines that answer one request: 1,024 items of at most 36, and one line more.
+/// The most bytes of the lines that answer one request but to read: 1,024 items of at most 36, and one line more. What an answer to that
+/// takes beyond is given back before the next.
 const REPLY_ROOM: usize = 37_000;
 
 /// Why a session ended before its end.
@@ -106,7 +108,7 @@ fn change<N: Naming + Ledger, R: Wait + Copy>(
     }
 }
 
-/// Does what is asked, appends the lines of items, and answers the line after them.
+/// Does what is asked, appends the lines of items or of what is read to an empty string, and answers the line after them.
 fn answer<N: Naming + Ledger + Send + Sync, R: Threads + Wait + Copy + Send + Sync>(
     hub: &SessionHub<'_, '_, N, R>,
     share: &mut Share<N>,
@@ -114,8 +116,9 @@ fn answer<N: Naming + Ledger + Send + Sync, R: Threads + Wait + Copy + Send + Sy
     request: SessionRequest,
     out: &mut String,
 ) -> Result<Reply, AllocError>
-    ensures answers { IfOk result (λ answer. Answers request (record { count = share.old; held = held.old.items }) (string_bytes out.old) (string_bytes out.new)
-        answer (record { count = share.new; held = held.new.items })) }
+    requires { string_bytes out.old ≡ [] }
+    ensures answers { IfOk result (λ answer. Answers request (record { count = share.old; held = held.old.items; reads = hub.now.reads }) (string_bytes out.old) (string_bytes out.new)
+        answer (record { count = share.new; held = held.new.items; reads = hub.now.reads })) }
     ensures share { share.old ≤ share.new }
 {
     match request {
@@ -128,6 +131,14 @@ fn answer<N: Naming + Ledger + Send + Sync, R: Threads + Wait + Copy + Send + Sy
         } => Ok(hub.subscribe(held, profile, capacity, &program, first)),
         SessionRequest::Pull { subscriber, count } => hub.pull(held, subscriber, count, out),
         SessionRequest::Close { subscriber } => Ok(hub.close(held, subscriber)),
+        SessionRequest::Read(query) => Ok(read(
+            &hub.rt,
+            hub.hub,
+            hub.published,
+            hub.reads,
+            query,
+            out,
+        )),
     }
 }
 
@@ -139,13 +150,14 @@ fn take_turn<N: Naming + Ledger + Send + Sync, R: Threads + Wait + Copy + Send +
     lines: &mut LineReader<I>,
     out: &mut String,
 ) -> Result<Turn, TurnFault>
-    ensures ok { IfOk result (λ turn. TakesTurn turn (record { count = share.old; held = held.old.items }) lines.old.left (string_bytes out.new)
-        (record { count = share.new; held = held.new.items }) lines.new.left) }
-    ensures err { IfErr result (λ fault. BreaksTurn fault (record { count = share.old; held = held.old.items }) (string_bytes out.new)
-        (record { count = share.new; held = held.new.items })) }
+    ensures ok { IfOk result (λ turn. TakesTurn turn (record { count = share.old; held = held.old.items; reads = hub.now.reads }) lines.old.left (string_bytes out.new)
+        (record { count = share.new; held = held.new.items; reads = hub.now.reads }) lines.new.left) }
+    ensures err { IfErr result (λ fault. BreaksTurn fault (record { count = share.old; held = held.old.items; reads = hub.now.reads }) (string_bytes out.new)
+        (record { count = share.new; held = held.new.items; reads = hub.now.reads })) }
     ensures share { share.old ≤ share.new }
 {
     out.clear();
+    out.shrink_to(REPLY_ROOM);
     match next_request(hub.alloc, lines)? {
         Next::Request(request) => {
             answer(hub, share, held, request, out)?.push_line(out)?;
@@ -177,7 +189,7 @@ fn converse<
     out: &mut String,
     writer: &mut O,
 ) -> Result<(), SessionFault>
-    ensures ends { Ends result (record { count = share.old; held = held.old.items }) lines.old.left (O.contents writer.old) share.new (O.contents writer.new) }
+    ensures ends { Ends result (record { count = share.old; held = held.old.items; reads = hub.now.reads }) lines.old.left (O.contents writer.old) share.new (O.contents writer.new) }
     ensures share { share.old ≤ share.new }
 {
     for _ in hub.rt.forever() {
@@ -206,7 +218,7 @@ fn begin<
     reader: I,
     writer: &mut O,
 ) -> Result<(), SessionFault>
-    ensures ends { Ends result (record { count = share.old; held = held.old.items }) (I.remaining reader) (O.contents writer.old) share.new (O.contents writer.new) }
+    ensures ends { Ends result (record { count = share.old; held = held.old.items; reads = hub.now.reads }) (I.remaining reader) (O.contents writer.old) share.new (O.contents writer.new) }
     ensures share { share.old ≤ share.new }
 {
     let Ok(mut lines) = LineReader::new(hub.alloc, reader) else {
@@ -218,7 +230,7 @@ fn begin<
     converse(hub, share, held, &mut lines, &mut out, writer)
 }
 
-/// Runs one session on a hub, by its own share, over any reader and writer: each request is answered whole, and then flushed, before
+/// Runs one session on a hub, by its own share, over any reader and writer; only where it `reads` may it read of the text: each request is answered whole, and then flushed, before
 /// the next is read. However it ends, its subscribers are closed.
 pub fn session<
     'p,
@@ -235,9 +247,10 @@ pub fn session<
     reader: I,
     writer: &mut O,
     workers: usize,
+    reads: bool,
 ) -> Result<(), SessionFault>
     requires workers { (1 ≤ workers) × (workers ≤ 16) }
-    ensures ends { Ends result (record { count = share.old; held = [] }) (I.remaining reader) (O.contents writer.old) share.new (O.contents writer.new) }
+    ensures ends { Ends result (record { count = share.old; held = []; reads = reads }) (I.remaining reader) (O.contents writer.old) share.new (O.contents writer.new) }
     ensures share { share.old ≤ share.new }
 {
     let session_hub = SessionHub {
@@ -246,6 +259,7 @@ pub fn session<
         hub,
         published,
         workers,
+        reads,
     };
     let mut held = Vec::new(alloc);
     let ended = begin(&session_hub, share, &mut held, reader, writer);

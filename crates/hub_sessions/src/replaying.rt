@@ -46,11 +46,12 @@ fn replay_on<
     reader: I,
     writer: &mut O,
     workers: usize,
+    reads: bool,
 ) -> Result<(), ReplayError>
     requires named { (versions.now ≡ N.versions) × (programs.now ≡ N.programs) }
     requires blank { (blank.name ≡ N.name) × (blank.parts ≡ N.parts) × (N.parts ≡ 1) }
     requires workers { (1 ≤ workers) × (workers ≤ 16) }
-    ensures { Replays result (I.remaining reader) (O.contents writer.old) (O.contents writer.new) }
+    ensures { Replays reads result (I.remaining reader) (O.contents writer.old) (O.contents writer.new) }
 {
     let published = Published::<N>::new(versions, programs);
     let (hub, mut shares) = Hub::new(rt, alloc, blank, &published, 1)?;
@@ -58,7 +59,7 @@ fn replay_on<
         unreachable!()
     };
     match session(
-        rt, alloc, &hub, &published, &mut share, reader, writer, workers,
+        rt, alloc, &hub, &published, &mut share, reader, writer, workers, reads,
     ) {
         Ok(()) => Ok(()),
         Err(fault) => Err(ReplayError::Session(fault)),
@@ -72,9 +73,10 @@ pub fn replay<R: Threads + Wait + Copy + Send + Sync, I: Read + Drop, O: Write>(
     reader: I,
     writer: &mut O,
     workers: usize,
+    reads: bool,
 ) -> Result<(), ReplayError>
     requires workers { (1 ≤ workers) × (workers ≤ 16) }
-    ensures { Replays result (I.remaining reader) (O.contents writer.old) (O.contents writer.new) }
+    ensures { Replays reads result (I.remaining reader) (O.contents writer.old) (O.contents writer.new) }
 {
     let versions = boxcar::Vec::new(alloc)?;
     let programs = boxcar::Vec::new(alloc)?;
@@ -87,5 +89,6 @@ pub fn replay<R: Threads + Wait + Copy + Send + Sync, I: Read + Drop, O: Write>(
         reader,
         writer,
         workers,
+        reads,
     )
 }

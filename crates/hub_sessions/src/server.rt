@@ -73,6 +73,7 @@ fn serve_one<'p, N: Naming + Ledger + Send + Sync, R: Threads + Wait + Copy + Se
     share: Share<N>,
     stream: TcpStream,
     workers: usize,
+    reads: bool,
     failed: &AtomicBool,
 )
     requires { (1 ≤ workers) × (workers ≤ 16) }
@@ -89,6 +90,7 @@ fn serve_one<'p, N: Naming + Ledger + Send + Sync, R: Threads + Wait + Copy + Se
         &stream,
         &mut &stream,
         workers,
+        reads,
     );
     if ended.is_err() {
         failed.store(true, Ordering::SeqCst);
@@ -114,6 +116,7 @@ pub fn serve_shares<
     shares: Vec<Share<N>>,
     listener: &L,
     workers: usize,
+    reads: bool,
 ) -> bool
     requires { (1 ≤ workers) × (workers ≤ 16) }
 {
@@ -132,7 +135,11 @@ pub fn serve_shares<
                 };
                 let serving = move ||
                     requires { (1 ≤ workers) × (workers ≤ 16) }
-                { serve_one(rt, alloc, hub, published, share, stream, workers, told) };
+                {
+                    serve_one(
+                        rt, alloc, hub, published, share, stream, workers, reads, told,
+                    )
+                };
                 if let Err(refused) = scope.spawn(serving) {
                     (refused.value)();
                 }
@@ -156,6 +163,7 @@ fn serve_on<
     port: u16,
     sessions: usize,
     workers: usize,
+    reads: bool,
     writer: &mut W,
 ) -> Result<(), ServeError>
     requires named { (versions.now ≡ N.versions) × (programs.now ≡ N.programs) }
@@ -166,7 +174,9 @@ fn serve_on<
     let published = Published::<N>::new(versions, programs);
     let (hub, shares) = Hub::new(&rt, alloc, blank, &published, sessions)?;
     let listener = listen(&rt, port, writer)?;
-    if serve_shares(&rt, alloc, &hub, &published, shares, &listener, workers) {
+    if serve_shares(
+        &rt, alloc, &hub, &published, shares, &listener, workers, reads,
+    ) {
         Ok(())
     } else {
         Err(ServeError::Connection)
@@ -184,6 +194,7 @@ pub fn serve<
     port: u16,
     sessions: usize,
     workers: usize,
+    reads: bool,
     writer: &mut W,
 ) -> Result<(), ServeError>
     requires sessions { (1 ≤ sessions) × (sessions ≤ 64) }
@@ -200,6 +211,7 @@ pub fn serve<
         port,
         sessions,
         workers,
+        reads,
         writer,
     )
 }

@@ -1,7 +1,9 @@
-ghost use Rattle.std.specs.Prelude.{◌≡◌, ◌+◌, ◌<◌, ◌≤◌, ◌↔◌, [], Some, Err, length, map, slice_get, IsTrue, OnOk, OnErr, MatchOption};
+ghost use Rattle.std.specs.Prelude.{◌≡◌, ◌+◌, ◌<◌, ◌≤◌, ◌↔◌, [], Some, Err, length, map, take, drop, slice_get, IsTrue, IfOk, OnOk, OnErr, MatchOption};
+ghost use Rattle.change_ops.specs.Spelling.{change_text};
+ghost use Rattle.char_sequence.specs.Newest.{IsLastCounter};
 ghost use Rattle.meaning.specs.Safe.{Safe};
 ghost use Rattle.batches.specs.Feed.{Sub};
-ghost use Rattle.change_history.specs.Accepted.{AreAccepted};
+ghost use Rattle.change_history.specs.Accepted.{AreAccepted, operations_of};
 ghost use Rattle.hub_core.specs.Machine.{Submits, Subscribes, TakesJob, Misses, Commits, Pumps, Reissues, Closes};
 ghost use Rattle.hub_core.specs.Stream.{BeginsStream};
 ghost use Rattle.hub_core.specs.Consistent.{IsConsistent};
@@ -9,28 +11,34 @@ ghost use Rattle.subscriber_queues.specs.Queue.{Sending, was_sent, IsFull};
 ghost use Rattle.ingest_workers.specs.Holdings.{AreConsistent};
 
 use crate::share::Share;
+use crate::text::{ChangeText, next_text, some_texts};
 use batches::batch::Batch;
 use batches::item::Job;
+use change_history::history::CHANGE_LIMIT;
 use change_history::refusal::SubmitError;
 use change_ops::change::Change;
 use hub_core::error::{CommitError, NoSubscriber, SubscribeError};
 use hub_core::hub::Core;
+use std::alloc::{AllocError, Global};
 use std::marker::Model;
 use std::sync::ledger::{Book, Ledger};
 use std::sync::{Wait, ledger};
 use subscriber_queues::ends::QueueSink;
 use version_history::published::{Naming, ProgramToken, VersionToken};
 
-/// What lies under a hub's lock: its core, and the book of its ledger, whose total is the number of accepted changes. Each call is
-/// one event of the core, from a consistent state to another; contracts see the core.
+/// What lies under a hub's lock: its core, the book of its ledger, whose total is the number of accepted changes, and the texts of
+/// these, for whoever reads them. Each call is one event of the core, from a consistent state to another; contracts see the core.
 #[derive(Drop)]
 pub struct Books<'p, N: Naming + Ledger, R: Wait + Copy> {
     core: Core<'p, N, QueueSink<N, R>>,
     book: Book<N>,
+    alloc: Global,
+    texts: Vec<ChangeText>,
 }
 
 impl<'p, N: Naming + Ledger, R: Wait + Copy> Model for Books<'p, N, R> {
-    ghost use Rattle.std.specs.Prelude.{◌≡◌, length};
+    ghost use Rattle.std.specs.Prelude.{◌≡◌, length, map};
+    ghost use Rattle.change_ops.specs.Spelling.{change_text};
     ghost use Rattle.hub_core.specs.Machine.{State};
     ghost use Rattle.hub_core.specs.Consistent.{IsConsistent};
     ghost use Rattle.subscriber_queues.specs.Queue.{Sending, was_sent, IsFull};
@@ -39,16 +47,26 @@ impl<'p, N: Naming + Ledger, R: Wait + Copy> Model for Books<'p, N, R> {
 
     ghost view = { λ b. b.core };
 
-    ghost invariant = { λ b. (b.book.total ≡ length b.core.changes) × IsConsistent was_sent IsFull b.core };
+    ghost invariant = { λ b. (b.book.total ≡ length b.core.changes) × IsConsistent was_sent IsFull b.core × (b.texts.items ≡ map change_text b.core.changes) };
 }
 
 impl<'p, N: Naming + Ledger, R: Wait + Copy> Books<'p, N, R> {
-    pub(crate) fn new(core: Core<'p, N, QueueSink<N, R>>, book: Book<N>) -> Books<'p, N, R>
-        requires { book.total ≡ length core.changes }
+    pub(crate) fn new(
+        alloc: Global,
+        core: Core<'p, N, QueueSink<N, R>>,
+        book: Book<N>,
+    ) -> Books<'p, N, R>
+        requires none { core.changes ≡ [] }
+        requires total { book.total ≡ 0 }
         ensures { result ≡ core.entry }
     {
         core.stays_consistent();
-        Books { core, book }
+        Books {
+            core,
+            book,
+            alloc,
+            texts: Vec::new(alloc),
+        }
     }
 
     /// Accepts a change, publishes its version, and counts it in the book and the share; where it is refused all stay as they were.
@@ -64,10 +82,17 @@ impl<'p, N: Naming + Ledger, R: Wait + Copy> Books<'p, N, R> {
         ensures within { OnOk result (share.new ≤ length self.new.changes) }
         ensures consistent { AreConsistent self.old self.new }
     {
+        if self.core.count() >= CHANGE_LIMIT {
+            return Err(SubmitError::HistoryFull);
+        }
+        let Ok(text) = next_text(self.alloc, &mut self.texts, &change) else {
+            return Err(SubmitError::OutOfMemory);
+        };
         let token = self.core.submit(rt, change);
         self.core.stays_consistent();
         let token = token?;
         share.count_one(&mut self.book);
+        self.texts.push_reserved(text);
         Ok(token)
     }
 
@@ -185,6 +210,46 @@ impl<'p, N: Naming + Ledger, R: Wait + Copy> Books<'p, N, R> {
         ensures accepted { AreAccepted self.now.changes }
     {
         self.core.count()
+    }
+
+    /// The number of the latest version.
+    pub fn latest(&self) -> u64
+        ensures number { result ≡ length self.now.changes }
+        ensures consistent { IsConsistent was_sent IsFull self.now }
+    {
+        self.core.count() as u64
+    }
+
+    /// The token of the version with this number; None where no version has it yet.
+    pub fn version(&self, number: u64) -> Option<VersionToken<N>>
+        ensures token { result ≡ slice_get self.now.versions number }
+        ensures consistent { IsConsistent was_sent IsFull self.now }
+    {
+        self.core.version(number)
+    }
+
+    /// The texts of so many accepted changes behind a version, or of as many as there are; None where no version has that number yet.
+    pub fn texts_behind(
+        &self,
+        from: u64,
+        most: usize,
+    ) -> Result<Option<Vec<ChangeText>>, AllocError>
+        ensures texts { IfOk result (λ found. MatchOption found (length self.now.changes < from) (λ texts. (from ≤ length self.now.changes) × (texts.items ≡ map change_text (take most (drop from self.now.changes))))) }
+        ensures consistent { IsConsistent was_sent IsFull self.now }
+    {
+        if self.core.lacks_version(from) {
+            return Ok(None);
+        }
+        let texts = some_texts(self.alloc, self.texts.as_slice(), from as usize, most)?;
+        Ok(Some(texts))
+    }
+
+    /// The greatest counter of a peer's accepted operations, 0 where it has none.
+    pub fn last_counter(&self, node: u16) -> u64
+        ensures counter { IsLastCounter (operations_of self.now.changes) node result }
+        ensures consistent { IsConsistent was_sent IsFull self.now }
+    {
+        self.core.last_counter(node)
     }
 
     /// A subscriber's queue, also of a closed one; None for an unknown id. What it was sent is a beginning of the stream of its program,

@@ -1,10 +1,14 @@
-ghost use Rattle.std.specs.Prelude.{◌≡◌, ◌<◌, ◌≤◌, ◌↔◌, [], Err, length, All, IsTrue, IfOk, vec_len};
+ghost use Rattle.std.specs.Prelude.{◌≡◌, ◌<◌, ◌≤◌, ◌↔◌, [], Err, length, map, take, drop, slice_get, All, IsTrue, IfOk, MatchOption, vec_len};
+ghost use Rattle.change_ops.specs.Spelling.{change_text};
+ghost use Rattle.char_sequence.specs.Newest.{IsLastCounter};
+ghost use Rattle.change_history.specs.Accepted.{operations_of};
 ghost use Rattle.hub_core.specs.Machine.{Subscribes, TakesJob, Misses, Commits, Pumps, Reissues, Closes};
 ghost use Rattle.subscriber_queues.specs.Queue.{was_sent, IsFull};
 ghost use Rattle.ingest_workers.specs.Holdings.{InOneHolding};
 
 use crate::books::Books;
 use crate::share::{Share, cut};
+use crate::text::ChangeText;
 use batches::batch::Batch;
 use batches::item::Job;
 use hub_core::error::{CommitError, NoSubscriber, SubscribeError};
@@ -13,7 +17,7 @@ use std::alloc::{AllocError, Global};
 use std::sync::ledger::{Blank, Book, Ledger};
 use std::sync::{Mutex, Wait};
 use subscriber_queues::ends::QueueSink;
-use version_history::published::{Naming, ProgramToken, Published};
+use version_history::published::{Naming, ProgramToken, Published, VersionToken};
 
 /// A hub that threads share. Each call holds its lock once, for one call of the books.
 #[derive(Drop)]
@@ -34,7 +38,7 @@ fn locked<'p, N: Naming + Ledger, R: Wait + Copy>(
     let core = Core::new(rt, alloc, published)?;
     Ok(Hub {
         published: published.again(),
-        books: Mutex::new(Books::new(core, book)),
+        books: Mutex::new(Books::new(alloc, core, book)),
     })
 }
 
@@ -72,6 +76,40 @@ impl<'p, N: Naming + Ledger, R: Wait + Copy> Hub<'p, N, R> {
         ensures { InOneHolding (λ old new. (new ≡ old) × (IsTrue result ↔ (length old.changes < number))) }
     {
         self.books.lock(rt).lacks_version(number)
+    }
+
+    /// The number of the latest version.
+    pub fn latest(&self, rt: &R) -> u64
+        ensures { InOneHolding (λ old new. (new ≡ old) × (result ≡ length old.changes)) }
+    {
+        self.books.lock(rt).latest()
+    }
+
+    /// The token of the version with this number; None where no version had it yet.
+    pub fn version(&self, rt: &R, number: u64) -> Option<VersionToken<N>>
+        ensures { InOneHolding (λ old new. (new ≡ old) × (result ≡ slice_get old.versions number)) }
+    {
+        self.books.lock(rt).version(number)
+    }
+
+    /// The texts of so many accepted changes behind a version, or of as many as there were; None where no version had that number
+    /// yet. They are shared, so that the lock is held for no longer than it takes to find them.
+    pub fn texts_behind(
+        &self,
+        rt: &R,
+        from: u64,
+        most: usize,
+    ) -> Result<Option<Vec<ChangeText>>, AllocError>
+        ensures { IfOk result (λ found. InOneHolding (λ old new. (new ≡ old) × MatchOption found (length old.changes < from) (λ texts. (from ≤ length old.changes) × (texts.items ≡ map change_text (take most (drop from old.changes)))))) }
+    {
+        self.books.lock(rt).texts_behind(from, most)
+    }
+
+    /// The greatest counter of a peer's accepted operations, 0 where it has none.
+    pub fn last_counter(&self, rt: &R, node: u16) -> u64
+        ensures { InOneHolding (λ old new. (new ≡ old) × IsLastCounter (operations_of old.changes) node result) }
+    {
+        self.books.lock(rt).last_counter(node)
     }
 
     /// Adds a subscriber, from the latest version or an earlier one on.

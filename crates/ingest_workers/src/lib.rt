@@ -5,3 +5,4 @@ pub mod books;
 pub mod hub;
 pub mod ingest;
 pub mod share;
+pub mod text;

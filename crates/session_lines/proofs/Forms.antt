@@ -14,8 +14,10 @@ use Rattle.change_ops.proofs.Keys.{lacks_all}
 use Rattle.change_ops.proofs.NumeralForms.{number_takes, number_again}
 use Rattle.bpf_words.specs.declared.profile.Profile.{Profile}
 use Rattle.bpf_words.specs.declared.profile.Profile.TheVariants.{One, Two}
-use Rattle.session_lines.specs.Commands.{Command, name_of, subscribe, pull, close, Number, IsCount, Count, OneWord, CommandForm, Grants, IsAsked}
-use Rattle.session_lines.specs.Reading.{small, small_number, is_count, is_one_word, from_at, program_at, subscribe_at, pull_at, close_at, command_at}
+use Rattle.session_lines.specs.Commands.{Command, name_of, subscribe, pull, close, read, Number, IsCount, Count, IsFewChanges, FewChanges, OneWord, CommandForm, Grants, IsAsked}
+use Rattle.session_lines.specs.Reading.{small, small_number, is_count, is_few_changes, is_one_word, from_at, program_at, subscribe_at, pull_at, close_at, show_at, changes_at, newest_at, query_at, words_at, command_at}
+use Rattle.session_lines.specs.declared.query.Query.{Query}
+use Rattle.session_lines.specs.declared.query.Query.TheVariants.{Latest, Show, Changes, Newest}
 use Rattle.session_lines.specs.declared.request.SessionRequest.{SessionRequest}
 use Rattle.session_lines.specs.declared.fault.LineRefusal.{LineRefusal}
 use Rattle.session_lines.specs.declared.fault.LineRefusal.TheVariants.{BadCommand, BadCapacity, BadHex, BadChange, OutOfMemory}
@@ -49,6 +51,12 @@ count_read n h = and_from (leb 1 n) (leb n 1024) (le-leb 1 n h.some) (le-leb n 1
 
 pub no_count : (n : ℕ) → is_count n ≡ false → ¬ (IsCount n)
 no_count n e h = let f = count_read n h in cc
+
+few_form : (n : ℕ) → is_few_changes n ≡ true → IsFewChanges n
+few_form n e = let p = and_parts (leb 1 n) (leb n 64) e in record { some = leb-true 1 n p.0; few = leb-true n 64 p.1 }
+
+few_read : (n : ℕ) → IsFewChanges n → is_few_changes n ≡ true
+few_read n h = and_from (leb 1 n) (leb n 64) (le-leb 1 n h.some) (le-leb n 64 h.few)
 
 -- ---- one word
 spaceless : (word : List ℕ) → list_all (λ b. not (eqb b 32)) word ≡ true → AllByRecursion (λ b. b ≢ 32) word
@@ -172,40 +180,144 @@ close_read : (fields : List ℕ) (subscriber : ℕ) → Number subscriber fields
 unfolding close_at
 close_read fields subscriber h = rw (number_read fields subscriber h) refl
 
+show_form : (line fields : List ℕ) (c : Command) → line ≡ codes "show" ␣ fields → show_at fields ≡ Some c → CommandForm c line
+unfolding show_at
+show_form line fields c text e =
+    let a = bind_some (split 32 fields) (λ parts. split 32 parts.1 >>= λ more. small (number_in 10 parts.0) >>= λ version. small (number_in 10 more.0) >>= λ first. small (number_in 10 more.1) >>= λ count. if is_count count then Some (read (Show version first count)) else None) c e in
+    let b = bind_some (split 32 a.0.1) (λ more. small (number_in 10 a.0.0) >>= λ version. small (number_in 10 more.0) >>= λ first. small (number_in 10 more.1) >>= λ count. if is_count count then Some (read (Show version first count)) else None) c a.2 in
+    let v = bind_some (small (number_in 10 a.0.0)) (λ version. small (number_in 10 b.0.0) >>= λ first. small (number_in 10 b.0.1) >>= λ count. if is_count count then Some (read (Show version first count)) else None) c b.2 in
+    let f = bind_some (small (number_in 10 b.0.0)) (λ first. small (number_in 10 b.0.1) >>= λ count. if is_count count then Some (read (Show v.0 first count)) else None) c v.2 in
+    let d = bind_some (small (number_in 10 b.0.1)) (λ count. if is_count count then Some (read (Show v.0 f.0 count)) else None) c f.2 in
+    let g = guard_some (is_count d.0) (read (Show v.0 f.0 d.0)) c d.2 in
+    let counted : Count d.0 b.0.1 = record { number = number_form b.0.1 d.0 d.1; limits = count_form d.0 g.0 } in
+    let last : Joined 32 (Number f.0) (Count d.0) a.0.1 = record { first = b.0.0; second = b.0.1; whole = (split_takes 32 a.0.1 b.0.0 b.0.1 b.1).0; before = number_form b.0.0 f.0 f.1; after = counted } in
+    let behind : Joined 32 (Number v.0) (Joined 32 (Number f.0) (Count d.0)) fields = record { first = a.0.0; second = a.0.1; whole = (split_takes 32 fields a.0.0 a.0.1 a.1).0; before = number_form a.0.0 v.0 v.1; after = last } in
+    let form : CommandForm (read (Show v.0 f.0 d.0)) line = record { first = codes "show"; second = fields; whole = text; before = refl; after = behind } in
+    subst (λ (x : Command). CommandForm x line) g.1 form
+
+show_read : (fields : List ℕ) (version first count : ℕ) → Joined 32 (Number version) (Joined 32 (Number first) (Count count)) fields → show_at fields ≡ Some (read (Show version first count))
+unfolding show_at
+show_read fields version first count j =
+    let more : split 32 j.second ≡ Some (j.after.first, j.after.second) = joined_again j.second j.after (no_space j.after.first first j.after.before) in
+    rw (joined_again fields j (no_space j.first version j.before), more, number_read j.first version j.before, number_read j.after.first first j.after.before, number_read j.after.second count j.after.after.number, count_read count j.after.after.limits) refl
+
+changes_form : (line fields : List ℕ) (c : Command) → line ≡ codes "changes" ␣ fields → changes_at fields ≡ Some c → CommandForm c line
+unfolding changes_at
+changes_form line fields c text e =
+    let a = bind_some (split 32 fields) (λ parts. small (number_in 10 parts.0) >>= λ from. small (number_in 10 parts.1) >>= λ count. if is_few_changes count then Some (read (Changes from count)) else None) c e in
+    let b = bind_some (small (number_in 10 a.0.0)) (λ from. small (number_in 10 a.0.1) >>= λ count. if is_few_changes count then Some (read (Changes from count)) else None) c a.2 in
+    let d = bind_some (small (number_in 10 a.0.1)) (λ count. if is_few_changes count then Some (read (Changes b.0 count)) else None) c b.2 in
+    let g = guard_some (is_few_changes d.0) (read (Changes b.0 d.0)) c d.2 in
+    let counted : FewChanges d.0 a.0.1 = record { number = number_form a.0.1 d.0 d.1; limits = few_form d.0 g.0 } in
+    let behind : Joined 32 (Number b.0) (FewChanges d.0) fields = record { first = a.0.0; second = a.0.1; whole = (split_takes 32 fields a.0.0 a.0.1 a.1).0; before = number_form a.0.0 b.0 b.1; after = counted } in
+    let form : CommandForm (read (Changes b.0 d.0)) line = record { first = codes "changes"; second = fields; whole = text; before = refl; after = behind } in
+    subst (λ (x : Command). CommandForm x line) g.1 form
+
+changes_read : (fields : List ℕ) (from count : ℕ) → Joined 32 (Number from) (FewChanges count) fields → changes_at fields ≡ Some (read (Changes from count))
+unfolding changes_at
+changes_read fields from count j =
+    rw (joined_again fields j (no_space j.first from j.before), number_read j.first from j.before, number_read j.second count j.after.number, few_read count j.after.limits) refl
+
+newest_form : (line fields : List ℕ) (c : Command) → line ≡ codes "newest" ␣ fields → newest_at fields ≡ Some c → CommandForm c line
+unfolding newest_at
+newest_form line fields c text e =
+    let a = bind_some (small (number_in 10 fields)) (λ node. Some (read (Newest node))) c e in
+    let same : read (Newest a.0) ≡ c = cc (a.2) in
+    let form : CommandForm (read (Newest a.0)) line = record { first = codes "newest"; second = fields; whole = text; before = refl; after = number_form fields a.0 a.1 } in
+    subst (λ (x : Command). CommandForm x line) same form
+
+newest_read : (fields : List ℕ) (node : ℕ) → Number node fields → newest_at fields ≡ Some (read (Newest node))
+unfolding newest_at
+newest_read fields node h = rw (number_read fields node h) refl
+
+query_form : (line name fields : List ℕ) (c : Command) → line ≡ name ␣ fields → query_at name fields ≡ Some c → CommandForm c line
+query_form line name fields c whole e = go (bytes_eq name (codes "show")) (bytes_eq name (codes "changes")) (bytes_eq name (codes "newest")) refl refl refl e where
+  named : (word : List ℕ) → bytes_eq name word ≡ true → line ≡ word ␣ fields
+  named word f = whole ∙ ap (λ (x : List ℕ). x ␣ fields) (same_bytes name word f)
+
+  go : (s t p : Bool) → bytes_eq name (codes "show") ≡ s → bytes_eq name (codes "changes") ≡ t → bytes_eq name (codes "newest") ≡ p
+      → cond s (show_at fields) (cond t (changes_at fields) (cond p (newest_at fields) None)) ≡ Some c → CommandForm c line
+  go true t p f1 f2 f3 e = show_form line fields c (named (codes "show") f1) e
+  go false true p f1 f2 f3 e = changes_form line fields c (named (codes "changes") f2) e
+  go false false true f1 f2 f3 e = newest_form line fields c (named (codes "newest") f3) e
+  go false false false f1 f2 f3 e = absurd cc
+
 -- ---- whole lines
-pub command_form : (line : List ℕ) (c : Command) → command_at line ≡ Some c → CommandForm c line
-unfolding command_at
-command_form line c e =
-    let a = bind_some (split 32 line) (λ parts. if bytes_eq parts.0 (codes "sub") then subscribe_at One parts.1 else if bytes_eq parts.0 (codes "sub2") then subscribe_at Two parts.1 else if bytes_eq parts.0 (codes "pull") then pull_at parts.1 else if bytes_eq parts.0 (codes "close") then close_at parts.1 else None) c e in
+words_form : (line : List ℕ) (c : Command) → words_at line ≡ Some c → CommandForm c line
+unfolding words_at
+words_form line c e =
+    let a = bind_some (split 32 line) (λ parts. if bytes_eq parts.0 (codes "sub") then subscribe_at One parts.1 else if bytes_eq parts.0 (codes "sub2") then subscribe_at Two parts.1 else if bytes_eq parts.0 (codes "pull") then pull_at parts.1 else if bytes_eq parts.0 (codes "close") then close_at parts.1 else query_at parts.0 parts.1) c e in
     kinds a.0.0 a.0.1 (split_takes 32 line a.0.0 a.0.1 a.1).0 a.2
   where
-    kinds : (name fields : List ℕ) → line ≡ name ␣ fields → (if bytes_eq name (codes "sub") then subscribe_at One fields else if bytes_eq name (codes "sub2") then subscribe_at Two fields else if bytes_eq name (codes "pull") then pull_at fields else if bytes_eq name (codes "close") then close_at fields else None) ≡ Some c → CommandForm c line
+    kinds : (name fields : List ℕ) → line ≡ name ␣ fields → (if bytes_eq name (codes "sub") then subscribe_at One fields else if bytes_eq name (codes "sub2") then subscribe_at Two fields else if bytes_eq name (codes "pull") then pull_at fields else if bytes_eq name (codes "close") then close_at fields else query_at name fields) ≡ Some c → CommandForm c line
     kinds name fields whole e = go (bytes_eq name (codes "sub")) (bytes_eq name (codes "sub2")) (bytes_eq name (codes "pull")) (bytes_eq name (codes "close")) refl refl refl refl e where
       named : (word : List ℕ) → bytes_eq name word ≡ true → line ≡ word ␣ fields
       named word f = whole ∙ ap (λ (x : List ℕ). x ␣ fields) (same_bytes name word f)
 
       go : (s t p q : Bool) → bytes_eq name (codes "sub") ≡ s → bytes_eq name (codes "sub2") ≡ t → bytes_eq name (codes "pull") ≡ p → bytes_eq name (codes "close") ≡ q
-          → cond s (subscribe_at One fields) (cond t (subscribe_at Two fields) (cond p (pull_at fields) (cond q (close_at fields) None))) ≡ Some c → CommandForm c line
+          → cond s (subscribe_at One fields) (cond t (subscribe_at Two fields) (cond p (pull_at fields) (cond q (close_at fields) (query_at name fields)))) ≡ Some c → CommandForm c line
       go true t p q f1 f2 f3 f4 e = subscribe_form line fields One c (named (codes "sub") f1) e
       go false true p q f1 f2 f3 f4 e = subscribe_form line fields Two c (named (codes "sub2") f2) e
       go false false true q f1 f2 f3 f4 e = pull_form line fields c (named (codes "pull") f3) e
       go false false false true f1 f2 f3 f4 e = close_form line fields c (named (codes "close") f4) e
-      go false false false false f1 f2 f3 f4 e = absurd cc
+      go false false false false f1 f2 f3 f4 e = query_form line name fields c whole e
+
+-- a line of several words isn't `latest`
+not_latest : (line : List ℕ) (parts : List ℕ × List ℕ) → split 32 line ≡ Some parts → bytes_eq line (codes "latest") ≡ false
+unfolding split
+not_latest line parts e = go (bytes_eq line (codes "latest")) refl where
+  go : (b : Bool) → bytes_eq line (codes "latest") ≡ b → b ≡ false
+  go false f = refl
+  go true f =
+      let there : split 32 (codes "latest") ≡ Some parts = subst (λ (x : List ℕ). split 32 x ≡ Some parts) (same_bytes line (codes "latest") f) e in
+      let none : split 32 (codes "latest") ≡ None = refl in
+      absurd cc
+
+spoken : (line : List ℕ) (c : Command) → words_at line ≡ Some c → command_at line ≡ Some c
+unfolding command_at words_at
+spoken line c w =
+    let a = bind_some (split 32 line) (λ parts. if bytes_eq parts.0 (codes "sub") then subscribe_at One parts.1 else if bytes_eq parts.0 (codes "sub2") then subscribe_at Two parts.1 else if bytes_eq parts.0 (codes "pull") then pull_at parts.1 else if bytes_eq parts.0 (codes "close") then close_at parts.1 else query_at parts.0 parts.1) c w in
+    rw (not_latest line a.0 a.1) w
+
+pub command_form : (line : List ℕ) (c : Command) → command_at line ≡ Some c → CommandForm c line
+unfolding command_at
+command_form line c e = go (bytes_eq line (codes "latest")) refl e where
+  go : (b : Bool) → bytes_eq line (codes "latest") ≡ b → cond b (Some (read Latest)) (words_at line) ≡ Some c → CommandForm c line
+  go true f e = let same : read Latest ≡ c = cc e in subst (λ (x : Command). CommandForm x line) same (same_bytes line (codes "latest") f)
+  go false f e = words_form line c e
+
+words_read : (line : List ℕ) (c : Command) → c ≢ read Latest → CommandForm c line → words_at line ≡ Some c
+unfolding words_at
+words_read line (subscribe One capacity digits None) n j = rw (named_line (codes "sub") line j (lacks_all 32 (codes "sub") refl), subscribe_read j.second One capacity digits j.after) refl
+words_read line (subscribe One capacity digits (Some first)) n j = rw (named_line (codes "sub") line j (lacks_all 32 (codes "sub") refl), subscribe_from_read j.second One capacity first digits j.after) refl
+words_read line (subscribe Two capacity digits None) n j = rw (named_line (codes "sub2") line j (lacks_all 32 (codes "sub2") refl), subscribe_read j.second Two capacity digits j.after) refl
+words_read line (subscribe Two capacity digits (Some first)) n j = rw (named_line (codes "sub2") line j (lacks_all 32 (codes "sub2") refl), subscribe_from_read j.second Two capacity first digits j.after) refl
+words_read line (pull subscriber count) n j = rw (named_line (codes "pull") line j (lacks_all 32 (codes "pull") refl), pull_read j.second subscriber count j.after) refl
+words_read line (close subscriber) n j = rw (named_line (codes "close") line j (lacks_all 32 (codes "close") refl), close_read j.second subscriber j.after) refl
+words_read line (read Latest) n j = absurd (n refl)
+words_read line (read (Show version first count)) n j = rw (named_line (codes "show") line j (lacks_all 32 (codes "show") refl), show_read j.second version first count j.after) refl
+words_read line (read (Changes from count)) n j = rw (named_line (codes "changes") line j (lacks_all 32 (codes "changes") refl), changes_read j.second from count j.after) refl
+words_read line (read (Newest node)) n j = rw (named_line (codes "newest") line j (lacks_all 32 (codes "newest") refl), newest_read j.second node j.after) refl
+
+latest_read : (line : List ℕ) → line ≡ codes "latest" → command_at line ≡ Some (read Latest)
+unfolding command_at
+latest_read line e = ap command_at e
 
 pub command_read : (line : List ℕ) (c : Command) → CommandForm c line → command_at line ≡ Some c
-unfolding command_at
-command_read line (subscribe One capacity digits None) j = rw (named_line (codes "sub") line j (lacks_all 32 (codes "sub") refl), subscribe_read j.second One capacity digits j.after) refl
-command_read line (subscribe One capacity digits (Some first)) j = rw (named_line (codes "sub") line j (lacks_all 32 (codes "sub") refl), subscribe_from_read j.second One capacity first digits j.after) refl
-command_read line (subscribe Two capacity digits None) j = rw (named_line (codes "sub2") line j (lacks_all 32 (codes "sub2") refl), subscribe_read j.second Two capacity digits j.after) refl
-command_read line (subscribe Two capacity digits (Some first)) j = rw (named_line (codes "sub2") line j (lacks_all 32 (codes "sub2") refl), subscribe_from_read j.second Two capacity first digits j.after) refl
-command_read line (pull subscriber count) j = rw (named_line (codes "pull") line j (lacks_all 32 (codes "pull") refl), pull_read j.second subscriber count j.after) refl
-command_read line (close subscriber) j = rw (named_line (codes "close") line j (lacks_all 32 (codes "close") refl), close_read j.second subscriber j.after) refl
+command_read line (subscribe profile capacity digits first) j = spoken line _ (words_read line (subscribe profile capacity digits first) (λ e. cc) j)
+command_read line (pull subscriber count) j = spoken line _ (words_read line (pull subscriber count) (λ e. cc) j)
+command_read line (close subscriber) j = spoken line _ (words_read line (close subscriber) (λ e. cc) j)
+command_read line (read Latest) j = latest_read line j
+command_read line (read (Show version first count)) j = spoken line _ (words_read line (read (Show version first count)) (λ e. cc) j)
+command_read line (read (Changes from count)) j = spoken line _ (words_read line (read (Changes from count)) (λ e. cc) j)
+command_read line (read (Newest node)) j = spoken line _ (words_read line (read (Newest node)) (λ e. cc) j)
 
 -- ---- what is answered to a line
 never : (c : Command) → Grants c (Err BadCommand) → ⊥
 never (subscribe profile capacity digits first) g = g
 never (pull subscriber count) g = g
 never (close subscriber) g = g
+never (read query) g = g
 
 pub asked_some : (line : List ℕ) (c : Command) (answer : Result SessionRequest LineRefusal) → command_at line ≡ Some c → Grants c answer → IsAsked line answer
 asked_some line c (Ok request) e g = (c, command_form line c e, g)

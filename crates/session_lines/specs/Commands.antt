@@ -7,7 +7,9 @@ use Rattle.bpf_words.specs.declared.profile.Profile.{Profile}
 use Rattle.bpf_words.specs.declared.profile.Profile.TheVariants.{One, Two}
 use Rattle.change_ops.specs.Forms.{Numeral, Word, ◌⎵◌}
 use Rattle.session_lines.specs.declared.request.SessionRequest.{SessionRequest}
-use Rattle.session_lines.specs.declared.request.SessionRequest.TheVariants.{Subscribe, Pull, Close}
+use Rattle.session_lines.specs.declared.request.SessionRequest.TheVariants.{Subscribe, Pull, Close, Read}
+use Rattle.session_lines.specs.declared.query.Query.{Query}
+use Rattle.session_lines.specs.declared.query.Query.TheVariants.{Latest, Show, Changes, Newest}
 use Rattle.session_lines.specs.declared.fault.LineRefusal.{LineRefusal}
 use Rattle.session_lines.specs.declared.fault.LineRefusal.TheVariants.{BadCommand, BadCapacity, BadHex, OutOfMemory}
 
@@ -17,6 +19,7 @@ pub data Command : Type 0 where
   subscribe : (profile : Profile) (capacity : ℕ) (digits : List ℕ) (first : Option ℕ) → Command
   pull : (subscriber count : ℕ) → Command
   close : (subscriber : ℕ) → Command
+  read : (query : Query) → Command
 
 -- a number of 64 bits, in decimal
 pub record Number (n : ℕ) (word : List ℕ) : Type 0 where
@@ -31,6 +34,15 @@ pub record IsCount (n : ℕ) : Type 0 where
 pub record Count (n : ℕ) (word : List ℕ) : Type 0 where
   pub number : Number n word
   pub limits : IsCount n
+
+-- 1 to 64: how many changes can be read at once
+pub record IsFewChanges (n : ℕ) : Type 0 where
+  pub some : 1 ≤ n
+  pub few : n ≤ 64
+
+pub record FewChanges (n : ℕ) (word : List ℕ) : Type 0 where
+  pub number : Number n word
+  pub limits : IsFewChanges n
 
 -- at least one byte, and no space
 pub record OneWord (digits word : List ℕ) : Type 0 where
@@ -49,6 +61,10 @@ CommandForm (subscribe profile capacity digits None) = Word (name_of profile) �
 CommandForm (subscribe profile capacity digits (Some first)) = Word (name_of profile) ⎵ Number capacity ⎵ OneWord digits ⎵ Word (codes "from") ⎵ Number first
 CommandForm (pull subscriber count) = Word (codes "pull") ⎵ Number subscriber ⎵ Count count
 CommandForm (close subscriber) = Word (codes "close") ⎵ Number subscriber
+CommandForm (read Latest) = Word (codes "latest")
+CommandForm (read (Show version first count)) = Word (codes "show") ⎵ Number version ⎵ Number first ⎵ Count count
+CommandForm (read (Changes from count)) = Word (codes "changes") ⎵ Number from ⎵ FewChanges count
+CommandForm (read (Newest node)) = Word (codes "newest") ⎵ Number node
 
 -- What is asked for by what a line says, or why it is refused; the capacity is looked at before the digits.
 abbrev pub Grants : Command → Result SessionRequest LineRefusal → Type 0
@@ -58,6 +74,7 @@ Grants (subscribe profile capacity digits first) (Err BadHex) = IsCount capacity
 Grants (subscribe profile capacity digits first) (Err OutOfMemory) = IsCount capacity
 Grants (pull subscriber count) (Ok (Pull id most)) = (id ≡ subscriber) × (most ≡ count)
 Grants (close subscriber) (Ok (Close id)) = id ≡ subscriber
+Grants (read query) (Ok (Read asked)) = asked ≡ query
 Grants command answer = ⊥
 
 -- a line that begins no change is answered so

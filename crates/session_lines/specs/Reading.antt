@@ -7,9 +7,10 @@ use Rattle.bpf_words.specs.declared.profile.Profile.TheVariants.{One, Two}
 use Rattle.change_ops.specs.Ids.{checked}
 use Rattle.change_ops.specs.Words.{split, digit_of, number_in}
 use Rattle.change_ops.specs.Reading.{◌>>=◌}
-use Rattle.session_lines.specs.Commands.{Command, subscribe, pull, close}
+use Rattle.session_lines.specs.Commands.{Command, subscribe, pull, close, read}
 use Rattle.session_lines.specs.declared.commands.LentCommand.{LentCommand}
-use Rattle.session_lines.specs.declared.commands.LentCommand.TheVariants.{Subscribe, Pull, Close}
+use Rattle.session_lines.specs.declared.commands.LentCommand.TheVariants.{Subscribe, Pull, Close, Read}
+use Rattle.session_lines.specs.declared.query.Query.TheVariants.{Latest, Show, Changes, Newest}
 
 -- a number, where it has 64 bits
 abbrev pub small_number : ℕ → Option ℕ
@@ -25,6 +26,9 @@ with_digit n byte = if nat_lt (digit_of byte) 10 then small_number (n * 10 + dig
 abbrev pub is_count : ℕ → Bool
 is_count n = nat_le 1 n && nat_le n 1024
 
+abbrev pub is_few_changes : ℕ → Bool
+is_few_changes n = nat_le 1 n && nat_le n 64
+
 abbrev pub is_one_word : List ℕ → Bool
 is_one_word word = nat_le 1 (length word) && list_all (λ b. not (b == 32)) word
 
@@ -33,6 +37,7 @@ abbrev pub said : LentCommand → Command
 said (Subscribe profile capacity digits first) = subscribe profile capacity digits.now first
 said (Pull subscriber count) = pull subscriber count
 said (Close subscriber) = close subscriber
+said (Read query) = read query
 
 unfoldable pub from_at : Profile → ℕ → List ℕ → Option Command
 from_at profile capacity text = do
@@ -62,11 +67,42 @@ close_at fields = do
   subscriber ← small (number_in 10 fields)
   Some (close subscriber)
 
--- what a line says, if it has a form
-unfoldable pub command_at : List ℕ → Option Command
-command_at line = do
+unfoldable pub show_at : List ℕ → Option Command
+show_at fields = do
+  parts ← split 32 fields
+  more ← split 32 parts.1
+  version ← small (number_in 10 parts.0)
+  first ← small (number_in 10 more.0)
+  count ← small (number_in 10 more.1)
+  if is_count count then Some (read (Show version first count)) else None
+
+unfoldable pub changes_at : List ℕ → Option Command
+changes_at fields = do
+  parts ← split 32 fields
+  from ← small (number_in 10 parts.0)
+  count ← small (number_in 10 parts.1)
+  if is_few_changes count then Some (read (Changes from count)) else None
+
+unfoldable pub newest_at : List ℕ → Option Command
+newest_at fields = do
+  node ← small (number_in 10 fields)
+  Some (read (Newest node))
+
+-- what a line of several words says that asks to read
+abbrev pub query_at : List ℕ → List ℕ → Option Command
+query_at name fields = if bytes_eq name (codes "show") then show_at fields else
+    if bytes_eq name (codes "changes") then changes_at fields else
+    if bytes_eq name (codes "newest") then newest_at fields else None
+
+-- what a line of several words says, if it has a form
+unfoldable pub words_at : List ℕ → Option Command
+words_at line = do
   parts ← split 32 line
   if bytes_eq parts.0 (codes "sub") then subscribe_at One parts.1 else
       if bytes_eq parts.0 (codes "sub2") then subscribe_at Two parts.1 else
       if bytes_eq parts.0 (codes "pull") then pull_at parts.1 else
-      if bytes_eq parts.0 (codes "close") then close_at parts.1 else None
+      if bytes_eq parts.0 (codes "close") then close_at parts.1 else query_at parts.0 parts.1
+
+-- what a line says, if it has a form
+unfoldable pub command_at : List ℕ → Option Command
+command_at line = if bytes_eq line (codes "latest") then Some (read Latest) else words_at line

@@ -7,7 +7,7 @@ use Rattle.refusals.specs.declared.reason.Reason.TheVariants as reason
 use Rattle.session_lines.specs.declared.fault.LineRefusal.{LineRefusal}
 use Rattle.session_lines.specs.declared.fault.LineRefusal.TheVariants as line
 use Rattle.session_lines.specs.declared.reply.Reply.{Reply}
-use Rattle.session_lines.specs.declared.reply.Reply.TheVariants.{Version, Subscribed, Hit, End, Items, Closed, Refused}
+use Rattle.session_lines.specs.declared.reply.Reply.TheVariants.{Version, Subscribed, Hit, End, Items, Closed, Latest, Spans, Changes, Newest, Refused}
 
 abbrev pub reply_text : Reply → List ℕ
 reply_text (Version number) = codes "ok version " ++ decimal number
@@ -16,6 +16,10 @@ reply_text (Hit version span verdict) = codes "hit " ++ decimal version ++ codes
 reply_text (End version spans) = codes "end " ++ decimal version ++ codes " " ++ decimal spans
 reply_text (Items count) = codes "ok items " ++ decimal count
 reply_text (Closed id) = codes "ok closed " ++ decimal id
+reply_text (Latest number) = codes "ok latest " ++ decimal number
+reply_text (Spans count) = codes "ok spans " ++ decimal count
+reply_text (Changes count) = codes "ok changes " ++ decimal count
+reply_text (Newest counter) = codes "ok newest " ++ decimal counter
 reply_text (Refused reason) = codes "no " ++ reason_text reason
 
 -- what is printed of a refused line

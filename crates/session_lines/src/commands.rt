@@ -4,10 +4,11 @@ ghost use Rattle.std.specs.Option.{option_map};
 ghost use Rattle.hex.specs.Hex.{decode_of};
 ghost use Rattle.hex.specs.declared.error.FromHexError.{FromHexError};
 ghost use Rattle.session_lines.specs.Commands.{subscribe, Grants, IsAsked};
-ghost use Rattle.session_lines.specs.Reading.{said, from_at, program_at, subscribe_at, pull_at, close_at, command_at, is_count};
+ghost use Rattle.session_lines.specs.Reading.{said, from_at, program_at, subscribe_at, pull_at, close_at, show_at, changes_at, newest_at, query_at, words_at, command_at, is_count, is_few_changes};
 ghost use Rattle.session_lines.specs.declared.fault.LineRefusal.TheVariants as why;
 
 use crate::fault::LineRefusal;
+use crate::query::Query;
 use crate::request::SessionRequest;
 use crate::words::{is_one_word, number, word_of};
 use bpf_words::profile::Profile;
@@ -22,6 +23,14 @@ const FROM: &[u8] = b"from";
 const PULL: &[u8] = b"pull";
 
 const CLOSE: &[u8] = b"close";
+
+const LATEST: &[u8] = b"latest";
+
+const SHOW: &[u8] = b"show";
+
+const CHANGES: &[u8] = b"changes";
+
+const NEWEST: &[u8] = b"newest";
 
 /// What a line says.
 #[derive(Clone, Copy)]
@@ -39,6 +48,7 @@ enum LentCommand<'a> {
     Close {
         subscriber: u64,
     },
+    Read(Query),
 }
 
 /// Whether a number is 1 to 1,024.
@@ -46,6 +56,13 @@ fn is_count(number: u64) -> bool
     ensures { result ≡ is_count number }
 {
     number >= 1 && number <= 1024
+}
+
+/// Whether a number is 1 to 64.
+fn is_few_changes(number: u64) -> bool
+    ensures { result ≡ is_few_changes number }
+{
+    number >= 1 && number <= 64
 }
 
 /// What follows the capacity of a subscription from a version on.
@@ -115,10 +132,68 @@ fn close_in(fields: &[u8]) -> Option<LentCommand<'_>>
     Some(LentCommand::Close { subscriber })
 }
 
-/// What a line says, if it has a form.
-#[tactic(auto, unfolding(crate::specs::Reading::command_at))]
-fn command_in(line: &[u8]) -> Option<LentCommand<'_>>
-    ensures { option_map said result ≡ command_at line.now }
+/// What follows `show`.
+#[tactic(auto, unfolding(crate::specs::Reading::show_at))]
+fn show_in(fields: &[u8]) -> Option<LentCommand<'_>>
+    ensures { option_map said result ≡ show_at fields.now }
+{
+    let (version, rest) = word_of(fields)?;
+    let (first, count) = word_of(rest)?;
+    let version = number(version)?;
+    let first = number(first)?;
+    let count = number(count)?;
+    if !is_count(count) {
+        return None;
+    }
+    Some(LentCommand::Read(Query::Show {
+        version,
+        first,
+        count,
+    }))
+}
+
+/// What follows `changes`.
+#[tactic(auto, unfolding(crate::specs::Reading::changes_at))]
+fn changes_in(fields: &[u8]) -> Option<LentCommand<'_>>
+    ensures { option_map said result ≡ changes_at fields.now }
+{
+    let (from, count) = word_of(fields)?;
+    let from = number(from)?;
+    let count = number(count)?;
+    if !is_few_changes(count) {
+        return None;
+    }
+    Some(LentCommand::Read(Query::Changes { from, count }))
+}
+
+/// What follows `newest`.
+#[tactic(auto, unfolding(crate::specs::Reading::newest_at))]
+fn newest_in(fields: &[u8]) -> Option<LentCommand<'_>>
+    ensures { option_map said result ≡ newest_at fields.now }
+{
+    let node = number(fields)?;
+    Some(LentCommand::Read(Query::Newest { node }))
+}
+
+/// What a line of several words says that asks to read.
+fn query_in<'a>(name: &[u8], fields: &'a [u8]) -> Option<LentCommand<'a>>
+    ensures { option_map said result ≡ query_at name.now fields.now }
+{
+    if name == SHOW {
+        show_in(fields)
+    } else if name == CHANGES {
+        changes_in(fields)
+    } else if name == NEWEST {
+        newest_in(fields)
+    } else {
+        None
+    }
+}
+
+/// What a line of several words says, if it has a form.
+#[tactic(auto, unfolding(crate::specs::Reading::words_at))]
+fn words_in(line: &[u8]) -> Option<LentCommand<'_>>
+    ensures { option_map said result ≡ words_at line.now }
 {
     let (name, fields) = word_of(line)?;
     if name == SUBSCRIBE {
@@ -130,8 +205,19 @@ fn command_in(line: &[u8]) -> Option<LentCommand<'_>>
     } else if name == CLOSE {
         close_in(fields)
     } else {
-        None
+        query_in(name, fields)
     }
+}
+
+/// What a line says, if it has a form.
+#[tactic(auto, unfolding(crate::specs::Reading::command_at))]
+fn command_in(line: &[u8]) -> Option<LentCommand<'_>>
+    ensures { option_map said result ≡ command_at line.now }
+{
+    if line == LATEST {
+        return Some(LentCommand::Read(Query::Latest));
+    }
+    words_in(line)
 }
 
 /// The program that pairs of hexadecimal digits stand for.
@@ -186,6 +272,7 @@ fn request_of(alloc: Global, command: LentCommand<'_>) -> Result<SessionRequest,
         LentCommand::Close { subscriber } => Ok(SessionRequest::Close {
             subscriber: subscriber as usize,
         }),
+        LentCommand::Read(query) => Ok(SessionRequest::Read(query)),
     }
 }
 

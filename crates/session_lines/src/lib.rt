@@ -4,6 +4,7 @@
 mod changes;
 mod commands;
 pub mod fault;
+pub mod query;
 pub mod reader;
 pub mod reply;
 pub mod request;

@@ -31,6 +31,14 @@ pub enum Reply {
     Items(usize),
     /// The subscriber of this id is closed.
     Closed(usize),
+    /// The latest version has this number.
+    Latest(u64),
+    /// The version has so many spans.
+    Spans(usize),
+    /// So many changes were read.
+    Changes(usize),
+    /// The greatest counter of the peer's accepted operations, 0 where it has none.
+    Newest(u64),
     /// Nothing was done.
     Refused(Reason),
 }
@@ -50,6 +58,10 @@ impl fmt::Display for Reply {
             Reply::End { version, spans } => write!(f, "end {version} {spans}"),
             Reply::Items(count) => write!(f, "ok items {count}"),
             Reply::Closed(id) => write!(f, "ok closed {id}"),
+            Reply::Latest(number) => write!(f, "ok latest {number}"),
+            Reply::Spans(count) => write!(f, "ok spans {count}"),
+            Reply::Changes(count) => write!(f, "ok changes {count}"),
+            Reply::Newest(counter) => write!(f, "ok newest {counter}"),
             Reply::Refused(reason) => write!(f, "no {reason}"),
         }
     }

@@ -11,6 +11,7 @@ ghost use Rattle.session_lines.specs.Requests.{changed, IsRead, IsNext, GoesOn};
 use crate::changes::{followers, is_header, push_line};
 use crate::commands::command_of;
 use crate::fault::{LineRefusal, ReadFault};
+use crate::query::Query;
 use crate::reader::{Arrival, LineReader};
 use bpf_words::profile::Profile;
 use change_ops::change::{Change, read_change};
@@ -40,6 +41,8 @@ pub enum SessionRequest {
     Close {
         subscriber: usize,
     },
+    /// To read of the text.
+    Read(Query),
 }
 
 /// What comes next of a session's input.

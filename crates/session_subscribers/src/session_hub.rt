@@ -17,6 +17,8 @@ pub struct SessionHub<'s, 'p, N: Naming + Ledger, R: Wait + Copy> {
     pub hub: &'s Hub<'p, N, R>,
     pub published: &'s Published<'p, N>,
     pub workers: usize,
+    /// Whether the session may read of the text.
+    pub reads: bool,
     ghost range: { (1 ≤ workers) × (workers ≤ 16) },
 }
 

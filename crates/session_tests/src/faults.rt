@@ -90,6 +90,7 @@ fn tried_on<N: Naming + Ledger + Send + Sync, R: Threads + Wait + Copy + Send + 
         &mut reader,
         &mut writer,
         1,
+        false,
     );
     let closed = hub.pump(rt, 0).is_err();
     let mut next = Vec::new(alloc);
@@ -103,6 +104,7 @@ fn tried_on<N: Naming + Ledger + Send + Sync, R: Threads + Wait + Copy + Send + 
         other.as_bytes(),
         &mut next,
         1,
+        false,
     );
     Ok(Outcome {
         ended,

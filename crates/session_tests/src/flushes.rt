@@ -71,6 +71,7 @@ fn two_subscribed<N: Naming + Ledger + Send + Sync, R: Threads + Wait + Abort + 
         TWO_SUBSCRIBERS.as_bytes(),
         &mut writer,
         1,
+        false,
     );
     assert!(rt; ended.is_ok());
     assert_eq!(rt; writer.bytes.as_slice(), TWO_SUBSCRIBERS_REPLIES.as_bytes());

@@ -98,6 +98,6 @@ fn with_jobs_taken<'p, N: Naming + Ledger + Send + Sync, R: Threads + Wait + Cop
         rest: TEN_VERSIONS.as_bytes(),
         jobs: 0,
     };
-    let _ = session(rt, alloc, hub, published, share, &mut reader, out, 2);
+    let _ = session(rt, alloc, hub, published, share, &mut reader, out, 2, false);
     reader.jobs
 }

@@ -14,7 +14,7 @@ length-views version =
     length-map (enumerate_from 0 version.rows) (λ placed. view_of version placed.0 placed.1) ∙ length-enumerate_from 0 version.rows
 
 -- what stands at a place
-viewed : (version : Snapshot) (i : ℕ) (row : Row) → slice_get version.rows i ≡ Some row → slice_get (views version) i ≡ Some (view_of version i row)
+pub viewed : (version : Snapshot) (i : ℕ) (row : Row) → slice_get version.rows i ≡ Some row → slice_get (views version) i ≡ Some (view_of version i row)
 viewed version i row g =
     let rows : List Row = version.rows in
     let within : i < length rows = slice_get_within rows i row g in
@@ -32,7 +32,7 @@ front_taken xs a b x g less =
     ap (λ l. take (b - a) l) (drop_more xs a x (slice_get_within xs a x g) ∙ ap (λ y. y ∷ drop (a + 1) xs) (get_or_from_slice_get xs a x x g))
     ∙ ap (λ n. take n (x ∷ drop (a + 1) xs)) size
 
-back_taken : {X : Type 0} (xs : List X) (a b : ℕ) (x : X) → slice_get xs b ≡ Some x → a ≤ b → slice_range xs a (b + 1) ≡ slice_range xs a b ++ x ∷ []
+pub back_taken : {X : Type 0} (xs : List X) (a b : ℕ) (x : X) → slice_get xs b ≡ Some x → a ≤ b → slice_range xs a (b + 1) ≡ slice_range xs a b ++ x ∷ []
 back_taken xs a b x g le =
     let size : (b + 1) - a ≡ (b - a) + 1 = omega arith in
     let place : a + (b - a) ≡ b = omega arith in
@@ -56,7 +56,7 @@ none_left xs a b e = let size : b - a ≡ 0 = omega arith in ap (λ n. take n (d
 pub nothing_left : (version : Snapshot) (a b : ℕ) (left : List LentSpan) → slice_range (views version) a b ≡ left → a ≡ b → left ≡ []
 nothing_left version a b left view e = sym view ∙ none_left (views version) a b e
 
-row_at : (version : Snapshot) (i : ℕ) → i < length version.rows → (row : Row) × (slice_get version.rows i ≡ Some row)
+pub row_at : (version : Snapshot) (i : ℕ) → i < length version.rows → (row : Row) × (slice_get version.rows i ≡ Some row)
 row_at version i within = first version.rows i within
   where
     first : (rows : List Row) (i : ℕ) → i < length rows → (row : Row) × (slice_get rows i ≡ Some row)

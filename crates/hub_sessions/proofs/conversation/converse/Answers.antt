@@ -10,16 +10,16 @@ returns-in_err-write_reply-clause-ends g c = write_failed c.from_residual.result
 
 pub loop-preserved : goal.loop-preserved
 loop-preserved g c =
-    let before : Standing = record { count = c.loop.share; held = c.loop.held.items } in
-    let after : Standing = record { count = c.take_turn-turn.new.share; held = c.take_turn-turn.new.held.items } in
+    let before : Standing = record { count = c.loop.share; held = c.loop.held.items; reads = c.args.hub.now.reads } in
+    let after : Standing = record { count = c.take_turn-turn.new.share; held = c.take_turn-turn.new.held.items; reads = c.args.hub.now.reads } in
     let more : TakesTurn More before c.loop.lines.left (string_bytes c.take_turn-turn.new.out) after c.take_turn-turn.new.lines.left = search rules in
     let wrote : Appends (g.O.Write.contents c.loop.writer) (g.O.Write.contents c.write_reply.new.writer) (string_bytes c.take_turn-turn.new.out) = search rules in
     (tt, tt, omega (arith, c.loop.invariant.2, c.take_turn-turn.ensures.share), turned _ _ _ before _ _ _ after _ _ c.loop.invariant.3 more wrote)
 
 pub returns-in-Ok-Last-clause-ends : goal.returns-in-Ok-Last-clause-ends
 returns-in-Ok-Last-clause-ends g c =
-    let before : Standing = record { count = c.loop.share; held = c.loop.held.items } in
-    let after : Standing = record { count = c.take_turn-turn.new.share; held = c.take_turn-turn.new.held.items } in
+    let before : Standing = record { count = c.loop.share; held = c.loop.held.items; reads = c.args.hub.now.reads } in
+    let after : Standing = record { count = c.take_turn-turn.new.share; held = c.take_turn-turn.new.held.items; reads = c.args.hub.now.reads } in
     let is : c.take_turn-turn.result ≡ Ok Last = search rules in
     let last : TakesTurn Last before c.loop.lines.left (string_bytes c.take_turn-turn.new.out) after c.take_turn-turn.new.lines.left =
     last_turn c.take_turn-turn.result before c.loop.lines.left (string_bytes c.take_turn-turn.new.out) after c.take_turn-turn.new.lines.left is c.take_turn-turn.ensures.ok in

@@ -10,8 +10,8 @@ use Rattle.hub_sessions.proofs.conversation.take_turn.Goals as goal
 
 pub returns-in_ok-push_line-in-Request-clause-ok : goal.returns-in_ok-push_line-in-Request-clause-ok
 returns-in_ok-push_line-in-Request-clause-ok g c =
-    let before : Standing = record { count = c.args.share.now; held = c.args.held.now.items } in
-    let now : Standing = record { count = c.answer.new.share; held = c.answer.new.held.items } in
+    let before : Standing = record { count = c.args.share.now; held = c.args.held.now.items; reads = c.args.hub.now.reads } in
+    let now : Standing = record { count = c.answer.new.share; held = c.answer.new.held.items; reads = c.args.hub.now.reads } in
     let items = string_bytes c.answer.new.out in
     let answer = c.in_ok-answer-in-Request.field-0 in
     let exchange : Exchange = record { came = next.Request c.in-Request.request; items = items; answer = answer; left = c.next_request.new.reader.left; stands = now } in (
@@ -27,7 +27,7 @@ returns-in_ok-push_line-in-Request-clause-ok g c =
 
 pub returns-in_ok-push_line-in-Refused-clause-ok : goal.returns-in_ok-push_line-in-Refused-clause-ok
 returns-in_ok-push_line-in-Refused-clause-ok g c =
-    let before : Standing = record { count = c.args.share.now; held = c.args.held.now.items } in
+    let before : Standing = record { count = c.args.share.now; held = c.args.held.now.items; reads = c.args.hub.now.reads } in
     let exchange : Exchange = record { came = next.Refused c.in-Refused.refusal; items = []; answer = reply.Refused (reason_of c.in-Refused.refusal); left = c.next_request.new.reader.left; stands = before } in (
       exchange,
       record {

@@ -3,7 +3,7 @@ use Rattle.std.proofs.Common.{◌≡◌, ℕ, List, [], ◌∷◌, ◌++◌, Non
 use Rattle.std.specs.Prelude.{codes}
 use Rattle.std.specs.Str.Pattern.{FindsCharPrefix}
 use Rattle.std.proofs.lemmas.Str.Pattern.{strip_prefix_char}
-use Rattle.hub_commands.specs.SpanLines.{behind_commas, keys_text}
+use Rattle.span_lines.specs.SpanLines.{behind_commas, keys_text}
 
 -- the first comma is left out
 pub keys_after_comma : (keys : List (List ℕ)) (text : List ℕ) → behind_commas keys ≡ 44 ∷ text → keys_text keys ≡ text

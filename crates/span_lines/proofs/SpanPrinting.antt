@@ -11,7 +11,7 @@ use Rattle.change_ops.proofs.Numerals.{six_written}
 use Rattle.span_flatten.specs.declared.version.Row.{Row}
 use Rattle.span_flatten.specs.Version.{Snapshot, spans_in, spans_of}
 use Rattle.span_view.specs.Views.{view_of, views}
-use Rattle.hub_commands.specs.SpanLines.{escaped_byte, escaped, span_line, span_lines, lent_line}
+use Rattle.span_lines.specs.SpanLines.{escaped_byte, escaped, span_line, span_lines, lent_line}
 
 -- a byte that is neither of the two
 escaped_other : (b : ℕ) → b ≢ 10 → b ≢ 92 → escaped_byte b ≡ b ∷ []

@@ -1,12 +1,12 @@
 -- The lines that the spans of a version are printed as, as UTF-8.
-use Rattle.std.specs.Prelude.{ℕ, ◌==◌, if◌then◌else◌, Bool, true, false, List, [], ◌∷◌, ◌++◌, map, Option, Some, None, codes}
+use Rattle.std.specs.Prelude.{ℕ, ◌==◌, if◌then◌else◌, Bool, true, false, List, [], ◌∷◌, ◌++◌, map, take, drop, Option, Some, None, codes}
 use Rattle.std.specs.List.{flat_map, enumerate_from}
 use Rattle.std.specs.Fmt.{decimal}
 use Rattle.change_ops.specs.Spelling.{◌␣◌, last_digits}
 use Rattle.mark_anchors.specs.Formatting.{Formatting}
 use Rattle.span_flatten.specs.Spans.{Span}
-use Rattle.span_view.specs.Views.{LentSpan}
-use Rattle.hub_commands.specs.Answers.{line}
+use Rattle.span_flatten.specs.Version.{Snapshot}
+use Rattle.span_view.specs.Views.{LentSpan, views}
 
 -- a key without a value, where it holds
 abbrev pub flag_keys : Bool → List ℕ → List (List ℕ)
@@ -49,9 +49,9 @@ escaped_byte byte = if byte == 10 then codes "\\n" else if byte == 92 then codes
 abbrev pub escaped : List ℕ → List ℕ
 escaped text = flat_map escaped_byte text
 
--- the line of the span of this index: the index, the format and the text
+-- the line of the span of this index, with its LF: the index, the format and the text
 abbrev pub span_line : ℕ → Span → List ℕ
-span_line index span = line (decimal index ␣ format_text span.format ␣ escaped span.text)
+span_line index span = (decimal index ␣ format_text span.format ␣ escaped span.text) ++ 10 ∷ []
 
 -- the line of a span as it is lent
 abbrev pub lent_line : LentSpan → List ℕ
@@ -60,3 +60,11 @@ lent_line lent = span_line lent.index (record { text = lent.text; format = lent.
 -- the lines of the spans, from index 0
 abbrev pub span_lines : List Span → List ℕ
 span_lines spans = flat_map (λ placed. span_line placed.0 placed.1) (enumerate_from 0 spans)
+
+-- the same behind a word, where other lines stand beside it
+abbrev pub named_line : LentSpan → List ℕ
+named_line lent = codes "span " ++ lent_line lent
+
+-- so many spans of a version, from one of them on, or as many as there are
+abbrev pub some_lines : ℕ → ℕ → Snapshot → List ℕ
+some_lines first most version = flat_map named_line (take most (drop first (views version)))

@@ -1,8 +1,8 @@
 use Rattle.std.proofs.Common.{rules, ◌≡◌, ◌++◌, ◌∙◌, ap, subst, codes, ℕ, List, None}
 use Rattle.std.specs.Str.Pattern.{FindsCharPrefix}
-use Rattle.hub_commands.specs.SpanLines.{keys_of, keys_text, behind_commas}
-use Rattle.hub_commands.proofs.Commas.{keys_none}
-use Rattle.hub_commands.proofs.span_lines.push_format.Goals as goal
+use Rattle.span_lines.specs.SpanLines.{keys_of, keys_text, behind_commas}
+use Rattle.span_lines.proofs.Commas.{keys_none}
+use Rattle.span_lines.proofs.printing.push_format.Goals as goal
 
 pub returns : goal.returns
 returns c =

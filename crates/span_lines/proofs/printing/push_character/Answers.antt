@@ -1,7 +1,7 @@
 use Rattle.std.proofs.Common.{rules, arith, ◌≡◌, encode_utf8}
-use Rattle.hub_commands.specs.SpanLines.{escaped}
-use Rattle.hub_commands.proofs.SpanPrinting.{escaped_character}
-use Rattle.hub_commands.proofs.span_lines.push_character.Goals as goal
+use Rattle.span_lines.specs.SpanLines.{escaped}
+use Rattle.span_lines.proofs.SpanPrinting.{escaped_character}
+use Rattle.span_lines.proofs.printing.push_character.Goals as goal
 
 pub returns-in_default : goal.returns-in_default
 returns-in_default c =

@@ -2,9 +2,9 @@ use Rattle.std.proofs.Common.{◌≡◌, ◌++◌, ◌∙◌, sym, ap, List, [],
 use Rattle.std.specs.List.{flat_map}
 use Rattle.std.proofs.lemmas.List.{append-nil}
 use Rattle.span_view.specs.Views.{LentSpan}
-use Rattle.hub_commands.specs.SpanLines.{lent_line}
-use Rattle.hub_commands.proofs.SpanPrinting.{lent_lines}
-use Rattle.hub_commands.proofs.span_lines.lines_of.Goals as goal
+use Rattle.span_lines.specs.SpanLines.{lent_line}
+use Rattle.span_lines.proofs.SpanPrinting.{lent_lines}
+use Rattle.span_lines.proofs.printing.lines_of.Goals as goal
 
 pub returns : goal.returns
 returns c =

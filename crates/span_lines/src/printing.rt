@@ -2,12 +2,12 @@
 ghost use Rattle.std.specs.Prelude.{◌≡◌, ◌++◌, IfOk, OnOk, map, encode_utf8, string_bytes};
 ghost use Rattle.std.specs.Option.{option_copied};
 ghost use Rattle.span_flatten.specs.Version.{spans_of as spans_in};
-ghost use Rattle.hub_commands.specs.SpanLines.{flag_keys, link_keys, color_keys, comment_key, keys_of, behind_commas, format_text, escaped, lent_line, span_lines};
+ghost use Rattle.span_lines.specs.SpanLines.{flag_keys, link_keys, color_keys, comment_key, keys_of, behind_commas, format_text, escaped, lent_line, some_lines, span_lines};
 
 use change_ops::attribute::{Color, CommentNumber, Link};
 use mark_anchors::format::Format;
 use span_flatten::version::Version;
-use span_view::view::{SpanView, spans as spans_of};
+use span_view::view::{SpanView, spans as spans_of, view};
 use std::alloc::{AllocError, Global};
 use std::fmt::Write as _;
 
@@ -113,4 +113,26 @@ pub fn lines_of(alloc: Global, version: &Version) -> Result<String, AllocError>
         push_line(&mut out, &span)?;
     }
     Ok(out)
+}
+
+/// Appends a line for each of so many spans of the version, from one of them on, or for as many as there are: `span ` and what
+/// [`lines_of`] has. Where there is no memory, the string may have some of them.
+pub fn push_some(
+    out: &mut String,
+    version: &Version,
+    first: usize,
+    most: usize,
+) -> Result<(), AllocError>
+    ensures { OnOk result (string_bytes out.new ≡ string_bytes out.old ++ some_lines first most version.now) }
+{
+    let left = version.rows().len().saturating_sub(first);
+    let end = first + left.min(most);
+    for index in first..end {
+        let Some(span) = view(version, index) else {
+            unreachable!()
+        };
+        out.push_str("span ")?;
+        push_line(out, &span)?;
+    }
+    Ok(())
 }

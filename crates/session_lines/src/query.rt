@@ -1,0 +1,21 @@
+/// What a session asks to read. Where a hub isn't read, each of these is answered as a line of no form.
+#[derive(Clone, Copy)]
+pub enum Query {
+    /// The number of the latest version.
+    Latest,
+    /// So many spans of a version, from this one on, 1 to 1,024.
+    Show {
+        version: u64,
+        first: u64,
+        count: u64,
+    },
+    /// So many accepted changes behind this version, 1 to 64.
+    Changes {
+        from: u64,
+        count: u64,
+    },
+    /// The greatest counter of a peer's accepted operations. The number may be none of a peer.
+    Newest {
+        node: u64,
+    },
+}

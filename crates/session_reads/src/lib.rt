@@ -1,0 +1,4 @@
+//! What a session reads of the text: versions and their spans, accepted changes, counters.
+#![tactic(auto)]
+
+pub mod reading;
