@@ -26,7 +26,7 @@ import sys
 import time
 from typing import NamedTuple
 
-OPERATIONS, NODES, TRIES = 256, 65535, 8
+OPERATIONS, NODES, TRIES = 256, 65535, 50
 AT_ONCE = 64
 LONGEST_LINE = 1 << 22
 KEYS = ["strong", "em", "code", "link", "color", "comment"]
