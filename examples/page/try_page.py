@@ -14,7 +14,7 @@ import random
 import re
 import subprocess
 import sys
-import threading
+import tempfile
 import time
 import urllib.error
 import urllib.request
@@ -25,9 +25,10 @@ sys.path.insert(0, str(HERE.parent / "clients"))
 from peer import Peer, Session  # noqa: E402
 
 QUESTION = HERE.parent / "filters" / "question.hex"
+UNGUARDED = "791100000000000071100100000000009500000000000000"
 ELEMENT = "element-6066-11e4-a52e-4f735466cecf"
 END = 1 << 20
-OPTIONS = ["--headless=new", "--no-sandbox", "--disable-dev-shm-usage", "--window-size=860,640", "--force-device-scale-factor=1"]
+OPTIONS = ["--headless=new", "--no-sandbox", "--disable-dev-shm-usage", "--window-size=860,740", "--force-device-scale-factor=1"]
 SHOWN = """return [...document.querySelectorAll('#text > *')].map(one => {
     const style = getComputedStyle(one);
     return {text: one.textContent, children: one.children.length, classes: [...one.classList], title: one.title,
@@ -173,32 +174,55 @@ class Subscriber:
 
 # What is tried.
 
-def try_the_tour(ann, ben, session, subscriber):
-    """Two persons, as docs/TOUR.md has them."""
+def try_the_tour(ann, ben, peer, session, subscriber):
+    """A text that a peer began and two persons go on with, as docs/TOUR.md has it."""
+    peer.insert(0, "Lunch at 12?")
+    peer.mark(0, 8, "strong")
     for page in (ann, ben):
         page.keys("#program", str(QUESTION))
-        until(lambda page=page: "question.hex" in page.says("filters"), page.says("error"))
-    ann.keys("#box", "Lunch at 12")
-    until(lambda: ben.box() == "Lunch at 12", "Ben's page doesn't show what Ann typed")
-    ben.select(11, 11)
-    ben.keys("#box", "? See the menu, or ask hub spans.\nWho comes?")
-    until(lambda: "Who comes?" in ann.box(), "Ann's page doesn't show what Ben typed")
+        until(lambda page=page: page.says("items") == "question.hex: hit 2 1 1\nquestion.hex: end 2 2\n", page.says("error"))
+        compare(page, session, subscriber)
+    ben.select(5, 5)
+    ben.keys("#box", "es")
+    until(lambda: ann.box() == "Lunches at 12?", "Ann's page doesn't show what Ben typed")
+    ben.select(END, END)
+    ben.keys("#box", " See the menu, or ask hub spans.\nWho comes?")
+    until(lambda: ann.box().endswith("Who comes?"), "Ann's page doesn't show what Ben typed")
     text = ann.box()
-    ann.mark("strong", 0, 8)
     ben.mark("em", text.index("12"), text.index("12") + 2)
     ann.replace("#target", "https://example.org/menu")
     ann.mark("link", text.index("the menu"), text.index(", or"))
     ben.mark("code", text.index("hub spans"), text.index("hub spans") + 9)
     ben.mark("comment", text.index("Who"), text.index("Who") + 3)
-    until(lambda: all("Who" in [one["text"] for one in page.run(SHOWN)] for page in (ann, ben)), "a mark isn't shown")
-    ben.select(5, 5)
-    ben.keys("#box", "es")
     ann.select(END, END)
     ann.keys("#box", " I do.\nBen?")
+    until(lambda: ben.box().endswith("Ben?") and "Who" in [one["text"] for one in ann.run(SHOWN)], "a mark isn't shown")
     for page in (ann, ben):
-        until(lambda page=page: page.box().startswith("Lunches at 12?") and page.box().endswith("Ben?"), page.box())
         compare(page, session, subscriber)
     assert [one["text"] for one in ann.run(SHOWN) if one["outline"] != "none"] == [" comes? I do.\nBen?"]
+    assert ann.run(SHOWN)[0]["text"] == "Lunches at" and format_of(ann.run(SHOWN)[0]) == "strong"
+
+
+def try_filters(ann, session, subscriber):
+    """Two filters at once, each in its color; a program that is refused, and a file that is none."""
+    ann.keys("#program", str(QUESTION.with_name("strong.hex")))
+    until(lambda: "strong.hex" in ann.says("filters"), ann.says("error"))
+
+    def are_outlined():
+        return all(one["outline"].count("rgb") == (int(one["weight"]) >= 700) + one["text"].endswith("?") for one in ann.run(SHOWN))
+
+    ann.mark("strong", ann.box().rindex("B"), len(ann.box()))
+    until(lambda: format_of(ann.run(SHOWN)[-1]) == "strong" and are_outlined(), "other spans are outlined")
+    assert ann.run(SHOWN)[-1]["outline"].count("rgb") == 2
+    ann.click("#filters span:nth-child(2) button")
+    until(lambda: "strong.hex" not in ann.says("filters"), "a filter isn't closed")
+    compare(ann, session, subscriber)
+    with tempfile.TemporaryDirectory() as folder:
+        for name, text, why in [("unguarded.hex", UNGUARDED, "no 21 TextBounds slot 1"), ("none.hex", "hello", "in hexadecimal")]:
+            pathlib.Path(folder, name).write_text(text, encoding="ascii")
+            ann.keys("#program", f"{folder}/{name}")
+            until(lambda why=why: why in ann.says("error"), "what is no filter isn't told")
+    compare(ann, session, subscriber)
 
 
 def try_toggle(ann, session, subscriber):
@@ -226,6 +250,7 @@ def try_characters(ann, ben, peer, session, subscriber):
     peer.mark(0, 3, "link", "javascript:document.title='bad'")
     peer.mark(6, 9, "link", "data:text/html,<script>1</script>")
     peer.mark(2, 30, "comment:4294967295")
+    peer.mark(4, 20, "color", "0a00ff")
     for page in (ann, ben):
         compare(page, session, subscriber)
     units = len(ann.box().partition("\U0001f600")[0].encode("utf-16-le")) // 2
@@ -318,9 +343,10 @@ def try_all(driver, hub_port, arguments):
             for node, page in enumerate(pages, 1):
                 page.open(f"http://127.0.0.1:{port}/?node={node}")
                 until(lambda page=page, node=node: page.says("state") == f"version 0, you are node {node}", page.says("state"))
-            try_the_tour(*pages, session, subscriber)
+            try_the_tour(*pages, peer, session, subscriber)
             if arguments.picture:
                 pathlib.Path(arguments.picture).write_bytes(base64.b64decode(pages[0].call("GET", "/screenshot")))
+            try_filters(pages[0], session, subscriber)
             try_toggle(pages[0], session, subscriber)
             try_characters(*pages, peer, session, subscriber)
             try_at_once(pages, peer, session, subscriber, rng)
