@@ -29,9 +29,14 @@ class Hub:
         self.process = subprocess.Popen(words, stdout=subprocess.PIPE, text=True)
         self.port = int(self.process.stdout.readline().split(" ")[1])
 
-    def ends(self):
-        """Waits for the hub's end, once all its sessions are closed."""
-        assert self.process.wait(timeout=60) == 0
+    def __enter__(self):
+        return self
+
+    def __exit__(self, failed, *_):
+        """The hub ends once all its sessions are closed."""
+        if failed:
+            self.process.terminate()
+        assert self.process.wait(timeout=60) == 0 or failed
 
 
 def shown(session, version, at_once):
@@ -79,24 +84,21 @@ def type_at_random(peer, rng, others):
 
 def try_at_once(nodes):
     """Peers of these nodes edit at once. Returns how many changes were accepted."""
-    hub = Hub(len(nodes) + 1, "--read")
-    peers, others = [Peer(hub.port, node) for node in nodes], threading.Barrier(len(nodes))
-    with ThreadPoolExecutor(len(peers)) as pool:
+    with Hub(len(nodes) + 1, "--read") as hub, ThreadPoolExecutor(len(nodes)) as pool:
+        peers, others, session = [Peer(hub.port, node) for node in nodes], threading.Barrier(len(nodes)), Session(hub.port)
         typing = [pool.submit(type_at_random, peer, random.Random(f"{SEED} {at}"), others) for at, peer in enumerate(peers)]
         for one in typing:
             one.result()
-    session, rng = Session(hub.port), random.Random(SEED)
-    _, latest = session.ask("latest")
-    lines = shown(session, latest, rng.choice([1, 7, 1024]))
-    for peer in peers:
-        peer.follow()
-        assert peer.replica.version == latest
-        assert peer.replica.span_lines() == lines, f"node {peer.node} has another text, seed {SEED}"
-    changes = try_versions(session, latest)
-    assert spans_of(changes) == lines, f"hub spans prints another text, seed {SEED}"
-    for one in [*peers, session]:
-        one.close()
-    hub.ends()
+        _, latest = session.ask("latest")
+        lines = shown(session, latest, random.Random(SEED).choice([1, 7, 1024]))
+        for peer in peers:
+            peer.follow()
+            assert peer.replica.version == latest
+            assert peer.replica.span_lines() == lines, f"node {peer.node} has another text, seed {SEED}"
+        changes = try_versions(session, latest)
+        assert spans_of(changes) == lines, f"hub spans prints another text, seed {SEED}"
+        for one in [*peers, session]:
+            one.close()
     return latest
 
 
@@ -125,12 +127,8 @@ def number_of(session, *request):
 
 def try_replies():
     """What the lines of reading answer and refuse, by docs/SESSIONS.md."""
-    hub = Hub(2, "--read")
-    session, change = Session(hub.port), ["change2 1 3", "r 1@1 - 3 61 62 63", "m 4@1 strong - <1@1 <3@1", "i 7@1 3@1 5c"]
+    change = ["change2 1 3", "r 1@1 - 3 61 62 63", "m 4@1 strong - <1@1 <3@1", "i 7@1 3@1 5c"]
     empty = {"latest": ([], 0), "show 0 0 1": ([], 0), "changes 0 64": ([], 0), "newest 1": ([], 0), "show 1 0 1": 55, "changes 1 1": 55}
-    for line, want in empty.items():
-        assert number_of(session, line) == want, line
-    assert number_of(session, *change) == ([], 1)
     full = {"latest": ([], 1), "show 1 0 1024": (["span 0 strong ab", "span 1 plain c\\\\"], 2), "show 1 1 1": (["span 1 plain c\\\\"], 2),
             "show 1 2 1": ([], 2), "show 1 99999999999999999999 1": 60, "show 1 18446744073709551615 1": ([], 2), "show 0 0 5": ([], 0),
             "changes 0 1": (change, 1), "changes 0 64": (change, 1), "changes 1 64": ([], 0), "newest 1": ([], 7), "newest 2": ([], 0),
@@ -141,10 +139,15 @@ def try_replies():
                55: ["show 2 0 1", "show 2 0 1024", "changes 2 1", "changes 2 64", "show 18446744073709551615 0 1"],
                42: ["newest 0", "newest 65536", "newest 18446744073709551615"]}
     full.update({line: number for number, lines in refused.items() for line in lines})
-    for line, want in full.items():
-        assert number_of(session, line) == want, f"{line}: {number_of(session, line)}"
-    try_words(Peer(hub.port, 2))
-    session.close()
+    with Hub(2, "--read") as hub:
+        session = Session(hub.port)
+        for line, want in empty.items():
+            assert number_of(session, line) == want, line
+        assert number_of(session, *change) == ([], 1)
+        for line, want in full.items():
+            assert number_of(session, line) == want, f"{line}: {number_of(session, line)}"
+        try_words(Peer(hub.port, 2))
+        session.close()
 
 
 def try_words(peer):
@@ -176,26 +179,24 @@ def try_words(peer):
 
 def try_command():
     """The command peer.py."""
-    hub = Hub(2, "--read")
     said = "insert 0 Hm\\n\\\\\nmark 0 2 em\ntext\nspans\nremove 0 1\nspans\nremove 9 10\nwait 2\nbold\ninsert 0 \0\n"
     want = ("version 1\nversion 2\nHm\\n\\\\\n0 em Hm\n1 plain \\n\\\\\nversion 3\n0 em m\n1 plain \\n\\\\\ncannot: no range of a text of "
             "3 characters\nversion 3\ncannot: no such command; peer.py --help tells them\ncannot: U+0000 can't be inserted\n")
-    command = [sys.executable, pathlib.Path(__file__).with_name("peer.py"), str(hub.port)]
-    done = subprocess.run(command, input=said.encode(), stdout=subprocess.PIPE, check=True)
-    assert done.stdout.decode() == want, done.stdout.decode()
-    failed = subprocess.run([*command, "--node", "0"], input=b"", stderr=subprocess.PIPE, check=False)
-    assert failed.returncode == 1 and failed.stderr.startswith(b"peer.py: no 42 Limit")
-    hub.ends()
+    with Hub(2, "--read") as hub:
+        command = [sys.executable, pathlib.Path(__file__).with_name("peer.py"), str(hub.port)]
+        done = subprocess.run(command, input=said.encode(), stdout=subprocess.PIPE, check=True)
+        assert done.stdout.decode() == want, done.stdout.decode()
+        failed = subprocess.run([*command, "--node", "0"], input=b"", stderr=subprocess.PIPE, check=False)
+        assert failed.returncode == 1 and failed.stderr.startswith(b"peer.py: no 42 Limit"), failed.stderr
 
 
 def try_without_reading():
     """A hub without --read doesn't know these lines."""
-    hub = Hub(1)
-    session = Session(hub.port)
-    for line in ["latest", "show 0 0 1", "changes 0 1", "newest 1", "newest 0"]:
-        assert number_of(session, line) == 60, line
-    session.close()
-    hub.ends()
+    with Hub(1) as hub:
+        session = Session(hub.port)
+        for line in ["latest", "show 0 0 1", "changes 0 1", "newest 1", "newest 0"]:
+            assert number_of(session, line) == 60, line
+        session.close()
 
 
 def main():

@@ -28,6 +28,7 @@ QUESTION = HERE.parent / "filters" / "question.hex"
 UNGUARDED = "791100000000000071100100000000009500000000000000"
 ELEMENT = "element-6066-11e4-a52e-4f735466cecf"
 END = 1 << 20
+# Chromium has no sandbox where it is run as root; it opens no page but the bridge's.
 OPTIONS = ["--headless=new", "--no-sandbox", "--disable-dev-shm-usage", "--window-size=860,740", "--force-device-scale-factor=1"]
 SHOWN = """return [...document.querySelectorAll('#text > *')].map(one => {
     const style = getComputedStyle(one);
@@ -227,12 +228,13 @@ def try_filters(ann, session, subscriber):
 
 def try_toggle(ann, session, subscriber):
     """A button takes a key away where the whole selection has it; and what is refused is told and leaves the text."""
-    before = session.ask("show " + str(session.ask("latest")[1]) + " 0 1024")
-    ann.mark("em", 1, 4)
-    compare(ann, session, subscriber)
-    ann.mark("em", 1, 4)
-    compare(ann, session, subscriber)
-    assert session.ask("show " + str(session.ask("latest")[1]) + " 0 1024") == before
+    before = [format_of(one) for one in ann.run(SHOWN)]
+    assert before[:2] == ["strong", "plain"]
+    for first, end, want in [(1, 4, ["strong", "strong,em", "strong"]), (0, 6, ["strong,em", "strong"]), (0, 6, ["strong", "plain"])]:
+        ann.mark("em", first, end)
+        compare(ann, session, subscriber)
+        assert [format_of(one) for one in ann.run(SHOWN)][:len(want)] == want
+    assert [format_of(one) for one in ann.run(SHOWN)] == before
     ann.replace("#target", "no link")
     ann.mark("link", 1, 4)
     until(lambda: "a link has 1 to 1024 bytes" in ann.says("error"), "a wrong link isn't told")
@@ -241,6 +243,12 @@ def try_toggle(ann, session, subscriber):
     ann.run(PASTE, 3, 3, "y" * 10001)
     until(lambda: "at most 10000" in ann.says("error"), "a text that is too long isn't told")
     compare(ann, session, subscriber)
+    assert [format_of(one) for one in ann.run(SHOWN)] == before
+
+
+def units_before(text, part):
+    """Where a part of a text stands, as the browser counts."""
+    return len(text.partition(part)[0].encode("utf-16-le")) // 2
 
 
 def try_characters(ann, ben, peer, session, subscriber):
@@ -253,23 +261,28 @@ def try_characters(ann, ben, peer, session, subscriber):
     peer.mark(4, 20, "color", "0a00ff")
     for page in (ann, ben):
         compare(page, session, subscriber)
-    units = len(ann.box().partition("\U0001f600")[0].encode("utf-16-le")) // 2
+    units = units_before(ann.box(), "\U0001f600")
     ann.run(PASTE, units + 2, units + 2, "\U0001f601LONE")
     compare(ann, session, subscriber)
     assert "\U0001f600\U0001f601\ufffd<b>" in ann.box()
     ann.run(PASTE, units, units + 4, "")
     compare(ann, session, subscriber)
     assert "\u202e\ufffd<b>" in ann.box()
+    peer.follow()
+    peer.insert(0, "\U0001f600\U0001f600")
+    until(lambda: ann.box().startswith("\U0001f600\U0001f600"), ann.box())
+    units += 4
+    ann.mark("em", units + 1, units + 4)
+    compare(ann, session, subscriber)
+    assert [one["text"] for one in ann.run(SHOWN) if format_of(one) == "em"][:1] == ["<b>"]
     for page in (ann, ben):
         assert page.run("return [document.title, document.querySelectorAll('img, b').length]") == ["The text of a hub", 0]
 
 
 def try_at_once(pages, peer, session, subscriber, rng):
     """All type at once, each a sentence key by key that must stand together, and then edits at random."""
-    sentences = [f"Page {at} writes this, one key after the other." for at in range(len(pages))]
-
-    def type_sentence(page, sentence):
-        page.select(0, 0)
+    def type_sentence(page, unit, sentence):
+        page.select(unit, unit)
         for key in sentence:
             page.keys("#box", key)
 
@@ -290,19 +303,18 @@ def try_at_once(pages, peer, session, subscriber, rng):
             peer.insert(len(peer.replica.layout().visible), mine.choice(["p", "q?", "\U0001f600"]))
             time.sleep(0.02)
 
-    with ThreadPoolExecutor(8) as pool:
-        jobs = [pool.submit(type_sentence, page, sentence) for page, sentence in zip(pages, sentences)] + [pool.submit(peer_at_random, 1)]
-        for job in jobs:
-            job.result()
-    for page in pages:
-        compare(page, session, subscriber)
-        assert all(sentence in page.box() for sentence in sentences), page.box()
-    with ThreadPoolExecutor(8) as pool:
-        jobs = [pool.submit(edit_at_random, page, rng.random()) for page in pages] + [pool.submit(peer_at_random, 2)]
-        for job in jobs:
-            job.result()
-    for page in pages:
-        compare(page, session, subscriber)
+    def all_at_once(act, arguments):
+        with ThreadPoolExecutor() as pool:
+            for job in [pool.submit(peer_at_random, rng.random()), *(pool.submit(act, *some) for some in arguments)]:
+                job.result()
+        for page in pages:
+            compare(page, session, subscriber)
+
+    for unit in (0, units_before(pages[1].box(), "<b>")):
+        sentences = [f"The first page, one key after the other, {unit}.", f"The second page at {unit}."]
+        all_at_once(type_sentence, zip(pages, (0, unit), sentences))
+        assert all(sentence in page.box() for page in pages for sentence in sentences), pages[0].box()
+    all_at_once(edit_at_random, [(page, rng.random()) for page in pages])
 
 
 def try_requests(port):
