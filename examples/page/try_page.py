@@ -279,6 +279,25 @@ def try_characters(ann, ben, peer, session, subscriber):
         assert page.run("return [document.title, document.querySelectorAll('img, b').length]") == ["The text of a hub", 0]
 
 
+def try_composition(ann, peer, session, subscriber):
+    """A word that is composed, as Japanese is typed: others' edits wait until it is done, and then it stands where it was begun."""
+    def compose(command, **said):
+        ann.call("POST", "/goog/cdp/execute", {"cmd": command, "params": said})
+
+    unit = units_before(ann.box(), "Who")
+    ann.select(unit + 1, unit + 1)
+    for text in ["n", "\u306b", "\u306bh", "\u306b\u307b"]:
+        compose("Input.imeSetComposition", text=text, selectionStart=len(text), selectionEnd=len(text))
+        peer.follow()
+        peer.insert(0, "x")
+        until(lambda: session.ask("latest")[1] == ann.run("return state.version"), "the page doesn't show what others type")
+        assert f"W{text}ho" in ann.box() and f"W{text}ho" not in ann.says("text")
+    compose("Input.insertText", text="\u65e5\u672c")
+    until(lambda: "W\u65e5\u672cho" in ann.says("text"), "what was composed isn't typed")
+    compare(ann, session, subscriber)
+    assert ann.box().startswith("xxxx")
+
+
 def try_at_once(pages, peer, session, subscriber, rng):
     """All type at once, each a sentence key by key that must stand together, and then edits at random."""
     def type_sentence(page, unit, sentence):
@@ -361,6 +380,7 @@ def try_all(driver, hub_port, arguments):
             try_filters(pages[0], session, subscriber)
             try_toggle(pages[0], session, subscriber)
             try_characters(*pages, peer, session, subscriber)
+            try_composition(pages[0], peer, session, subscriber)
             try_at_once(pages, peer, session, subscriber, rng)
             try_requests(port)
             print(f"{pages[0].version()}: {session.ask('latest')[1]} versions, all alike")
