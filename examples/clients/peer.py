@@ -14,8 +14,8 @@ The node is that of the peer's own changes, 1 to 65,535; without --node one that
     wait VERSION                    waits until the hub has that version
 
 Places count visible characters. In a text \\n stands for a line feed and \\\\ for a backslash, as in what `text` and `spans` print. A
-command that changes the text prints `version N`, the version in which all of it is seen. One that is refused by the hub prints the
-hub's line, and one that can't be done `cannot: ` and why."""
+command that changes the text, and `wait`, print `version N`, the version in which all of it is seen. One that is refused by the hub
+prints the hub's line, and one that can't be done `cannot: ` and why."""
 import argparse
 import bisect
 import itertools
