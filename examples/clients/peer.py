@@ -1,0 +1,438 @@
+#!/usr/bin/env python3
+"""A peer of a hub that runs with --read: it follows the text, and makes changes of what a person says.
+
+    peer.py PORT [--node N] < COMMANDS
+
+The node is that of the peer's own changes, 1 to 65,535; without --node one that has made none is taken. Commands are lines:
+
+    text                            prints the text
+    spans                           prints the spans, as `hub spans` does
+    insert PLACE TEXT               inserts a text at a place: 0 is before the first character
+    remove FIRST END                removes the characters from place FIRST up to place END
+    mark FIRST END KEY [VALUE]      makes them strong, em, code, comment:N, link (VALUE: its target) or color (VALUE: rrggbb)
+    unmark FIRST END KEY            takes such a key from them
+    wait VERSION                    waits until the hub has that version
+
+Places count visible characters. In a text \\n stands for a line feed and \\\\ for a backslash, as in what `text` and `spans` print. A
+command that changes the text, and `wait`, print `version N`, the version in which all of it is seen. One that is refused by the hub
+prints the hub's line, and one that can't be done `cannot: ` and why."""
+import argparse
+import bisect
+import itertools
+import random
+import re
+import socket
+import sys
+import time
+from typing import NamedTuple
+
+OPERATIONS, NODES, TRIES = 256, 65535, 50
+AT_ONCE = 64
+LONGEST_LINE = 1 << 22
+KEYS = ["strong", "em", "code", "link", "color", "comment"]
+
+
+class Refused(Exception):
+    """A reply `no <number> <Name> ..`."""
+
+    def __init__(self, line):
+        super().__init__(line)
+        self.number = int(line.split(" ")[1])
+
+
+class Session:
+    """A session of a hub on this machine."""
+
+    def __init__(self, port):
+        self.socket = socket.create_connection(("127.0.0.1", port), timeout=60)
+        self.lines = self.socket.makefile("rb")
+
+    def line(self):
+        line = self.lines.readline(LONGEST_LINE)
+        if not line.endswith(b"\n"):
+            raise ConnectionError("the session with the hub has ended")
+        return line[:-1].decode()
+
+    def ask(self, *request):
+        """Sends the lines of a request. Returns the reply's lines but the last one, and that one's number: 3 of `ok version 3`."""
+        self.socket.sendall("".join(line + "\n" for line in request).encode())
+        reply = [self.line()]
+        while not reply[-1].startswith(("ok ", "no ")):
+            reply.append(self.line())
+        last = reply.pop()
+        if last.startswith("no "):
+            raise Refused(last)
+        return reply, int(last.split(" ")[2])
+
+    def close(self):
+        self.lines.close()
+        self.socket.close()
+
+
+# Words of a change.
+
+def id_in(word):
+    """An id as a pair of counter and node, so that ids compare as they do in the text; None of `-`."""
+    return None if word == "-" else tuple(int(part) for part in word.split("@"))
+
+
+def word_of(own):
+    return "-" if own is None else f"{own[0]}@{own[1]}"
+
+
+def changes_in(lines):
+    """Lines of changes that stand one behind another, as a list of lines for each change."""
+    lines = iter(lines)
+    return [[header, *itertools.islice(lines, int(header.split(" ")[2]))] for header in lines]
+
+
+def format_text(format):
+    """A format as a span's line has it."""
+    def rank(key):
+        name, _, number = key.partition(":")
+        return KEYS.index(name), int(number or 0)
+
+    words = [f"{key}={format[key]}" if key in ("link", "color") else key for key in sorted(format, key=rank)]
+    return ",".join(words) or "plain"
+
+
+def escaped(text):
+    """A text as a span's line has it."""
+    return text.replace("\\", "\\\\").replace("\n", "\\n")
+
+
+def unescaped(text):
+    return re.sub(r"\\([\\n])", lambda found: "\n" if found[1] == "n" else "\\", text)
+
+
+class Mark(NamedTuple):
+    """A mark operation: its value is None where it takes the key away."""
+    own: tuple
+    key: str
+    value: str | None
+    start: str
+    end: str
+
+
+class Layout(NamedTuple):
+    """A version of the text: all characters in their order, the place of each, and the visible ones with their formats."""
+    order: list
+    place: dict
+    visible: list
+    formats: list
+
+
+class Replica:
+    """The text that follows from the changes taken so far."""
+
+    def __init__(self):
+        self.version = 0
+        self.greatest = 0
+        self.characters = {}
+        self.children = {None: []}
+        self.removed = set()
+        self.marks = []
+        self.kept_layout = None
+
+    def take(self, change):
+        """Takes an accepted change, as its lines."""
+        for line in change[1:]:
+            kind, own, *words = line.split(" ")
+            own = id_in(own)
+            if kind == "i":
+                own = self.take_run(own, id_in(words[0]), words[1:])
+            elif kind == "r":
+                own = self.take_run(own, id_in(words[0]), words[2:])
+            elif kind == "d":
+                self.removed.add(id_in(words[0]))
+            elif kind == "m":
+                self.marks.append(Mark(own, *words))
+            else:
+                self.marks.append(Mark(own, words[0], None, *words[1:]))
+            self.greatest = max(self.greatest, own[0])
+        self.version += 1
+        self.kept_layout = None
+
+    def take_run(self, own, parent, codes):
+        """Takes characters of which each stands behind the one before it. Returns the last one's id."""
+        counter, node = own
+        for offset, code in enumerate(codes):
+            own = counter + offset, node
+            self.characters[own] = chr(int(code, 16))
+            self.children[own] = []
+            bisect.insort(self.children[parent], own)
+            parent = own
+        return parent
+
+    def layout(self):
+        """The version's layout, which is kept until the next change."""
+        if self.kept_layout is None:
+            order = self.order()
+            place = {own: at for at, own in enumerate(order)}
+            seen = [(own, format) for own, format in zip(order, self.formats(place)) if own not in self.removed]
+            self.kept_layout = Layout(order, place, [own for own, _ in seen], [format for _, format in seen])
+        return self.kept_layout
+
+    def order(self):
+        """All characters, removed ones too: each behind its parent, of several children the one with the greatest id first."""
+        order, waiting = [], list(self.children[None])
+        while waiting:
+            order.append(waiting.pop())
+            waiting += self.children[order[-1]]
+        return order
+
+    def formats(self, place):
+        """The format of each character, a dictionary from its keys to their values."""
+        def cut(anchor):
+            if anchor in ("^", "$"):
+                return 0 if anchor == "^" else len(place)
+            return place[id_in(anchor[1:])] + anchor.startswith(">")
+
+        begins, ends = {}, {}
+        for mark in self.marks:
+            start, end = cut(mark.start), cut(mark.end)
+            if start < end:
+                begins.setdefault(start, []).append(mark)
+                ends.setdefault(end, []).append(mark)
+        covering, formats, format = {}, [], {}
+        for at in range(len(place)):
+            if at in begins or at in ends:
+                for mark in ends.get(at, []):
+                    covering[mark.key].remove(mark)
+                for mark in begins.get(at, []):
+                    bisect.insort(covering.setdefault(mark.key, []), mark)
+                deciding = [marks[-1] for marks in covering.values() if marks]
+                format = {mark.key: mark.value for mark in deciding if mark.value is not None}
+            formats.append(format)
+        return formats
+
+    def text(self):
+        return "".join(self.characters[own] for own in self.layout().visible)
+
+    def spans(self):
+        """The spans: pairs of a format and a text."""
+        layout = self.layout()
+        pieces = itertools.groupby(zip(layout.formats, layout.visible), key=lambda pair: pair[0])
+        return [(format, "".join(self.characters[own] for _, own in piece)) for format, piece in pieces]
+
+    def span_lines(self):
+        """The spans as `hub spans` prints them."""
+        return [f"{index} {format_text(format)} {escaped(text)}" for index, (format, text) in enumerate(self.spans())]
+
+
+# What a person may ask for.
+
+def check_text(text):
+    for character in text:
+        if character == "\0" or "\ud800" <= character <= "\udfff":
+            raise ValueError(f"U+{ord(character):04X} can't be inserted")
+
+
+def check_key(key):
+    number = re.fullmatch("comment:([1-9][0-9]{0,9})", key)
+    if key not in KEYS[:-1] and not (number and int(number[1]) < 1 << 32):
+        raise ValueError("a key is strong, em, code, link, color, or comment: and a number from 1 to 4294967295")
+
+
+def check_value(key, value):
+    """A wrong value isn't sent: a line feed in it would be the end of its line."""
+    form = {"link": "[!-~]{1,1024}", "color": "[0-9a-f]{6}"}.get(key, "-")
+    if not re.fullmatch(form, value):
+        raise ValueError("a link has 1 to 1024 bytes without spaces, a color six of 0-9a-f, and other keys have no value")
+
+
+class Peer:
+    """A replica of a hub's text, and the changes of one node. A session is one peer's own: calls of it don't overlap."""
+
+    def __init__(self, port, node=None):
+        self.session = Session(port)
+        self.replica = Replica()
+        self.node = self.unused_node() if node is None else node
+        self.catch_up()
+
+    def unused_node(self):
+        while True:
+            node = random.randint(1, NODES)
+            if self.session.ask(f"newest {node}")[1] == 0:
+                return node
+
+    def follow(self):
+        """Takes all changes that the replica hasn't yet. Returns whether there were some."""
+        before, taken = self.replica.version, AT_ONCE
+        while taken == AT_ONCE:
+            lines, taken = self.session.ask(f"changes {self.replica.version} {AT_ONCE}")
+            for change in changes_in(lines):
+                self.replica.take(change)
+        return self.replica.version > before
+
+    def catch_up(self):
+        """Follows, and learns the newest counter of its node, which another session may use too."""
+        self.follow()
+        self.newest = self.session.ask(f"newest {self.node}")[1]
+
+    def submit(self, build):
+        """Submits the change whose lines `build` makes of its first counter. Where the hub has newer changes that make it wrong (46
+        StaleCounter, 47 UnknownRef), catches up and tries again with fresh ids. Returns the first counter."""
+        for left in reversed(range(TRIES)):
+            counter = max(self.replica.greatest, self.newest) + 1
+            try:
+                self.session.ask(*build(counter))
+                break
+            except Refused as why:
+                if why.number not in (46, 47) or not left:
+                    raise
+                self.catch_up()
+        self.follow()
+        return counter
+
+    # By visible places.
+
+    def insert(self, place, text):
+        visible = self.replica.layout().visible
+        if not 0 <= place <= len(visible):
+            raise ValueError(f"the text has {len(visible)} characters")
+        self.insert_behind(visible[place - 1] if place else None, text)
+
+    def range(self, first, end):
+        """The ids of the visible characters from one place up to another."""
+        visible = self.replica.layout().visible
+        if not 0 <= first < end <= len(visible):
+            raise ValueError(f"no range of a text of {len(visible)} characters")
+        return visible[first:end]
+
+    def remove(self, first, end):
+        self.remove_all(self.range(first, end))
+
+    def mark(self, first, end, key, value="-"):
+        """Adds a key to a range: strong, em, code, link, color or comment:N."""
+        covered = self.range(first, end)
+        self.mark_between(covered[0], covered[-1], key, value)
+
+    def unmark(self, first, end, key):
+        covered = self.range(first, end)
+        self.mark_between(covered[0], covered[-1], key, None)
+
+    # By ids.
+
+    def insert_behind(self, parent, text):
+        """Inserts a text behind a character, or at the start (None). Returns the ids of its characters."""
+        check_text(text)
+        parent, ids = self.behind_ends(parent), []
+        for start in range(0, len(text), OPERATIONS):
+            codes = [f"{ord(character):x}" for character in text[start:start + OPERATIONS]]
+            counter = self.submit(lambda counter: self.typed(counter, parent, codes))
+            ids += [(counter + offset, self.node) for offset in range(len(codes))]
+            parent = ids[-1]
+        return ids
+
+    def typed(self, counter, parent, codes):
+        """The change that inserts characters: a run is one line of the second form."""
+        if len(codes) == 1:
+            return [f"change {self.node} 1", f"i {counter}@{self.node} {word_of(parent)} {codes[0]}"]
+        return [f"change2 {self.node} 1", f"r {counter}@{self.node} {word_of(parent)} {len(codes)} {' '.join(codes)}"]
+
+    def behind_ends(self, parent):
+        """The last of the removed characters behind this one that a mark ends behind, else this one: what is typed behind a link
+        stands outside it, also where the link's last characters were removed."""
+        layout, ends = self.replica.layout(), {mark.end for mark in self.replica.marks}
+        following = itertools.islice(layout.order, 0 if parent is None else layout.place[parent] + 1, None)
+        for own in itertools.takewhile(self.replica.removed.__contains__, following):
+            if f">{word_of(own)}" in ends:
+                parent = own
+        return parent
+
+    def remove_all(self, ids):
+        """Removes those of these characters that are visible."""
+        ids = [own for own in ids if own not in self.replica.removed]
+        for start in range(0, len(ids), OPERATIONS):
+            some = ids[start:start + OPERATIONS]
+            self.submit(lambda counter: [f"change {self.node} {len(some)}"] + [
+                f"d {counter + offset}@{self.node} {word_of(own)}" for offset, own in enumerate(some)])
+
+    def mark_between(self, first, last, key, value):
+        """Adds a key from one character to another, both included; or takes it away where the value is None."""
+        check_key(key)
+        if value is not None:
+            check_value(key, value)
+        header = f"change2 {self.node} 1" if key == "code" else f"change {self.node} 1"
+        ends = f"<{word_of(first)} {self.end_of(last, key)}"
+
+        def change(counter):
+            own = f"{counter}@{self.node}"
+            return [header, f"u {own} {key} {ends}" if value is None else f"m {own} {key} {value} {ends}"]
+
+        self.submit(change)
+
+    def end_of(self, last, key):
+        """The anchor at which a mark ends. One that expands ends before the next character, and what is typed there is in it; links
+        and comments end behind their last character."""
+        if key == "link" or key.startswith("comment:"):
+            return f">{word_of(last)}"
+        layout = self.replica.layout()
+        following = layout.place[last] + 1
+        return f"<{word_of(layout.order[following])}" if following < len(layout.order) else "$"
+
+    def wait(self, version):
+        """Follows until the hub has a version."""
+        while self.replica.version < version:
+            if not self.follow():
+                time.sleep(0.1)
+
+    def close(self):
+        self.session.close()
+
+
+# The command.
+
+def number_in(word):
+    if not re.fullmatch("[0-9]{1,9}", word):
+        raise ValueError(f"no number: {word}")
+    return int(word)
+
+
+def perform(peer, line):
+    """Performs a command. Returns the lines to print."""
+    peer.follow()
+    command, _, rest = line.partition(" ")
+    words = rest.split(" ") if rest else []
+    if command == "text" and not words:
+        return [escaped(peer.replica.text())]
+    if command == "spans" and not words:
+        return peer.replica.span_lines()
+    if command == "insert" and len(words) >= 2:
+        peer.insert(number_in(words[0]), unescaped(rest.partition(" ")[2]))
+    elif command == "remove" and len(words) == 2:
+        peer.remove(number_in(words[0]), number_in(words[1]))
+    elif command == "mark" and len(words) in (3, 4):
+        peer.mark(number_in(words[0]), number_in(words[1]), *words[2:])
+    elif command == "unmark" and len(words) == 3:
+        peer.unmark(number_in(words[0]), number_in(words[1]), words[2])
+    elif command == "wait" and len(words) == 1:
+        peer.wait(number_in(words[0]))
+    else:
+        raise ValueError("no such command; peer.py --help tells them")
+    return [f"version {peer.replica.version}"]
+
+
+def main():
+    parser = argparse.ArgumentParser(description=__doc__, formatter_class=argparse.RawDescriptionHelpFormatter)
+    parser.add_argument("port", type=int)
+    parser.add_argument("--node", type=int)
+    arguments = parser.parse_args()
+    sys.stdout.reconfigure(encoding="utf-8", newline="\n")
+    try:
+        peer = Peer(arguments.port, arguments.node)
+        for line in sys.stdin.buffer:
+            try:
+                said = perform(peer, line.removesuffix(b"\n").decode("utf-8", "surrogateescape"))
+            except Refused as why:
+                said = [str(why)]
+            except ValueError as why:
+                said = [f"cannot: {why}"]
+            print("".join(line + "\n" for line in said), end="", flush=True)
+    except (OSError, Refused) as why:
+        sys.exit(f"peer.py: {why}")
+
+
+if __name__ == "__main__":
+    main()

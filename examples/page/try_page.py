@@ -1,0 +1,407 @@
+#!/usr/bin/env python3
+"""Tries the page in two browsers: try_page.py [HUB] [--picture FILE.png] [--seed N]
+
+HUB is the executable, by default $HUB or `hub`. It takes Chromium and its driver (Debian: chromium, chromium-driver). Two pages and a peer
+of peer.py type into one text; what the pages show is compared with what the hub's `show` and a subscription of the same filter say."""
+import argparse
+import base64
+import contextlib
+import http.client
+import json
+import os
+import pathlib
+import random
+import re
+import subprocess
+import sys
+import tempfile
+import time
+import urllib.error
+import urllib.request
+from concurrent.futures import ThreadPoolExecutor
+
+HERE = pathlib.Path(__file__).resolve().parent
+sys.path.insert(0, str(HERE.parent / "clients"))
+from peer import Peer, Session  # noqa: E402
+
+QUESTION = HERE.parent / "filters" / "question.hex"
+UNGUARDED = "791100000000000071100100000000009500000000000000"
+ELEMENT = "element-6066-11e4-a52e-4f735466cecf"
+END = 1 << 20
+# Chromium has no sandbox where it is run as root; it opens no page but the bridge's.
+OPTIONS = ["--headless=new", "--no-sandbox", "--disable-dev-shm-usage", "--window-size=860,740", "--force-device-scale-factor=1"]
+SHOWN = """return [...document.querySelectorAll('#text > *')].map(one => {
+    const style = getComputedStyle(one);
+    return {text: one.textContent, children: one.children.length, classes: [...one.classList], title: one.title,
+            href: one.getAttribute('href'), color: one.style.color, weight: style.fontWeight, slant: style.fontStyle,
+            family: style.fontFamily, outline: style.boxShadow}; })"""
+PASTE = """const box = document.getElementById('box'); box.focus(); box.setSelectionRange(arguments[0], arguments[1]);
+    document.execCommand('insertText', false, arguments[2].replace('LONE', '\\ud83d'))"""
+
+
+class Browser:
+    """A browser, by the WebDriver protocol."""
+
+    def __init__(self, driver):
+        self.driver = driver
+        options = {"alwaysMatch": {"goog:chromeOptions": {"args": OPTIONS}}}
+        self.session = self.call("POST", "", {"capabilities": options}, driver + "/session")
+
+    def call(self, method, path, body=None, at=None):
+        at = at or f"{self.driver}/session/{self.session['sessionId']}{path}"
+        data = None if body is None else json.dumps(body).encode()
+        request = urllib.request.Request(at, data, {"Content-Type": "application/json"}, method=method)
+        try:
+            with urllib.request.urlopen(request, timeout=60) as reply:
+                return json.loads(reply.read())["value"]
+        except urllib.error.HTTPError as why:
+            raise AssertionError(why.read().decode()[:400]) from why
+
+    def version(self):
+        named = self.session["capabilities"]
+        return f"{named['browserName']} {named['browserVersion']}"
+
+    def open(self, url):
+        self.call("POST", "/url", {"url": url})
+
+    def run(self, script, *arguments):
+        return self.call("POST", "/execute/sync", {"script": script, "args": list(arguments)})
+
+    def element(self, selector):
+        found = self.call("POST", "/element", {"using": "css selector", "value": selector})
+        return f"/element/{found[ELEMENT]}"
+
+    def keys(self, selector, text):
+        self.call("POST", self.element(selector) + "/value", {"text": text})
+
+    def click(self, selector):
+        self.call("POST", self.element(selector) + "/click", {})
+
+    def replace(self, selector, text):
+        self.call("POST", self.element(selector) + "/clear", {})
+        self.keys(selector, text)
+
+    def select(self, first, end):
+        """Selects in the box, by UTF-16 units."""
+        self.run("const box = document.getElementById('box'); box.focus(); box.setSelectionRange(arguments[0], arguments[1])", first, end)
+
+    def mark(self, key, first, end):
+        self.select(first, end)
+        self.click(f"[data-key={key}]")
+
+    def says(self, name):
+        return self.run("return document.getElementById(arguments[0]).textContent", name)
+
+    def box(self):
+        return self.run("return document.getElementById('box').value")
+
+    def quit(self):
+        self.call("DELETE", "")
+
+
+def until(holds, what):
+    """Waits until something holds."""
+    for _ in range(150):
+        if holds():
+            return
+        time.sleep(0.1)
+    raise AssertionError(what)
+
+
+@contextlib.contextmanager
+def program(*words):
+    """Runs a program, with the lines that it prints."""
+    with subprocess.Popen([str(word) for word in words], stdout=subprocess.PIPE, text=True) as process:
+        try:
+            yield process.stdout
+        finally:
+            process.terminate()
+
+
+def number_in(lines, form):
+    """The number in the first line that has a form."""
+    return next(int(found[1]) for found in map(re.compile(form).search, lines) if found)
+
+
+# What a page shows, and what the hub says.
+
+def format_of(one):
+    """The format of a shown span, as a span's line has it, from how it looks."""
+    titles = [title for title in one["title"].split(", ") if title]
+    color = re.fullmatch(r"rgb\((\d+), (\d+), (\d+)\)", one["color"])
+    words = [word for word, is_so in [("strong", int(one["weight"]) >= 700), ("em", one["slant"] == "italic"),
+                                      ("code", one["family"] == "monospace")] if is_so]
+    words += [f"link={title}" for title in titles if "link" in one["classes"] and not title.startswith("comment:")]
+    words += ["color=" + "".join(f"{int(part):02x}" for part in color.groups())] if color else []
+    words += sorted((title for title in titles if title.startswith("comment:")), key=lambda title: int(title.split(":")[1]))
+    return ",".join(words) or "plain"
+
+
+def compare(page, session, subscriber):
+    """Compares what a page shows with the hub's latest version, and its outlines with the filter's hits."""
+    until(lambda: page.run("return waiting ? -1 : state.version") == session.ask("latest")[1], "the page isn't at the latest version")
+    _, latest = session.ask("latest")
+    assert page.says("state").startswith(f"version {latest},")
+    lines, count = session.ask(f"show {latest} 0 1024")
+    assert len(lines) == count
+    hits = subscriber.hits(latest)
+    until(lambda: [at for at, one in enumerate(page.run(SHOWN)) if one["outline"] != "none"] == hits, "other hits are outlined")
+    shown = page.run(SHOWN)
+    for at, one in enumerate(shown):
+        text = one["text"].replace("\\", "\\\\").replace("\n", "\\n")
+        assert one["children"] == 0 and f"span {at} {format_of(one)} {text}" == lines[at], (one, lines[at])
+        assert one["href"] is None or re.match("https?://", one["href"])
+    assert len(shown) == count
+    text = "".join(one["text"] for one in shown).replace("\r", "\u240d")
+    until(lambda: page.box() == text, f"the box has {page.box()!r} and the text is {text!r}")
+
+
+class Subscriber:
+    """The same filter as a page's, in a session of the test's own."""
+
+    def __init__(self, session):
+        self.session, self.found = session, {}
+        _, self.number = session.ask(f"sub2 64 {QUESTION.read_text().strip()} from 0")
+
+    def hits(self, version):
+        count = 64
+        while count == 64:
+            items, count = self.session.ask(f"pull {self.number} 64")
+            for kind, *numbers in (item.split(" ") for item in items):
+                if kind == "hit":
+                    self.found.setdefault(int(numbers[0]), []).append(int(numbers[1]))
+        return self.found.get(version, [])
+
+
+# What is tried.
+
+def try_the_tour(ann, ben, peer, session, subscriber):
+    """A text that a peer began and two persons go on with, as docs/TOUR.md has it."""
+    peer.insert(0, "Lunch at 12?")
+    peer.mark(0, 8, "strong")
+    for page in (ann, ben):
+        page.keys("#program", str(QUESTION))
+        until(lambda page=page: page.says("items") == "question.hex: hit 2 1 1\nquestion.hex: end 2 2\n", page.says("error"))
+        compare(page, session, subscriber)
+    ben.select(5, 5)
+    ben.keys("#box", "es")
+    until(lambda: ann.box() == "Lunches at 12?", "Ann's page doesn't show what Ben typed")
+    ben.select(END, END)
+    ben.keys("#box", " See the menu, or ask hub spans.\nWho comes?")
+    until(lambda: ann.box().endswith("Who comes?"), "Ann's page doesn't show what Ben typed")
+    text = ann.box()
+    ben.mark("em", text.index("12"), text.index("12") + 2)
+    ann.replace("#target", "https://example.org/menu")
+    ann.mark("link", text.index("the menu"), text.index(", or"))
+    ben.mark("code", text.index("hub spans"), text.index("hub spans") + 9)
+    ben.mark("comment", text.index("Who"), text.index("Who") + 3)
+    ann.select(END, END)
+    ann.keys("#box", " I do.\nBen?")
+    until(lambda: ben.box().endswith("Ben?") and "Who" in [one["text"] for one in ann.run(SHOWN)], "a mark isn't shown")
+    for page in (ann, ben):
+        compare(page, session, subscriber)
+    assert [one["text"] for one in ann.run(SHOWN) if one["outline"] != "none"] == [" comes? I do.\nBen?"]
+    assert ann.run(SHOWN)[0]["text"] == "Lunches at" and format_of(ann.run(SHOWN)[0]) == "strong"
+
+
+def try_filters(ann, session, subscriber):
+    """Two filters at once, each in its color; a program that is refused, and a file that is none."""
+    ann.keys("#program", str(QUESTION.with_name("strong.hex")))
+    until(lambda: "strong.hex" in ann.says("filters"), ann.says("error"))
+
+    def are_outlined():
+        return all(one["outline"].count("rgb") == (int(one["weight"]) >= 700) + one["text"].endswith("?") for one in ann.run(SHOWN))
+
+    ann.mark("strong", ann.box().rindex("B"), len(ann.box()))
+    until(lambda: format_of(ann.run(SHOWN)[-1]) == "strong" and are_outlined(), "other spans are outlined")
+    assert ann.run(SHOWN)[-1]["outline"].count("rgb") == 2
+    ann.click("#filters span:nth-child(2) button")
+    until(lambda: "strong.hex" not in ann.says("filters"), "a filter isn't closed")
+    compare(ann, session, subscriber)
+    with tempfile.TemporaryDirectory() as folder:
+        for name, text, why in [("unguarded.hex", UNGUARDED, "no 21 TextBounds slot 1"), ("none.hex", "hello", "in hexadecimal")]:
+            pathlib.Path(folder, name).write_text(text, encoding="ascii")
+            ann.keys("#program", f"{folder}/{name}")
+            until(lambda why=why: why in ann.says("error"), "what is no filter isn't told")
+    compare(ann, session, subscriber)
+
+
+def try_toggle(ann, session, subscriber):
+    """A button takes a key away where the whole selection has it; and what is refused is told and leaves the text."""
+    before = [format_of(one) for one in ann.run(SHOWN)]
+    assert before[:2] == ["strong", "plain"]
+    for first, end, want in [(1, 4, ["strong", "strong,em", "strong"]), (0, 6, ["strong,em", "strong"]), (0, 6, ["strong", "plain"])]:
+        ann.mark("em", first, end)
+        compare(ann, session, subscriber)
+        assert [format_of(one) for one in ann.run(SHOWN)][:len(want)] == want
+    assert [format_of(one) for one in ann.run(SHOWN)] == before
+    ann.replace("#target", "no link")
+    ann.mark("link", 1, 4)
+    until(lambda: "a link has 1 to 1024 bytes" in ann.says("error"), "a wrong link isn't told")
+    ann.mark("code", 3, 3)
+    until(lambda: "choose a part of the text" in ann.says("error"), "an empty selection isn't told")
+    ann.run(PASTE, 3, 3, "y" * 10001)
+    until(lambda: "at most 10000" in ann.says("error"), "a text that is too long isn't told")
+    compare(ann, session, subscriber)
+    assert [format_of(one) for one in ann.run(SHOWN)] == before
+
+
+def units_before(text, part):
+    """Where a part of a text stands, as the browser counts."""
+    return len(text.partition(part)[0].encode("utf-16-le")) // 2
+
+
+def try_characters(ann, ben, peer, session, subscriber):
+    """Texts that a page could take for something else."""
+    peer.follow()
+    peer.insert(0, "<img src=x onerror=\"document.title='bad'\">&lt;\\n\r\n\u2028\u202e\U0001f600<b>")
+    peer.mark(0, 3, "link", "javascript:document.title='bad'")
+    peer.mark(6, 9, "link", "data:text/html,<script>1</script>")
+    peer.mark(2, 30, "comment:4294967295")
+    peer.mark(4, 20, "color", "0a00ff")
+    for page in (ann, ben):
+        compare(page, session, subscriber)
+    units = units_before(ann.box(), "\U0001f600")
+    ann.run(PASTE, units + 2, units + 2, "\U0001f601LONE")
+    compare(ann, session, subscriber)
+    assert "\U0001f600\U0001f601\ufffd<b>" in ann.box()
+    ann.run(PASTE, units, units + 4, "")
+    compare(ann, session, subscriber)
+    assert "\u202e\ufffd<b>" in ann.box()
+    peer.follow()
+    peer.insert(0, "\U0001f600\U0001f600")
+    until(lambda: ann.box().startswith("\U0001f600\U0001f600"), ann.box())
+    units += 4
+    ann.mark("em", units + 1, units + 4)
+    compare(ann, session, subscriber)
+    assert [one["text"] for one in ann.run(SHOWN) if format_of(one) == "em"][:1] == ["<b>"]
+    for page in (ann, ben):
+        assert page.run("return [document.title, document.querySelectorAll('img, b').length]") == ["The text of a hub", 0]
+
+
+def try_composition(ann, peer, session, subscriber):
+    """A word that is composed, as Japanese is typed: others' edits wait until it is done, and then it stands where it was begun."""
+    def compose(command, **said):
+        ann.call("POST", "/goog/cdp/execute", {"cmd": command, "params": said})
+
+    unit = units_before(ann.box(), "Who")
+    ann.select(unit + 1, unit + 1)
+    for text in ["n", "\u306b", "\u306bh", "\u306b\u307b"]:
+        compose("Input.imeSetComposition", text=text, selectionStart=len(text), selectionEnd=len(text))
+        peer.follow()
+        peer.insert(0, "x")
+        until(lambda: session.ask("latest")[1] == ann.run("return state.version"), "the page doesn't show what others type")
+        assert f"W{text}ho" in ann.box() and f"W{text}ho" not in ann.says("text")
+    compose("Input.insertText", text="\u65e5\u672c")
+    until(lambda: "W\u65e5\u672cho" in ann.says("text"), "what was composed isn't typed")
+    compare(ann, session, subscriber)
+    assert ann.box().startswith("xxxx")
+
+
+def try_at_once(pages, peer, session, subscriber, rng):
+    """All type at once, each a sentence key by key that must stand together, and then edits at random."""
+    def type_sentence(page, unit, sentence):
+        page.select(unit, unit)
+        for key in sentence:
+            page.keys("#box", key)
+
+    def edit_at_random(page, seed):
+        mine = random.Random(seed)
+        for _ in range(25):
+            length = len(page.box())
+            first = mine.randrange(length + 1)
+            if mine.random() < 0.5:
+                page.select(first, first)
+                page.keys("#box", mine.choice(["a", "wh?", "\n", "\ue003", "\ue017", "no "]))
+            else:
+                page.mark(mine.choice(["strong", "em", "code", "comment"]), first, min(length, first + 1 + mine.randrange(6)))
+
+    def peer_at_random(seed):
+        mine = random.Random(seed)
+        for _ in range(60):
+            peer.insert(len(peer.replica.layout().visible), mine.choice(["p", "q?", "\U0001f600"]))
+            time.sleep(0.02)
+
+    def all_at_once(act, arguments):
+        with ThreadPoolExecutor() as pool:
+            for job in [pool.submit(peer_at_random, rng.random()), *(pool.submit(act, *some) for some in arguments)]:
+                job.result()
+        for page in pages:
+            compare(page, session, subscriber)
+
+    for unit in (0, units_before(pages[1].box(), "<b>")):
+        sentences = [f"The first page, one key after the other, {unit}.", f"The second page at {unit}."]
+        all_at_once(type_sentence, zip(pages, (0, unit), sentences))
+        assert all(sentence in page.box() for page in pages for sentence in sentences), pages[0].box()
+    all_at_once(edit_at_random, [(page, rng.random()) for page in pages])
+
+
+def try_requests(port):
+    """Which requests the bridge doesn't answer."""
+    ours, evil = f"http://127.0.0.1:{port}", "http://evil.example"
+    own = f"127.0.0.1:{port}"
+    rows = [("GET", "/", {}, b"", 200), ("GET", "/", {"Host": "evil.example"}, b"", 403), ("GET", "/x", {}, b"", 404),
+            ("GET", "/page.html", {}, b"", 404), ("GET", "/", {"Host": f"evil.example:{port}"}, b"", 403),
+            ("GET", "/events", {"Host": "evil.example"}, b"", 403), ("GET", "/events", {"Origin": evil}, b"", 403),
+            ("GET", "/events", {"Sec-Fetch-Site": "cross-site"}, b"", 403), ("GET", "/events?node=0", {}, b"", 400),
+            ("GET", "/events?node=65536", {}, b"", 400), ("GET", "/events?x", {}, b"", 400),
+            ("POST", "/say", {}, b"{}", 403), ("POST", "/say", {"Origin": evil}, b"{}", 403), ("POST", "/say", {"Origin": "null"}, b"{}", 403),
+            ("POST", "/say", {"Origin": ours, "Host": "evil.example"}, b"{}", 403), ("POST", "/", {"Origin": ours}, b"{}", 403),
+            ("POST", "/say", {"Origin": ours, "Content-Length": "1048577"}, None, 413), ("POST", "/say", {"Origin": ours}, None, 413),
+            ("POST", "/say", {"Origin": ours, "Content-Length": "-1"}, None, 413), ("PUT", "/say", {"Origin": ours}, b"{}", 501)]
+    bodies = [b"", b"{}", b"[]", b"1", b"\xff", b"[" * 100000, b'{"client": 1}', b'{"client": "x", "kind": "edit"}', b"9" * 9999]
+    rows += [("POST", "/say", {"Origin": ours}, body, 400) for body in bodies]
+    for method, path, headers, body, want in rows:
+        connection = http.client.HTTPConnection("127.0.0.1", port, timeout=20)
+        connection.putrequest(method, path, skip_host=True)
+        for name, value in {"Host": own, **({} if body is None else {"Content-Length": str(len(body))}), **headers}.items():
+            connection.putheader(name, value)
+        connection.endheaders(body)
+        reply = connection.getresponse()
+        assert reply.status == want, (method, path, headers, (body or b"")[:40], reply.status)
+        connection.close()
+    with contextlib.suppress(ConnectionRefusedError):
+        http.client.HTTPConnection("127.0.0.2", port, timeout=5).connect()
+        raise AssertionError("the bridge listens on 127.0.0.2")
+
+
+def try_all(driver, hub_port, arguments):
+    with program(sys.executable, HERE / "bridge.py", hub_port, "--port", 0) as lines:
+        port = number_in(lines, r"http://127\.0\.0\.1:([0-9]+)/")
+        session, peer, rng = Session(hub_port), Peer(hub_port, 3), random.Random(arguments.seed)
+        subscriber, pages = Subscriber(session), [Browser(driver), Browser(driver)]
+        try:
+            for node, page in enumerate(pages, 1):
+                page.open(f"http://127.0.0.1:{port}/?node={node}")
+                until(lambda page=page, node=node: page.says("state") == f"version 0, you are node {node}", page.says("state"))
+            try_the_tour(*pages, peer, session, subscriber)
+            if arguments.picture:
+                pathlib.Path(arguments.picture).write_bytes(base64.b64decode(pages[0].call("GET", "/screenshot")))
+            try_filters(pages[0], session, subscriber)
+            try_toggle(pages[0], session, subscriber)
+            try_characters(*pages, peer, session, subscriber)
+            try_composition(pages[0], peer, session, subscriber)
+            try_at_once(pages, peer, session, subscriber, rng)
+            try_requests(port)
+            print(f"{pages[0].version()}: {session.ask('latest')[1]} versions, all alike")
+        finally:
+            for page in pages:
+                page.quit()
+            session.close()
+            peer.close()
+
+
+def main():
+    parser = argparse.ArgumentParser(description=__doc__, formatter_class=argparse.RawDescriptionHelpFormatter)
+    parser.add_argument("hub", nargs="?", default=os.environ.get("HUB", "hub"))
+    parser.add_argument("--picture")
+    parser.add_argument("--seed", type=int, default=random.randrange(1 << 32))
+    arguments = parser.parse_args()
+    print(f"seed {arguments.seed}")
+    with program(arguments.hub, "serve", "--read", "--port", 0, "--sessions", 4) as lines, \
+            program("chromedriver", "--port=0") as driver:
+        try_all(f"http://127.0.0.1:{number_in(driver, 'successfully on port ([0-9]+)')}", number_in(lines, "port ([0-9]+)"), arguments)
+
+
+if __name__ == "__main__":
+    main()
