@@ -4,7 +4,8 @@ use Rattle.std.specs.Option.{IfSome}
 use Rattle.intervals.specs.declared.Range.{Range}
 use Rattle.abstract_state.specs.declared.region.Tails.{Tails}
 use Rattle.abstract_state.specs.declared.quantity.Quantity.{Quantity}
-use Rattle.abstract_state.specs.Quantity.{Narrows}
+use Rattle.known_bits.specs.declared.Bits.{Bits}
+use Rattle.abstract_state.specs.Quantity.{Narrows, KeepsBits}
 use Rattle.abstract_state.specs.declared.region.Region.{Region}
 use Rattle.abstract_state.specs.Lent.{tail_of}
 use Rattle.abstract_state.specs.declared.known.Known.{Known}
@@ -14,14 +15,19 @@ use Rattle.abstract_state.specs.declared.state.AbsReg.{AbsReg}
 use Rattle.abstract_state.specs.declared.state.AbsReg.TheVariants.{Unset, Set}
 use Rattle.abstract_state.specs.Kinds.{IsNumberReg}
 use Rattle.abstract_state.specs.Known.{AreNumbers}
-use Rattle.abstract_state.specs.Exact.{IsIn, IsLentIn, Says, Holds, NumberIn, AnyNumber}
+use Rattle.abstract_state.specs.Exact.{HasBits, IsIn, IsLentIn, Says, Holds, NumberIn, AnyNumber}
 use Rattle.abstract_state.proofs.Options.{some_is, where_some}
+use Rattle.abstract_state.proofs.KnownBits.{one_kept}
 
-pub one_stays : (region : Region) (o : Option Quantity) (range : Range) (tails : Tails) (n : ℕ) (t : Option ℕ) → Narrows o range tails → range.low ≡ n → range.high ≡ n → tail_of tails region ≡ t → IfSome o (λ q. IsIn region q n n t)
-one_stays region o range tails n t narrows low high tail = where_some _ o (λ q is.
+pub one_stays : (region : Region) (o : Option Quantity) (bits : Bits) (range : Range) (tails : Tails) (n : ℕ) (t : Option ℕ) → Narrows o range tails → KeepsBits o bits → range.low ≡ n → range.high ≡ n → tail_of tails region ≡ t → HasBits bits n n → IfSome o (λ q. IsIn region q n n t)
+one_stays region o bits range tails n t narrows keeps low high tail one = where_some _ o (λ q is.
     let inner = some_is _ o q is narrows in
-    let ordered = q.range.ordered in
-    (omega arith, omega arith, ap (λ (s : Tails). tail_of s region) inner.2 ∙ tail))
+    let ordered = q.range.ordered in (
+      omega arith,
+      omega arith,
+      ap (λ (s : Tails). tail_of s region) inner.2 ∙ tail,
+      one_kept bits q.bits n one (some_is _ o q is keeps),
+    ))
 
 pub lent_is : (region : Region) (low high : ℕ) (t : Option ℕ) (k : Known) → IsLentIn region low high t k → (p : LentPlace) × (k ≡ Lent p) × (p.region ≡ region) × IsIn region p.offset low high t
 lent_is region low high t (Number q) h = absurd h

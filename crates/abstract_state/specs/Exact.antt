@@ -1,5 +1,8 @@
--- What is known of a value, to the last detail of its interval and its tail for one lent region.
-use Rattle.std.specs.Prelude.{◌≡◌, ℕ, ◌-◌, nat_le, if◌then◌else◌, Option, Some, None}
+-- What is known of a value, to the last detail of its interval, its known bits and its tail for one lent region.
+use Rattle.std.specs.Prelude.{◌≡◌, ℕ, ◌-◌, ◌/◌, ◌^◌, ◌↔◌, nat_le, if◌then◌else◌, Option, Some, None}
+use Rattle.known_bits.specs.declared.Bits.{Bits}
+use Rattle.known_bits.specs.Bits.{bit}
+use Rattle.abstract_state.specs.Quantity.{InBits}
 use Rattle.abstract_state.specs.declared.quantity.Quantity.{Quantity}
 use Rattle.abstract_state.specs.declared.region.Region.{Region}
 use Rattle.abstract_state.specs.Lent.{tail_of}
@@ -14,9 +17,13 @@ abbrev pub tail_after : Option ℕ → ℕ → Option ℕ
 tail_after None n = None
 tail_after (Some t) n = if nat_le n t then Some (t - n) else None
 
--- a quantity with this interval, and this tail for the region
+-- known are the high bits that low and high have in common, and no other bit
+abbrev pub HasBits : Bits → ℕ → ℕ → Type 0
+HasBits b low high = InBits b low × ((k : ℕ) → (bit b.unknown k ≡ 0) ↔ (low / 2 ^ k ≡ high / 2 ^ k))
+
+-- a quantity with this interval and its bits, and this tail for the region
 abbrev pub IsIn : Region → Quantity → ℕ → ℕ → Option ℕ → Type 0
-IsIn region q low high tail = (q.range.low ≡ low) × (q.range.high ≡ high) × (tail_of q.tails region ≡ tail)
+IsIn region q low high tail = (q.range.low ≡ low) × (q.range.high ≡ high) × (tail_of q.tails region ≡ tail) × HasBits q.bits low high
 
 -- a number with this interval and tail
 abbrev pub IsNumberIn : Region → ℕ → ℕ → Option ℕ → Known → Type 0

@@ -1,6 +1,6 @@
 ghost use Rattle.std.specs.Prelude.{◌≡◌, ℕ, ◌+◌, ◌-◌, ◌%◌, ◌^◌, ◌<◌, ◌≤◌, Option, Some, None, IsSome, IfSome, IfOk, IsOk, IsTrue, ◌↔◌};
 ghost use Rattle.abstract_state.specs.Lent.{Lengths, HasTails, base_of};
-ghost use Rattle.abstract_state.specs.Quantity.{Contains, Within};
+ghost use Rattle.abstract_state.specs.Quantity.{Contains, Within, JoinsNumber};
 ghost use Rattle.abstract_state.specs.Known.{ContainsKnown, WithinKnown, IsNumber, AreNumbers};
 ghost use Rattle.abstract_state.specs.declared.state.AbsReg.TheVariants as TheRegs;
 ghost use Rattle.abstract_state.specs.Kinds.{IsContextAt, IsStackAt};
@@ -184,6 +184,8 @@ impl Known {
         ensures left { IfSome result (λ k. (lengths : Lengths) (x : ℕ) → ContainsKnown self lengths x → ContainsKnown k lengths x) }
         ensures right { IfSome result (λ k. (lengths : Lengths) (x : ℕ) → ContainsKnown other lengths x → ContainsKnown k lengths x) }
         ensures numbers { IsNumber self → IsNumber other → IsSome result × AreNumbers result }
+        ensures values { (p q : Quantity) → self ≡ Known.Number p → other ≡ Known.Number q → (r : Quantity) × (result ≡ Some (Known.Number r)) × JoinsNumber p q r }
+        ensures lent { (p q : LentPlace) → self ≡ Known.Lent p → other ≡ Known.Lent q → p.region ≡ q.region → (r : LentPlace) × (result ≡ Some (Known.Lent r)) × (r.region ≡ p.region) × JoinsNumber p.offset q.offset r.offset }
         ensures context { (n : ℕ) → IsContextAt n (TheRegs.Set self) → IsContextAt n (TheRegs.Set other) → IsSome result × IfSome result (λ k. IsContextAt n (TheRegs.Set k)) }
         ensures stack { (n : ℕ) → IsStackAt n (TheRegs.Set self) → IsStackAt n (TheRegs.Set other) → IsSome result × IfSome result (λ k. IsStackAt n (TheRegs.Set k)) }
     {
@@ -201,6 +203,7 @@ impl Known {
 fn join_lent(a: LentPlace, b: LentPlace) -> Option<Known>
     ensures left { IfSome result (λ k. (lengths : Lengths) (x : ℕ) → ContainsKnown (Known.Lent a) lengths x → ContainsKnown k lengths x) }
     ensures right { IfSome result (λ k. (lengths : Lengths) (x : ℕ) → ContainsKnown (Known.Lent b) lengths x → ContainsKnown k lengths x) }
+    ensures joins { a.region ≡ b.region → (r : LentPlace) × (result ≡ Some (Known.Lent r)) × (r.region ≡ a.region) × JoinsNumber a.offset b.offset r.offset }
 {
     if a.region != b.region {
         return None;

@@ -3,13 +3,15 @@ ghost use Rattle.std.specs.Prelude.{◌≡◌, ◌≢◌, ℕ, ◌+◌, ◌-◌,
 ghost use Rattle.abstract_state.specs.Lent.{Lengths};
 ghost use Rattle.abstract_state.specs.Known.{ContainsKnown};
 ghost use Rattle.abstract_state.specs.State.{Bytes, HasByte, HasNumber, ContainsSlot, ContainsStack, slot_at, Spares, Fills};
+ghost use Rattle.abstract_state.specs.Kinds.{IsMarked, JoinsSlot};
 
 use crate::known::Known;
 use crate::slot::Slot;
 
 /// Which of a slot's bytes are set for sure; those of a spilled address count as unset.
 fn marks(slot: Slot) -> [bool; 8]
-    ensures { (lengths : Lengths) (bytes : Bytes) (i : ℕ) → ContainsSlot slot lengths bytes i → ContainsSlot (Slot.Marks result) lengths bytes i }
+    ensures contains { (lengths : Lengths) (bytes : Bytes) (i : ℕ) → ContainsSlot slot lengths bytes i → ContainsSlot (Slot.Marks result) lengths bytes i }
+    ensures marked { (j : ℕ) → j < 8 → IsMarked slot j → slice_index_or result j false ≡ true }
 {
     match slot {
         Slot::Marks(marks) => marks,
@@ -24,7 +26,9 @@ fn none_set() -> [bool; 8]
     [false; 8]
 }
 
-fn all_set() -> [bool; 8] {
+fn all_set() -> [bool; 8]
+    ensures { (j : ℕ) → j < 8 → slice_index_or result j false ≡ true }
+{
     [true; 8]
 }
 
@@ -32,6 +36,7 @@ fn all_set() -> [bool; 8] {
 fn both(a: &[bool; 8], b: &[bool; 8]) -> [bool; 8]
     ensures left { (j : ℕ) → j < 8 → slice_index_or result j false ≡ true → slice_index_or a.now j false ≡ true }
     ensures right { (j : ℕ) → j < 8 → slice_index_or result j false ≡ true → slice_index_or b.now j false ≡ true }
+    ensures all { (j : ℕ) → j < 8 → slice_index_or a.now j false ≡ true → slice_index_or b.now j false ≡ true → slice_index_or result j false ≡ true }
 {
     let mut marks = *a;
     for j in 0..8 {
@@ -44,6 +49,7 @@ fn both(a: &[bool; 8], b: &[bool; 8]) -> [bool; 8]
 pub fn join(a: Slot, b: Slot) -> Slot
     ensures left { (lengths : Lengths) (bytes : Bytes) (i : ℕ) → ContainsSlot a lengths bytes i → ContainsSlot result lengths bytes i }
     ensures right { (lengths : Lengths) (bytes : Bytes) (i : ℕ) → ContainsSlot b lengths bytes i → ContainsSlot result lengths bytes i }
+    ensures joins { JoinsSlot a b result }
 {
     if let (Slot::Spilled(x), Slot::Spilled(y)) = (a, b) {
         return match x.join(y) {
@@ -60,6 +66,7 @@ pub fn join(a: Slot, b: Slot) -> Slot
 pub fn join_slots(a: &mut [Slot; 64], b: &[Slot; 64])
     ensures left { (lengths : Lengths) (bytes : Bytes) → ContainsStack a.old lengths bytes → ContainsStack a.new lengths bytes }
     ensures right { (lengths : Lengths) (bytes : Bytes) → ContainsStack b.now lengths bytes → ContainsStack a.new lengths bytes }
+    ensures joins { (i : ℕ) → i < 64 → JoinsSlot (slot_at a.old i) (slot_at b.now i) (slot_at a.new i) }
 {
     for i in 0..64 {
         a[i] = join(a[i], b[i]);

@@ -2,8 +2,8 @@
 ghost use Rattle.std.specs.Prelude.{◌≡◌, ℕ, ◌+◌, ◌-◌, ◌*◌, ◌/◌, ◌%◌, ◌^◌, ◌<◌, ◌≤◌, Option, None, IfSome, bit_and, bit_or, bit_xor};
 ghost use Rattle.abstract_state.specs.Lent.{Lengths, HasTails, InRange, InRanges};
 ghost use Rattle.abstract_state.specs.declared.region.Region.{Region};
-ghost use Rattle.abstract_state.specs.Quantity.{InBits, Contains, Within, Fits, Maps, MapsBoth, Narrows};
-ghost use Rattle.abstract_state.specs.Exact.{tail_after, IsIn};
+ghost use Rattle.abstract_state.specs.Quantity.{InBits, Contains, Within, Fits, Maps, MapsBoth, Narrows, KeepsBits};
+ghost use Rattle.abstract_state.specs.Exact.{tail_after, HasBits, IsIn};
 ghost use Rattle.meaning.specs.Value.{bits_of, cut, value_of};
 
 use crate::quantity::Quantity;
@@ -66,13 +66,15 @@ impl Quantity {
     pub fn moved(self, width: Width) -> Option<Quantity>
         ensures contains { (lengths : Lengths) (x : ℕ) → Contains self lengths x → Within result lengths (cut width x) }
         ensures narrows { width ≡ Width.Full → Narrows result self.range self.tails }
+        ensures bits { width ≡ Width.Full → KeepsBits result self.bits }
     {
         Quantity::finish(width, self.bits, self.range, self.tails)
     }
 
     /// The bits of the sum.
     fn sum_bits(self, other: Quantity) -> Bits
-        ensures { (lengths : Lengths) (x y : ℕ) → Contains self lengths x → Contains other lengths y → InBits result ((x + y) % 2 ^ 64) }
+        ensures contains { (lengths : Lengths) (x y : ℕ) → Contains self lengths x → Contains other lengths y → InBits result ((x + y) % 2 ^ 64) }
+        ensures constants { (region : Region) (m n : ℕ) (t u : Option ℕ) → IsIn region self m m t → IsIn region other n n u → m + n < 2 ^ 64 → HasBits result (m + n) (m + n) }
     {
         if self.bits.greatest() & other.bits.greatest() != 0 {
             if let (Some(a), Some(b)) = (self.only(), other.only()) {

@@ -12,4 +12,4 @@ returns-then-place-count c = λ lengths old new i at s spares fills.
 
 pub returns : goal.returns
 returns c = λ lengths old new i at s spares fills j h m.
-    stored_byte old new (get_or c.marks-marks.result j false) c.args.first c.args.place c.args.count i j at (c.marks-marks.ensures lengths old i s j h) spares fills (sym (c.with_store.ensures j h) ∙ m)
+    stored_byte old new (get_or c.marks-marks.result j false) c.args.first c.args.place c.args.count i j at (c.marks-marks.ensures.contains lengths old i s j h) spares fills (sym (c.with_store.ensures j h) ∙ m)

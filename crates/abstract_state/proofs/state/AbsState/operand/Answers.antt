@@ -1,10 +1,10 @@
-use Rattle.std.proofs.Common.{◌≡◌, Ok, ℕ, ℤ, pos, refl, subst, sym, ap, ◌∙◌, rules, arith}
+use Rattle.std.proofs.Common.{◌≡◌, None, Ok, ℕ, ℤ, pos, refl, subst, sym, ap, ◌∙◌, rules, arith}
 use Rattle.std.proofs.lemmas.Int.{to_z-of_z}
 use Rattle.std.specs.Int.{w32, w64, cast_unsigned}
 use mir.Val.{SFits}
 use Rattle.std.proofs.lemmas.Result.{IfOk-weaker}
 use Rattle.meaning.specs.State.{operand_in}
-use Rattle.abstract_state.specs.Exact.{Holds}
+use Rattle.abstract_state.specs.Exact.{Holds, IsIn}
 use Rattle.abstract_state.specs.State.{register_at}
 use Rattle.abstract_state.proofs.state.AbsState.operand.Goals as goal
 
@@ -27,5 +27,4 @@ returns-in-Immediate-clause-constant c = λ region k e small.
     let fits : SFits w32 c.in-Immediate.value = search rules in
     let value : c.in-Immediate.value ≡ pos k = cc in
     let is : c.extended.result ≡ k = c.extended.ensures ∙ ap (cast_unsigned w64) (to_z-of_z w32 c.in-Immediate.value fits ∙ value) ∙ omega arith in
-    let found = c.constant.ensures.is region in
-    (refl, (found.0 ∙ is, found.1 ∙ is, found.2))
+    (refl, subst (λ (v : ℕ). IsIn region c.constant.result v v None) is (c.constant.ensures.is region))
