@@ -5,7 +5,7 @@ use Rattle.intervals.specs.declared.Range.{Range}
 use Rattle.abstract_state.specs.declared.region.Tails.{Tails}
 use Rattle.abstract_state.specs.declared.quantity.Quantity.{Quantity}
 use Rattle.known_bits.specs.declared.Bits.{Bits}
-use Rattle.abstract_state.specs.Quantity.{Narrows, KeepsBits}
+use Rattle.abstract_state.specs.Quantity.{Narrows, KeepsBits, LiesInBits}
 use Rattle.abstract_state.specs.declared.region.Region.{Region}
 use Rattle.abstract_state.specs.Lent.{tail_of}
 use Rattle.abstract_state.specs.declared.known.Known.{Known}
@@ -14,10 +14,10 @@ use Rattle.abstract_state.specs.declared.place.LentPlace.{LentPlace}
 use Rattle.abstract_state.specs.declared.state.AbsReg.{AbsReg}
 use Rattle.abstract_state.specs.declared.state.AbsReg.TheVariants.{Unset, Set}
 use Rattle.abstract_state.specs.Kinds.{IsNumberReg}
-use Rattle.abstract_state.specs.Known.{AreNumbers}
-use Rattle.abstract_state.specs.Exact.{HasBits, IsIn, IsLentIn, Says, Holds, NumberIn, AnyNumber}
+use Rattle.abstract_state.specs.Known.{IsNumber, AreNumbers}
+use Rattle.abstract_state.specs.Exact.{HasBits, IsIn, IsNumberIn, IsLentIn, Says, Holds, NumberIn, AnyNumber}
 use Rattle.abstract_state.proofs.Options.{some_is, where_some}
-use Rattle.abstract_state.proofs.KnownBits.{one_kept}
+use Rattle.abstract_state.proofs.KnownBits.{one_kept, bits_value, most_one}
 
 pub one_stays : (region : Region) (o : Option Quantity) (bits : Bits) (range : Range) (tails : Tails) (n : ℕ) (t : Option ℕ) → Narrows o range tails → KeepsBits o bits → range.low ≡ n → range.high ≡ n → tail_of tails region ≡ t → HasBits bits n n → IfSome o (λ q. IsIn region q n n t)
 one_stays region o bits range tails n t narrows keeps low high tail one = where_some _ o (λ q is.
@@ -28,6 +28,19 @@ one_stays region o bits range tails n t narrows keeps low high tail one = where_
       ap (λ (s : Tails). tail_of s region) inner.2 ∙ tail,
       one_kept bits q.bits n one (some_is _ o q is keeps),
     ))
+
+-- where the bits are those of one number, the interval is too
+pub one_made : (region : Region) (o : Option Quantity) (bits : Bits) (range : Range) (tails : Tails) (n : ℕ) (t : Option ℕ) → Narrows o range tails → KeepsBits o bits → IfSome o (λ q. LiesInBits q) → tail_of tails region ≡ t → HasBits bits n n → IfSome o (λ q. IsIn region q n n t)
+one_made region o bits range tails n t narrows keeps lies tail one = where_some _ o (λ q is.
+    let inner = some_is _ o q is narrows in
+    let ends = some_is _ o q is lies in
+    let ordered = q.range.ordered in
+    let bits_now = one_kept bits q.bits n one (some_is _ o q is keeps) in
+    let value = bits_value q.bits n bits_now in
+    let top = most_one q.bits n bits_now in
+    let low : q.range.low ≡ n = omega (arith, ends.0, ends.1, ordered, value, top) in
+    let high : q.range.high ≡ n = omega (arith, ends.0, ends.1, ordered, value, top) in
+    (low, high, ap (λ (s : Tails). tail_of s region) inner.2 ∙ tail, bits_now))
 
 pub lent_is : (region : Region) (low high : ℕ) (t : Option ℕ) (k : Known) → IsLentIn region low high t k → (p : LentPlace) × (k ≡ Lent p) × (p.region ≡ region) × IsIn region p.offset low high t
 lent_is region low high t (Number q) h = absurd h
@@ -49,3 +62,9 @@ in_is_number region low high t (Set (Number q)) h = tt
 in_is_number region low high t (Set (Context p)) h = absurd h
 in_is_number region low high t (Set (Stack p)) h = absurd h
 in_is_number region low high t (Set (Lent p)) h = absurd h
+
+pub one_number : (region : Region) (low high : ℕ) (t : Option ℕ) (k : Known) → IsNumberIn region low high t k → IsNumber k
+one_number region low high t (Number q) h = tt
+one_number region low high t (Context p) h = absurd h
+one_number region low high t (Stack p) h = absurd h
+one_number region low high t (Lent p) h = absurd h

@@ -6,10 +6,15 @@ use Rattle.abstract_state.specs.declared.known.Known.TheVariants.{Number, Lent}
 use Rattle.abstract_state.specs.declared.place.LentPlace.{LentPlace}
 use Rattle.abstract_state.specs.declared.quantity.Quantity.{Quantity}
 use Rattle.abstract_state.specs.declared.state.AbsReg.{AbsReg}
-use Rattle.abstract_state.specs.declared.state.AbsReg.TheVariants.{Set}
+use Rattle.abstract_state.specs.declared.state.AbsReg.TheVariants.{Unset, Set}
 use Rattle.abstract_state.specs.Known.{IsNumber, AreNumbers}
 use Rattle.abstract_state.specs.Quantity.{JoinsNumber}
-use Rattle.abstract_state.specs.Kinds.{IsContextAt, IsStackAt, JoinsReg, held}
+use Rattle.abstract_state.specs.Kinds.{IsContextAt, IsStackAt, JoinsReg}
+
+-- the register that holds what is known, if anything is
+abbrev pub held : Option Known → AbsReg
+held None = Unset
+held (Some k) = Set k
 
 pub some_none : (o : Option Known) → o ≡ None → IsSome o → ⊥
 some_none o e h = search rules

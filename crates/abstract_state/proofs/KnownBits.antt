@@ -6,7 +6,7 @@ use Rattle.std.proofs.lemmas.Nat.{pow_pos}
 use Rattle.std.proofs.lemmas.Bool.{cases_lt}
 use Rattle.std.proofs.lemmas.Grind.{common_steps}
 use Rattle.known_bits.specs.declared.Bits.{Bits}
-use Rattle.known_bits.specs.Bits.{bit, most, IsConstant}
+use Rattle.known_bits.specs.Bits.{bit, most, IsConstant, MapsBoth, KnowsBoth}
 use Rattle.known_bits.proofs.BitLaws.{bit-lt, bit-zero, bit-or, same}
 use Rattle.known_bits.proofs.Members.{Fit, has_value, has_most, apart, constant_is, all_known}
 use Rattle.abstract_state.specs.Quantity.{InBits, KnowsHigh}
@@ -79,3 +79,18 @@ end_bits b limit power inside knows = (
     knows k,
   ),
 )
+
+-- the operation of two numbers is one number, where each bit that is the same in all results is known
+pub made : (a b r : Bits) (m n : ℕ) (f : ℕ → ℕ → ℕ) → HasBits a m m → HasBits b n n → MapsBoth a b r f → KnowsBoth a b r f → HasBits r (f m n) (f m n)
+made a b r m n f one two maps knows =
+    let left = λ (x : ℕ) (h : InBits a x). constant_is a x (bits_one a m one) h in
+    let right = λ (y : ℕ) (h : InBits b y). constant_is b y (bits_one b n two) h in
+    one_bits r (f m n)
+    (all_known r (λ k. knows k (λ x y x' y' ix iy ix' iy'.
+    ap (λ (v : ℕ). bit (f v y) k) (left x ix ∙ sym (left x' ix')) ∙ ap (λ (v : ℕ). bit (f x' v) k) (right y iy ∙ sym (right y' iy')))))
+    (maps m n one.0 two.0)
+
+pub most_one : (b : Bits) (n : ℕ) → HasBits b n n → most b ≡ n
+most_one b n h =
+    let none = bits_one b n h in
+    same (most b) b.value (λ k. let zero : bit b.unknown k ≡ 0 = ap (λ (m : ℕ). bit m k) none ∙ bit-zero k in bit-or b.value b.unknown k ∙ omega (arith, zero)) ∙ bits_value b n h

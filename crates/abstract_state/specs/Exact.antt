@@ -1,5 +1,7 @@
 -- What is known of a value, to the last detail of its interval, its known bits and its tail for one lent region.
-use Rattle.std.specs.Prelude.{◌≡◌, ℕ, ◌-◌, ◌/◌, ◌^◌, ◌↔◌, nat_le, if◌then◌else◌, Option, Some, None}
+use Rattle.std.specs.Prelude.{◌≡◌, ℕ, ◌-◌, ◌/◌, ◌^◌, ◌<◌, ◌↔◌, nat_le, if◌then◌else◌, Option, Some, None}
+use Rattle.bpf_words.specs.declared.instruction.Arithmetic.{Arithmetic}
+use Rattle.bpf_words.specs.declared.instruction.Arithmetic.TheVariants as is
 use Rattle.known_bits.specs.declared.Bits.{Bits}
 use Rattle.known_bits.specs.Bits.{bit}
 use Rattle.abstract_state.specs.Quantity.{InBits}
@@ -24,6 +26,27 @@ HasBits b low high = InBits b low × ((k : ℕ) → (bit b.unknown k ≡ 0) ↔ 
 -- a quantity with this interval and its bits, and this tail for the region
 abbrev pub IsIn : Region → Quantity → ℕ → ℕ → Option ℕ → Type 0
 IsIn region q low high tail = (q.range.low ≡ low) × (q.range.high ≡ high) × (tail_of q.tails region ≡ tail) × HasBits q.bits low high
+
+-- the one number
+abbrev pub IsConstant : Region → Quantity → ℕ → Type 0
+IsConstant region q n = IsIn region q n n None
+
+-- the operations of 64 bits that make a constant of two, a sum that of two below 2^62
+abbrev pub Folds : Arithmetic → ℕ → ℕ → Type 0
+Folds is.Add m n = (m < 2 ^ 62) × (n < 2 ^ 62)
+Folds is.Sub m n = ⊥
+Folds is.Mul m n = ⊥
+Folds is.Div m n = ⊥
+Folds is.Or m n = Unit {0}
+Folds is.And m n = Unit {0}
+Folds is.Lsh m n = ⊥
+Folds is.Rsh m n = ⊥
+Folds is.Mod m n = ⊥
+Folds is.Xor m n = Unit {0}
+Folds is.Mov m n = ⊥
+Folds is.Arsh m n = ⊥
+Folds is.SignedDiv m n = ⊥
+Folds is.SignedMod m n = ⊥
 
 -- a number with this interval and tail
 abbrev pub IsNumberIn : Region → ℕ → ℕ → Option ℕ → Known → Type 0

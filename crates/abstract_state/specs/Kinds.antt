@@ -9,7 +9,6 @@ use Rattle.bpf_words.specs.declared.instruction.Arithmetic.{Arithmetic}
 use Rattle.bpf_words.specs.declared.instruction.Arithmetic.TheVariants.{Mov}
 use Rattle.bpf_words.specs.declared.instruction.Insn.{Insn}
 use Rattle.bpf_words.specs.declared.instruction.Insn.TheVariants.{Compute, Negate, Extend, Convert, Jump, JumpLong, Branch, Load, LoadSigned, Store, LoadWide, Exit}
-use Rattle.abstract_state.specs.declared.known.Known.{Known}
 use Rattle.abstract_state.specs.declared.known.Known.TheVariants.{Number, Context, Stack, Lent}
 use Rattle.abstract_state.specs.declared.state.AbsReg.{AbsReg}
 use Rattle.abstract_state.specs.declared.state.AbsReg.TheVariants.{Unset, Set}
@@ -127,11 +126,6 @@ pub record JoinsReg (a b c : AbsReg) : Type 0 where
   pub stack : (n : ℕ) → IsStackAt n a → IsStackAt n b → IsStackAt n c
   pub values : (p q : Quantity) → a ≡ Set (Number p) → b ≡ Set (Number q) → (r : Quantity) × (c ≡ Set (Number r)) × JoinsNumber p q r
   pub lent : (p q : LentPlace) → a ≡ Set (Lent p) → b ≡ Set (Lent q) → p.region ≡ q.region → (r : LentPlace) × (c ≡ Set (Lent r)) × (r.region ≡ p.region) × JoinsNumber p.offset q.offset r.offset
-
--- the register that holds what is known, if anything is
-abbrev pub held : Option Known → AbsReg
-held None = Unset
-held (Some k) = Set k
 
 -- what is spilled in a slot
 abbrev pub spilled_in : Slot → AbsReg

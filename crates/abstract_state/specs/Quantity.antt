@@ -49,6 +49,10 @@ KnowsHigh b low high = (k : ℕ) → low / 2 ^ k ≡ high / 2 ^ k → known.bit 
 abbrev pub KeepsBits : Option Quantity → Bits → Type 0
 KeepsBits o bits = IfSome o (λ q. (k : ℕ) → known.bit bits.unknown k ≡ 0 → (known.bit q.bits.unknown k ≡ 0) × (known.bit q.bits.value k ≡ known.bit bits.value k))
 
+-- the interval lies between the least and the greatest number of the bits
+abbrev pub LiesInBits : Quantity → Type 0
+LiesInBits q = (q.bits.value ≤ q.range.low) × (q.range.high ≤ known.most q.bits)
+
 -- nothing that both know is lost: the interval reaches no further than both, a bit that both know as the same is known, and for
 -- each region the lesser of two tails stays
 pub record JoinsNumber (a b c : Quantity) : Type 0 where

@@ -4,7 +4,7 @@ ghost use Rattle.abstract_state.specs.Quantity.{Contains, Within, JoinsNumber};
 ghost use Rattle.abstract_state.specs.Known.{ContainsKnown, WithinKnown, IsNumber, AreNumbers};
 ghost use Rattle.abstract_state.specs.declared.state.AbsReg.TheVariants as TheRegs;
 ghost use Rattle.abstract_state.specs.Kinds.{IsContextAt, IsStackAt};
-ghost use Rattle.abstract_state.specs.Exact.{tail_after, IsIn, IsNumberIn, IsLentIn};
+ghost use Rattle.abstract_state.specs.Exact.{tail_after, Folds, IsIn, IsNumberIn, IsLentIn};
 ghost use Rattle.abstract_state.specs.declared.region.Region.{Region as TheRegion};
 ghost use Rattle.meaning.specs.Value.{cut, value_of, negated, extended, converted};
 
@@ -147,6 +147,7 @@ impl Known {
     ) -> Result<Option<Known>, Refusal>
         ensures sound { IfOk result (λ o. (lengths : Lengths) (x y : ℕ) → ContainsKnown self lengths x → ContainsKnown other lengths y → WithinKnown o lengths (value_of operation width (cut width x) (cut width y))) }
         ensures adds { (at : TheRegion) → operation ≡ Arithmetic.Add → width ≡ Width.Full → (m n : ℕ) (t : Option ℕ) → IsLentIn at m m t self → IsNumberIn at n n None other → m + n ≤ 2 ^ 20 → IsOk result × IfOk result (λ o. IfSome o (λ k. IsLentIn at (m + n) (m + n) (tail_after t n) k)) }
+        ensures folds { (at : TheRegion) → width ≡ Width.Full → (m n : ℕ) → Folds operation m n → IsNumberIn at m m None self → IsNumberIn at n n None other → IsOk result × IfOk result (λ o. IfSome o (λ k. IsNumberIn at (value_of operation Width.Full m n) (value_of operation Width.Full m n) None k)) }
         ensures floor { IsNumber self → IsNumber other → IsOk result }
         ensures numbers { IsNumber self → IsNumber other → IfOk result (λ o. AreNumbers o) }
     {

@@ -131,6 +131,7 @@ impl Tails {
     pub fn greater(self, other: Tails) -> Tails
         ensures contains { (lengths : Lengths) (x y z : ℕ) → HasTails self lengths x → HasTails other lengths y → z ≤ x → z ≤ y → HasTails result lengths z }
         ensures there { (region : TheRegion) (u : ℕ) → tail_of other region ≡ Some u → (t : ℕ) × (tail_of result region ≡ Some t) }
+        ensures none { (region : TheRegion) → tail_of self region ≡ None → tail_of other region ≡ None → tail_of result region ≡ None }
     {
         Tails {
             text: tail::greater(self.text, other.text),

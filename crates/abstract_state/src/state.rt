@@ -7,7 +7,7 @@ ghost use Rattle.abstract_state.specs.State.{Span, lengths_of, IsLong, WithinLon
 ghost use Rattle.std.specs.Int.{cast_unsigned, w64};
 ghost use Rattle.abstract_state.specs.Kinds.{HasNumberAt, HasNumberIn, WritesNumber, IsContextAt, IsStackAt};
 ghost use Rattle.abstract_state.specs.Exact.{Fact, Says, Holds, IsNumberIn};
-ghost use Rattle.abstract_state.specs.Guard.{SameBut};
+ghost use Rattle.abstract_state.specs.Guard.{IsOperand, SameBut};
 ghost use Rattle.abstract_state.specs.Steps.{after};
 ghost use Rattle.meaning.specs.State.{State, start, register_of, operand_in};
 
@@ -117,6 +117,7 @@ impl AbsState {
         ensures sound { IfOk result (λ k. (lengths : Lengths) (s : State) → Contains self.now lengths s → (n : ℕ) × (operand_in s operand ≡ Ok n) × ContainsKnown k lengths n) }
         ensures holds { (r : ℕ) (fact : Fact) → operand ≡ Operand.Source r → Holds fact (register_at self.now.registers r) → IsOk result × IfOk result (λ k. Says fact k) }
         ensures constant { (region : TheRegion) (k : ℕ) → operand ≡ Operand.Immediate (pos k) → k < 2 ^ 31 → IsOk result × IfOk result (λ v. IsNumberIn region k k None v) }
+        ensures one { (region : TheRegion) (n : ℕ) → IsOperand region self.now operand n → IsOk result × IfOk result (λ k. IsNumberIn region n n None k) }
         ensures floor { HasNumberIn self.now operand → IsOk result }
         ensures numbers { HasNumberIn self.now operand → IfOk result (λ k. IsNumber k) }
     {

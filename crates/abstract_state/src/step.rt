@@ -6,10 +6,11 @@ ghost use Rattle.meaning.specs.Step.{Returns};
 ghost use Rattle.abstract_state.specs.State.{Span, lengths_of, Contains, StepsIn, StepsBy, does, register_at};
 ghost use Rattle.abstract_state.specs.Kinds.{HasNumberAt, HasNumberIn, ReadsFirst, ReadsNumbers, WritesNumber, Carries, IsNumberField, IsContextAt};
 ghost use Rattle.abstract_state.specs.Steps.{MayStep, StepsTo, after};
-ghost use Rattle.abstract_state.specs.Exact.{Fact, Holds, tail_after};
+ghost use Rattle.abstract_state.specs.Exact.{Fact, Folds, Holds, tail_after};
 ghost use Rattle.abstract_state.specs.declared.region.Region.{Region};
 ghost use Rattle.abstract_state.specs.Lent.{begin_field, end_field, limit_of, bound_of, Lends};
-ghost use Rattle.abstract_state.specs.Guard.{Yields, Keeps, SameBut, LeavesOthers};
+ghost use Rattle.abstract_state.specs.Guard.{Yields, Keeps, IsOperand, SameBut, LeavesOthers};
+ghost use Rattle.meaning.specs.Value.{value_of};
 ghost use Rattle.meaning.specs.Memory.{bytes_in};
 
 use crate::known::Known;
@@ -47,7 +48,7 @@ impl AbsState {
         ensures sound { IfOk result (λ flow. StepsBy self.old (Insn.Compute width Arithmetic.Mov destination operand) (pos 0) (after flow self.new)) }
         ensures others { IfOk result (λ flow. IfSome (after flow self.new) (λ b. SameBut destination self.old b)) }
         ensures lent { (region : Region) (r n : ℕ) (t : Option ℕ) → width ≡ Width.Full → operand ≡ Operand.Source r → Holds (Fact.LentIn region n n t) (register_at self.old.registers r) → Keeps result self.new destination (Fact.LentIn region n n t) }
-        ensures constant { (region : Region) (k : ℕ) → width ≡ Width.Full → operand ≡ Operand.Immediate (pos k) → k < 2 ^ 31 → Keeps result self.new destination (Fact.NumberIn region k k None) }
+        ensures copies { (region : Region) (n : ℕ) → width ≡ Width.Full → IsOperand region self.old operand n → Keeps result self.new destination (Fact.NumberIn region n n None) }
         ensures floor { HasNumberIn self.old operand → IsOk result }
         ensures numbers { HasNumberIn self.old operand → IfOk result (λ flow. IfSome (after flow self.new) (λ b. WritesNumber self.old destination b)) }
     {
@@ -69,6 +70,7 @@ impl AbsState {
         ensures sound { IfOk result (λ flow. StepsBy self.old (Insn.Compute width operation destination operand) (pos 0) (after flow self.new)) }
         ensures others { IfOk result (λ flow. IfSome (after flow self.new) (λ b. SameBut destination self.old b)) }
         ensures adds { (region : Region) (k n : ℕ) (t : Option ℕ) → width ≡ Width.Full → operation ≡ Arithmetic.Add → operand ≡ Operand.Immediate (pos k) → Holds (Fact.LentIn region n n t) (register_at self.old.registers destination) → n + k ≤ 2 ^ 20 → Keeps result self.new destination (Fact.LentIn region (n + k) (n + k) (tail_after t k)) }
+        ensures folds { (region : Region) (m n : ℕ) → width ≡ Width.Full → Folds operation m n → Holds (Fact.NumberIn region m m None) (register_at self.old.registers destination) → IsOperand region self.old operand n → Keeps result self.new destination (Fact.NumberIn region (value_of operation Width.Full m n) (value_of operation Width.Full m n) None) }
         ensures floor { HasNumberAt self.old destination → HasNumberIn self.old operand → IsOk result }
         ensures numbers { HasNumberAt self.old destination → HasNumberIn self.old operand → IfOk result (λ flow. IfSome (after flow self.new) (λ b. WritesNumber self.old destination b)) }
     {
@@ -183,6 +185,7 @@ impl AbsState {
         requires { destination ≢ 10 }
         ensures sound { StepsBy self.old (Insn.LoadWide destination value) (pos 1) (after result self.new) }
         ensures others { IfSome (after result self.new) (λ b. SameBut destination self.old b) }
+        ensures yields { (region : Region) → IfSome (after result self.new) (λ b. Holds (Fact.NumberIn region value value None) (register_at b.registers destination)) }
         ensures numbers { IfSome (after result self.new) (λ b. WritesNumber self.old destination b) }
     {
         let known = Known::Number(Quantity::constant(value));

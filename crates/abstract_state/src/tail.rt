@@ -64,6 +64,7 @@ pub fn difference(tail: Option<u32>, taken: u64) -> Option<u32>
 pub fn greater(a: Option<u32>, b: Option<u32>) -> Option<u32>
     ensures contains { (long x y z : ℕ) → HasTail a long x → HasTail b long y → z ≤ x → z ≤ y → HasTail result long z }
     ensures there { (u : ℕ) → b ≡ Some u → (t : ℕ) × (result ≡ Some t) }
+    ensures none { a ≡ None → b ≡ None → result ≡ None }
 {
     match (a, b) {
         (Some(t), Some(u)) => Some(t.max(u)),

@@ -1,9 +1,9 @@
 //! What an operation makes of quantities.
-ghost use Rattle.std.specs.Prelude.{◌≡◌, ℕ, ◌+◌, ◌-◌, ◌*◌, ◌/◌, ◌%◌, ◌^◌, ◌<◌, ◌≤◌, Option, None, IfSome, bit_and, bit_or, bit_xor};
+ghost use Rattle.std.specs.Prelude.{◌≡◌, ℕ, ◌+◌, ◌-◌, ◌*◌, ◌/◌, ◌%◌, ◌^◌, ◌<◌, ◌≤◌, Option, Some, None, IfSome, bit_and, bit_or, bit_xor};
 ghost use Rattle.abstract_state.specs.Lent.{Lengths, HasTails, InRange, InRanges};
 ghost use Rattle.abstract_state.specs.declared.region.Region.{Region};
 ghost use Rattle.abstract_state.specs.Quantity.{InBits, Contains, Within, Fits, Maps, MapsBoth, Narrows, KeepsBits};
-ghost use Rattle.abstract_state.specs.Exact.{tail_after, HasBits, IsIn};
+ghost use Rattle.abstract_state.specs.Exact.{tail_after, HasBits, IsIn, IsConstant, Folds};
 ghost use Rattle.meaning.specs.Value.{bits_of, cut, value_of};
 
 use crate::quantity::Quantity;
@@ -54,7 +54,8 @@ impl Quantity {
 
     /// The operand of an operation of the width.
     pub fn cut_to(self, width: Width) -> Option<Quantity>
-        ensures { (lengths : Lengths) (x : ℕ) → Contains self lengths x → Within result lengths (cut width x) }
+        ensures contains { (lengths : Lengths) (x : ℕ) → Contains self lengths x → Within result lengths (cut width x) }
+        ensures whole { width ≡ Width.Full → result ≡ Some self }
     {
         match width {
             Width::Full => Some(self),
@@ -169,7 +170,8 @@ impl Quantity {
 
     /// The bits that both have.
     pub fn and(self, other: Quantity, width: Width) -> Option<Quantity>
-        ensures { MapsBoth width self other result (λ x y. value_of Arithmetic.And width x y) }
+        ensures contains { MapsBoth width self other result (λ x y. value_of Arithmetic.And width x y) }
+        ensures constants { (region : Region) → width ≡ Width.Full → (m n : ℕ) → IsConstant region self m → IsConstant region other n → IfSome result (λ q. IsConstant region q (bit_and m n)) }
     {
         Quantity::finish(
             width,
@@ -181,7 +183,8 @@ impl Quantity {
 
     /// The bits that either has.
     pub fn or(self, other: Quantity, width: Width) -> Option<Quantity>
-        ensures { MapsBoth width self other result (λ x y. value_of Arithmetic.Or width x y) }
+        ensures contains { MapsBoth width self other result (λ x y. value_of Arithmetic.Or width x y) }
+        ensures constants { (region : Region) → width ≡ Width.Full → (m n : ℕ) → IsConstant region self m → IsConstant region other n → IfSome result (λ q. IsConstant region q (bit_or m n)) }
     {
         Quantity::finish(
             width,
@@ -193,7 +196,8 @@ impl Quantity {
 
     /// The bits that one has and the other has not.
     pub fn xor(self, other: Quantity, width: Width) -> Option<Quantity>
-        ensures { MapsBoth width self other result (λ x y. value_of Arithmetic.Xor width x y) }
+        ensures contains { MapsBoth width self other result (λ x y. value_of Arithmetic.Xor width x y) }
+        ensures constants { (region : Region) → width ≡ Width.Full → (m n : ℕ) → IsConstant region self m → IsConstant region other n → IfSome result (λ q. IsConstant region q (bit_xor m n)) }
     {
         Quantity::finish(
             width,
@@ -339,7 +343,8 @@ fn mask(width: Width) -> u64
 
 /// What an operation gives on operands of the width.
 fn apply(operation: Arithmetic, width: Width, a: Quantity, b: Quantity) -> Option<Quantity>
-    ensures { MapsBoth width a b result (λ x y. value_of operation width x y) }
+    ensures contains { MapsBoth width a b result (λ x y. value_of operation width x y) }
+    ensures constants { (region : Region) → width ≡ Width.Full → (m n : ℕ) → Folds operation m n → IsConstant region a m → IsConstant region b n → IfSome result (λ q. IsConstant region q (value_of operation Width.Full m n)) }
 {
     match operation {
         Arithmetic::Add => a.add(b, width),
@@ -361,7 +366,8 @@ fn apply(operation: Arithmetic, width: Width, a: Quantity, b: Quantity) -> Optio
 
 /// What an operation gives of two registers' numbers.
 pub fn transfer(operation: Arithmetic, width: Width, a: Quantity, b: Quantity) -> Option<Quantity>
-    ensures { (lengths : Lengths) (x y : ℕ) → Contains a lengths x → Contains b lengths y → Within result lengths (value_of operation width (cut width x) (cut width y)) }
+    ensures contains { (lengths : Lengths) (x y : ℕ) → Contains a lengths x → Contains b lengths y → Within result lengths (value_of operation width (cut width x) (cut width y)) }
+    ensures constants { (region : Region) → width ≡ Width.Full → (m n : ℕ) → Folds operation m n → IsConstant region a m → IsConstant region b n → IfSome result (λ q. IsConstant region q (value_of operation Width.Full m n)) }
 {
     let a = a.cut_to(width)?;
     let b = b.cut_to(width)?;

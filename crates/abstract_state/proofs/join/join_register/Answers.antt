@@ -1,6 +1,5 @@
 use Rattle.std.proofs.Common.{ap}
-use Rattle.abstract_state.specs.Kinds.{held}
-use Rattle.abstract_state.proofs.Joins.{joins_held, joins_from}
+use Rattle.abstract_state.proofs.Joins.{held, joins_held, joins_from}
 use Rattle.abstract_state.proofs.join.join_register.Goals as goal
 
 pub returns-in-Some-clause-kinds : goal.returns-in-Some-clause-kinds

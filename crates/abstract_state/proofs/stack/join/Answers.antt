@@ -2,8 +2,8 @@ use Rattle.std.proofs.Common.{Option, ap, subst}
 use Rattle.abstract_state.specs.declared.known.Known.{Known}
 use Rattle.abstract_state.specs.declared.slot.Slot.{Slot}
 use Rattle.abstract_state.specs.Known.{AreNumbers}
-use Rattle.abstract_state.specs.Kinds.{IsMarked, spilled_in, held}
-use Rattle.abstract_state.proofs.Joins.{some_none, joins_held, joins_from}
+use Rattle.abstract_state.specs.Kinds.{IsMarked, spilled_in}
+use Rattle.abstract_state.proofs.Joins.{held, some_none, joins_held, joins_from}
 use Rattle.abstract_state.proofs.stack.join.Goals as goal
 
 pub returns-in-Some-clause-joins : goal.returns-in-Some-clause-joins

@@ -43,3 +43,6 @@ returns-clause-high_bits c = λ region t tail k e.
     let limit = some_is _ _ _ c.in_ok-first.was (c.narrow.ensures.limits region t tail) in
     let same = between_ends c.args.range.low c.in_ok-first.first.low c.in_ok-first.first.high (limit_of region - t) k within.0 c.in_ok-first.first.ordered (omega arith) e in
     (known_within c.between-high_bits.result c.in_ok-known.known f (λ x h. (some_is _ _ _ c.in_ok-known.was c.meet.ensures.only x h).1) k (c.between-high_bits.ensures.knows k same)).0
+
+pub returns-clause-lies : goal.returns-clause-lies
+returns-clause-lies c = some_is _ _ _ c.in_ok-second.was c.narrow-2.ensures.bits

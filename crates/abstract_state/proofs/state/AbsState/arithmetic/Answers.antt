@@ -4,6 +4,7 @@ use Rattle.std.proofs.lemmas.Result.{IfOk-weaker}
 use Rattle.bpf_words.specs.declared.instruction.Arithmetic.{Arithmetic}
 use Rattle.bpf_words.specs.declared.instruction.Insn.TheVariants.{Compute}
 use Rattle.abstract_state.specs.State.{StepsBy}
+use Rattle.abstract_state.specs.Exact.{Folds}
 use Rattle.abstract_state.specs.Steps.{after}
 use Rattle.abstract_state.proofs.state.AbsState.arithmetic.Goals as goal
 
@@ -17,11 +18,13 @@ returns-in-Mov-clause-yields c = λ d fact y.
     compute_rows c.args.profile c.args.self.now _ d fact c.args.width c.args.operation c.args.destination c.args.operand c.move_to.result c.move_to.new.self y refl
     (λ region r n t w o e h. c.move_to.ensures.lent region r n t w e h)
     (λ region k n t w o e h near. let bad = sym o ∙ c.in-Mov.is in absurd (cc))
-    (λ region k w o e h. c.move_to.ensures.constant region k w e h)
+    (λ region n w o h. c.move_to.ensures.copies region n w h)
+    (λ region m n w f h o. absurd (subst (λ (op : Arithmetic). Folds op m n) c.in-Mov.is f))
 
 pub returns-in_default-clause-yields : goal.returns-in_default-clause-yields
 returns-in_default-clause-yields c = λ d fact y.
     compute_rows c.args.profile c.args.self.now _ d fact c.args.width c.args.operation c.args.destination c.args.operand c.compute.result c.compute.new.self y refl
     (λ region r n t w o e h. absurd (c.in_default.not-Mov o))
     (λ region k n t w o e h near. c.compute.ensures.adds region k n t w o e h near)
-    (λ region k w o e h. absurd (c.in_default.not-Mov o))
+    (λ region n w o h. absurd (c.in_default.not-Mov o))
+    (λ region m n w f h o. c.compute.ensures.folds region m n w f h o)

@@ -1,5 +1,7 @@
-use Rattle.std.proofs.Common.{◌≡◌, ◌+◌, true, false, refl, arith}
-use Rattle.abstract_state.specs.Exact.{LentIn, tail_after}
+use Rattle.std.proofs.Common.{◌≡◌, ◌+◌, true, false, None, refl, arith}
+use Rattle.abstract_state.specs.Exact.{LentIn, NumberIn, tail_after}
+use Rattle.bpf_words.specs.declared.instruction.Width.TheVariants.{Full}
+use Rattle.meaning.specs.Value.{value_of}
 use Rattle.abstract_state.specs.State.{lengths_of}
 use Rattle.abstract_state.proofs.Steps.{computes}
 use Rattle.abstract_state.proofs.state.AbsState.compute.Goals as goal
@@ -26,3 +28,18 @@ returns-clause-adds c = λ region k n t w o e h near. (
   c.write.ensures.holds (LentIn region (n + k) (n + k) (tail_after t k))
       (c.in_ok-known.ensures.adds region o w n k t (c.in_ok-a.ensures.holds (LentIn region n n t) h).1 (c.in_ok-b.ensures.constant region k e (omega arith)).1 near).1,
 )
+
+pub returns-in_err-a-clause-folds : goal.returns-in_err-a-clause-folds
+returns-in_err-a-clause-folds c = λ region m n w f h o. let bad : false ≡ true = (c.in_err-a.ensures.holds (NumberIn region m m None) h).0 in absurd (cc)
+
+pub returns-in_err-b-clause-folds : goal.returns-in_err-b-clause-folds
+returns-in_err-b-clause-folds c = λ region m n w f h o. let bad : false ≡ true = (c.in_err-b.ensures.one region n o).0 in absurd (cc)
+
+pub returns-in_err-known-clause-folds : goal.returns-in_err-known-clause-folds
+returns-in_err-known-clause-folds c = λ region m n w f h o.
+    let bad : false ≡ true = (c.in_err-known.ensures.folds region w m n f (c.in_ok-a.ensures.holds (NumberIn region m m None) h).1 (c.in_ok-b.ensures.one region n o).1).0 in absurd (cc)
+
+pub returns-clause-folds : goal.returns-clause-folds
+returns-clause-folds c = λ region m n w f h o.
+    let v = value_of c.args.operation Full m n in
+    (refl, c.write.ensures.holds (NumberIn region v v None) (c.in_ok-known.ensures.folds region w m n f (c.in_ok-a.ensures.holds (NumberIn region m m None) h).1 (c.in_ok-b.ensures.one region n o).1).1)

@@ -2,6 +2,7 @@ use Rattle.std.proofs.Common.{◌≡◌, true, false, None, refl}
 use Rattle.abstract_state.specs.Exact.{LentIn, NumberIn}
 use Rattle.abstract_state.specs.State.{lengths_of}
 use Rattle.abstract_state.proofs.Steps.{moves}
+use Rattle.abstract_state.proofs.Exact.{one_number}
 use Rattle.abstract_state.proofs.state.AbsState.move_to.Goals as goal
 
 pub returns-clause-sound : goal.returns-clause-sound
@@ -23,6 +24,12 @@ pub returns-clause-lent : goal.returns-clause-lent
 returns-clause-lent c = λ region r n t w e h.
     (refl, c.write.ensures.holds (LentIn region n n t) (c.in_ok-known.ensures.lent region w n t (c.in_ok-b.ensures.holds r (LentIn region n n t) e h).1).1)
 
-pub returns-clause-constant : goal.returns-clause-constant
-returns-clause-constant c = λ region k w e small.
-    (refl, c.write.ensures.holds (NumberIn region k k None) (c.in_ok-known.ensures.constant region w k None (c.in_ok-b.ensures.constant region k e small).1))
+pub returns-in_err-b-clause-copies : goal.returns-in_err-b-clause-copies
+returns-in_err-b-clause-copies c = λ region n w o. let bad : false ≡ true = (c.in_err-b.ensures.one region n o).0 in absurd (cc)
+
+pub returns-in_err-known-clause-copies : goal.returns-in_err-known-clause-copies
+returns-in_err-known-clause-copies c = λ region n w o.
+    let bad : false ≡ true = c.in_err-known.ensures.floor (one_number region n n None _ (c.in_ok-b.ensures.one region n o).1) in absurd (cc)
+
+pub returns-clause-copies : goal.returns-clause-copies
+returns-clause-copies c = λ region n w o. (refl, c.write.ensures.holds (NumberIn region n n None) (c.in_ok-known.ensures.constant region w n None (c.in_ok-b.ensures.one region n o).1))

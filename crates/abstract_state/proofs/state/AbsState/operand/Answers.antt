@@ -4,7 +4,9 @@ use Rattle.std.specs.Int.{w32, w64, cast_unsigned}
 use mir.Val.{SFits}
 use Rattle.std.proofs.lemmas.Result.{IfOk-weaker}
 use Rattle.meaning.specs.State.{operand_in}
-use Rattle.abstract_state.specs.Exact.{Holds, IsIn}
+use Rattle.abstract_state.specs.Exact.{Holds, IsIn, NumberIn}
+use Rattle.bpf_words.specs.declared.instruction.Operand.{Operand}
+use Rattle.abstract_state.specs.Guard.{IsOperand}
 use Rattle.abstract_state.specs.State.{register_at}
 use Rattle.abstract_state.proofs.state.AbsState.operand.Goals as goal
 
@@ -28,3 +30,13 @@ returns-in-Immediate-clause-constant c = λ region k e small.
     let value : c.in-Immediate.value ≡ pos k = cc in
     let is : c.extended.result ≡ k = c.extended.ensures ∙ ap (cast_unsigned w64) (to_z-of_z w32 c.in-Immediate.value fits ∙ value) ∙ omega arith in
     (refl, subst (λ (v : ℕ). IsIn region c.constant.result v v None) is (c.constant.ensures.is region))
+
+pub returns-in-Immediate-clause-one : goal.returns-in-Immediate-clause-one
+returns-in-Immediate-clause-one c = λ region n e.
+    let fits : SFits w32 c.in-Immediate.value = search rules in
+    let same = to_z-of_z w32 c.in-Immediate.value fits in
+    let given = subst (λ (o : Operand). IsOperand region c.args.self.now o n) c.in-Immediate.is e in
+    (refl, subst (λ (v : ℕ). IsIn region c.constant.result v v None) (c.extended.ensures ∙ ap (cast_unsigned w64) same ∙ sym given) (c.constant.ensures.is region))
+
+pub returns-in-Source-clause-one : goal.returns-in-Source-clause-one
+returns-in-Source-clause-one c = λ region n h. c.read.ensures.holds (NumberIn region n n None) (subst (λ (o : Operand). IsOperand region c.args.self.now o n) c.in-Source.is h)

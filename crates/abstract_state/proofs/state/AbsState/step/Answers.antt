@@ -10,7 +10,7 @@ use Rattle.abstract_state.specs.State.{StepsIn, StepsBy}
 use Rattle.std.proofs.lemmas.Result.{IfOk-weaker}
 use Rattle.bpf_words.specs.declared.instruction.Insn.{Insn}
 use Rattle.abstract_state.specs.Steps.{after}
-use Rattle.abstract_state.proofs.Guards.{load_rows}
+use Rattle.abstract_state.proofs.Guards.{load_rows, wide_rows}
 use Rattle.abstract_state.proofs.Steps.{lands_in, lands_by, stays, ends}
 use Rattle.abstract_state.proofs.state.AbsState.step.Goals as goal
 
@@ -77,3 +77,7 @@ returns-in-Load-clause-yields c = λ d fact y.
     (λ region lends e z p. c.load_into.ensures.begin region lends (same ∙ e) z p)
     (λ region lends e z p. c.load_into.ensures.end region lends (same ∙ e) z p)
     (λ region o low high t e h short within. c.load_into.ensures.lent region o low high t (same ∙ e) h short within)
+
+pub returns-in-LoadWide-clause-yields : goal.returns-in-LoadWide-clause-yields
+returns-in-LoadWide-clause-yields c = λ d fact y.
+    (refl, wide_rows c.args.profile c.args.self.now c.args.insn.now d fact c.in-LoadWide.destination c.in-LoadWide.value (after c.load_wide.result c.load_wide.new.self) y c.in-LoadWide.is c.load_wide.ensures.yields)
