@@ -14,4 +14,5 @@ pub mod Branches
 pub mod KindLaws
 pub mod Joins
 pub mod Exact
+pub mod Frames
 pub mod Guards

@@ -67,11 +67,13 @@ pub data Fact : Type 0 where
   LentIn : Region → ℕ → ℕ → Option ℕ → Fact
   NumberIn : Region → ℕ → ℕ → Option ℕ → Fact
   AnyNumber : Fact
+  Exactly : Known → Fact
 
 abbrev pub Says : Fact → Known → Type 0
 Says (LentIn region low high tail) k = IsLentIn region low high tail k
 Says (NumberIn region low high tail) k = IsNumberIn region low high tail k
 Says AnyNumber k = IsNumber k
+Says (Exactly known) k = k ≡ known
 
 abbrev pub Holds : Fact → AbsReg → Type 0
 Holds fact Unset = ⊥

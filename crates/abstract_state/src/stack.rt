@@ -4,6 +4,7 @@ ghost use Rattle.abstract_state.specs.Lent.{Lengths};
 ghost use Rattle.abstract_state.specs.Known.{ContainsKnown};
 ghost use Rattle.abstract_state.specs.State.{Bytes, HasByte, HasNumber, ContainsSlot, ContainsStack, slot_at, Spares, Fills};
 ghost use Rattle.abstract_state.specs.Kinds.{IsMarked, JoinsSlot};
+ghost use Rattle.abstract_state.specs.Frame.{IsMarkedAt, StoresSlot, StoresSlots, SpillsSlot};
 
 use crate::known::Known;
 use crate::slot::Slot;
@@ -100,7 +101,8 @@ fn is_marked(marks: &[bool; 8], j: usize, first: usize, place: usize, count: usi
 fn rewritten(slot: Slot, first: usize, place: usize, count: usize) -> Slot
     requires first { first ≤ 504 }
     requires place { place + count ≤ 512 }
-    ensures { (lengths : Lengths) (old new : Bytes) (i : ℕ) → first ≡ 8 * i → ContainsSlot slot lengths old i → Spares place count old new → Fills place count new → ContainsSlot result lengths new i }
+    ensures stores { (i : ℕ) → first ≡ 8 * i → StoresSlot place count i slot result }
+    ensures contains { (lengths : Lengths) (old new : Bytes) (i : ℕ) → first ≡ 8 * i → ContainsSlot slot lengths old i → Spares place count old new → Fills place count new → ContainsSlot result lengths new i }
 {
     if first + 8 <= place {
         return slot;
@@ -115,7 +117,8 @@ fn rewritten(slot: Slot, first: usize, place: usize, count: usize) -> Slot
 /// Notes a store of so many bytes of a number.
 pub fn overwrite(slots: &mut [Slot; 64], place: usize, count: usize)
     requires { place + count ≤ 512 }
-    ensures { (lengths : Lengths) (old new : Bytes) → ContainsStack slots.old lengths old → Spares place count old new → Fills place count new → ContainsStack slots.new lengths new }
+    ensures stores { StoresSlots place count slots.old slots.new }
+    ensures contains { (lengths : Lengths) (old new : Bytes) → ContainsStack slots.old lengths old → Spares place count old new → Fills place count new → ContainsStack slots.new lengths new }
 {
     for i in 0..64 {
         slots[i] = rewritten(slots[i], 8 * i, place, count);
@@ -125,7 +128,8 @@ pub fn overwrite(slots: &mut [Slot; 64], place: usize, count: usize)
 /// Notes that all eight bytes of a slot hold a number.
 pub fn spill(slots: &mut [Slot; 64], slot: usize, known: Known)
     requires { slot < 64 }
-    ensures { (lengths : Lengths) (old new : Bytes) (n : ℕ) → ContainsStack slots.old lengths old → ContainsKnown known lengths n → HasNumber new (8 * slot) n → Spares (8 * slot) 8 old new → ContainsStack slots.new lengths new }
+    ensures spills { SpillsSlot slot known slots.old slots.new }
+    ensures contains { (lengths : Lengths) (old new : Bytes) (n : ℕ) → ContainsStack slots.old lengths old → ContainsKnown known lengths n → HasNumber new (8 * slot) n → Spares (8 * slot) 8 old new → ContainsStack slots.new lengths new }
 {
     slots[slot] = Slot::Spilled(known);
 }
@@ -133,7 +137,9 @@ pub fn spill(slots: &mut [Slot; 64], slot: usize, known: Known)
 /// What was spilled into a slot.
 pub fn filled(slots: &[Slot; 64], slot: usize) -> Option<Known>
     requires { slot < 64 }
-    ensures { IfSome result (λ k. (lengths : Lengths) (bytes : Bytes) → ContainsStack slots.now lengths bytes → (n : ℕ) × ContainsKnown k lengths n × HasNumber bytes (8 * slot) n) }
+    ensures there { (known : Known) → slot_at slots.now slot ≡ Slot.Spilled known → result ≡ Some known }
+    ensures spilled { IfSome result (λ k. slot_at slots.now slot ≡ Slot.Spilled k) }
+    ensures contains { IfSome result (λ k. (lengths : Lengths) (bytes : Bytes) → ContainsStack slots.now lengths bytes → (n : ℕ) × ContainsKnown k lengths n × HasNumber bytes (8 * slot) n) }
 {
     match slots[slot] {
         Slot::Spilled(known) => Some(known),
@@ -144,7 +150,8 @@ pub fn filled(slots: &[Slot; 64], slot: usize) -> Option<Known>
 /// Whether a byte is set for sure.
 fn is_set(slots: &[Slot; 64], place: usize) -> bool
     requires { place < 512 }
-    ensures { IsTrue result → (lengths : Lengths) (bytes : Bytes) → ContainsStack slots.now lengths bytes → HasByte bytes place }
+    ensures marked { IsMarkedAt slots.now place → IsTrue result }
+    ensures contains { IsTrue result → (lengths : Lengths) (bytes : Bytes) → ContainsStack slots.now lengths bytes → HasByte bytes place }
 {
     let marks = marks(slots[place / 8]);
     marks[place % 8]
@@ -153,7 +160,8 @@ fn is_set(slots: &[Slot; 64], place: usize) -> bool
 /// Whether so many bytes are set for sure.
 pub fn are_set(slots: &[Slot; 64], place: usize, count: usize) -> bool
     requires { place + count ≤ 512 }
-    ensures { IsTrue result → (lengths : Lengths) (bytes : Bytes) → ContainsStack slots.now lengths bytes → (j : ℕ) → j < count → HasByte bytes (place + j) }
+    ensures marked { ((j : ℕ) → j < count → IsMarkedAt slots.now (place + j)) → IsTrue result }
+    ensures contains { IsTrue result → (lengths : Lengths) (bytes : Bytes) → ContainsStack slots.now lengths bytes → (j : ℕ) → j < count → HasByte bytes (place + j) }
 {
     for j in 0..count {
         if !is_set(slots, place + j) {

@@ -7,7 +7,8 @@ ghost use Rattle.abstract_state.specs.State.{Span, lengths_of, IsLong, WithinLon
 ghost use Rattle.std.specs.Int.{cast_unsigned, w64};
 ghost use Rattle.abstract_state.specs.Kinds.{HasNumberAt, HasNumberIn, WritesNumber, IsContextAt, IsStackAt};
 ghost use Rattle.abstract_state.specs.Exact.{Fact, Says, Holds, IsNumberIn};
-ghost use Rattle.abstract_state.specs.Guard.{IsOperand, SameBut};
+ghost use Rattle.abstract_state.specs.Guard.{IsOperand, SameBut, SameMemory};
+ghost use Rattle.abstract_state.specs.Frame.{IsStackByte};
 ghost use Rattle.abstract_state.specs.Steps.{after};
 ghost use Rattle.meaning.specs.State.{State, start, register_of, operand_in};
 
@@ -104,6 +105,7 @@ impl AbsState {
         ensures holds { (fact : Fact) → Holds fact (register_at self.now.registers register) → IsOk result × IfOk result (λ k. Says fact k) }
         ensures floor { HasNumberAt self.now register → IsOk result }
         ensures context { (n : ℕ) → IsContextAt n (register_at self.now.registers register) → IsOk result × IfOk result (λ k. IsContextAt n (AbsReg.Set k)) }
+        ensures frame { (p offset : ℕ) → IsStackByte p offset (register_at self.now.registers register) → IsOk result × IfOk result (λ k. IsStackByte p offset (AbsReg.Set k)) }
         ensures numbers { HasNumberAt self.now register → IfOk result (λ k. IsNumber k) }
     {
         match self.registers[register.index()] {
@@ -132,7 +134,7 @@ impl AbsState {
         ensures contains { (lengths : Lengths) (s : State) (n : ℕ) → Contains self.old lengths s → ContainsKnown known lengths n → Contains self.new lengths (with_register s register n) }
         ensures others { SameBut register self.old self.new }
         ensures there { register_at self.new.registers register ≡ AbsReg.Set known }
-        ensures bounds { self.new.bounds ≡ self.old.bounds }
+        ensures memory { SameMemory self.old self.new }
     {
         self.registers[register.index()] = AbsReg::Set(known);
     }
@@ -141,6 +143,7 @@ impl AbsState {
     pub fn write(&mut self, register: Register, known: Option<Known>) -> Flow
         ensures sound { (lengths : Lengths) (s : State) (n : ℕ) → Contains self.old lengths s → WithinKnown known lengths n → WithinState (after result self.new) lengths (with_register s register n) }
         ensures others { IfSome (after result self.new) (λ b. SameBut register self.old b) }
+        ensures memory { IfSome (after result self.new) (λ b. SameMemory self.old b) }
         ensures holds { (fact : Fact) → IfSome known (λ k. Says fact k) → IfSome (after result self.new) (λ b. Holds fact (register_at b.registers register)) }
         ensures numbers { AreNumbers known → IfSome (after result self.new) (λ b. WritesNumber self.old register b) }
     {

@@ -23,7 +23,7 @@ use Rattle.abstract_state.specs.State.{register_at}
 use Rattle.abstract_state.specs.Branch.{LeavesSides}
 use Rattle.abstract_state.specs.Kinds.{HasNumberAt, HasNumberIn, IsNumberReg, KeepsAll, KeepsKind, ReadsNumbers, WritesNumber, Carries}
 use Rattle.abstract_state.specs.Exact.{Fact, LentIn, Holds}
-use Rattle.abstract_state.specs.Guard.{Yields, lent_begin, lent_end, lent_moved, lent_added, copied, folded, wide, lent_read, LeavesOthers}
+use Rattle.abstract_state.specs.Guard.{Yields, lent_begin, lent_end, lent_moved, lent_added, copied, folded, wide, lent_read, lent_read_signed, stack_read, stack_read_signed, refilled, LeavesOthers}
 use Rattle.verifier.specs.Arises.{Guards, behind, IsGranted, of_numbers, of_row, of_guard, TakesNumbers, Takes, IsLongBehind}
 use Rattle.verifier.proofs.Passing.{IsStraight}
 
@@ -41,6 +41,10 @@ yields_writes profile a insn d fact (copied region d' n o h) = refl
 yields_writes profile a insn d fact (folded region operation d' m n o folds left h) = refl
 yields_writes profile a insn d fact (wide region d' n) = refl
 yields_writes profile a insn d fact (lent_read region size d' r o low high t h short within) = refl
+yields_writes profile a insn d fact (lent_read_signed region size d' r o low high t h short within) = refl
+yields_writes profile a insn d fact (stack_read size d' base p o h m) = refl
+yields_writes profile a insn d fact (stack_read_signed size d' base p o h m) = refl
+yields_writes profile a insn d fact (refilled d' base i o known h less is) = refl
 
 no_row : (profile : Profile) (a : AbsState) (insn : Insn) (d : ℕ) (fact : Fact) → written_by insn ≡ None → Yields profile a insn d fact → ⊥
 no_row profile a insn d fact none row = let both : None ≡ Some d = sym none ∙ yields_writes profile a insn d fact row in absurd (cc)

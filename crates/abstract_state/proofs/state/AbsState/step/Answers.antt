@@ -1,4 +1,4 @@
-use Rattle.std.proofs.Common.{ℤ, pos, refl, sym, ◌∙◌, subst, rules}
+use Rattle.std.proofs.Common.{ℕ, ℤ, pos, ◌*◌, refl, sym, ◌∙◌, subst, rules}
 use Rattle.std.proofs.lemmas.Int.{to_z-of_z}
 use Rattle.std.specs.Int.{w16, w64, cast_unsigned}
 use Rattle.std.specs.Result.{IfOk}
@@ -6,11 +6,13 @@ use Rattle.std.specs.Option.{IfSome}
 use Rattle.abstract_state.specs.Kinds.{ReadsNumbers, IsNumberField, Carries}
 use mir.Val.{SFits}
 use Rattle.bpf_words.specs.declared.instruction.Insn.TheVariants.{Load, LoadSigned, Store}
-use Rattle.abstract_state.specs.State.{StepsIn, StepsBy}
+use Rattle.abstract_state.specs.State.{StepsIn, StepsBy, register_at}
 use Rattle.std.proofs.lemmas.Result.{IfOk-weaker}
 use Rattle.bpf_words.specs.declared.instruction.Insn.{Insn}
 use Rattle.abstract_state.specs.Steps.{after}
-use Rattle.abstract_state.proofs.Guards.{load_rows, wide_rows}
+use Rattle.abstract_state.proofs.Guards.{load_rows, signed_rows, wide_rows}
+use Rattle.abstract_state.proofs.Frames.{stored_is, spilled_is}
+use Rattle.abstract_state.specs.Frame.{IsStackByte, StoresSlots}
 use Rattle.abstract_state.proofs.Steps.{lands_in, lands_by, stays, ends}
 use Rattle.abstract_state.proofs.state.AbsState.step.Goals as goal
 
@@ -77,7 +79,32 @@ returns-in-Load-clause-yields c = λ d fact y.
     (λ region lends e z p. c.load_into.ensures.begin region lends (same ∙ e) z p)
     (λ region lends e z p. c.load_into.ensures.end region lends (same ∙ e) z p)
     (λ region o low high t e h short within. c.load_into.ensures.lent region o low high t (same ∙ e) h short within)
+    (λ p h m. c.load_into.ensures.stack p (subst (λ (z : ℤ). IsStackByte p (cast_unsigned w64 z) (register_at c.args.self.now.registers c.in-Load.base)) (sym same) h) m)
+    (λ i known h less z is. c.load_into.ensures.spilled i known (subst (λ (z : ℤ). IsStackByte (8 * i) (cast_unsigned w64 z) (register_at c.args.self.now.registers c.in-Load.base)) (sym same) h) less z is)
 
 pub returns-in-LoadWide-clause-yields : goal.returns-in-LoadWide-clause-yields
 returns-in-LoadWide-clause-yields c = λ d fact y.
     (refl, wide_rows c.args.profile c.args.self.now c.args.insn.now d fact c.in-LoadWide.destination c.in-LoadWide.value (after c.load_wide.result c.load_wide.new.self) y c.in-LoadWide.is c.load_wide.ensures.yields)
+
+pub returns-in-LoadSigned-clause-yields : goal.returns-in-LoadSigned-clause-yields
+returns-in-LoadSigned-clause-yields c = λ d fact y.
+    let fits : SFits w16 c.in-LoadSigned.offset = search rules in
+    let same = to_z-of_z w16 c.in-LoadSigned.offset fits in
+    signed_rows c.args.profile c.args.self.now c.args.insn.now d fact c.in-LoadSigned.size c.in-LoadSigned.destination c.in-LoadSigned.base _ c.load_signed_into.result c.load_signed_into.new.self y c.in-LoadSigned.is
+    (λ region o low high t e h short within. c.load_signed_into.ensures.lent region o low high t (same ∙ e) h short within)
+    (λ p h m. c.load_signed_into.ensures.stack p (subst (λ (z : ℤ). IsStackByte p (cast_unsigned w64 z) (register_at c.args.self.now.registers c.in-LoadSigned.base)) (sym same) h) m)
+
+pub returns-in-Store-clause-stores : goal.returns-in-Store-clause-stores
+returns-in-Store-clause-stores c = λ p count h.
+    let fits : SFits w16 c.in-Store.offset = search rules in
+    let same = to_z-of_z w16 c.in-Store.offset fits in
+    let row = stored_is c.args.self.now c.args.insn.now p count c.in-Store.size c.in-Store.base _ c.in-Store.value h c.in-Store.is in
+    let given = c.store_at.ensures.stores p (subst (λ (z : ℤ). IsStackByte p (cast_unsigned w64 z) (register_at c.args.self.now.registers c.in-Store.base)) (sym same) row.0) row.1 row.2 in
+    (given.0, subst (λ (n : ℕ). IfOk c.store_at.result (λ flow. IfSome (after flow c.store_at.new.self) (λ b. StoresSlots p n c.args.self.now.stack b.stack))) row.3 given.1)
+
+pub returns-in-Store-clause-spills : goal.returns-in-Store-clause-spills
+returns-in-Store-clause-spills c = λ i known h.
+    let fits : SFits w16 c.in-Store.offset = search rules in
+    let same = to_z-of_z w16 c.in-Store.offset fits in
+    let row = spilled_is c.args.self.now c.args.insn.now i known c.in-Store.size c.in-Store.base _ c.in-Store.value h c.in-Store.is in
+    c.store_at.ensures.spills i row.0 known (subst (λ (z : ℤ). IsStackByte (8 * i) (cast_unsigned w64 z) (register_at c.args.self.now.registers c.in-Store.base)) (sym same) row.1) row.2 row.3 row.4 row.5
