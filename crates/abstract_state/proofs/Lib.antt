@@ -15,4 +15,5 @@ pub mod KindLaws
 pub mod Joins
 pub mod Exact
 pub mod Frames
+pub mod Unsets
 pub mod Guards

@@ -9,3 +9,4 @@ pub mod Kinds
 pub mod Frame
 pub mod Exact
 pub mod Guard
+pub mod Unset

@@ -1,5 +1,5 @@
 //! Comparisons: what is known on either edge.
-ghost use Rattle.std.specs.Prelude.{◌≡◌, ◌≢◌, ℕ, true, false, ◌+◌, ◌%◌, ◌^◌, ◌<◌, ◌≤◌, Option, Some, Ok, IfSome, IfOk, IsOk, IsTrue, ◌↔◌};
+ghost use Rattle.std.specs.Prelude.{◌≡◌, ◌≢◌, IfErr, [], ◌∷◌, ℕ, true, false, ◌+◌, ◌%◌, ◌^◌, ◌<◌, ◌≤◌, Option, Some, Ok, IfSome, IfOk, IsOk, IsTrue, ◌↔◌};
 ghost use Rattle.bpf_words.specs.declared.instruction.Width.TheVariants.{Narrow, Full};
 ghost use Rattle.meaning.specs.State.{State, register_of, operand_in};
 ghost use Rattle.meaning.specs.Value.{cut, holds_of};
@@ -15,6 +15,8 @@ ghost use Rattle.abstract_state.specs.Relation.{EndsFrom};
 ghost use Rattle.abstract_state.specs.Exact.{Fact, Says, Holds};
 ghost use Rattle.abstract_state.specs.Guard.{SameBut, SameMemory, LengthensMemory};
 ghost use Rattle.abstract_state.specs.Steps.{after};
+ghost use Rattle.abstract_state.specs.Unset.{HasUnset};
+ghost use Rattle.bpf_words.specs.Flow.{read_operand};
 
 use crate::known::Known;
 use crate::place::LentPlace;
@@ -116,6 +118,7 @@ fn pair_on(
     ensures guards { (region : Region) (n high l2 h2 t : ℕ) (t1 : Option ℕ) → width ≡ Full → comparison ≡ Comparison.Greater → taken ≡ false → Says (Fact.LentIn region n high t1) a → Says (Fact.LentIn region l2 h2 (Some t)) b → IfOk result (λ o. IfSome o (λ p. LongFrom region n p.left)) }
     ensures floor { IsNumber a → IsNumber b → IsOk result }
     ensures numbers { IsNumber a → IsNumber b → IfOk result (λ o. AreNumbersOn o) }
+    ensures not_unset { IfErr result (λ e. e ≢ Refusal.UnsetRegister) }
 {
     match (a, b, width) {
         (Known::Number(x), Known::Number(y), _) => Ok(numbers_on(width, comparison, taken, x, y)),
@@ -180,6 +183,8 @@ impl AbsState {
         ensures holds { (r : ℕ) (fact : Fact) → right.now ≡ Operand.Source r → Holds fact (register_at self.now.registers r) → IsOk result × IfOk result (λ k. Says fact k) }
         ensures floor { HasNumberIn self.now right.now → IsOk result }
         ensures numbers { HasNumberIn self.now right.now → IfOk result (λ k. IsNumber k) }
+        ensures unset { IfErr result (λ e. (e ≡ Refusal.UnsetRegister) × HasUnset self.now (read_operand right.now)) }
+        ensures set { IfOk result (λ _. HasUnset self.now (read_operand right.now) → ⊥) }
     {
         match *right {
             Operand::Immediate(value) => Ok(Known::Number(compared(width, value))),
@@ -275,6 +280,8 @@ impl AbsState {
         ensures guards { (region : Region) (r n high l2 h2 t : ℕ) (t1 : Option ℕ) → right.now ≡ Operand.Source r → left ≢ r → width ≡ Full → comparison ≡ Comparison.Greater → taken ≡ false → Holds (Fact.LentIn region n high t1) (register_at self.old.registers left) → Holds (Fact.LentIn region l2 h2 (Some t)) (register_at self.old.registers r) → IfOk result (λ flow. IfSome (after flow self.new) (λ b. n ≤ bound_of b.bounds region)) }
         ensures floor { HasNumberAt self.old left → HasNumberIn self.old right.now → IsOk result }
         ensures kinds { HasNumberAt self.old left → HasNumberIn self.old right.now → IfOk result (λ flow. IfSome (after flow self.new) (λ b. KeepsAll self.old b)) }
+        ensures unset { IfErr result (λ e. (e ≡ Refusal.UnsetRegister) ↔ HasUnset self.old (left ∷ read_operand right.now)) }
+        ensures set { IfOk result (λ _. HasUnset self.old (left ∷ read_operand right.now) → ⊥) }
     {
         let a = self.read(left)?;
         let b = self.right_side(width, right)?;
@@ -303,6 +310,8 @@ impl AbsState {
         ensures floor { HasNumberAt self.now left → HasNumberIn self.now right.now → IsOk result }
         ensures taken_kinds { HasNumberAt self.now left → HasNumberIn self.now right.now → IfOk result (λ edges. IfSome edges.taken (λ b. KeepsAll self.now b)) }
         ensures untaken_kinds { HasNumberAt self.now left → HasNumberIn self.now right.now → IfOk result (λ edges. IfSome edges.untaken (λ b. KeepsAll self.now b)) }
+        ensures unset { IfErr result (λ e. (e ≡ Refusal.UnsetRegister) ↔ HasUnset self.now (left ∷ read_operand right.now)) }
+        ensures set { IfOk result (λ _. HasUnset self.now (left ∷ read_operand right.now) → ⊥) }
     {
         let mut taken = *self;
         let holds = taken.take_edge(width, comparison, left, right, true)?;

@@ -1,4 +1,4 @@
-ghost use Rattle.std.specs.Prelude.{◌≡◌, ℕ, ◌+◌, ◌-◌, ◌%◌, ◌^◌, ◌<◌, ◌≤◌, Option, Some, None, IsSome, IfSome, IfOk, IsOk, IsTrue, ◌↔◌};
+ghost use Rattle.std.specs.Prelude.{◌≡◌, ◌≢◌, IfErr, ℕ, ◌+◌, ◌-◌, ◌%◌, ◌^◌, ◌<◌, ◌≤◌, Option, Some, None, IsSome, IfSome, IfOk, IsOk, IsTrue, ◌↔◌};
 ghost use Rattle.abstract_state.specs.Lent.{Lengths, HasTails, base_of};
 ghost use Rattle.abstract_state.specs.Quantity.{Contains, Within, JoinsNumber};
 ghost use Rattle.abstract_state.specs.Known.{ContainsKnown, WithinKnown, IsNumber, AreNumbers};
@@ -43,6 +43,7 @@ pub fn number(quantity: Option<Quantity>) -> Option<Known>
 pub fn lent(region: Region, offset: Option<Quantity>) -> Result<Option<Known>, Refusal>
     ensures sound { IfOk result (λ o. (lengths : Lengths) (x : ℕ) → Within offset lengths x → WithinKnown o lengths ((base_of region + x) % 2 ^ 64)) }
     ensures there { (at : TheRegion) (low high : ℕ) (t : Option ℕ) → region ≡ at → IfSome offset (λ q. IsIn at q low high t) → high ≤ 2 ^ 20 → IsOk result × IfOk result (λ o. IfSome o (λ k. IsLentIn at low high t k)) }
+    ensures not_unset { IfErr result (λ e. e ≢ Refusal.UnsetRegister) }
 {
     let Some(offset) = offset else {
         return Ok(None);
@@ -72,7 +73,8 @@ fn from_context(
     place: ContextPlace,
     by: Quantity,
 ) -> Result<Known, Refusal>
-    ensures { IfOk result (λ k. (lengths : Lengths) (x y : ℕ) → ContainsKnown (Known.Context place) lengths x → Contains by lengths y → ContainsKnown k lengths (value_of operation width (cut width x) (cut width y))) }
+    ensures sound { IfOk result (λ k. (lengths : Lengths) (x y : ℕ) → ContainsKnown (Known.Context place) lengths x → Contains by lengths y → ContainsKnown k lengths (value_of operation width (cut width x) (cut width y))) }
+    ensures not_unset { IfErr result (λ e. e ≢ Refusal.UnsetRegister) }
 {
     match displaced(operation, width, place.place, by) {
         Some(place) if place <= profile.context_length() => Ok(Known::Context(ContextPlace {
@@ -88,7 +90,8 @@ fn from_stack(
     place: StackPlace,
     by: Quantity,
 ) -> Result<Known, Refusal>
-    ensures { IfOk result (λ k. (lengths : Lengths) (x y : ℕ) → ContainsKnown (Known.Stack place) lengths x → Contains by lengths y → ContainsKnown k lengths (value_of operation width (cut width x) (cut width y))) }
+    ensures sound { IfOk result (λ k. (lengths : Lengths) (x y : ℕ) → ContainsKnown (Known.Stack place) lengths x → Contains by lengths y → ContainsKnown k lengths (value_of operation width (cut width x) (cut width y))) }
+    ensures not_unset { IfErr result (λ e. e ≢ Refusal.UnsetRegister) }
 {
     match displaced(operation, width, place.place, by) {
         Some(place) if place <= 512 => Ok(Known::Stack(StackPlace { place })),
@@ -104,6 +107,7 @@ fn from_lent(
 ) -> Result<Option<Known>, Refusal>
     ensures sound { IfOk result (λ o. (lengths : Lengths) (x y : ℕ) → ContainsKnown (Known.Lent place) lengths x → Contains by lengths y → WithinKnown o lengths (value_of operation width (cut width x) (cut width y))) }
     ensures adds { (at : TheRegion) → operation ≡ Arithmetic.Add → width ≡ Width.Full → place.region ≡ at → (m n : ℕ) (t : Option ℕ) → IsIn at place.offset m m t → IsIn at by n n None → m + n ≤ 2 ^ 20 → IsOk result × IfOk result (λ o. IfSome o (λ k. IsLentIn at (m + n) (m + n) (tail_after t n) k)) }
+    ensures not_unset { IfErr result (λ e. e ≢ Refusal.UnsetRegister) }
 {
     match (width, operation) {
         (Width::Full, Arithmetic::Add) => lent(place.region, place.offset.add(by, Width::Full)),
@@ -118,7 +122,8 @@ fn onto_lent(
     by: Quantity,
     place: LentPlace,
 ) -> Result<Option<Known>, Refusal>
-    ensures { IfOk result (λ o. (lengths : Lengths) (x y : ℕ) → Contains by lengths x → ContainsKnown (Known.Lent place) lengths y → WithinKnown o lengths (value_of operation width (cut width x) (cut width y))) }
+    ensures sound { IfOk result (λ o. (lengths : Lengths) (x y : ℕ) → Contains by lengths x → ContainsKnown (Known.Lent place) lengths y → WithinKnown o lengths (value_of operation width (cut width x) (cut width y))) }
+    ensures not_unset { IfErr result (λ e. e ≢ Refusal.UnsetRegister) }
 {
     match (width, operation) {
         (Width::Full, Arithmetic::Add) => lent(place.region, by.add(place.offset, Width::Full)),
@@ -150,6 +155,7 @@ impl Known {
         ensures folds { (at : TheRegion) → width ≡ Width.Full → (m n : ℕ) → Folds operation m n → IsNumberIn at m m None self → IsNumberIn at n n None other → IsOk result × IfOk result (λ o. IfSome o (λ k. IsNumberIn at (value_of operation Width.Full m n) (value_of operation Width.Full m n) None k)) }
         ensures floor { IsNumber self → IsNumber other → IsOk result }
         ensures numbers { IsNumber self → IsNumber other → IfOk result (λ o. AreNumbers o) }
+        ensures not_unset { IfErr result (λ e. e ≢ Refusal.UnsetRegister) }
     {
         match (self, other) {
             (Known::Number(a), Known::Number(b)) => Ok(number(transfer(operation, width, a, b))),
@@ -170,6 +176,7 @@ impl Known {
         ensures constant { (at : TheRegion) → width ≡ Width.Full → (n : ℕ) (t : Option ℕ) → IsNumberIn at n n t self → IfOk result (λ o. IfSome o (λ k. IsNumberIn at n n t k)) }
         ensures floor { IsNumber self → IsOk result }
         ensures numbers { IsNumber self → IfOk result (λ o. AreNumbers o) }
+        ensures not_unset { IfErr result (λ e. e ≢ Refusal.UnsetRegister) }
     {
         match (self, width) {
             (Known::Number(a), _) => Ok(number(a.moved(width))),

@@ -1,4 +1,4 @@
-ghost use Rattle.std.specs.Prelude.{◌≡◌, ◌≢◌, ℕ, ◌+◌, ◌-◌, ◌*◌, ◌/◌, ◌%◌, ◌^◌, ◌<◌, ◌≤◌, Option, Some, Ok, IfSome, IfOk, IsOk, IsTrue, None, length, slice_set, slice_index_or, pos};
+ghost use Rattle.std.specs.Prelude.{◌≡◌, ◌≢◌, IfErr, [], ◌∷◌, ℕ, ◌+◌, ◌-◌, ◌*◌, ◌/◌, ◌%◌, ◌^◌, ◌<◌, ◌≤◌, Option, Some, Ok, IfSome, IfOk, IsOk, IsTrue, None, length, slice_set, slice_index_or, pos};
 ghost use Rattle.abstract_state.specs.Lent.{Lengths, length_of, bound_of, HasTail};
 ghost use Rattle.abstract_state.specs.declared.region.Region.{Region as TheRegion};
 ghost use Rattle.abstract_state.specs.Quantity.{Contains as ContainsNumber, Within as WithinNumber};
@@ -10,6 +10,8 @@ ghost use Rattle.abstract_state.specs.Exact.{Fact, Says, Holds, IsNumberIn};
 ghost use Rattle.abstract_state.specs.Guard.{IsOperand, SameBut, SameMemory};
 ghost use Rattle.abstract_state.specs.Frame.{IsStackByte};
 ghost use Rattle.abstract_state.specs.Steps.{after};
+ghost use Rattle.abstract_state.specs.Unset.{HasUnset};
+ghost use Rattle.bpf_words.specs.Flow.{read_operand};
 ghost use Rattle.meaning.specs.State.{State, start, register_of, operand_in};
 
 use crate::bounds::Bounds;
@@ -107,6 +109,8 @@ impl AbsState {
         ensures context { (n : ℕ) → IsContextAt n (register_at self.now.registers register) → IsOk result × IfOk result (λ k. IsContextAt n (AbsReg.Set k)) }
         ensures frame { (p offset : ℕ) → IsStackByte p offset (register_at self.now.registers register) → IsOk result × IfOk result (λ k. IsStackByte p offset (AbsReg.Set k)) }
         ensures numbers { HasNumberAt self.now register → IfOk result (λ k. IsNumber k) }
+        ensures unset { IfErr result (λ e. (e ≡ Refusal.UnsetRegister) × HasUnset self.now (register ∷ [])) }
+        ensures set { IfOk result (λ _. HasUnset self.now (register ∷ []) → ⊥) }
     {
         match self.registers[register.index()] {
             AbsReg::Unset => Err(Refusal::UnsetRegister),
@@ -122,6 +126,8 @@ impl AbsState {
         ensures one { (region : TheRegion) (n : ℕ) → IsOperand region self.now operand n → IsOk result × IfOk result (λ k. IsNumberIn region n n None k) }
         ensures floor { HasNumberIn self.now operand → IsOk result }
         ensures numbers { HasNumberIn self.now operand → IfOk result (λ k. IsNumber k) }
+        ensures unset { IfErr result (λ e. (e ≡ Refusal.UnsetRegister) × HasUnset self.now (read_operand operand)) }
+        ensures set { IfOk result (λ _. HasUnset self.now (read_operand operand) → ⊥) }
     {
         match operand {
             Operand::Immediate(value) => Ok(Known::Number(Quantity::constant(extended(value)))),

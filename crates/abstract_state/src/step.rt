@@ -1,5 +1,5 @@
 //! Instructions after which a run goes on at one slot of the program.
-ghost use Rattle.std.specs.Prelude.{◌≡◌, ◌≢◌, ℕ, pos, ◌+◌, ◌*◌, ◌%◌, ◌^◌, ◌<◌, ◌≤◌, Option, Some, None, Ok, IfSome, IfOk, IsOk};
+ghost use Rattle.std.specs.Prelude.{◌≡◌, ◌≢◌, ◌↔◌, ◌++◌, IfErr, [], ◌∷◌, ℕ, pos, ◌+◌, ◌*◌, ◌%◌, ◌^◌, ◌<◌, ◌≤◌, Option, Some, None, Ok, IfSome, IfOk, IsOk};
 ghost use Rattle.std.specs.Int.{cast_unsigned, w64};
 ghost use Rattle.meaning.specs.State.{State, register_of};
 ghost use Rattle.meaning.specs.Step.{Returns};
@@ -11,6 +11,8 @@ ghost use Rattle.abstract_state.specs.declared.region.Region.{Region};
 ghost use Rattle.abstract_state.specs.Lent.{begin_field, end_field, limit_of, bound_of, Lends};
 ghost use Rattle.abstract_state.specs.Guard.{Yields, Stores, Spills, Keeps, IsOperand, SameBut, LeavesOthers, SameMemory, LeavesMemory};
 ghost use Rattle.meaning.specs.Value.{value_of};
+ghost use Rattle.abstract_state.specs.Unset.{HasUnset};
+ghost use Rattle.bpf_words.specs.Flow.{read_by, read_first, read_operand};
 ghost use Rattle.meaning.specs.Memory.{bytes_in, bytes_in_signed};
 ghost use Rattle.abstract_state.specs.Frame.{IsStackByte, AreMarked, StoresSlots, SpillsSlot};
 ghost use Rattle.abstract_state.specs.declared.slot.Slot.{Slot};
@@ -54,6 +56,8 @@ impl AbsState {
         ensures copies { (region : Region) (n : ℕ) → width ≡ Width.Full → IsOperand region self.old operand n → Keeps result self.new destination (Fact.NumberIn region n n None) }
         ensures floor { HasNumberIn self.old operand → IsOk result }
         ensures numbers { HasNumberIn self.old operand → IfOk result (λ flow. IfSome (after flow self.new) (λ b. WritesNumber self.old destination b)) }
+        ensures unset { IfErr result (λ e. (e ≡ Refusal.UnsetRegister) ↔ HasUnset self.old (read_operand operand)) }
+        ensures set { IfOk result (λ _. HasUnset self.old (read_operand operand) → ⊥) }
     {
         let b = self.operand(operand)?;
         let known = b.moved(width)?;
@@ -77,6 +81,8 @@ impl AbsState {
         ensures folds { (region : Region) (m n : ℕ) → width ≡ Width.Full → Folds operation m n → Holds (Fact.NumberIn region m m None) (register_at self.old.registers destination) → IsOperand region self.old operand n → Keeps result self.new destination (Fact.NumberIn region (value_of operation Width.Full m n) (value_of operation Width.Full m n) None) }
         ensures floor { HasNumberAt self.old destination → HasNumberIn self.old operand → IsOk result }
         ensures numbers { HasNumberAt self.old destination → HasNumberIn self.old operand → IfOk result (λ flow. IfSome (after flow self.new) (λ b. WritesNumber self.old destination b)) }
+        ensures unset { IfErr result (λ e. (e ≡ Refusal.UnsetRegister) ↔ HasUnset self.old (destination ∷ read_operand operand)) }
+        ensures set { IfOk result (λ _. HasUnset self.old (destination ∷ read_operand operand) → ⊥) }
     {
         let a = self.read(destination)?;
         let b = self.operand(operand)?;
@@ -91,6 +97,8 @@ impl AbsState {
         ensures memory { IfOk result (λ flow. IfSome (after flow self.new) (λ b. SameMemory self.old b)) }
         ensures floor { HasNumberAt self.old destination → IsOk result }
         ensures numbers { HasNumberAt self.old destination → IfOk result (λ flow. IfSome (after flow self.new) (λ b. WritesNumber self.old destination b)) }
+        ensures unset { IfErr result (λ e. (e ≡ Refusal.UnsetRegister) ↔ HasUnset self.old (destination ∷ [])) }
+        ensures set { IfOk result (λ _. HasUnset self.old (destination ∷ []) → ⊥) }
     {
         let a = self.read(destination)?;
         let known = a.negate(width)?;
@@ -109,6 +117,8 @@ impl AbsState {
         ensures memory { IfOk result (λ flow. IfSome (after flow self.new) (λ b. SameMemory self.old b)) }
         ensures floor { HasNumberAt self.old source → IsOk result }
         ensures numbers { HasNumberAt self.old source → IfOk result (λ flow. IfSome (after flow self.new) (λ b. WritesNumber self.old destination b)) }
+        ensures unset { IfErr result (λ e. (e ≡ Refusal.UnsetRegister) ↔ HasUnset self.old (source ∷ [])) }
+        ensures set { IfOk result (λ _. HasUnset self.old (source ∷ []) → ⊥) }
     {
         let a = self.read(source)?;
         let known = a.extend(extension)?;
@@ -127,6 +137,8 @@ impl AbsState {
         ensures memory { IfOk result (λ flow. IfSome (after flow self.new) (λ b. SameMemory self.old b)) }
         ensures floor { HasNumberAt self.old destination → IsOk result }
         ensures numbers { HasNumberAt self.old destination → IfOk result (λ flow. IfSome (after flow self.new) (λ b. WritesNumber self.old destination b)) }
+        ensures unset { IfErr result (λ e. (e ≡ Refusal.UnsetRegister) ↔ HasUnset self.old (destination ∷ [])) }
+        ensures set { IfOk result (λ _. HasUnset self.old (destination ∷ []) → ⊥) }
     {
         let a = self.read(destination)?;
         let known = a.convert(conversion, bits)?;
@@ -152,6 +164,8 @@ impl AbsState {
         ensures lent { (region : Region) (o low high : ℕ) (t : Option ℕ) → offset ≡ pos o → Holds (Fact.LentIn region low high t) (register_at self.old.registers base) → o < 2 ^ 15 → high + o + bytes_in size ≤ bound_of self.old.bounds region → Keeps result self.new destination Fact.AnyNumber }
         ensures floor { IsContextAt 0 (register_at self.old.registers base) → IsNumberField size (cast_unsigned w64 offset) → IsOk result }
         ensures numbers { IsContextAt 0 (register_at self.old.registers base) → IsNumberField size (cast_unsigned w64 offset) → IfOk result (λ flow. IfSome (after flow self.new) (λ b. WritesNumber self.old destination b)) }
+        ensures unset { IfErr result (λ e. (e ≡ Refusal.UnsetRegister) ↔ HasUnset self.old (base ∷ [])) }
+        ensures set { IfOk result (λ _. HasUnset self.old (base ∷ []) → ⊥) }
     {
         let a = self.read(base)?;
         let known = self.load(profile, a, displacement(offset), size)?;
@@ -171,6 +185,8 @@ impl AbsState {
         ensures memory { IfOk result (λ flow. IfSome (after flow self.new) (λ b. SameMemory self.old b)) }
         ensures lent { (region : Region) (o low high : ℕ) (t : Option ℕ) → offset ≡ pos o → Holds (Fact.LentIn region low high t) (register_at self.old.registers base) → o < 2 ^ 15 → high + o + bytes_in_signed size ≤ bound_of self.old.bounds region → Keeps result self.new destination Fact.AnyNumber }
         ensures stack { (p : ℕ) → IsStackByte p (cast_unsigned w64 offset) (register_at self.old.registers base) → AreMarked self.old.stack p (bytes_in_signed size) → Keeps result self.new destination Fact.AnyNumber }
+        ensures unset { IfErr result (λ e. (e ≡ Refusal.UnsetRegister) ↔ HasUnset self.old (base ∷ [])) }
+        ensures set { IfOk result (λ _. HasUnset self.old (base ∷ []) → ⊥) }
     {
         let a = self.read(base)?;
         self.load_signed(a, displacement(offset), size)?;
@@ -190,6 +206,8 @@ impl AbsState {
         ensures bounds { IfOk result (λ _. self.new.bounds ≡ self.old.bounds) }
         ensures stores { (p : ℕ) → IsStackByte p (cast_unsigned w64 offset) (register_at self.old.registers base) → p + bytes_in size ≤ 512 → HasNumberIn self.old value → IsOk result × IfOk result (λ flow. IfSome (after flow self.new) (λ b. StoresSlots p (bytes_in size) self.old.stack b.stack)) }
         ensures spills { (i r : ℕ) (known : Known) → IsStackByte (8 * i) (cast_unsigned w64 offset) (register_at self.old.registers base) → i < 64 → size ≡ Size.Double → value ≡ Operand.Source r → Holds (Fact.Exactly known) (register_at self.old.registers r) → IsOk result × IfOk result (λ flow. IfSome (after flow self.new) (λ b. SpillsSlot i known self.old.stack b.stack)) }
+        ensures unset { IfErr result (λ e. (e ≡ Refusal.UnsetRegister) ↔ HasUnset self.old (base ∷ read_operand value)) }
+        ensures set { IfOk result (λ _. HasUnset self.old (base ∷ read_operand value) → ⊥) }
     {
         let a = self.read(base)?;
         let b = self.operand(value)?;
@@ -224,6 +242,8 @@ impl AbsState {
         ensures yields { (d : ℕ) (fact : Fact) → Yields profile self.old (Insn.Compute width operation destination operand) d fact → Keeps result self.new d fact }
         ensures floor { ReadsFirst self.old operation destination → HasNumberIn self.old operand → IsOk result }
         ensures numbers { ReadsFirst self.old operation destination → HasNumberIn self.old operand → IfOk result (λ flow. IfSome (after flow self.new) (λ b. WritesNumber self.old destination b)) }
+        ensures unset { IfErr result (λ e. (e ≡ Refusal.UnsetRegister) ↔ HasUnset self.old (read_first operation destination ++ read_operand operand)) }
+        ensures set { IfOk result (λ _. HasUnset self.old (read_first operation destination ++ read_operand operand) → ⊥) }
     {
         match operation {
             Arithmetic::Mov => self.move_to(width, destination, operand),
@@ -235,6 +255,8 @@ impl AbsState {
     pub fn exit(&self) -> Result<(), Refusal>
         ensures sound { IfOk result (λ _. (span : Span) (s : State) → Contains self.now (lengths_of span) s → (v : ℕ) × (does span s Insn.Exit ≡ Ok (Returns v))) }
         ensures floor { HasNumberAt self.now 0 → IsOk result }
+        ensures unset { IfErr result (λ e. (e ≡ Refusal.UnsetRegister) ↔ HasUnset self.now (0 ∷ [])) }
+        ensures set { IfOk result (λ _. HasUnset self.now (0 ∷ []) → ⊥) }
     {
         let known = self.read(Register::r0())?;
         if known.is_number() {
@@ -256,6 +278,8 @@ impl AbsState {
         ensures spills { (i : ℕ) (known : Known) → Spills self.old insn.now i known → IsOk result × IfOk result (λ flow. IfSome (after flow self.new) (λ b. SpillsSlot i known self.old.stack b.stack)) }
         ensures floor { ReadsNumbers self.old insn.now → IsOk result }
         ensures carries { ReadsNumbers self.old insn.now → IfOk result (λ flow. IfSome (after flow self.new) (λ b. Carries self.old insn.now b)) }
+        ensures unset { IfErr result (λ e. (e ≡ Refusal.UnsetRegister) ↔ HasUnset self.old (read_by insn.now)) }
+        ensures set { IfOk result (λ _. HasUnset self.old (read_by insn.now) → ⊥) }
     {
         match *insn {
             Insn::Compute {

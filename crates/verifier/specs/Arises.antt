@@ -1,12 +1,12 @@
 -- How what is known before a slot came to be, and which instructions may be refused then.
-use Rattle.std.specs.Prelude.{◌≡◌, ◌≢◌, ℕ, ℤ, pos, ◌+◌, ◌<◌, ◌≤◌, ◌⊎◌, Option, Some, true}
+use Rattle.std.specs.Prelude.{◌≡◌, ◌≢◌, ℕ, ℤ, pos, ◌+◌, ◌<◌, ◌≤◌, ◌⊎◌, ◌↔◌, Option, Some, true}
 use Rattle.bpf_words.specs.declared.profile.Profile.{Profile}
 use Rattle.bpf_words.specs.declared.instruction.Width.TheVariants.{Full}
 use Rattle.bpf_words.specs.declared.instruction.Comparison.TheVariants.{Greater}
 use Rattle.bpf_words.specs.declared.instruction.Operand.TheVariants.{Source}
 use Rattle.bpf_words.specs.declared.instruction.Insn.{Insn}
 use Rattle.bpf_words.specs.declared.instruction.Insn.TheVariants.{Branch}
-use Rattle.bpf_words.specs.Flow.{StartsAt, jump_of, written_by, falls_through, slots_of}
+use Rattle.bpf_words.specs.Flow.{StartsAt, jump_of, read_by, written_by, falls_through, slots_of}
 use Rattle.meaning.specs.Step.{Program}
 use Rattle.abstract_state.specs.declared.region.Region.{Region}
 use Rattle.abstract_state.specs.Lent.{bound_of}
@@ -16,8 +16,11 @@ use Rattle.abstract_state.specs.Kinds.{HasNumberAt, IsContextAt, JoinsReg, Reads
 use Rattle.abstract_state.specs.Exact.{Fact, Holds}
 use Rattle.abstract_state.specs.Exact.Fact.{LentIn}
 use Rattle.abstract_state.specs.Guard.{Yields, LeavesOthers}
+use Rattle.abstract_state.specs.Unset.{HasUnset}
+use Rattle.abstract_state.specs.declared.refusal.Refusal.{Refusal}
+use Rattle.abstract_state.specs.declared.refusal.Refusal.TheVariants.{UnsetRegister}
 use Rattle.verifier.specs.declared.refusal.VerifyError.{VerifyError}
-use Rattle.verifier.specs.declared.refusal.VerifyError.TheVariants.{OutOfMemory}
+use Rattle.verifier.specs.declared.refusal.VerifyError.TheVariants.{State as StateRefused, OutOfMemory}
 use Rattle.verifier.specs.Waiting.{States, waiting_at}
 use Rattle.verifier.specs.Walk.{Between}
 
@@ -82,7 +85,7 @@ FallsAs profile program slot falling =
     (a : AbsState) → falling ≡ Some a
     → (to : ℕ) × ((next : Insn) × (slot ≤ to) × Between program slot to × StartsAt program to next × Arises profile program to a)
 
--- what arises before some instruction doesn't grant it
+-- what arises before some instruction doesn't grant it; the fault is an unset register exactly where the instruction reads one
 pub record MayRefuse (profile : Profile) (program : Program) : Type 0 where
   pub slot : ℕ
   pub state : AbsState
@@ -90,7 +93,13 @@ pub record MayRefuse (profile : Profile) (program : Program) : Type 0 where
   pub arises : Arises profile program slot state
   pub starts : StartsAt program slot insn
   pub refused : IsGranted profile state insn → ⊥
+  pub fault : Refusal
+  pub unset : (fault ≡ UnsetRegister) ↔ HasUnset state (read_by insn)
 
 -- the causes of a refusal of a structured program
 abbrev pub IsCause : Profile → Program → VerifyError → Type 0
-IsCause profile program e = (e ≡ OutOfMemory) ⊎ MayRefuse profile program
+IsCause profile program e = (e ≡ OutOfMemory) ⊎ ((may : MayRefuse profile program) × (e ≡ StateRefused may.slot may.fault))
+
+-- why an instruction is refused at a slot
+abbrev pub RefusesAt : Profile → Program → ℕ → Refusal → Type 0
+RefusesAt profile program slot fault = (may : MayRefuse profile program) × (may.slot ≡ slot) × (may.fault ≡ fault)

@@ -1,4 +1,4 @@
-use Rattle.std.proofs.Common.{◌≡◌, ◌+◌, ◌≤◌, Some, sym, ap, ◌∙◌, subst, arith}
+use Rattle.std.proofs.Common.{◌≡◌, ◌+◌, ◌≤◌, Some, sym, ap, ◌∙◌, subst, arith, ◌↔◌}
 use Rattle.bpf_words.specs.Flow.{jump_of, falls_through}
 use Rattle.abstract_state.specs.State.{lengths_of}
 use Rattle.abstract_state.specs.Lent.{bound_of}
@@ -8,6 +8,11 @@ use Rattle.verifier.proofs.Passing.{insn_advances}
 use Rattle.verifier.proofs.Taking.{branch_granted, guard_is, edge_takes, at_some}
 use Rattle.verifier.proofs.Arising.{jump_target, jump_arises, edge_falls}
 use Rattle.std.proofs.lemmas.Bool.{false≢true}
+use Rattle.bpf_words.specs.Flow.{read_by}
+use Rattle.abstract_state.specs.Unset.{HasUnset}
+use Rattle.abstract_state.specs.declared.refusal.Refusal.TheVariants.{UnsetRegister}
+use Rattle.verifier.proofs.Arising.{refused_for, not_refused}
+use Rattle.bpf_words.specs.declared.instruction.Insn.{Insn}
 use Rattle.verifier.proofs.walk.compare.Goals as goal
 
 pub record-requires : goal.record-requires
@@ -57,3 +62,11 @@ returns-in_err-edges-clause-floor c = λ granted.
     (λ region r n high low2 high2 t tail side apart wide greater one two.
     c.in_err-edges.ensures.regions region r n high low2 high2 tail (Some t) side wide (subst IsOrder (sym greater) tt) one two)
     granted))
+
+pub returns-in_err-edges-clause-unset : goal.returns-in_err-edges-clause-unset
+returns-in_err-edges-clause-unset c = λ fault is.
+    refused_for c.from_residual.result c.in_err-edges.field-0.0 fault (λ fault. (fault ≡ UnsetRegister) ↔ HasUnset c.args.state.now (read_by c.args.insn.now)) c.from_residual.ensures.1
+    (subst (λ (i : Insn). (c.in_err-edges.field-0.0 ≡ UnsetRegister) ↔ HasUnset c.args.state.now (read_by i)) (sym c.in-Branch.is) c.in_err-edges.ensures.unset) is
+
+pub returns-in_err-record-clause-unset : goal.returns-in_err-record-clause-unset
+returns-in_err-record-clause-unset c = λ fault is. not_refused c.from_residual-in_err-record.result fault _ c.from_residual-in_err-record.ensures.1 is

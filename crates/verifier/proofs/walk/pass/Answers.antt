@@ -1,8 +1,12 @@
-use Rattle.std.proofs.Common.{◌≡◌, ◌+◌, Some, refl, sym, ap, ◌∙◌, subst, arith}
+use Rattle.std.proofs.Common.{◌≡◌, ◌+◌, Some, refl, sym, ap, ◌∙◌, subst, arith, ◌↔◌}
 use Rattle.bpf_words.specs.Flow.{jump_of}
 use Rattle.abstract_state.specs.State.{lengths_of, WithinState, does}
 use Rattle.verifier.specs.Waiting.{waiting_at}
 use Rattle.verifier.proofs.Passing.{jump_advances, straight, lands_advances}
+use Rattle.bpf_words.specs.Flow.{read_by}
+use Rattle.abstract_state.specs.Unset.{HasUnset}
+use Rattle.abstract_state.specs.declared.refusal.Refusal.TheVariants.{UnsetRegister}
+use Rattle.verifier.proofs.Arising.{refused_for, not_refused}
 use Rattle.verifier.proofs.walk.pass.Goals as goal
 use Rattle.std.proofs.lemmas.Bool.{false≢true}
 use Rattle.abstract_state.specs.Steps.{after}
@@ -49,6 +53,7 @@ returns-in_ok-step-in_default c = record {
   size = refl;
   kept = λ slot lengths s waits. waits;
   floor = λ granted. tt;
+  unset = λ fault is. absurd (cc);
   arises = λ program starts from all.
       let is = straight c.args.insn.now c.in_default.not-Jump c.in_default.not-JumpLong c.in_default.not-Branch c.in_default.not-Exit in (
         all,
@@ -93,3 +98,18 @@ returns-in_err-step-in_default-clause-floor c = λ granted.
 
 pub returns-in_err-exit-in-Exit-clause-floor : goal.returns-in_err-exit-in-Exit-clause-floor
 returns-in_err-exit-in-Exit-clause-floor c = λ granted. absurd (false≢true (c.in_err-exit-in-Exit.ensures.floor (exit_granted c.args.profile c.args.state.now c.args.insn.now c.in-Exit.is granted)))
+
+pub returns-in_err-add-in-Jump-clause-unset : goal.returns-in_err-add-in-Jump-clause-unset
+returns-in_err-add-in-Jump-clause-unset c = λ fault is. not_refused c.from_residual.result fault _ c.from_residual.ensures.1 is
+
+pub returns-in_err-add-in-JumpLong-clause-unset : goal.returns-in_err-add-in-JumpLong-clause-unset
+returns-in_err-add-in-JumpLong-clause-unset c = λ fault is. not_refused c.from_residual-in_err-add-in-JumpLong.result fault _ c.from_residual-in_err-add-in-JumpLong.ensures.1 is
+
+pub returns-in_err-exit-in-Exit-clause-unset : goal.returns-in_err-exit-in-Exit-clause-unset
+returns-in_err-exit-in-Exit-clause-unset c = λ fault is.
+    refused_for c.from_residual-in_err-exit-in-Exit.result c.in_err-exit-in-Exit.field-0.0 fault (λ fault. (fault ≡ UnsetRegister) ↔ HasUnset c.args.state.now (read_by c.args.insn.now)) c.from_residual-in_err-exit-in-Exit.ensures.1
+    (subst (λ (i : Insn). (c.in_err-exit-in-Exit.field-0.0 ≡ UnsetRegister) ↔ HasUnset c.args.state.now (read_by i)) (sym c.in-Exit.is) c.in_err-exit-in-Exit.ensures.unset) is
+
+pub returns-in_err-step-in_default-clause-unset : goal.returns-in_err-step-in_default-clause-unset
+returns-in_err-step-in_default-clause-unset c = λ fault is.
+    refused_for c.from_residual-in_err-step-in_default.result c.in_err-step-in_default.field-0.0 fault (λ fault. (fault ≡ UnsetRegister) ↔ HasUnset c.args.state.now (read_by c.args.insn.now)) c.from_residual-in_err-step-in_default.ensures.1 c.in_err-step-in_default.ensures.unset is

@@ -18,15 +18,15 @@ returns-in-Number-Number-clause-sound c = λ lengths x y a b.
 pub returns-in-Number-Lent-clause-sound : goal.returns-in-Number-Lent-clause-sound
 returns-in-Number-Lent-clause-sound c = IfOk-weaker c.onto_lent.result _ _
     (λ o h lengths x y a b. h lengths x y (is _ _ lengths x c.in-Number-Lent.is-0 a) (is _ _ lengths y c.in-Number-Lent.is-1 b))
-    c.onto_lent.ensures
+    c.onto_lent.ensures.sound
 
 pub returns-in_ok-from_context-in-Context-Number-clause-sound : goal.returns-in_ok-from_context-in-Context-Number-clause-sound
 returns-in_ok-from_context-in-Context-Number-clause-sound c = λ lengths x y a b.
-    (_, refl, c.in_ok-from_context-in-Context-Number.ensures lengths x y (is _ _ lengths x c.in-Context-Number.is-0 a) (is _ _ lengths y c.in-Context-Number.is-1 b))
+    (_, refl, c.in_ok-from_context-in-Context-Number.ensures.sound lengths x y (is _ _ lengths x c.in-Context-Number.is-0 a) (is _ _ lengths y c.in-Context-Number.is-1 b))
 
 pub returns-in_ok-from_stack-in-Stack-Number-clause-sound : goal.returns-in_ok-from_stack-in-Stack-Number-clause-sound
 returns-in_ok-from_stack-in-Stack-Number-clause-sound c = λ lengths x y a b.
-    (_, refl, c.in_ok-from_stack-in-Stack-Number.ensures lengths x y (is _ _ lengths x c.in-Stack-Number.is-0 a) (is _ _ lengths y c.in-Stack-Number.is-1 b))
+    (_, refl, c.in_ok-from_stack-in-Stack-Number.ensures.sound lengths x y (is _ _ lengths x c.in-Stack-Number.is-0 a) (is _ _ lengths y c.in-Stack-Number.is-1 b))
 
 pub returns-in-Lent-Number-clause-sound : goal.returns-in-Lent-Number-clause-sound
 returns-in-Lent-Number-clause-sound c = IfOk-weaker c.from_lent.result _ _

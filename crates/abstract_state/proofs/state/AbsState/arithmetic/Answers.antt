@@ -1,4 +1,4 @@
-use Rattle.std.proofs.Common.{refl, ◌∙◌, subst, sym, pos}
+use Rattle.std.proofs.Common.{refl, ◌∙◌, subst, sym, pos, ◌≡◌, ◌↔◌, ◌++◌, List, ℕ}
 use Rattle.abstract_state.proofs.Guards.{compute_rows}
 use Rattle.std.proofs.lemmas.Result.{IfOk-weaker}
 use Rattle.bpf_words.specs.declared.instruction.Arithmetic.{Arithmetic}
@@ -6,6 +6,11 @@ use Rattle.bpf_words.specs.declared.instruction.Insn.TheVariants.{Compute}
 use Rattle.abstract_state.specs.State.{StepsBy}
 use Rattle.abstract_state.specs.Exact.{Folds}
 use Rattle.abstract_state.specs.Steps.{after}
+use Rattle.std.specs.Result.{IfOk, IfErr}
+use Rattle.abstract_state.specs.Unset.{HasUnset}
+use Rattle.abstract_state.specs.declared.refusal.Refusal.TheVariants.{UnsetRegister}
+use Rattle.bpf_words.specs.Flow.{read_first, read_operand}
+use Rattle.abstract_state.proofs.Unsets.{reads_first}
 use Rattle.abstract_state.proofs.state.AbsState.arithmetic.Goals as goal
 
 pub returns-in-Mov-clause-sound : goal.returns-in-Mov-clause-sound
@@ -28,3 +33,17 @@ returns-in_default-clause-yields c = λ d fact y.
     (λ region k n t w o e h near. c.compute.ensures.adds region k n t w o e h near)
     (λ region n w o h. absurd (c.in_default.not-Mov o))
     (λ region m n w f h o. c.compute.ensures.folds region m n w f h o)
+
+pub returns-in-Mov-clause-unset : goal.returns-in-Mov-clause-unset
+returns-in-Mov-clause-unset c = subst (λ (op : Arithmetic). IfErr c.move_to.result (λ e. (e ≡ UnsetRegister) ↔ HasUnset c.args.self.now (read_first op c.args.destination ++ read_operand c.args.operand))) (sym c.in-Mov.is) c.move_to.ensures.unset
+
+pub returns-in-Mov-clause-set : goal.returns-in-Mov-clause-set
+returns-in-Mov-clause-set c = subst (λ (op : Arithmetic). IfOk c.move_to.result (λ _. HasUnset c.args.self.now (read_first op c.args.destination ++ read_operand c.args.operand) → ⊥)) (sym c.in-Mov.is) c.move_to.ensures.set
+
+pub returns-in_default-clause-unset : goal.returns-in_default-clause-unset
+returns-in_default-clause-unset c =
+    subst (λ (l : List ℕ). IfErr c.compute.result (λ e. (e ≡ UnsetRegister) ↔ HasUnset c.args.self.now (l ++ read_operand c.args.operand))) (sym (reads_first c.args.operation c.args.destination c.in_default.not-Mov)) c.compute.ensures.unset
+
+pub returns-in_default-clause-set : goal.returns-in_default-clause-set
+returns-in_default-clause-set c =
+    subst (λ (l : List ℕ). IfOk c.compute.result (λ _. HasUnset c.args.self.now (l ++ read_operand c.args.operand) → ⊥)) (sym (reads_first c.args.operation c.args.destination c.in_default.not-Mov)) c.compute.ensures.set

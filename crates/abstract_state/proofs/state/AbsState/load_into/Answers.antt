@@ -1,4 +1,4 @@
-use Rattle.std.proofs.Common.{true, false, ◌≡◌, ◌+◌, ◌*◌, ◌%◌, ◌^◌, ℕ, Some, Ok, refl, arith, sym, subst, ap, ◌∙◌}
+use Rattle.std.proofs.Common.{true, false, ◌≡◌, ◌+◌, ◌*◌, ◌%◌, ◌^◌, ℕ, Some, Ok, refl, arith, sym, subst, ap, ◌∙◌, ◌↔◌, [], ◌∷◌}
 use Rattle.abstract_state.specs.Kinds.{IsNumberField}
 use Rattle.abstract_state.specs.Lent.{begin_field, end_field, limit_of}
 use Rattle.abstract_state.specs.Exact.{LentIn, AnyNumber, Exactly}
@@ -12,6 +12,10 @@ use Rattle.abstract_state.proofs.Steps.{loads}
 use Rattle.abstract_state.specs.declared.state.AbsReg.TheVariants.{Set}
 use Rattle.abstract_state.specs.Frame.{IsStackByte}
 use Rattle.abstract_state.proofs.Frames.{exactly}
+use Rattle.abstract_state.specs.declared.refusal.Refusal.TheVariants.{UnsetRegister}
+use Rattle.abstract_state.specs.Unset.{HasUnset}
+use Rattle.bpf_words.specs.Flow.{read_operand}
+use Rattle.abstract_state.proofs.Unsets.{passed, all_unset, none_unset}
 use Rattle.abstract_state.proofs.state.AbsState.load_into.Goals as goal
 
 pub returns-clause-sound : goal.returns-clause-sound
@@ -120,3 +124,13 @@ returns-clause-spilled c = λ i known h less z is.
     let back = c.in_ok-known.ensures.spilled i known place less z is in
     let there : c.in_ok-known.known ≡ Some known = cc in
     (refl, c.write.ensures.holds (Exactly known) (exactly c.in_ok-known.known known there))
+
+pub returns-in_err-a-clause-unset : goal.returns-in_err-a-clause-unset
+returns-in_err-a-clause-unset c =
+    passed c.from_residual.result c.in_err-a.field-0.0 (λ e. (e ≡ UnsetRegister) ↔ HasUnset c.args.self.now (c.args.base ∷ [])) c.from_residual.ensures.1
+    (all_unset c.args.self.now (c.args.base ∷ []) _ c.in_err-a.ensures.unset)
+
+pub returns-in_err-known-clause-unset : goal.returns-in_err-known-clause-unset
+returns-in_err-known-clause-unset c =
+    passed c.from_residual-in_err-known.result c.in_err-known.field-0.0 (λ e. (e ≡ UnsetRegister) ↔ HasUnset c.args.self.now (c.args.base ∷ [])) c.from_residual-in_err-known.ensures.1
+    (none_unset c.args.self.now (c.args.base ∷ []) _ c.in_err-known.ensures.not_unset c.in_ok-a.ensures.set)

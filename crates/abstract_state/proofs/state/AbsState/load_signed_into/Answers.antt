@@ -1,4 +1,4 @@
-use Rattle.std.proofs.Common.{◌≡◌, ◌+◌, ◌%◌, ◌^◌, true, false, ℕ, Ok, refl, sym, subst, ap, ◌∙◌, arith}
+use Rattle.std.proofs.Common.{◌≡◌, ◌+◌, ◌%◌, ◌^◌, true, false, ℕ, Ok, refl, sym, subst, ap, ◌∙◌, arith, ◌↔◌, [], ◌∷◌}
 use Rattle.std.proofs.lemmas.Int.{to_z-of_z}
 use Rattle.std.specs.Int.{cast_unsigned, w16, w64}
 use Rattle.meaning.specs.Memory.{load, bytes_in_signed}
@@ -9,6 +9,10 @@ use Rattle.abstract_state.specs.declared.state.AbsReg.TheVariants.{Set}
 use Rattle.abstract_state.specs.Exact.{LentIn, AnyNumber}
 use Rattle.abstract_state.specs.Frame.{IsStackByte}
 use Rattle.abstract_state.proofs.Exact.{lent_is}
+use Rattle.abstract_state.specs.declared.refusal.Refusal.TheVariants.{UnsetRegister}
+use Rattle.abstract_state.specs.Unset.{HasUnset}
+use Rattle.bpf_words.specs.Flow.{read_operand}
+use Rattle.abstract_state.proofs.Unsets.{passed, all_unset, none_unset}
 use Rattle.abstract_state.proofs.state.AbsState.load_signed_into.Goals as goal
 
 pub returns-clause-sound : goal.returns-clause-sound
@@ -47,3 +51,13 @@ returns-clause-lent c = λ region o low high t e h short within. (refl, c.write.
 
 pub returns-clause-stack : goal.returns-clause-stack
 returns-clause-stack c = λ p h m. (refl, c.write.ensures.holds AnyNumber tt)
+
+pub returns-in_err-a-clause-unset : goal.returns-in_err-a-clause-unset
+returns-in_err-a-clause-unset c =
+    passed c.from_residual.result c.in_err-a.field-0.0 (λ e. (e ≡ UnsetRegister) ↔ HasUnset c.args.self.now (c.args.base ∷ [])) c.from_residual.ensures.1
+    (all_unset c.args.self.now (c.args.base ∷ []) _ c.in_err-a.ensures.unset)
+
+pub returns-in_err-load_signed-clause-unset : goal.returns-in_err-load_signed-clause-unset
+returns-in_err-load_signed-clause-unset c =
+    passed c.from_residual-in_err-load_signed.result c.in_err-load_signed.field-0.0 (λ e. (e ≡ UnsetRegister) ↔ HasUnset c.args.self.now (c.args.base ∷ [])) c.from_residual-in_err-load_signed.ensures.1
+    (none_unset c.args.self.now (c.args.base ∷ []) _ c.in_err-load_signed.ensures.not_unset c.in_ok-a.ensures.set)

@@ -1,8 +1,12 @@
-use Rattle.std.proofs.Common.{◌≡◌, true, false, None, refl}
+use Rattle.std.proofs.Common.{◌≡◌, true, false, None, refl, ◌↔◌, [], ◌∷◌}
 use Rattle.abstract_state.specs.Exact.{LentIn, NumberIn}
 use Rattle.abstract_state.specs.State.{lengths_of}
 use Rattle.abstract_state.proofs.Steps.{moves}
 use Rattle.abstract_state.proofs.Exact.{one_number}
+use Rattle.abstract_state.specs.declared.refusal.Refusal.TheVariants.{UnsetRegister}
+use Rattle.abstract_state.specs.Unset.{HasUnset}
+use Rattle.bpf_words.specs.Flow.{read_operand}
+use Rattle.abstract_state.proofs.Unsets.{passed, all_unset, none_unset}
 use Rattle.abstract_state.proofs.state.AbsState.move_to.Goals as goal
 
 pub returns-clause-sound : goal.returns-clause-sound
@@ -33,3 +37,13 @@ returns-in_err-known-clause-copies c = λ region n w o.
 
 pub returns-clause-copies : goal.returns-clause-copies
 returns-clause-copies c = λ region n w o. (refl, c.write.ensures.holds (NumberIn region n n None) (c.in_ok-known.ensures.constant region w n None (c.in_ok-b.ensures.one region n o).1))
+
+pub returns-in_err-b-clause-unset : goal.returns-in_err-b-clause-unset
+returns-in_err-b-clause-unset c =
+    passed c.from_residual.result c.in_err-b.field-0.0 (λ e. (e ≡ UnsetRegister) ↔ HasUnset c.args.self.now (read_operand c.args.operand)) c.from_residual.ensures.1
+    (all_unset c.args.self.now (read_operand c.args.operand) _ c.in_err-b.ensures.unset)
+
+pub returns-in_err-known-clause-unset : goal.returns-in_err-known-clause-unset
+returns-in_err-known-clause-unset c =
+    passed c.from_residual-in_err-known.result c.in_err-known.field-0.0 (λ e. (e ≡ UnsetRegister) ↔ HasUnset c.args.self.now (read_operand c.args.operand)) c.from_residual-in_err-known.ensures.1
+    (none_unset c.args.self.now (read_operand c.args.operand) _ c.in_err-known.ensures.not_unset c.in_ok-b.ensures.set)

@@ -8,6 +8,10 @@ use Rattle.abstract_state.specs.Exact.{Holds, IsIn, NumberIn}
 use Rattle.bpf_words.specs.declared.instruction.Operand.{Operand}
 use Rattle.abstract_state.specs.Guard.{IsOperand}
 use Rattle.abstract_state.specs.State.{register_at}
+use Rattle.std.specs.Result.{IfOk, IfErr}
+use Rattle.abstract_state.specs.Unset.{HasUnset}
+use Rattle.abstract_state.specs.declared.refusal.Refusal.TheVariants.{UnsetRegister}
+use Rattle.bpf_words.specs.Flow.{read_operand}
 use Rattle.abstract_state.proofs.state.AbsState.operand.Goals as goal
 
 pub returns-in-Immediate-clause-sound : goal.returns-in-Immediate-clause-sound
@@ -40,3 +44,12 @@ returns-in-Immediate-clause-one c = λ region n e.
 
 pub returns-in-Source-clause-one : goal.returns-in-Source-clause-one
 returns-in-Source-clause-one c = λ region n h. c.read.ensures.holds (NumberIn region n n None) (subst (λ (o : Operand). IsOperand region c.args.self.now o n) c.in-Source.is h)
+
+pub returns-in-Immediate-clause-set : goal.returns-in-Immediate-clause-set
+returns-in-Immediate-clause-set c = λ unset. subst (λ (o : Operand). HasUnset c.args.self.now (read_operand o)) c.in-Immediate.is unset
+
+pub returns-in-Source-clause-unset : goal.returns-in-Source-clause-unset
+returns-in-Source-clause-unset c = subst (λ (o : Operand). IfErr c.read.result (λ e. (e ≡ UnsetRegister) × HasUnset c.args.self.now (read_operand o))) (sym c.in-Source.is) c.read.ensures.unset
+
+pub returns-in-Source-clause-set : goal.returns-in-Source-clause-set
+returns-in-Source-clause-set c = subst (λ (o : Operand). IfOk c.read.result (λ _. HasUnset c.args.self.now (read_operand o) → ⊥)) (sym c.in-Source.is) c.read.ensures.set

@@ -1,7 +1,7 @@
-use Rattle.std.proofs.Common.{ℕ, ℤ, pos, ◌*◌, refl, sym, ◌∙◌, subst, rules}
+use Rattle.std.proofs.Common.{ℕ, ℤ, pos, ◌*◌, refl, sym, ◌∙◌, subst, rules, ◌≡◌, ◌↔◌}
 use Rattle.std.proofs.lemmas.Int.{to_z-of_z}
 use Rattle.std.specs.Int.{w16, w64, cast_unsigned}
-use Rattle.std.specs.Result.{IfOk}
+use Rattle.std.specs.Result.{IfOk, IfErr}
 use Rattle.std.specs.Option.{IfSome}
 use Rattle.abstract_state.specs.Kinds.{ReadsNumbers, IsNumberField, Carries}
 use mir.Val.{SFits}
@@ -14,6 +14,10 @@ use Rattle.abstract_state.proofs.Guards.{load_rows, signed_rows, wide_rows}
 use Rattle.abstract_state.proofs.Frames.{stored_is, spilled_is}
 use Rattle.abstract_state.specs.Frame.{IsStackByte, StoresSlots}
 use Rattle.abstract_state.proofs.Steps.{lands_in, lands_by, stays, ends}
+use Rattle.abstract_state.specs.Unset.{HasUnset}
+use Rattle.abstract_state.specs.declared.refusal.Refusal.TheVariants.{UnsetRegister}
+use Rattle.bpf_words.specs.Flow.{read_by}
+use Rattle.abstract_state.proofs.Unsets.{passed}
 use Rattle.abstract_state.proofs.state.AbsState.step.Goals as goal
 
 pub returns-in-Compute-clause-sound : goal.returns-in-Compute-clause-sound
@@ -108,3 +112,62 @@ returns-in-Store-clause-spills c = λ i known h.
     let same = to_z-of_z w16 c.in-Store.offset fits in
     let row = spilled_is c.args.self.now c.args.insn.now i known c.in-Store.size c.in-Store.base _ c.in-Store.value h c.in-Store.is in
     c.store_at.ensures.spills i row.0 known (subst (λ (z : ℤ). IsStackByte (8 * i) (cast_unsigned w64 z) (register_at c.args.self.now.registers c.in-Store.base)) (sym same) row.1) row.2 row.3 row.4 row.5
+
+pub returns-in-Compute-clause-unset : goal.returns-in-Compute-clause-unset
+returns-in-Compute-clause-unset c = subst (λ (i : Insn). IfErr c.arithmetic.result (λ e. (e ≡ UnsetRegister) ↔ HasUnset c.args.self.now (read_by i))) (sym c.in-Compute.is) c.arithmetic.ensures.unset
+
+pub returns-in-Compute-clause-set : goal.returns-in-Compute-clause-set
+returns-in-Compute-clause-set c = subst (λ (i : Insn). IfOk c.arithmetic.result (λ _. HasUnset c.args.self.now (read_by i) → ⊥)) (sym c.in-Compute.is) c.arithmetic.ensures.set
+
+pub returns-in-Negate-clause-unset : goal.returns-in-Negate-clause-unset
+returns-in-Negate-clause-unset c = subst (λ (i : Insn). IfErr c.negate.result (λ e. (e ≡ UnsetRegister) ↔ HasUnset c.args.self.now (read_by i))) (sym c.in-Negate.is) c.negate.ensures.unset
+
+pub returns-in-Negate-clause-set : goal.returns-in-Negate-clause-set
+returns-in-Negate-clause-set c = subst (λ (i : Insn). IfOk c.negate.result (λ _. HasUnset c.args.self.now (read_by i) → ⊥)) (sym c.in-Negate.is) c.negate.ensures.set
+
+pub returns-in-Extend-clause-unset : goal.returns-in-Extend-clause-unset
+returns-in-Extend-clause-unset c = subst (λ (i : Insn). IfErr c.extend.result (λ e. (e ≡ UnsetRegister) ↔ HasUnset c.args.self.now (read_by i))) (sym c.in-Extend.is) c.extend.ensures.unset
+
+pub returns-in-Extend-clause-set : goal.returns-in-Extend-clause-set
+returns-in-Extend-clause-set c = subst (λ (i : Insn). IfOk c.extend.result (λ _. HasUnset c.args.self.now (read_by i) → ⊥)) (sym c.in-Extend.is) c.extend.ensures.set
+
+pub returns-in-Convert-clause-unset : goal.returns-in-Convert-clause-unset
+returns-in-Convert-clause-unset c = subst (λ (i : Insn). IfErr c.convert.result (λ e. (e ≡ UnsetRegister) ↔ HasUnset c.args.self.now (read_by i))) (sym c.in-Convert.is) c.convert.ensures.unset
+
+pub returns-in-Convert-clause-set : goal.returns-in-Convert-clause-set
+returns-in-Convert-clause-set c = subst (λ (i : Insn). IfOk c.convert.result (λ _. HasUnset c.args.self.now (read_by i) → ⊥)) (sym c.in-Convert.is) c.convert.ensures.set
+
+pub returns-in-Load-clause-unset : goal.returns-in-Load-clause-unset
+returns-in-Load-clause-unset c = subst (λ (i : Insn). IfErr c.load_into.result (λ e. (e ≡ UnsetRegister) ↔ HasUnset c.args.self.now (read_by i))) (sym c.in-Load.is) c.load_into.ensures.unset
+
+pub returns-in-Load-clause-set : goal.returns-in-Load-clause-set
+returns-in-Load-clause-set c = subst (λ (i : Insn). IfOk c.load_into.result (λ _. HasUnset c.args.self.now (read_by i) → ⊥)) (sym c.in-Load.is) c.load_into.ensures.set
+
+pub returns-in-LoadSigned-clause-unset : goal.returns-in-LoadSigned-clause-unset
+returns-in-LoadSigned-clause-unset c = subst (λ (i : Insn). IfErr c.load_signed_into.result (λ e. (e ≡ UnsetRegister) ↔ HasUnset c.args.self.now (read_by i))) (sym c.in-LoadSigned.is) c.load_signed_into.ensures.unset
+
+pub returns-in-LoadSigned-clause-set : goal.returns-in-LoadSigned-clause-set
+returns-in-LoadSigned-clause-set c = subst (λ (i : Insn). IfOk c.load_signed_into.result (λ _. HasUnset c.args.self.now (read_by i) → ⊥)) (sym c.in-LoadSigned.is) c.load_signed_into.ensures.set
+
+pub returns-in-Store-clause-unset : goal.returns-in-Store-clause-unset
+returns-in-Store-clause-unset c = subst (λ (i : Insn). IfErr c.store_at.result (λ e. (e ≡ UnsetRegister) ↔ HasUnset c.args.self.now (read_by i))) (sym c.in-Store.is) c.store_at.ensures.unset
+
+pub returns-in-Store-clause-set : goal.returns-in-Store-clause-set
+returns-in-Store-clause-set c = subst (λ (i : Insn). IfOk c.store_at.result (λ _. HasUnset c.args.self.now (read_by i) → ⊥)) (sym c.in-Store.is) c.store_at.ensures.set
+
+pub returns-in-Jump-clause-set : goal.returns-in-Jump-clause-set
+returns-in-Jump-clause-set c = λ unset. subst (λ (i : Insn). HasUnset c.args.self.now (read_by i)) c.in-Jump.is unset
+
+pub returns-in-JumpLong-clause-set : goal.returns-in-JumpLong-clause-set
+returns-in-JumpLong-clause-set c = λ unset. subst (λ (i : Insn). HasUnset c.args.self.now (read_by i)) c.in-JumpLong.is unset
+
+pub returns-in-LoadWide-clause-set : goal.returns-in-LoadWide-clause-set
+returns-in-LoadWide-clause-set c = λ unset. subst (λ (i : Insn). HasUnset c.args.self.now (read_by i)) c.in-LoadWide.is unset
+
+pub returns-in_err-exit-in-Exit-clause-unset : goal.returns-in_err-exit-in-Exit-clause-unset
+returns-in_err-exit-in-Exit-clause-unset c =
+    passed c.from_residual.result c.in_err-exit-in-Exit.field-0.0 (λ e. (e ≡ UnsetRegister) ↔ HasUnset c.args.self.now (read_by c.args.insn.now)) c.from_residual.ensures.1
+    (subst (λ (i : Insn). (c.in_err-exit-in-Exit.field-0.0 ≡ UnsetRegister) ↔ HasUnset c.args.self.now (read_by i)) (sym c.in-Exit.is) c.in_err-exit-in-Exit.ensures.unset)
+
+pub returns-in_ok-exit-in-Exit-clause-set : goal.returns-in_ok-exit-in-Exit-clause-set
+returns-in_ok-exit-in-Exit-clause-set c = λ unset. c.in_ok-exit-in-Exit.ensures.set (subst (λ (i : Insn). HasUnset c.args.self.now (read_by i)) c.in-Exit.is unset)
