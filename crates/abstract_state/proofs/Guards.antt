@@ -26,31 +26,37 @@ use Rattle.abstract_state.specs.declared.slot.Slot.TheVariants.{Spilled}
 use Rattle.abstract_state.specs.State.{register_at, slot_at}
 use Rattle.abstract_state.specs.Frame.{IsStackByte, AreMarked}
 use Rattle.abstract_state.specs.Kinds.{IsContextAt}
-use Rattle.abstract_state.specs.Exact.{Fact, Folds, LentIn, NumberIn, AnyNumber, Exactly, Holds, tail_after}
-use Rattle.abstract_state.specs.Guard.{Yields, lent_begin, lent_end, lent_moved, lent_added, copied, folded, wide, lent_read, lent_read_signed, stack_read, stack_read_signed, refilled, Keeps, IsOperand}
+use Rattle.abstract_state.specs.Exact.{Fact, Folds, LentIn, NumberIn, AnyNumber, Exactly, NoLess, Holds, tail_after}
+use Rattle.abstract_state.specs.Guard.{Yields, lent_begin, lent_end, lent_moved, lent_added, copied, moved, folded, wide, lent_read, lent_read_signed, stack_read, stack_read_signed, refilled, Keeps, IsOperand}
 
-pub compute_rows : (profile : Profile) (a : AbsState) (insn : Insn) (d : ℕ) (fact : Fact) (w : Width) (op : Arithmetic) (dest : ℕ) (operand : Operand) (result : Result Flow Refusal) (b : AbsState) → Yields profile a insn d fact → insn ≡ Compute w op dest operand → ((region : Region) (r n : ℕ) (t : Option ℕ) → w ≡ Full → op ≡ Mov → operand ≡ Source r → Holds (LentIn region n n t) (register_at a.registers r) → Keeps result b dest (LentIn region n n t)) → ((region : Region) (k n : ℕ) (t : Option ℕ) → w ≡ Full → op ≡ Add → operand ≡ Immediate (pos k) → Holds (LentIn region n n t) (register_at a.registers dest) → n + k ≤ 2 ^ 20 → Keeps result b dest (LentIn region (n + k) (n + k) (tail_after t k))) → ((region : Region) (n : ℕ) → w ≡ Full → op ≡ Mov → IsOperand region a operand n → Keeps result b dest (NumberIn region n n None)) → ((region : Region) (m n : ℕ) → w ≡ Full → Folds op m n → Holds (NumberIn region m m None) (register_at a.registers dest) → IsOperand region a operand n → Keeps result b dest (NumberIn region (value_of op Full m n) (value_of op Full m n) None)) → Keeps result b d fact
-compute_rows profile a insn d fact w op dest operand result b (lent_begin region d' base lends h) e moved added copied_so folded_so = absurd (cc)
-compute_rows profile a insn d fact w op dest operand result b (lent_end region d' base lends h) e moved added copied_so folded_so = absurd (cc)
-compute_rows profile a insn d fact w op dest operand result b (lent_moved region d' r n t h) e moved added copied_so folded_so =
+pub compute_rows : (profile : Profile) (a : AbsState) (insn : Insn) (d : ℕ) (fact : Fact) (w : Width) (op : Arithmetic) (dest : ℕ) (operand : Operand) (result : Result Flow Refusal) (b : AbsState) → Yields profile a insn d fact → insn ≡ Compute w op dest operand → ((region : Region) (r n : ℕ) (t : Option ℕ) → w ≡ Full → op ≡ Mov → operand ≡ Source r → Holds (LentIn region n n t) (register_at a.registers r) → Keeps result b dest (LentIn region n n t)) → ((region : Region) (k n : ℕ) (t : Option ℕ) → w ≡ Full → op ≡ Add → operand ≡ Immediate (pos k) → Holds (LentIn region n n t) (register_at a.registers dest) → n + k ≤ 2 ^ 20 → Keeps result b dest (LentIn region (n + k) (n + k) (tail_after t k))) → ((r : ℕ) (known : Known) → w ≡ Full → op ≡ Mov → operand ≡ Source r → Holds (Exactly known) (register_at a.registers r) → Keeps result b dest (NoLess known)) → ((region : Region) (n : ℕ) → w ≡ Full → op ≡ Mov → IsOperand region a operand n → Keeps result b dest (NumberIn region n n None)) → ((region : Region) (m n : ℕ) → w ≡ Full → Folds op m n → Holds (NumberIn region m m None) (register_at a.registers dest) → IsOperand region a operand n → Keeps result b dest (NumberIn region (value_of op Full m n) (value_of op Full m n) None)) → Keeps result b d fact
+compute_rows profile a insn d fact w op dest operand result b (lent_begin region d' base lends h) e lent added moved_so copied_so folded_so = absurd (cc)
+compute_rows profile a insn d fact w op dest operand result b (lent_end region d' base lends h) e lent added moved_so copied_so folded_so = absurd (cc)
+compute_rows profile a insn d fact w op dest operand result b (lent_moved region d' r n t h) e lent added moved_so copied_so folded_so =
     let wide : w ≡ Full = cc in
     let is : op ≡ Mov = cc in
     let at : dest ≡ d' = cc in
     let right : operand ≡ Source r = cc in
-    subst (λ (i : ℕ). Keeps result b i (LentIn region n n t)) at (moved region r n t wide is right h)
-compute_rows profile a insn d fact w op dest operand result b (lent_added region d' k n t h near) e moved added copied_so folded_so =
+    subst (λ (i : ℕ). Keeps result b i (LentIn region n n t)) at (lent region r n t wide is right h)
+compute_rows profile a insn d fact w op dest operand result b (lent_added region d' k n t h near) e lent added moved_so copied_so folded_so =
     let wide : w ≡ Full = cc in
     let is : op ≡ Add = cc in
     let at : dest ≡ d' = cc in
     let right : operand ≡ Immediate (pos k) = cc in
     subst (λ (i : ℕ). Keeps result b i (LentIn region (n + k) (n + k) (tail_after t k))) at (added region k n t wide is right (subst (λ (i : ℕ). Holds (LentIn region n n t) (register_at a.registers i)) (sym at) h) near)
-compute_rows profile a insn d fact w op dest operand result b (copied region d' n o h) e moved added copied_so folded_so =
+compute_rows profile a insn d fact w op dest operand result b (copied region d' n o h) e lent added moved_so copied_so folded_so =
     let wide_so : w ≡ Full = cc in
     let is : op ≡ Mov = cc in
     let at : dest ≡ d' = cc in
     let right : operand ≡ o = cc in
     subst (λ (i : ℕ). Keeps result b i (NumberIn region n n None)) at (copied_so region n wide_so is (subst (λ (v : Operand). IsOperand region a v n) (sym right) h))
-compute_rows profile a insn d fact w op dest operand result b (folded region operation d' m n o folds left h) e moved added copied_so folded_so =
+compute_rows profile a insn d fact w op dest operand result b (moved d' r known h) e lent added moved_so copied_so folded_so =
+    let wide_so : w ≡ Full = cc in
+    let is : op ≡ Mov = cc in
+    let at : dest ≡ d' = cc in
+    let right : operand ≡ Source r = cc in
+    subst (λ (i : ℕ). Keeps result b i (NoLess known)) at (moved_so r known wide_so is right h)
+compute_rows profile a insn d fact w op dest operand result b (folded region operation d' m n o folds left h) e lent added moved_so copied_so folded_so =
     let wide_so : w ≡ Full = cc in
     let is : op ≡ operation = cc in
     let at : dest ≡ d' = cc in
@@ -58,12 +64,12 @@ compute_rows profile a insn d fact w op dest operand result b (folded region ope
     subst (λ (i : ℕ). Keeps result b i (NumberIn region (value_of operation Full m n) (value_of operation Full m n) None)) at
     (subst (λ (v : Arithmetic). Keeps result b dest (NumberIn region (value_of v Full m n) (value_of v Full m n) None)) is
     (folded_so region m n wide_so (subst (λ (v : Arithmetic). Folds v m n) (sym is) folds) (subst (λ (i : ℕ). Holds (NumberIn region m m None) (register_at a.registers i)) (sym at) left) (subst (λ (v : Operand). IsOperand region a v n) (sym right) h)))
-compute_rows profile a insn d fact w op dest operand result b (wide region d' n) e moved added copied_so folded_so = absurd (cc)
-compute_rows profile a insn d fact w op dest operand result b (lent_read region size d' r o low high t h short within) e moved added copied_so folded_so = absurd (cc)
-compute_rows profile a insn d fact w op dest operand result b (lent_read_signed region size d' r o low high t h short within) e moved added copied_so folded_so = absurd (cc)
-compute_rows profile a insn d fact w op dest operand result b (stack_read size d' base' p o h m) e moved added copied_so folded_so = absurd (cc)
-compute_rows profile a insn d fact w op dest operand result b (stack_read_signed size d' base' p o h m) e moved added copied_so folded_so = absurd (cc)
-compute_rows profile a insn d fact w op dest operand result b (refilled d' base' i o known h less is) e moved added copied_so folded_so = absurd (cc)
+compute_rows profile a insn d fact w op dest operand result b (wide region d' n) e lent added moved_so copied_so folded_so = absurd (cc)
+compute_rows profile a insn d fact w op dest operand result b (lent_read region size d' r o low high t h short within) e lent added moved_so copied_so folded_so = absurd (cc)
+compute_rows profile a insn d fact w op dest operand result b (lent_read_signed region size d' r o low high t h short within) e lent added moved_so copied_so folded_so = absurd (cc)
+compute_rows profile a insn d fact w op dest operand result b (stack_read size d' base' p o h m) e lent added moved_so copied_so folded_so = absurd (cc)
+compute_rows profile a insn d fact w op dest operand result b (stack_read_signed size d' base' p o h m) e lent added moved_so copied_so folded_so = absurd (cc)
+compute_rows profile a insn d fact w op dest operand result b (refilled d' base' i o known h less is) e lent added moved_so copied_so folded_so = absurd (cc)
 
 byte_moves : (a : AbsState) (p : ℕ) (o offset : ℤ) (r base : ℕ) → o ≡ offset → r ≡ base → IsStackByte p (cast_unsigned w64 o) (register_at a.registers r) → IsStackByte p (cast_unsigned w64 offset) (register_at a.registers base)
 byte_moves a p o offset r base far from h =
@@ -85,6 +91,7 @@ load_rows profile a insn d fact z dest base offset result b (lent_end region d' 
 load_rows profile a insn d fact z dest base offset result b (lent_moved region d' r n t h) e begin end read marked spilled_so = absurd (cc)
 load_rows profile a insn d fact z dest base offset result b (lent_added region d' k n t h near) e begin end read marked spilled_so = absurd (cc)
 load_rows profile a insn d fact z dest base offset result b (copied region d' n o h) e begin end read marked spilled_so = absurd (cc)
+load_rows profile a insn d fact z dest base offset result b (moved d' r known h) e begin end read marked spilled_so = absurd (cc)
 load_rows profile a insn d fact z dest base offset result b (folded region operation d' m n o folds left h) e begin end read marked spilled_so = absurd (cc)
 load_rows profile a insn d fact z dest base offset result b (wide region d' n) e begin end read marked spilled_so = absurd (cc)
 load_rows profile a insn d fact z dest base offset result b (lent_read region size d' r o low high t h short within) e begin end read marked spilled_so =
@@ -116,6 +123,7 @@ wide_rows profile a insn d fact dest value o (lent_end region d' base lends h) e
 wide_rows profile a insn d fact dest value o (lent_moved region d' r n t h) e one = absurd (cc)
 wide_rows profile a insn d fact dest value o (lent_added region d' k n t h near) e one = absurd (cc)
 wide_rows profile a insn d fact dest value o (copied region d' n right h) e one = absurd (cc)
+wide_rows profile a insn d fact dest value o (moved d' r known h) e one = absurd (cc)
 wide_rows profile a insn d fact dest value o (folded region operation d' m n right folds left h) e one = absurd (cc)
 wide_rows profile a insn d fact dest value o (wide region d' n) e one =
     let at : dest ≡ d' = cc in
@@ -134,6 +142,7 @@ signed_rows profile a insn d fact z dest base offset result b (lent_end region d
 signed_rows profile a insn d fact z dest base offset result b (lent_moved region d' r n t h) e read marked = absurd (cc)
 signed_rows profile a insn d fact z dest base offset result b (lent_added region d' k n t h near) e read marked = absurd (cc)
 signed_rows profile a insn d fact z dest base offset result b (copied region d' n right h) e read marked = absurd (cc)
+signed_rows profile a insn d fact z dest base offset result b (moved d' r known h) e read marked = absurd (cc)
 signed_rows profile a insn d fact z dest base offset result b (folded region operation d' m n right folds left h) e read marked = absurd (cc)
 signed_rows profile a insn d fact z dest base offset result b (wide region d' n) e read marked = absurd (cc)
 signed_rows profile a insn d fact z dest base offset result b (lent_read region size d' r o low high t h short within) e read marked = absurd (cc)

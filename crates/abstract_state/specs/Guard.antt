@@ -26,7 +26,7 @@ use Rattle.abstract_state.specs.Steps.{after}
 use Rattle.abstract_state.specs.Kinds.{IsContextAt, HasNumberIn}
 use Rattle.abstract_state.specs.Branch.{LeavesSides}
 use Rattle.abstract_state.specs.Exact.{Fact, Folds, Holds, tail_after}
-use Rattle.abstract_state.specs.Exact.Fact.{LentIn, NumberIn, AnyNumber, Exactly}
+use Rattle.abstract_state.specs.Exact.Fact.{LentIn, NumberIn, AnyNumber, Exactly, NoLess}
 use Rattle.abstract_state.specs.Frame.{IsStackByte, AreMarked}
 
 -- the operand is the one number
@@ -41,6 +41,7 @@ pub data Yields (profile : Profile) (a : AbsState) : Insn → ℕ → Fact → T
   lent_moved : (region : Region) (d r n : ℕ) (t : Option ℕ) → Holds (LentIn region n n t) (register_at a.registers r) → Yields profile a (Compute Full Mov d (Source r)) d (LentIn region n n t)
   lent_added : (region : Region) (d k n : ℕ) (t : Option ℕ) → Holds (LentIn region n n t) (register_at a.registers d) → n + k ≤ 2 ^ 20 → Yields profile a (Compute Full Add d (Immediate (pos k))) d (LentIn region (n + k) (n + k) (tail_after t k))
   copied : (region : Region) (d n : ℕ) (o : Operand) → IsOperand region a o n → Yields profile a (Compute Full Mov d o) d (NumberIn region n n None)
+  moved : (d r : ℕ) (known : Known) → Holds (Exactly known) (register_at a.registers r) → Yields profile a (Compute Full Mov d (Source r)) d (NoLess known)
   folded : (region : Region) (operation : Arithmetic) (d m n : ℕ) (o : Operand) → Folds operation m n → Holds (NumberIn region m m None) (register_at a.registers d) → IsOperand region a o n → Yields profile a (Compute Full operation d o) d (NumberIn region (value_of operation Full m n) (value_of operation Full m n) None)
   wide : (region : Region) (d n : ℕ) → Yields profile a (LoadWide d n) d (NumberIn region n n None)
   lent_read : (region : Region) (size : Size) (d r o low high : ℕ) (t : Option ℕ) → Holds (LentIn region low high t) (register_at a.registers r) → o < 2 ^ 15 → high + o + bytes_in size ≤ bound_of a.bounds region → Yields profile a (Load size d r (pos o)) d AnyNumber

@@ -1,10 +1,10 @@
-ghost use Rattle.std.specs.Prelude.{◌≡◌, ◌≢◌, IfErr, ℕ, ◌+◌, ◌-◌, ◌%◌, ◌^◌, ◌<◌, ◌≤◌, Option, Some, None, IsSome, IfSome, IfOk, IsOk, IsTrue, ◌↔◌};
+ghost use Rattle.std.specs.Prelude.{◌≡◌, ◌≢◌, IfErr, ℕ, ◌+◌, ◌-◌, ◌%◌, ◌^◌, ◌<◌, ◌≤◌, Option, Some, None, Ok, IsSome, IfSome, IfOk, IsOk, IsTrue, ◌↔◌};
 ghost use Rattle.abstract_state.specs.Lent.{Lengths, HasTails, base_of};
 ghost use Rattle.abstract_state.specs.Quantity.{Contains, Within, JoinsNumber};
 ghost use Rattle.abstract_state.specs.Known.{ContainsKnown, WithinKnown, IsNumber, AreNumbers};
 ghost use Rattle.abstract_state.specs.declared.state.AbsReg.TheVariants as TheRegs;
 ghost use Rattle.abstract_state.specs.Kinds.{IsContextAt, IsStackAt};
-ghost use Rattle.abstract_state.specs.Exact.{tail_after, Folds, IsIn, IsNumberIn, IsLentIn};
+ghost use Rattle.abstract_state.specs.Exact.{tail_after, Folds, IsIn, IsNumberIn, IsLentIn, IsNoLess};
 ghost use Rattle.abstract_state.specs.declared.region.Region.{Region as TheRegion};
 ghost use Rattle.meaning.specs.Value.{cut, value_of, negated, extended, converted};
 
@@ -31,6 +31,8 @@ pub const NEAR: u64 = 1 << 20;
 pub fn number(quantity: Option<Quantity>) -> Option<Known>
     ensures contains { (lengths : Lengths) (x : ℕ) → Within quantity lengths x → WithinKnown result lengths x }
     ensures numbers { AreNumbers result }
+    ensures none { quantity ≡ None → result ≡ None }
+    ensures some { (q : Quantity) → quantity ≡ Some q → result ≡ Some (Known.Number q) }
     ensures same { (at : TheRegion) (low high : ℕ) (t : Option ℕ) → IfSome quantity (λ q. IsIn at q low high t) → IfSome result (λ k. IsNumberIn at low high t k) }
 {
     let Some(quantity) = quantity else {
@@ -42,6 +44,8 @@ pub fn number(quantity: Option<Quantity>) -> Option<Known>
 /// An address in a lent region, if it is near enough.
 pub fn lent(region: Region, offset: Option<Quantity>) -> Result<Option<Known>, Refusal>
     ensures sound { IfOk result (λ o. (lengths : Lengths) (x : ℕ) → Within offset lengths x → WithinKnown o lengths ((base_of region + x) % 2 ^ 64)) }
+    ensures none { offset ≡ None → result ≡ Ok None }
+    ensures some { (q : Quantity) → offset ≡ Some q → q.range.high ≤ 2 ^ 20 → (p : LentPlace) × (result ≡ Ok (Some (Known.Lent p))) × (p.region ≡ region) × (p.offset ≡ q) }
     ensures there { (at : TheRegion) (low high : ℕ) (t : Option ℕ) → region ≡ at → IfSome offset (λ q. IsIn at q low high t) → high ≤ 2 ^ 20 → IsOk result × IfOk result (λ o. IfSome o (λ k. IsLentIn at low high t k)) }
     ensures not_unset { IfErr result (λ e. e ≢ Refusal.UnsetRegister) }
 {
@@ -173,6 +177,7 @@ impl Known {
     pub fn moved(self, width: Width) -> Result<Option<Known>, Refusal>
         ensures sound { IfOk result (λ o. (lengths : Lengths) (x : ℕ) → ContainsKnown self lengths x → WithinKnown o lengths (cut width x)) }
         ensures lent { (at : TheRegion) → width ≡ Width.Full → (n : ℕ) (t : Option ℕ) → IsLentIn at n n t self → IsOk result × IfOk result (λ o. IfSome o (λ k. IsLentIn at n n t k)) }
+        ensures whole { width ≡ Width.Full → IsOk result × IfOk result (λ o. IfSome o (λ k. IsNoLess self k)) }
         ensures constant { (at : TheRegion) → width ≡ Width.Full → (n : ℕ) (t : Option ℕ) → IsNumberIn at n n t self → IfOk result (λ o. IfSome o (λ k. IsNumberIn at n n t k)) }
         ensures floor { IsNumber self → IsOk result }
         ensures numbers { IsNumber self → IfOk result (λ o. AreNumbers o) }

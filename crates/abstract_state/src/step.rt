@@ -53,6 +53,7 @@ impl AbsState {
         ensures others { IfOk result (λ flow. IfSome (after flow self.new) (λ b. SameBut destination self.old b)) }
         ensures memory { IfOk result (λ flow. IfSome (after flow self.new) (λ b. SameMemory self.old b)) }
         ensures lent { (region : Region) (r n : ℕ) (t : Option ℕ) → width ≡ Width.Full → operand ≡ Operand.Source r → Holds (Fact.LentIn region n n t) (register_at self.old.registers r) → Keeps result self.new destination (Fact.LentIn region n n t) }
+        ensures moves { (r : ℕ) (known : Known) → width ≡ Width.Full → operand ≡ Operand.Source r → Holds (Fact.Exactly known) (register_at self.old.registers r) → Keeps result self.new destination (Fact.NoLess known) }
         ensures copies { (region : Region) (n : ℕ) → width ≡ Width.Full → IsOperand region self.old operand n → Keeps result self.new destination (Fact.NumberIn region n n None) }
         ensures floor { HasNumberIn self.old operand → IsOk result }
         ensures numbers { HasNumberIn self.old operand → IfOk result (λ flow. IfSome (after flow self.new) (λ b. WritesNumber self.old destination b)) }

@@ -44,6 +44,7 @@ impl Quantity {
     pub fn only(self) -> Option<u64>
         ensures contains { IfSome result (λ n. (lengths : Lengths) (x : ℕ) → Contains self lengths x → x ≡ n) }
         ensures ends { IfSome result (λ n. (self.range.low ≡ n) × (self.range.high ≡ n)) }
+        ensures there { self.range.low ≡ self.range.high → result ≡ Some self.range.low }
     {
         if self.range.low == self.range.high {
             Some(self.range.low)

@@ -229,7 +229,7 @@ guard_at profile region n offset slot a sized (jumped {slot = before} {n = k} {a
 guard_at profile region n offset slot a sized (joined {a = left} {b = right} target one two joins) =
     let is = target_is region n offset slot target in
     subst (λ (to : ℕ). At region n to a) (sym is)
-    ((joins 0 (omega arith)).numbers (at_seven region n slot left is (guard_at profile region n offset slot left sized one)) (at_seven region n slot right is (guard_at profile region n offset slot right sized two)))
+    ((joins.registers 0 (omega arith)).numbers (at_seven region n slot left is (guard_at profile region n offset slot left sized one)) (at_seven region n slot right is (guard_at profile region n offset slot right sized two)))
 
 guard_may : (profile : Profile) (region : Region) (n offset : ℕ) → IsSized profile region n offset → MayRefuse profile (guard region n offset) → ⊥
 guard_may profile region n offset sized may =

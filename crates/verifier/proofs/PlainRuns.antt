@@ -142,10 +142,10 @@ plain_at profile program slot a plain (joined {a = left} {b = right} target one 
     let at_left = plain_at profile program slot left plain one in
     let at_right = plain_at profile program slot right plain two in
     record {
-      context = (joins 1 (omega arith)).context 0 at_left.context at_right.context;
+      context = (joins.registers 1 (omega arith)).context 0 at_left.context at_right.context;
       registers = λ i h.
           ⊎_elim
-          (λ (x : HasNumberAt left i). ⊎_elim (λ (y : HasNumberAt right i). inl ((joins i h).numbers x y)) (λ p. inr p) (at_right.registers i h))
+          (λ (x : HasNumberAt left i). ⊎_elim (λ (y : HasNumberAt right i). inl ((joins.registers i h).numbers x y)) (λ p. inr p) (at_right.registers i h))
           (λ p. inr p)
           (at_left.registers i h);
     }

@@ -25,7 +25,7 @@ returns-clause-contains c = λ lengths x b r t.
     let high = c.between-high_bits.ensures.contains x first.low first.high in
     let known = at_some (λ q. InBits q x) _ _ c.in_ok-known.was (c.meet.ensures.contains x b high) in
     let second = at_some (λ q. InRange q x) _ _ c.in_ok-second.was (c.narrow-2.ensures.contains lengths x known first t) in
-    (_, refl, record { bits = known; range = second; tails = t })
+    (_, refl, record { bits = assumption; range = second; tails = t })
 
 pub returns-in_err-first-clause-contains : goal.returns-in_err-first-clause-contains
 returns-in_err-first-clause-contains c = λ lengths x b r t.

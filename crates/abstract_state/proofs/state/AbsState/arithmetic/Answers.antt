@@ -23,6 +23,7 @@ returns-in-Mov-clause-yields c = λ d fact y.
     compute_rows c.args.profile c.args.self.now _ d fact c.args.width c.args.operation c.args.destination c.args.operand c.move_to.result c.move_to.new.self y refl
     (λ region r n t w o e h. c.move_to.ensures.lent region r n t w e h)
     (λ region k n t w o e h near. let bad = sym o ∙ c.in-Mov.is in absurd (cc))
+    (λ r known w o e h. c.move_to.ensures.moves r known w e h)
     (λ region n w o h. c.move_to.ensures.copies region n w h)
     (λ region m n w f h o. absurd (subst (λ (op : Arithmetic). Folds op m n) c.in-Mov.is f))
 
@@ -31,6 +32,7 @@ returns-in_default-clause-yields c = λ d fact y.
     compute_rows c.args.profile c.args.self.now _ d fact c.args.width c.args.operation c.args.destination c.args.operand c.compute.result c.compute.new.self y refl
     (λ region r n t w o e h. absurd (c.in_default.not-Mov o))
     (λ region k n t w o e h near. c.compute.ensures.adds region k n t w o e h near)
+    (λ r known w o e h. absurd (c.in_default.not-Mov o))
     (λ region n w o h. absurd (c.in_default.not-Mov o))
     (λ region m n w f h o. c.compute.ensures.folds region m n w f h o)
 

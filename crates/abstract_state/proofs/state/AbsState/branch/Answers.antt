@@ -1,4 +1,4 @@
-use Rattle.std.proofs.Common.{◌≡◌, ◌≤◌, Option, true, false, refl, sym, subst, ◌↔◌, [], ◌∷◌}
+use Rattle.std.proofs.Common.{◌≡◌, ◌≤◌, Option, true, false, refl, sym, subst, ◌↔◌, ◌∷◌}
 use Rattle.std.specs.Option.{IfSome}
 use Rattle.abstract_state.specs.declared.state.AbsState.{AbsState}
 use Rattle.abstract_state.specs.Lent.{bound_of}

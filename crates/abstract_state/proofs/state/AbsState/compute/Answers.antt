@@ -1,4 +1,4 @@
-use Rattle.std.proofs.Common.{◌≡◌, ◌+◌, true, false, None, refl, arith, ◌↔◌, [], ◌∷◌}
+use Rattle.std.proofs.Common.{◌≡◌, ◌+◌, true, false, None, refl, arith, ◌↔◌, ◌∷◌}
 use Rattle.abstract_state.specs.Exact.{LentIn, NumberIn, tail_after}
 use Rattle.bpf_words.specs.declared.instruction.Width.TheVariants.{Full}
 use Rattle.meaning.specs.Value.{value_of}

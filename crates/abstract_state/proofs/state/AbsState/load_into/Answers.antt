@@ -14,7 +14,6 @@ use Rattle.abstract_state.specs.Frame.{IsStackByte}
 use Rattle.abstract_state.proofs.Frames.{exactly}
 use Rattle.abstract_state.specs.declared.refusal.Refusal.TheVariants.{UnsetRegister}
 use Rattle.abstract_state.specs.Unset.{HasUnset}
-use Rattle.bpf_words.specs.Flow.{read_operand}
 use Rattle.abstract_state.proofs.Unsets.{passed, all_unset, none_unset}
 use Rattle.abstract_state.proofs.state.AbsState.load_into.Goals as goal
 

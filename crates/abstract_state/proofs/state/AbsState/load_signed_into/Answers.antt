@@ -11,7 +11,6 @@ use Rattle.abstract_state.specs.Frame.{IsStackByte}
 use Rattle.abstract_state.proofs.Exact.{lent_is}
 use Rattle.abstract_state.specs.declared.refusal.Refusal.TheVariants.{UnsetRegister}
 use Rattle.abstract_state.specs.Unset.{HasUnset}
-use Rattle.bpf_words.specs.Flow.{read_operand}
 use Rattle.abstract_state.proofs.Unsets.{passed, all_unset, none_unset}
 use Rattle.abstract_state.proofs.state.AbsState.load_signed_into.Goals as goal
 

@@ -1,5 +1,7 @@
-use Rattle.std.proofs.Common.{◌≡◌, true, false, None, refl, ◌↔◌, [], ◌∷◌}
-use Rattle.abstract_state.specs.Exact.{LentIn, NumberIn}
+use Rattle.std.proofs.Common.{◌≡◌, true, false, None, refl, ◌↔◌, subst}
+use Rattle.abstract_state.specs.Exact.{LentIn, NumberIn, Exactly, NoLess, IsNoLess}
+use Rattle.std.specs.Option.{IfSome}
+use Rattle.abstract_state.specs.declared.known.Known.{Known}
 use Rattle.abstract_state.specs.State.{lengths_of}
 use Rattle.abstract_state.proofs.Steps.{moves}
 use Rattle.abstract_state.proofs.Exact.{one_number}
@@ -47,3 +49,14 @@ pub returns-in_err-known-clause-unset : goal.returns-in_err-known-clause-unset
 returns-in_err-known-clause-unset c =
     passed c.from_residual-in_err-known.result c.in_err-known.field-0.0 (λ e. (e ≡ UnsetRegister) ↔ HasUnset c.args.self.now (read_operand c.args.operand)) c.from_residual-in_err-known.ensures.1
     (none_unset c.args.self.now (read_operand c.args.operand) _ c.in_err-known.ensures.not_unset c.in_ok-b.ensures.set)
+
+pub returns-in_err-b-clause-moves : goal.returns-in_err-b-clause-moves
+returns-in_err-b-clause-moves c = λ r known w e h. let bad : false ≡ true = (c.in_err-b.ensures.holds r (Exactly known) e h).0 in absurd (cc)
+
+pub returns-in_err-known-clause-moves : goal.returns-in_err-known-clause-moves
+returns-in_err-known-clause-moves c = λ r known w e h. let bad : false ≡ true = (c.in_err-known.ensures.whole w).0 in absurd (cc)
+
+pub returns-clause-moves : goal.returns-clause-moves
+returns-clause-moves c = λ r known w e h.
+    let same = (c.in_ok-b.ensures.holds r (Exactly known) e h).1 in
+    (refl, c.write.ensures.holds (NoLess known) (subst (λ (k : Known). IfSome c.in_ok-known.known (λ v. IsNoLess k v)) same (c.in_ok-known.ensures.whole w).1))

@@ -3,7 +3,6 @@ use Rattle.abstract_state.specs.State.{lengths_of}
 use Rattle.abstract_state.proofs.Steps.{negates}
 use Rattle.abstract_state.specs.declared.refusal.Refusal.TheVariants.{UnsetRegister}
 use Rattle.abstract_state.specs.Unset.{HasUnset}
-use Rattle.bpf_words.specs.Flow.{read_operand}
 use Rattle.abstract_state.proofs.Unsets.{passed, all_unset, none_unset}
 use Rattle.abstract_state.proofs.state.AbsState.negate.Goals as goal
 

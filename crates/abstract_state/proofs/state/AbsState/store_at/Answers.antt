@@ -1,4 +1,4 @@
-use Rattle.std.proofs.Common.{◌≡◌, ◌+◌, ◌*◌, ◌%◌, ◌^◌, true, false, ℕ, Ok, refl, sym, subst, ap, ◌∙◌, ◌↔◌, [], ◌∷◌}
+use Rattle.std.proofs.Common.{◌≡◌, ◌+◌, ◌*◌, ◌%◌, ◌^◌, true, false, ℕ, Ok, refl, sym, subst, ap, ◌∙◌, ◌↔◌, ◌∷◌}
 use Rattle.std.proofs.lemmas.Int.{to_z-of_z}
 use Rattle.std.specs.Int.{cast_unsigned, w16, w64}
 use Rattle.meaning.specs.Memory.{store, bytes_in}
