@@ -19,7 +19,7 @@ use Rattle.bpf_words.specs.Flow.{StartsAt, IsPaired, jump_of, slots_of, falls_th
 use Rattle.meaning.specs.Step.{Program}
 use Rattle.abstract_state.specs.declared.state.AbsState.{AbsState}
 use Rattle.abstract_state.specs.State.{register_at}
-use Rattle.abstract_state.specs.Kinds.{IsContextAt}
+use Rattle.abstract_state.specs.Kinds.{IsContextAt, IsStackAt}
 use Rattle.verifier.specs.Structure.{IsStructured}
 use Rattle.verifier.specs.Arises.{Takes, IsLongBehind, IsTarget, Arises, ArisesAt, AllArise, FallsFrom, FallsAs, MayRefuse, IsCause, RefusesAt, first, fell, jumped}
 use Rattle.verifier.specs.Waiting.{States, unboxed, waiting_at}
@@ -175,12 +175,12 @@ second_falls profile program slot falling second falls a e =
     (λ (other : to ≡ slot → ⊥). (to, (f.1.0, (omega arith), between, f.1.3, f.1.4)))
     (cases_eq to slot)
 
-pub entry_falls : (profile : Profile) (program : Program) (entry : AbsState) → 0 < length program → IsPaired program → IsContextAt 0 (register_at entry.registers 1) → FallsAs profile program 0 (Some entry)
-entry_falls profile program entry some paired context a e =
+pub entry_falls : (profile : Profile) (program : Program) (entry : AbsState) → 0 < length program → IsPaired program → IsContextAt 0 (register_at entry.registers 1) → IsStackAt 512 (register_at entry.registers 10) → FallsAs profile program 0 (Some entry)
+entry_falls profile program entry some paired context frame a e =
     let start = starts_at program 0 some paired.begins in
     let is : entry ≡ a = same_Some entry a e in
     let none : Between program 0 0 = λ k low high. absurd (omega arith) in
-    (0, (start.0, (omega arith), none, start.1, subst (λ x. Arises profile program 0 x) is (first context)))
+    (0, (start.0, (omega arith), none, start.1, subst (λ x. Arises profile program 0 x) is (first context frame)))
 
 -- ---- a refusal that is passed on
 pub passed_on : {T : Type 0} (r : Result T VerifyError) (e : VerifyError) (P : VerifyError → Type 0) → IsErrAnd r (λ y. y ≡ e) → P e → IfErr r P

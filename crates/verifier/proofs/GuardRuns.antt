@@ -220,7 +220,7 @@ at_seven : (region : Region) (n slot : ℕ) (a : AbsState) → slot ≡ 7 → At
 at_seven region n slot a is at = subst (λ k. At region n k a) is at
 
 guard_at : (profile : Profile) (region : Region) (n offset slot : ℕ) (a : AbsState) → IsSized profile region n offset → Arises profile (guard region n offset) slot a → At region n slot a
-guard_at profile region n offset slot a sized (first context) = context
+guard_at profile region n offset slot a sized (first context frame) = context
 guard_at profile region n offset slot a sized (fell {slot = before} {a = old} {insn = insn} from starts falls takes long) =
     fell_at profile region n offset before insn old a sized (row_at region n offset before insn starts) (guard_at profile region n offset before old sized from) takes long falls
 guard_at profile region n offset slot a sized (jumped {slot = before} {n = k} {a = old} {insn = insn} from starts jumps takes) =

@@ -102,7 +102,7 @@ branch_granted profile a insn width comparison left right distance P is floor re
 branch_granted profile a insn width comparison left right distance P is floor regions (of_spill i known spill) = absurd ((spills_none a insn i known spill).2 distance (ap jump_of is))
 
 -- ---- what is known past an instruction
-writes_takes : (a b : AbsState) (insn : Insn) (d : ℕ) → written_by insn ≡ Some d → WritesNumber a d b → TakesNumbers a insn b
+pub writes_takes : (a b : AbsState) (insn : Insn) (d : ℕ) → written_by insn ≡ Some d → WritesNumber a d b → TakesNumbers a insn b
 writes_takes a b insn d is writes = record {
   written = λ i e. subst (λ k. HasNumberAt b k) (same_Some d i (sym is ∙ e)) writes.written;
   kept = λ i was.

@@ -12,7 +12,7 @@ use Rattle.abstract_state.specs.declared.region.Region.{Region}
 use Rattle.abstract_state.specs.Lent.{bound_of}
 use Rattle.abstract_state.specs.declared.state.AbsState.{AbsState}
 use Rattle.abstract_state.specs.State.{register_at, slot_at}
-use Rattle.abstract_state.specs.Kinds.{HasNumberAt, IsContextAt, JoinsReg, JoinsSlot, ReadsNumbers}
+use Rattle.abstract_state.specs.Kinds.{HasNumberAt, IsContextAt, IsStackAt, JoinsReg, JoinsSlot, ReadsNumbers}
 use Rattle.abstract_state.specs.Exact.{Fact, Holds}
 use Rattle.abstract_state.specs.Exact.Fact.{LentIn}
 use Rattle.abstract_state.specs.Guard.{Yields, Stores, Spills, LeavesOthers, LeavesMemory}
@@ -74,7 +74,7 @@ pub record IsTarget (program : Program) (slot : ℕ) : Type 0 where
 
 -- in a run of the profile: known before the first slot; past an instruction, by its fall into the next one or by its jump; or joined, where a jump leads
 pub data Arises (profile : Profile) (program : Program) : ℕ → AbsState → Type 0 where
-  first : {a : AbsState} → IsContextAt 0 (register_at a.registers 1) → Arises profile program 0 a
+  first : {a : AbsState} → IsContextAt 0 (register_at a.registers 1) → IsStackAt 512 (register_at a.registers 10) → Arises profile program 0 a
   fell : {slot : ℕ} {a b : AbsState} {insn : Insn} → Arises profile program slot a → StartsAt program slot insn → falls_through insn ≡ true → Takes profile a insn b → IsLongBehind a insn b → Arises profile program (slot + slots_of insn) b
   jumped : {slot n : ℕ} {a b : AbsState} {insn : Insn} → Arises profile program slot a → StartsAt program slot insn → jump_of insn ≡ Some (pos n) → Takes profile a insn b → Arises profile program (slot + 1 + n) b
   joined : {slot : ℕ} {a b c : AbsState} → IsTarget program slot → Arises profile program slot a → Arises profile program slot b → JoinsAll a b c → Arises profile program slot c

@@ -3,6 +3,7 @@ ghost use Rattle.std.specs.Prelude.{◌≡◌, ◌↔◌, ℕ, length, Err, IfOk
 ghost use Rattle.bpf_words.specs.Words.{program_of};
 ghost use Rattle.meaning.specs.Safe.{Safe, SafeIn, IsBlindToLink};
 ghost use Rattle.verifier.specs.Plain.{IsPlain};
+ghost use Rattle.verifier.specs.Framed.{IsFramed};
 ghost use Rattle.verifier.specs.Guard.{IsGuard};
 ghost use Rattle.verifier.specs.Structure.{IsStructured, FirstFault};
 ghost use Rattle.verifier.specs.Reaches.{IsBefore};
@@ -83,6 +84,7 @@ pub fn verify(alloc: Global, words: &Words<'_>, profile: Profile) -> Result<Veri
     ensures structure { (slot : ℕ) (fault : StructureFault) → (result ≡ Err (VerifyError.Structure slot fault)) ↔ FirstFault (program_of words.now) slot fault }
     ensures refused { (at : ℕ) (fault : TheRefusal) → result ≡ Err (VerifyError.State at fault) → RefusesAt profile (program_of words.now) at fault }
     ensures plain { IfErr result (λ e. IsPlain (program_of words.now) → e ≡ VerifyError.OutOfMemory) }
+    ensures framed { IfErr result (λ e. IsFramed (program_of words.now) → e ≡ VerifyError.OutOfMemory) }
     ensures guard { IfErr result (λ e. IsGuard profile (program_of words.now) → e ≡ VerifyError.OutOfMemory) }
     ensures before { IfErr result (IsBefore (length (program_of words.now))) }
     ensures rejects { IfErr result (λ e. Rejects profile (program_of words.now) e) }

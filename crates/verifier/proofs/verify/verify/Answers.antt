@@ -12,6 +12,8 @@ use Rattle.verifier.specs.Reaches.{IsBefore}
 use Rattle.verifier.proofs.Reaching.{is_before}
 use Rattle.verifier.proofs.Arising.{passed_on, only_memory, refuses_at}
 use Rattle.verifier.proofs.PlainRuns.{plain_grants}
+use Rattle.verifier.proofs.FramedRuns.{framed_grants}
+use Rattle.verifier.specs.Framed.{IsFramed}
 use Rattle.verifier.proofs.GuardRuns.{guard_structured, guard_grants}
 use Rattle.verifier.specs.Arises.{IsCause}
 use Rattle.verifier.proofs.verify.verify.Goals as goal
@@ -87,3 +89,11 @@ pub returns-in_err-of-clause-refused : goal.returns-in_err-of-clause-refused
 returns-in_err-of-clause-refused c = λ at fault is.
     refuses_at c.args.profile (program_of c.args.words.now) c.from_residual-in_err-of.result at fault
     (passed_on c.from_residual-in_err-of.result OutOfMemory (IsCause c.args.profile (program_of c.args.words.now)) c.from_residual-in_err-of.ensures.1 (inl refl)) is
+
+pub returns-in_err-walk-clause-framed : goal.returns-in_err-walk-clause-framed
+returns-in_err-walk-clause-framed c =
+    passed_on c.from_residual.result c.in_err-walk.field-0.0 (λ e. IsFramed (program_of c.args.words.now) → e ≡ OutOfMemory) c.from_residual.ensures.1
+    (only_memory c.args.profile (program_of c.args.words.now) c.in_err-walk.field-0.0 (IsFramed (program_of c.args.words.now)) (framed_grants c.args.profile (program_of c.args.words.now)) c.in_err-walk.ensures.floor)
+
+pub returns-in-Err-clause-framed : goal.returns-in-Err-clause-framed
+returns-in-Err-clause-framed c = λ framed. absurd (no_fault _ _ _ framed.structured c.in-Err.ensures)
