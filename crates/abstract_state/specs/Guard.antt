@@ -1,4 +1,4 @@
--- What a program knows that reads a lent region behind one comparison with the region's end.
+-- What a step writes, case by case, and what it leaves: all that guarded reads, constants and the frame need.
 use Rattle.std.specs.Prelude.{◌≡◌, ◌≢◌, ℕ, ℤ, pos, ◌+◌, ◌*◌, ◌^◌, ◌<◌, ◌≤◌, Option, Some, None, Result, IsOk, IfOk, IfSome}
 use Rattle.bpf_words.specs.declared.profile.Profile.{Profile}
 use Rattle.bpf_words.specs.declared.instruction.Insn.{Insn}

@@ -74,7 +74,8 @@ impl Verified {
 
 /// Accepts a program of which every run ends with a number, and that reads of a span no more than the profile lets it. The places
 /// and targets of all instructions are looked at first, and then what is known of the machine before each; the first slot at fault is
-/// named (of the second kind of fault the clauses say only that it is a slot of the program).
+/// named (of the second kind of fault the clauses say that what is known before the slot doesn't grant its instruction, and that the
+/// fault is an unset register exactly where the instruction reads one).
 pub fn verify(alloc: Global, words: &Words<'_>, profile: Profile) -> Result<Verified, VerifyError>
     ensures same { IfOk result (λ verified. verified ≡ program_of words.now) }
     ensures safe { IfOk result (λ verified. Safe verified) }
