@@ -1,6 +1,7 @@
 pub mod Options
 pub mod Regions
 pub mod Widths
+pub mod KnownBits
 pub mod Sides
 pub mod Addresses
 pub mod Registers
@@ -11,5 +12,8 @@ pub mod Steps
 pub mod Lists
 pub mod Branches
 pub mod KindLaws
+pub mod Joins
 pub mod Exact
+pub mod Frames
+pub mod Unsets
 pub mod Guards

@@ -1,5 +1,5 @@
 -- The two lent regions.
-use Rattle.std.proofs.Common.{◌≡◌, ℕ, ◌≤◌, refl, arith}
+use Rattle.std.proofs.Common.{◌≡◌, ℕ, ◌^◌, ◌≤◌, refl, arith}
 use Rattle.abstract_state.specs.declared.region.Region.{Region}
 use Rattle.abstract_state.specs.declared.region.Region.TheVariants.{Text, Link}
 use Rattle.abstract_state.specs.Lent.{Lengths, limit_of, length_of, begin_field, end_field}
@@ -12,6 +12,10 @@ each P text link Link = link
 pub limit_low : (region : Region) → limit_of region ≤ 131072
 limit_low Text = omega arith
 limit_low Link = omega arith
+
+pub limit_power : (region : Region) → (j : ℕ) × (limit_of region ≡ 2 ^ j)
+limit_power Text = (17, refl)
+limit_power Link = (10, refl)
 
 pub begin_low : (region : Region) → begin_field region ≤ 64
 begin_low Text = omega arith

@@ -1,25 +1,38 @@
--- What a program knows that reads a lent region behind one comparison with the region's end.
-use Rattle.std.specs.Prelude.{◌≡◌, ◌≢◌, ℕ, pos, ◌+◌, ◌^◌, ◌<◌, ◌≤◌, Option, Some, None, Result, IsOk, IfOk, IfSome}
+-- What a step writes, case by case, and what it leaves: all that guarded reads, constants and the frame need.
+use Rattle.std.specs.Prelude.{◌≡◌, ◌≢◌, ℕ, ℤ, pos, ◌+◌, ◌*◌, ◌^◌, ◌<◌, ◌≤◌, Option, Some, None, Result, IsOk, IfOk, IfSome}
 use Rattle.bpf_words.specs.declared.profile.Profile.{Profile}
 use Rattle.bpf_words.specs.declared.instruction.Insn.{Insn}
 use Rattle.bpf_words.specs.declared.instruction.Insn.TheVariants.{Compute, Negate, Extend, Convert, Jump, JumpLong, Branch, Load, LoadSigned, Store, LoadWide, Exit}
 use Rattle.bpf_words.specs.declared.instruction.Width.TheVariants.{Full}
+use Rattle.bpf_words.specs.declared.instruction.Arithmetic.{Arithmetic}
 use Rattle.bpf_words.specs.declared.instruction.Arithmetic.TheVariants.{Mov, Add}
+use Rattle.std.specs.Int.{cast_unsigned, w64}
+use Rattle.bpf_words.specs.declared.instruction.Operand.{Operand}
 use Rattle.bpf_words.specs.declared.instruction.Operand.TheVariants.{Immediate, Source}
 use Rattle.bpf_words.specs.declared.instruction.Size.{Size}
 use Rattle.bpf_words.specs.declared.instruction.Size.TheVariants.{Double}
-use Rattle.meaning.specs.Memory.{bytes_in}
+use Rattle.bpf_words.specs.declared.instruction.SignedSize.{SignedSize}
+use Rattle.meaning.specs.Memory.{bytes_in, bytes_in_signed}
+use Rattle.meaning.specs.Value.{value_of}
 use Rattle.abstract_state.specs.declared.region.Region.{Region}
 use Rattle.abstract_state.specs.Lent.{begin_field, end_field, limit_of, bound_of, Lends}
 use Rattle.abstract_state.specs.declared.state.AbsState.{AbsState}
 use Rattle.abstract_state.specs.declared.refusal.Refusal.{Refusal}
 use Rattle.abstract_state.specs.declared.step.Flow.{Flow}
-use Rattle.abstract_state.specs.State.{register_at}
+use Rattle.abstract_state.specs.declared.known.Known.{Known}
+use Rattle.abstract_state.specs.declared.slot.Slot.TheVariants.{Spilled}
+use Rattle.abstract_state.specs.State.{register_at, slot_at}
 use Rattle.abstract_state.specs.Steps.{after}
-use Rattle.abstract_state.specs.Kinds.{IsContextAt}
+use Rattle.abstract_state.specs.Kinds.{IsContextAt, HasNumberIn}
 use Rattle.abstract_state.specs.Branch.{LeavesSides}
-use Rattle.abstract_state.specs.Exact.{Fact, Holds, tail_after}
-use Rattle.abstract_state.specs.Exact.Fact.{LentIn, NumberIn, AnyNumber}
+use Rattle.abstract_state.specs.Exact.{Fact, Folds, Holds, tail_after}
+use Rattle.abstract_state.specs.Exact.Fact.{LentIn, NumberIn, AnyNumber, Exactly, NoLess}
+use Rattle.abstract_state.specs.Frame.{IsStackByte, AreMarked}
+
+-- the operand is the one number
+abbrev pub IsOperand : Region → AbsState → Operand → ℕ → Type 0
+IsOperand region a (Immediate value) n = n ≡ cast_unsigned w64 value
+IsOperand region a (Source r) n = Holds (NumberIn region n n None) (register_at a.registers r)
 
 -- what an instruction writes into a register in a run of the profile, case by case
 pub data Yields (profile : Profile) (a : AbsState) : Insn → ℕ → Fact → Type 0 where
@@ -27,12 +40,35 @@ pub data Yields (profile : Profile) (a : AbsState) : Insn → ℕ → Fact → T
   lent_end : (region : Region) (d base : ℕ) → Lends region profile → IsContextAt 0 (register_at a.registers base) → Yields profile a (Load Double d base (pos (end_field region))) d (LentIn region 0 (limit_of region) (Some 0))
   lent_moved : (region : Region) (d r n : ℕ) (t : Option ℕ) → Holds (LentIn region n n t) (register_at a.registers r) → Yields profile a (Compute Full Mov d (Source r)) d (LentIn region n n t)
   lent_added : (region : Region) (d k n : ℕ) (t : Option ℕ) → Holds (LentIn region n n t) (register_at a.registers d) → n + k ≤ 2 ^ 20 → Yields profile a (Compute Full Add d (Immediate (pos k))) d (LentIn region (n + k) (n + k) (tail_after t k))
-  constant : (region : Region) (d k : ℕ) → k < 2 ^ 31 → Yields profile a (Compute Full Mov d (Immediate (pos k))) d (NumberIn region k k None)
+  copied : (region : Region) (d n : ℕ) (o : Operand) → IsOperand region a o n → Yields profile a (Compute Full Mov d o) d (NumberIn region n n None)
+  moved : (d r : ℕ) (known : Known) → Holds (Exactly known) (register_at a.registers r) → Yields profile a (Compute Full Mov d (Source r)) d (NoLess known)
+  folded : (region : Region) (operation : Arithmetic) (d m n : ℕ) (o : Operand) → Folds operation m n → Holds (NumberIn region m m None) (register_at a.registers d) → IsOperand region a o n → Yields profile a (Compute Full operation d o) d (NumberIn region (value_of operation Full m n) (value_of operation Full m n) None)
+  wide : (region : Region) (d n : ℕ) → Yields profile a (LoadWide d n) d (NumberIn region n n None)
   lent_read : (region : Region) (size : Size) (d r o low high : ℕ) (t : Option ℕ) → Holds (LentIn region low high t) (register_at a.registers r) → o < 2 ^ 15 → high + o + bytes_in size ≤ bound_of a.bounds region → Yields profile a (Load size d r (pos o)) d AnyNumber
+  lent_read_signed : (region : Region) (size : SignedSize) (d r o low high : ℕ) (t : Option ℕ) → Holds (LentIn region low high t) (register_at a.registers r) → o < 2 ^ 15 → high + o + bytes_in_signed size ≤ bound_of a.bounds region → Yields profile a (LoadSigned size d r (pos o)) d AnyNumber
+  stack_read : (size : Size) (d base p : ℕ) (offset : ℤ) → IsStackByte p (cast_unsigned w64 offset) (register_at a.registers base) → AreMarked a.stack p (bytes_in size) → Yields profile a (Load size d base offset) d AnyNumber
+  stack_read_signed : (size : SignedSize) (d base p : ℕ) (offset : ℤ) → IsStackByte p (cast_unsigned w64 offset) (register_at a.registers base) → AreMarked a.stack p (bytes_in_signed size) → Yields profile a (LoadSigned size d base offset) d AnyNumber
+  refilled : (d base i : ℕ) (offset : ℤ) (known : Known) → IsStackByte (8 * i) (cast_unsigned w64 offset) (register_at a.registers base) → i < 64 → slot_at a.stack i ≡ Spilled known → Yields profile a (Load Double d base offset) d (Exactly known)
+
+-- a store that isn't refused: of a number, so many bytes from byte p of the stack on
+pub data Stores (a : AbsState) : Insn → ℕ → ℕ → Type 0 where
+  stored : (size : Size) (base p : ℕ) (offset : ℤ) (value : Operand) → IsStackByte p (cast_unsigned w64 offset) (register_at a.registers base) → p + bytes_in size ≤ 512 → HasNumberIn a value → Stores a (Store size base offset value) p (bytes_in size)
+
+-- and of all eight bytes of a register into slot i
+pub data Spills (a : AbsState) : Insn → ℕ → Known → Type 0 where
+  spilled : (base r i : ℕ) (offset : ℤ) (known : Known) → IsStackByte (8 * i) (cast_unsigned w64 offset) (register_at a.registers base) → i < 64 → Holds (Exactly known) (register_at a.registers r) → Spills a (Store Double base offset (Source r)) i known
 
 -- all registers but one are as they were
 abbrev pub SameBut : ℕ → AbsState → AbsState → Type 0
 SameBut d a b = (i : ℕ) → i ≢ d → register_at b.registers i ≡ register_at a.registers i
+
+-- the stack and the bounds are as they were
+abbrev pub SameMemory : AbsState → AbsState → Type 0
+SameMemory a b = (b.stack ≡ a.stack) × (b.bounds ≡ a.bounds)
+
+-- the stack is as it was, and no bound is less
+abbrev pub LengthensMemory : AbsState → AbsState → Type 0
+LengthensMemory a b = (b.stack ≡ a.stack) × ((region : Region) → bound_of a.bounds region ≤ bound_of b.bounds region)
 
 -- each register that the instruction doesn't write, or compare, is as it was
 abbrev pub LeavesOthers : AbsState → Insn → AbsState → Type 0
@@ -48,6 +84,21 @@ LeavesOthers a (LoadSigned z d base o) b = SameBut d a b
 LeavesOthers a (Store z base o v) b = b.registers ≡ a.registers
 LeavesOthers a (LoadWide d v) b = SameBut d a b
 LeavesOthers a Exit b = b ≡ a
+
+-- so are the stack, where it is no store, and the bounds, where it is no comparison
+abbrev pub LeavesMemory : AbsState → Insn → AbsState → Type 0
+LeavesMemory a (Compute w op d o) b = SameMemory a b
+LeavesMemory a (Negate w d) b = SameMemory a b
+LeavesMemory a (Extend e d r) b = SameMemory a b
+LeavesMemory a (Convert c bits d) b = SameMemory a b
+LeavesMemory a (Jump distance) b = SameMemory a b
+LeavesMemory a (JumpLong distance) b = SameMemory a b
+LeavesMemory a (Branch w c l r distance) b = LengthensMemory a b
+LeavesMemory a (Load z d base o) b = SameMemory a b
+LeavesMemory a (LoadSigned z d base o) b = SameMemory a b
+LeavesMemory a (Store z base o v) b = b.bounds ≡ a.bounds
+LeavesMemory a (LoadWide d v) b = SameMemory a b
+LeavesMemory a Exit b = SameMemory a b
 
 -- the step isn't refused, and past it the register holds the fact
 abbrev pub Keeps : Result Flow Refusal → AbsState → ℕ → Fact → Type 0

@@ -1,5 +1,5 @@
 -- The kinds of registers, for what is never refused.
-use Rattle.std.specs.Prelude.{◌≡◌, ◌≢◌, ℕ, ◌≤◌, ◌%◌, Option, Some, None}
+use Rattle.std.specs.Prelude.{◌≡◌, ◌≢◌, ℕ, ◌<◌, ◌≤◌, ◌%◌, true, false, Option, Some, None, slice_index_or}
 use Rattle.bpf_words.specs.declared.instruction.Size.{Size}
 use Rattle.bpf_words.specs.declared.instruction.Size.TheVariants.{Byte, Half, Word, Double}
 use Rattle.std.specs.Int.{cast_unsigned, w64}
@@ -14,7 +14,12 @@ use Rattle.abstract_state.specs.declared.state.AbsReg.{AbsReg}
 use Rattle.abstract_state.specs.declared.state.AbsReg.TheVariants.{Unset, Set}
 use Rattle.abstract_state.specs.declared.state.AbsState.{AbsState}
 use Rattle.abstract_state.specs.declared.branch.Pair.{Pair}
+use Rattle.abstract_state.specs.declared.place.LentPlace.{LentPlace}
+use Rattle.abstract_state.specs.declared.quantity.Quantity.{Quantity}
+use Rattle.abstract_state.specs.declared.slot.Slot.{Slot}
+use Rattle.abstract_state.specs.declared.slot.Slot.TheVariants.{Marks, Spilled}
 use Rattle.abstract_state.specs.Known.{IsNumber}
+use Rattle.abstract_state.specs.Quantity.{JoinsNumber}
 use Rattle.abstract_state.specs.State.{register_at}
 
 abbrev pub IsNumberReg : AbsReg → Type 0
@@ -113,8 +118,26 @@ IsStackAt n (Set (Context p)) = ⊥
 IsStackAt n (Set (Stack p)) = p.place ≡ n
 IsStackAt n (Set (Lent p)) = ⊥
 
--- what is alike in both is so in c: a number, or an address in the context or the stack
+-- what is alike in both is so in c: a number, or an address in the context or the stack; of two numbers, and of two addresses in
+-- one lent region, nothing that both know is lost
 pub record JoinsReg (a b c : AbsReg) : Type 0 where
   pub numbers : IsNumberReg a → IsNumberReg b → IsNumberReg c
   pub context : (n : ℕ) → IsContextAt n a → IsContextAt n b → IsContextAt n c
   pub stack : (n : ℕ) → IsStackAt n a → IsStackAt n b → IsStackAt n c
+  pub values : (p q : Quantity) → a ≡ Set (Number p) → b ≡ Set (Number q) → (r : Quantity) × (c ≡ Set (Number r)) × JoinsNumber p q r
+  pub lent : (p q : LentPlace) → a ≡ Set (Lent p) → b ≡ Set (Lent q) → p.region ≡ q.region → (r : LentPlace) × (c ≡ Set (Lent r)) × (r.region ≡ p.region) × JoinsNumber p.offset q.offset r.offset
+
+-- what is spilled in a slot
+abbrev pub spilled_in : Slot → AbsReg
+spilled_in (Marks marks) = Unset
+spilled_in (Spilled k) = Set k
+
+-- a byte of a slot that is set for sure; those of a spilled address count as unset
+abbrev pub IsMarked : Slot → ℕ → Type 0
+IsMarked (Marks marks) j = slice_index_or marks j false ≡ true
+IsMarked (Spilled k) j = IsNumber k
+
+-- what is spilled in both joins as registers do, and a byte that is set in both is set
+pub record JoinsSlot (a b c : Slot) : Type 0 where
+  pub spilled : JoinsReg (spilled_in a) (spilled_in b) (spilled_in c)
+  pub marked : (j : ℕ) → j < 8 → IsMarked a j → IsMarked b j → IsMarked c j

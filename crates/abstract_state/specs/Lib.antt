@@ -6,5 +6,7 @@ pub mod Relation
 pub mod State
 pub mod Steps
 pub mod Kinds
+pub mod Frame
 pub mod Exact
 pub mod Guard
+pub mod Unset

@@ -1,5 +1,5 @@
 //! Comparisons: what is known on either edge.
-ghost use Rattle.std.specs.Prelude.{◌≡◌, ◌≢◌, ℕ, true, false, ◌+◌, ◌%◌, ◌^◌, ◌<◌, ◌≤◌, Option, Some, Ok, IfSome, IfOk, IsOk, IsTrue, ◌↔◌};
+ghost use Rattle.std.specs.Prelude.{◌≡◌, ◌≢◌, IfErr, [], ◌∷◌, ℕ, true, false, ◌+◌, ◌%◌, ◌^◌, ◌<◌, ◌≤◌, Option, Some, Ok, IfSome, IfOk, IsOk, IsTrue, ◌↔◌};
 ghost use Rattle.bpf_words.specs.declared.instruction.Width.TheVariants.{Narrow, Full};
 ghost use Rattle.meaning.specs.State.{State, register_of, operand_in};
 ghost use Rattle.meaning.specs.Value.{cut, holds_of};
@@ -13,8 +13,10 @@ ghost use Rattle.abstract_state.specs.State.{Contains, WithinState, register_at}
 ghost use Rattle.abstract_state.specs.Branch.{WithinPair, IsOrder, ReadsAs, Edge, LongFrom, LeavesSides};
 ghost use Rattle.abstract_state.specs.Relation.{EndsFrom};
 ghost use Rattle.abstract_state.specs.Exact.{Fact, Says, Holds};
-ghost use Rattle.abstract_state.specs.Guard.{SameBut};
+ghost use Rattle.abstract_state.specs.Guard.{SameBut, SameMemory, LengthensMemory};
 ghost use Rattle.abstract_state.specs.Steps.{after};
+ghost use Rattle.abstract_state.specs.Unset.{HasUnset};
+ghost use Rattle.bpf_words.specs.Flow.{read_operand};
 
 use crate::known::Known;
 use crate::place::LentPlace;
@@ -116,6 +118,7 @@ fn pair_on(
     ensures guards { (region : Region) (n high l2 h2 t : ℕ) (t1 : Option ℕ) → width ≡ Full → comparison ≡ Comparison.Greater → taken ≡ false → Says (Fact.LentIn region n high t1) a → Says (Fact.LentIn region l2 h2 (Some t)) b → IfOk result (λ o. IfSome o (λ p. LongFrom region n p.left)) }
     ensures floor { IsNumber a → IsNumber b → IsOk result }
     ensures numbers { IsNumber a → IsNumber b → IfOk result (λ o. AreNumbersOn o) }
+    ensures not_unset { IfErr result (λ e. e ≢ Refusal.UnsetRegister) }
 {
     match (a, b, width) {
         (Known::Number(x), Known::Number(y), _) => Ok(numbers_on(width, comparison, taken, x, y)),
@@ -180,6 +183,8 @@ impl AbsState {
         ensures holds { (r : ℕ) (fact : Fact) → right.now ≡ Operand.Source r → Holds fact (register_at self.now.registers r) → IsOk result × IfOk result (λ k. Says fact k) }
         ensures floor { HasNumberIn self.now right.now → IsOk result }
         ensures numbers { HasNumberIn self.now right.now → IfOk result (λ k. IsNumber k) }
+        ensures unset { IfErr result (λ e. (e ≡ Refusal.UnsetRegister) × HasUnset self.now (read_operand right.now)) }
+        ensures set { IfOk result (λ _. HasUnset self.now (read_operand right.now) → ⊥) }
     {
         match *right {
             Operand::Immediate(value) => Ok(Known::Number(compared(width, value))),
@@ -191,7 +196,7 @@ impl AbsState {
     fn keep(&mut self, register: Register, known: Known)
         ensures sound { (lengths : Lengths) (s : State) (n : ℕ) → Contains self.old lengths s → register_of s register ≡ Ok n → ContainsKnown known lengths n → Contains self.new lengths s }
         ensures others { SameBut register self.old self.new }
-        ensures bounds { self.new.bounds ≡ self.old.bounds }
+        ensures memory { SameMemory self.old self.new }
         ensures kinds { HasNumberAt self.old register → IsNumber known → KeepsAll self.old self.new }
     {
         self.put(register, known);
@@ -201,7 +206,7 @@ impl AbsState {
     fn keep_right(&mut self, right: &Operand, known: Known)
         ensures sound { (lengths : Lengths) (s : State) (n : ℕ) → Contains self.old lengths s → ReadsAs s right.now n → ContainsKnown known lengths n → Contains self.new lengths s }
         ensures others { (i : ℕ) → (right.now ≡ Operand.Source i → ⊥) → register_at self.new.registers i ≡ register_at self.old.registers i }
-        ensures bounds { self.new.bounds ≡ self.old.bounds }
+        ensures memory { SameMemory self.old self.new }
         ensures kinds { HasNumberIn self.old right.now → IsNumber known → KeepsAll self.old self.new }
     {
         if let Operand::Source(register) = *right {
@@ -213,6 +218,7 @@ impl AbsState {
     fn raise(&mut self, known: Known) -> Flow
         ensures sound { (lengths : Lengths) (s : State) (n : ℕ) → Contains self.old lengths s → ContainsKnown known lengths n → WithinState (after result self.new) lengths s }
         ensures same { self.new.registers ≡ self.old.registers }
+        ensures stack { IfSome (after result self.new) (λ b. b.stack ≡ self.old.stack) }
         ensures raised { (region : Region) (n : ℕ) → LongFrom region n known → IfSome (after result self.new) (λ b. n ≤ bound_of b.bounds region) }
         ensures grows { (region : Region) → IfSome (after result self.new) (λ b. bound_of self.old.bounds region ≤ bound_of b.bounds region) }
     {
@@ -228,6 +234,7 @@ impl AbsState {
     fn lengthen(&mut self, quantity: Quantity) -> Flow
         ensures sound { (lengths : Lengths) (s : State) (x : ℕ) → Contains self.old lengths s → ContainsNumber quantity lengths x → WithinState (after result self.new) lengths s }
         ensures same { self.new.registers ≡ self.old.registers }
+        ensures stack { IfSome (after result self.new) (λ b. b.stack ≡ self.old.stack) }
         ensures raised { (region : Region) (n : ℕ) → EndsFrom region n quantity → IfSome (after result self.new) (λ b. n ≤ bound_of b.bounds region) }
         ensures grows { (region : Region) → IfSome (after result self.new) (λ b. bound_of self.old.bounds region ≤ bound_of b.bounds region) }
     {
@@ -242,6 +249,7 @@ impl AbsState {
     fn refine(&mut self, left: Register, right: &Operand, pair: Option<Pair>) -> Flow
         ensures sound { (lengths : Lengths) (s : State) (m n : ℕ) → Contains self.old lengths s → register_of s left ≡ Ok m → ReadsAs s right.now n → WithinPair pair lengths m n → WithinState (after result self.new) lengths s }
         ensures others { IfSome (after result self.new) (λ b. LeavesSides left right.now self.old b) }
+        ensures memory { IfSome (after result self.new) (λ b. LengthensMemory self.old b) }
         ensures raised { (region : Region) (n : ℕ) → IfSome pair (λ p. LongFrom region n p.left) → IfSome (after result self.new) (λ b. n ≤ bound_of b.bounds region) }
         ensures kinds { HasNumberAt self.old left → HasNumberIn self.old right.now → AreNumbersOn pair → IfSome (after result self.new) (λ b. KeepsAll self.old b) }
     {
@@ -267,10 +275,13 @@ impl AbsState {
     ) -> Result<Flow, Refusal>
         ensures sound { IfOk result (λ flow. Edge self.old width comparison left right.now taken (after flow self.new)) }
         ensures others { IfOk result (λ flow. IfSome (after flow self.new) (λ b. LeavesSides left right.now self.old b)) }
+        ensures memory { IfOk result (λ flow. IfSome (after flow self.new) (λ b. LengthensMemory self.old b)) }
         ensures regions { (region : Region) (r l1 h1 l2 h2 : ℕ) (t1 t2 : Option ℕ) → right.now ≡ Operand.Source r → width ≡ Full → IsOrder comparison → Holds (Fact.LentIn region l1 h1 t1) (register_at self.old.registers left) → Holds (Fact.LentIn region l2 h2 t2) (register_at self.old.registers r) → IsOk result }
         ensures guards { (region : Region) (r n high l2 h2 t : ℕ) (t1 : Option ℕ) → right.now ≡ Operand.Source r → left ≢ r → width ≡ Full → comparison ≡ Comparison.Greater → taken ≡ false → Holds (Fact.LentIn region n high t1) (register_at self.old.registers left) → Holds (Fact.LentIn region l2 h2 (Some t)) (register_at self.old.registers r) → IfOk result (λ flow. IfSome (after flow self.new) (λ b. n ≤ bound_of b.bounds region)) }
         ensures floor { HasNumberAt self.old left → HasNumberIn self.old right.now → IsOk result }
         ensures kinds { HasNumberAt self.old left → HasNumberIn self.old right.now → IfOk result (λ flow. IfSome (after flow self.new) (λ b. KeepsAll self.old b)) }
+        ensures unset { IfErr result (λ e. (e ≡ Refusal.UnsetRegister) ↔ HasUnset self.old (left ∷ read_operand right.now)) }
+        ensures set { IfOk result (λ _. HasUnset self.old (left ∷ read_operand right.now) → ⊥) }
     {
         let a = self.read(left)?;
         let b = self.right_side(width, right)?;
@@ -292,11 +303,15 @@ impl AbsState {
         ensures untaken { IfOk result (λ edges. Edge self.now width comparison left right.now false edges.untaken) }
         ensures taken_others { IfOk result (λ edges. IfSome edges.taken (λ b. LeavesSides left right.now self.now b)) }
         ensures untaken_others { IfOk result (λ edges. IfSome edges.untaken (λ b. LeavesSides left right.now self.now b)) }
+        ensures taken_memory { IfOk result (λ edges. IfSome edges.taken (λ b. LengthensMemory self.now b)) }
+        ensures untaken_memory { IfOk result (λ edges. IfSome edges.untaken (λ b. LengthensMemory self.now b)) }
         ensures regions { (region : Region) (r l1 h1 l2 h2 : ℕ) (t1 t2 : Option ℕ) → right.now ≡ Operand.Source r → width ≡ Full → IsOrder comparison → Holds (Fact.LentIn region l1 h1 t1) (register_at self.now.registers left) → Holds (Fact.LentIn region l2 h2 t2) (register_at self.now.registers r) → IsOk result }
         ensures guards { (region : Region) (r n high l2 h2 t : ℕ) (t1 : Option ℕ) → right.now ≡ Operand.Source r → left ≢ r → width ≡ Full → comparison ≡ Comparison.Greater → Holds (Fact.LentIn region n high t1) (register_at self.now.registers left) → Holds (Fact.LentIn region l2 h2 (Some t)) (register_at self.now.registers r) → IfOk result (λ edges. IfSome edges.untaken (λ b. n ≤ bound_of b.bounds region)) }
         ensures floor { HasNumberAt self.now left → HasNumberIn self.now right.now → IsOk result }
         ensures taken_kinds { HasNumberAt self.now left → HasNumberIn self.now right.now → IfOk result (λ edges. IfSome edges.taken (λ b. KeepsAll self.now b)) }
         ensures untaken_kinds { HasNumberAt self.now left → HasNumberIn self.now right.now → IfOk result (λ edges. IfSome edges.untaken (λ b. KeepsAll self.now b)) }
+        ensures unset { IfErr result (λ e. (e ≡ Refusal.UnsetRegister) ↔ HasUnset self.now (left ∷ read_operand right.now)) }
+        ensures set { IfOk result (λ _. HasUnset self.now (left ∷ read_operand right.now) → ⊥) }
     {
         let mut taken = *self;
         let holds = taken.take_edge(width, comparison, left, right, true)?;

@@ -1,9 +1,10 @@
 //! What either of two states contains.
-ghost use Rattle.std.specs.Prelude.{◌≡◌, ℕ, ◌<◌, ◌≤◌, Option, slice_index_or};
+ghost use Rattle.std.specs.Prelude.{◌≡◌, ℕ, ◌<◌, ◌≤◌, min, Option, slice_index_or};
 ghost use Rattle.meaning.specs.State.{State};
-ghost use Rattle.abstract_state.specs.Lent.{Lengths};
-ghost use Rattle.abstract_state.specs.Kinds.{JoinsReg};
-ghost use Rattle.abstract_state.specs.State.{Contains, ContainsRegister, IsLong, register_at};
+ghost use Rattle.abstract_state.specs.Lent.{Lengths, bound_of};
+ghost use Rattle.abstract_state.specs.declared.region.Region.{Region};
+ghost use Rattle.abstract_state.specs.Kinds.{JoinsReg, JoinsSlot};
+ghost use Rattle.abstract_state.specs.State.{Contains, ContainsRegister, IsLong, register_at, slot_at};
 
 use crate::bounds::Bounds;
 use crate::stack::join_slots;
@@ -40,6 +41,8 @@ impl Bounds {
     fn join(self, other: Bounds) -> Bounds
         ensures left { (lengths : Lengths) → IsLong self lengths → IsLong result lengths }
         ensures right { (lengths : Lengths) → IsLong other lengths → IsLong result lengths }
+        ensures text { result.text ≡ min self.text other.text }
+        ensures link { result.link ≡ min self.link other.link }
     {
         Bounds {
             text: self.text.min(other.text),
@@ -54,6 +57,8 @@ impl AbsState {
         ensures left { (lengths : Lengths) (s : State) → Contains self.old lengths s → Contains self.new lengths s }
         ensures right { (lengths : Lengths) (s : State) → Contains other.now lengths s → Contains self.new lengths s }
         ensures kinds { (i : ℕ) → i < 11 → JoinsReg (register_at self.old.registers i) (register_at other.now.registers i) (register_at self.new.registers i) }
+        ensures slots { (i : ℕ) → i < 64 → JoinsSlot (slot_at self.old.stack i) (slot_at other.now.stack i) (slot_at self.new.stack i) }
+        ensures bounds { (region : Region) → bound_of self.new.bounds region ≡ min (bound_of self.old.bounds region) (bound_of other.now.bounds region) }
     {
         join_registers(&mut self.registers, &other.registers);
         join_slots(&mut self.stack, &other.stack);

@@ -1,5 +1,5 @@
 //! Loads and stores.
-ghost use Rattle.std.specs.Prelude.{◌≡◌, ◌≢◌, ℕ, ◌+◌, ◌-◌, ◌*◌, ◌/◌, ◌%◌, ◌^◌, ◌<◌, ◌≤◌, Option, Some, Ok, IfSome, IfOk, IsOk, IsTrue, ◌↔◌, List, length, drop};
+ghost use Rattle.std.specs.Prelude.{◌≡◌, ◌≢◌, IfErr, ℕ, ◌+◌, ◌-◌, ◌*◌, ◌/◌, ◌%◌, ◌^◌, ◌<◌, ◌≤◌, Option, Some, Ok, IfSome, IfOk, IsOk, IsTrue, ◌↔◌, List, length, drop};
 ghost use Rattle.byteorder.specs.Endian.{little_number};
 ghost use Rattle.meaning.specs.State.{State};
 ghost use Rattle.meaning.specs.Memory.{address_of, bytes_in, bytes_in_signed, load as load_of, store as store_of};
@@ -7,13 +7,15 @@ ghost use Rattle.abstract_state.specs.Lent.{Lengths, base_of, length_of, limit_o
 ghost use Rattle.abstract_state.specs.declared.region.Region.{Region as TheRegion};
 ghost use Rattle.abstract_state.specs.declared.region.Region.TheVariants.{Text, Link};
 ghost use Rattle.abstract_state.specs.Quantity.{Contains as ContainsNumber, Within as WithinNumber};
-ghost use Rattle.abstract_state.specs.Known.{ContainsKnown, WithinKnown, AreNumbers};
+ghost use Rattle.abstract_state.specs.Known.{ContainsKnown, WithinKnown, IsNumber, AreNumbers};
 ghost use Rattle.abstract_state.specs.Kinds.{IsNumberField, IsContextAt};
 ghost use Rattle.abstract_state.specs.Exact.{IsLentIn};
+ghost use Rattle.abstract_state.specs.Frame.{IsStackByte, AreMarked, StoresSlots, SpillsSlot};
+ghost use Rattle.abstract_state.specs.declared.slot.Slot.{Slot};
 ghost use Rattle.abstract_state.specs.declared.state.AbsReg.TheVariants as TheRegs;
 ghost use Rattle.bpf_words.specs.Profile.{context_length};
 ghost use Rattle.bpf_words.specs.declared.profile.Profile.TheVariants.{Two};
-ghost use Rattle.abstract_state.specs.State.{Span, lengths_of, IsLong, Contains, LoadsAs, LoadsIn, StoresAs};
+ghost use Rattle.abstract_state.specs.State.{Span, lengths_of, IsLong, Contains, LoadsAs, LoadsIn, StoresAs, slot_at};
 
 use crate::bounds::Bounds;
 use crate::known::{Known, lent, number};
@@ -32,6 +34,7 @@ fn moved(place: u64, offset: u64) -> Option<u64>
     ensures small { IfSome result (λ a. a ≤ place + 2 ^ 16) }
     ensures at { IfSome result (λ a. (base x : ℕ) → place ≤ x → base + x < 2 ^ 63 → (base + x + offset) % 2 ^ 64 ≡ base + (a + (x - place))) }
     ensures there { offset ≤ 2 ^ 16 → result ≡ Some (place + offset) }
+    ensures near { (a : ℕ) → (place + offset) % 2 ^ 64 ≡ a → a ≤ 2 ^ 16 → result ≡ Some a }
 {
     let sum = place.wrapping_add(offset);
     if sum > place + 65_536 {
@@ -92,6 +95,7 @@ fn text_field(place: u64, size: Size) -> Result<Option<Known>, Refusal>
     ensures end { size ≡ Size.Double → place ≡ 8 → IsOk result × IfOk result (λ o. IfSome o (λ k. IsLentIn Text 0 131072 (Some 0) k)) }
     ensures floor { IsNumberField size place → IsOk result }
     ensures numbers { IsNumberField size place → IfOk result (λ o. AreNumbers o) }
+    ensures not_unset { IfErr result (λ e. e ≢ Refusal.UnsetRegister) }
 {
     match size {
         Size::Double if place == 0 => Ok(Some(Known::Lent(LentPlace {
@@ -119,6 +123,7 @@ fn link_field(place: u64, size: Size) -> Result<Option<Known>, Refusal>
     ensures link_end { size ≡ Size.Double → place ≡ 64 → IsOk result × IfOk result (λ o. IfSome o (λ k. IsLentIn Link 0 1024 (Some 0) k)) }
     ensures floor { IsNumberField size place → IsOk result }
     ensures numbers { IsNumberField size place → IfOk result (λ o. AreNumbers o) }
+    ensures not_unset { IfErr result (λ e. e ≢ Refusal.UnsetRegister) }
 {
     match size {
         Size::Double if place == 56 => Ok(Some(Known::Lent(LentPlace {
@@ -142,6 +147,7 @@ fn field(profile: Profile, place: u64, size: Size) -> Result<Option<Known>, Refu
     ensures end { (at : TheRegion) → Lends at profile → size ≡ Size.Double → place ≡ end_field at → IsOk result × IfOk result (λ o. IfSome o (λ k. IsLentIn at 0 (limit_of at) (Some 0) k)) }
     ensures floor { IsNumberField size place → IsOk result }
     ensures numbers { IsNumberField size place → IfOk result (λ o. AreNumbers o) }
+    ensures not_unset { IfErr result (λ e. e ≢ Refusal.UnsetRegister) }
 {
     match profile {
         Profile::One => text_field(place, size),
@@ -177,6 +183,8 @@ fn place_on_stack(place: StackPlace, offset: u64, count: usize) -> Result<usize,
     requires { count ≤ 8 }
     ensures within { IfOk result (λ p. p + count ≤ 512) }
     ensures at { IfOk result (λ p. (base : ℕ) → base < 2 ^ 62 → (base + place.place + offset) % 2 ^ 64 ≡ base + p) }
+    ensures floor { (p : ℕ) → (place.place + offset) % 2 ^ 64 ≡ p → p + count ≤ 512 → result ≡ Ok p }
+    ensures not_unset { IfErr result (λ e. e ≢ Refusal.UnsetRegister) }
 {
     let Some(p) = moved(place.place, offset) else {
         return Err(Refusal::StackBounds);
@@ -193,6 +201,8 @@ impl AbsState {
         requires { count ≤ 8 }
         ensures sound { IfOk result (λ _. LoadsAs self.now base offset count (λ lengths v. v < 256 ^ count)) }
         ensures lent { (at : TheRegion) (p : LentPlace) → base ≡ Known.Lent p → p.region ≡ at → offset ≤ 2 ^ 15 → p.offset.range.high + offset + count ≤ bound_of self.now.bounds at → IsOk result }
+        ensures stack { (p : ℕ) → IsStackByte p offset (TheRegs.Set base) → AreMarked self.now.stack p count → IsOk result }
+        ensures not_unset { IfErr result (λ e. e ≢ Refusal.UnsetRegister) }
     {
         match base {
             Known::Number(_) => Err(Refusal::NotAnAddress),
@@ -228,6 +238,7 @@ impl AbsState {
         ensures end { (at : TheRegion) → Lends at profile → place.place ≡ 0 → size ≡ Size.Double → offset ≤ 64 → offset ≡ end_field at → IsOk result × IfOk result (λ o. IfSome o (λ k. IsLentIn at 0 (limit_of at) (Some 0) k)) }
         ensures floor { place.place ≡ 0 → IsNumberField size offset → IsOk result }
         ensures numbers { place.place ≡ 0 → IsNumberField size offset → IfOk result (λ o. AreNumbers o) }
+        ensures not_unset { IfErr result (λ e. e ≢ Refusal.UnsetRegister) }
     {
         let Some(p) = moved(place.place, offset) else {
             return Err(Refusal::ContextField);
@@ -240,6 +251,8 @@ impl AbsState {
     fn fill(&self, base: Known, offset: u64, size: Size) -> Option<Known>
         ensures sound { IfSome result (λ k. LoadsAs self.now base offset (bytes_in size) (λ lengths v. ContainsKnown k lengths v)) }
         ensures stack_alone { IfSome result (λ _. (p : LentPlace) → base ≡ Known.Lent p → ⊥) }
+        ensures spilled { (i : ℕ) (known : Known) → IsStackByte (8 * i) offset (TheRegs.Set base) → i < 64 → size ≡ Size.Double → slot_at self.now.stack i ≡ Slot.Spilled known → result ≡ Some known }
+        ensures marked { (p : ℕ) → IsStackByte p offset (TheRegs.Set base) → AreMarked self.now.stack p (bytes_in size) → AreNumbers result }
     {
         let (Known::Stack(place), Size::Double) = (base, size) else {
             return None;
@@ -268,6 +281,9 @@ impl AbsState {
         ensures numbers { IsContextAt 0 (TheRegs.Set base) → IsNumberField size offset → IfOk result (λ o. AreNumbers o) }
         ensures lent { (at : TheRegion) (p : LentPlace) → base ≡ Known.Lent p → p.region ≡ at → offset ≤ 2 ^ 15 → p.offset.range.high + offset + bytes_in size ≤ bound_of self.now.bounds at → IsOk result }
         ensures lent_numbers { (p : LentPlace) → base ≡ Known.Lent p → IfOk result (λ o. AreNumbers o) }
+        ensures spilled { (i : ℕ) (known : Known) → IsStackByte (8 * i) offset (TheRegs.Set base) → i < 64 → size ≡ Size.Double → slot_at self.now.stack i ≡ Slot.Spilled known → result ≡ Ok (Some known) }
+        ensures marked { (p : ℕ) → IsStackByte p offset (TheRegs.Set base) → AreMarked self.now.stack p (bytes_in size) → IsOk result × IfOk result (λ o. AreNumbers o) }
+        ensures not_unset { IfErr result (λ e. e ≢ Refusal.UnsetRegister) }
     {
         if let Known::Context(place) = base {
             return self.field(profile, place, offset, size);
@@ -281,7 +297,10 @@ impl AbsState {
 
     /// Checks that a sign-extending load finds its bytes.
     pub fn load_signed(&self, base: Known, offset: u64, size: SignedSize) -> Result<(), Refusal>
-        ensures { IfOk result (λ _. LoadsAs self.now base offset (bytes_in_signed size) (λ lengths v. v < 256 ^ bytes_in_signed size)) }
+        ensures sound { IfOk result (λ _. LoadsAs self.now base offset (bytes_in_signed size) (λ lengths v. v < 256 ^ bytes_in_signed size)) }
+        ensures lent { (at : TheRegion) (p : LentPlace) → base ≡ Known.Lent p → p.region ≡ at → offset ≤ 2 ^ 15 → p.offset.range.high + offset + bytes_in_signed size ≤ bound_of self.now.bounds at → IsOk result }
+        ensures marked { (p : ℕ) → IsStackByte p offset (TheRegs.Set base) → AreMarked self.now.stack p (bytes_in_signed size) → IsOk result }
+        ensures not_unset { IfErr result (λ e. e ≢ Refusal.UnsetRegister) }
     {
         self.bytes(base, offset, count_signed(size))
     }
@@ -296,6 +315,10 @@ impl AbsState {
     ) -> Result<(), Refusal>
         ensures sound { IfOk result (λ _. StoresAs self.old base offset (bytes_in size) value self.new) }
         ensures registers { self.new.registers ≡ self.old.registers }
+        ensures bounds { self.new.bounds ≡ self.old.bounds }
+        ensures stores { (p : ℕ) → IsStackByte p offset (TheRegs.Set base) → p + bytes_in size ≤ 512 → IsNumber value → IsOk result × IfOk result (λ _. StoresSlots p (bytes_in size) self.old.stack self.new.stack) }
+        ensures spills { (i : ℕ) → IsStackByte (8 * i) offset (TheRegs.Set base) → i < 64 → size ≡ Size.Double → IsOk result × IfOk result (λ _. SpillsSlot i value self.old.stack self.new.stack) }
+        ensures not_unset { IfErr result (λ e. e ≢ Refusal.UnsetRegister) }
     {
         if base.is_number() {
             return Err(Refusal::NotAnAddress);

@@ -1,7 +1,8 @@
 ghost use Rattle.std.specs.Prelude.{◌≡◌, ℕ, ◌+◌, ◌-◌, ◌*◌, ◌/◌, ◌%◌, ◌^◌, ◌<◌, ◌≤◌, Option, Some, None, IfSome, bit_and, bit_or, bit_xor};
 ghost use Rattle.abstract_state.specs.Lent.{Lengths, length_of, limit_of, tail_of, HasTails, InRange, InRanges};
 ghost use Rattle.abstract_state.specs.declared.region.Region.{Region as TheRegion};
-ghost use Rattle.abstract_state.specs.Quantity.{InBits, Contains, Within, Fits, Maps, MapsBoth, Narrows};
+ghost use Rattle.abstract_state.specs.Quantity.{InBits, Contains, Within, Fits, Maps, MapsBoth, Narrows, KeepsBits, KnowsHigh, JoinsNumber, LiesInBits};
+ghost use Rattle.known_bits.specs.Bits.{most};
 ghost use Rattle.abstract_state.specs.Exact.{IsIn};
 ghost use Rattle.meaning.specs.Value.{cut, value_of};
 
@@ -49,6 +50,9 @@ impl Quantity {
     pub fn normal(bits: Bits, range: Range, tails: Tails) -> Option<Quantity>
         ensures contains { (lengths : Lengths) (x : ℕ) → InBits bits x → InRange range x → HasTails tails lengths x → Within result lengths x }
         ensures narrows { Narrows result range tails }
+        ensures bits { KeepsBits result bits }
+        ensures lies { IfSome result (λ q. LiesInBits q) }
+        ensures high_bits { (region : TheRegion) (t : ℕ) → tail_of tails region ≡ Some t → IfSome result (λ q. KnowsHigh q.bits range.low (limit_of region - t)) }
         ensures limits { (region : TheRegion) (t : ℕ) → tail_of tails region ≡ Some t → IfSome result (λ q. q.range.high + t ≤ limit_of region) }
     {
         let first = narrow(bits, range, tails)?;
@@ -66,6 +70,8 @@ impl Quantity {
     pub(crate) fn finish(width: Width, bits: Bits, range: Range, tails: Tails) -> Option<Quantity>
         ensures contains { (lengths : Lengths) (x : ℕ) → InBits bits x → InRange range x → HasTails tails lengths x → Within result lengths (cut width x) }
         ensures narrows { width ≡ Width.Full → Narrows result range tails }
+        ensures bits { width ≡ Width.Full → KeepsBits result bits }
+        ensures lies { IfSome result (λ q. LiesInBits q) }
     {
         match width {
             Width::Full => Quantity::normal(bits, range, tails),
@@ -78,6 +84,7 @@ impl Quantity {
 fn narrow(bits: Bits, range: Range, tails: Tails) -> Option<Range>
     ensures contains { (lengths : Lengths) (x : ℕ) → InBits bits x → InRange range x → HasTails tails lengths x → InRanges result x }
     ensures within { IfSome result (λ r. (range.low ≤ r.low) × (r.high ≤ range.high)) }
+    ensures bits { IfSome result (λ r. (bits.value ≤ r.low) × (r.high ≤ most bits)) }
     ensures limits { (region : TheRegion) (t : ℕ) → tail_of tails region ≡ Some t → IfSome result (λ r. r.high + t ≤ limit_of region) }
 {
     let above = range.at_least(bits.least())?;
@@ -91,6 +98,7 @@ impl Quantity {
         ensures left { (lengths : Lengths) (x : ℕ) → Contains self lengths x → Contains result lengths x }
         ensures right { (lengths : Lengths) (x : ℕ) → Contains other lengths x → Contains result lengths x }
         ensures within { (n : ℕ) → self.range.high ≤ n → other.range.high ≤ n → result.range.high ≤ n }
+        ensures joins { JoinsNumber self other result }
     {
         let Some(joined) = Quantity::normal(
             self.bits.join(other.bits),

@@ -1,4 +1,4 @@
-ghost use Rattle.std.specs.Prelude.{◌≡◌, ℕ, ◌+◌, ◌≤◌, Option, Some, None, IfSome};
+ghost use Rattle.std.specs.Prelude.{◌≡◌, ℕ, ◌+◌, ◌≤◌, min, Option, Some, None, IfSome};
 ghost use Rattle.abstract_state.specs.Lent.{Lengths, HasTail, HasTails, base_of, limit_of, length_of, tail_of, InRange, InRanges};
 ghost use Rattle.abstract_state.specs.declared.region.Region.{Region as TheRegion};
 ghost use Rattle.abstract_state.specs.Exact.{tail_after};
@@ -131,6 +131,7 @@ impl Tails {
     pub fn greater(self, other: Tails) -> Tails
         ensures contains { (lengths : Lengths) (x y z : ℕ) → HasTails self lengths x → HasTails other lengths y → z ≤ x → z ≤ y → HasTails result lengths z }
         ensures there { (region : TheRegion) (u : ℕ) → tail_of other region ≡ Some u → (t : ℕ) × (tail_of result region ≡ Some t) }
+        ensures none { (region : TheRegion) → tail_of self region ≡ None → tail_of other region ≡ None → tail_of result region ≡ None }
     {
         Tails {
             text: tail::greater(self.text, other.text),
@@ -142,6 +143,7 @@ impl Tails {
     pub fn lesser(self, other: Tails) -> Tails
         ensures left { (lengths : Lengths) (x : ℕ) → HasTails self lengths x → HasTails result lengths x }
         ensures right { (lengths : Lengths) (x : ℕ) → HasTails other lengths x → HasTails result lengths x }
+        ensures lesser { (region : TheRegion) (t u : ℕ) → tail_of self region ≡ Some t → tail_of other region ≡ Some u → tail_of result region ≡ Some (min t u) }
     {
         Tails {
             text: tail::lesser(self.text, other.text),

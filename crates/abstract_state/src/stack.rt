@@ -3,13 +3,16 @@ ghost use Rattle.std.specs.Prelude.{◌≡◌, ◌≢◌, ℕ, ◌+◌, ◌-◌,
 ghost use Rattle.abstract_state.specs.Lent.{Lengths};
 ghost use Rattle.abstract_state.specs.Known.{ContainsKnown};
 ghost use Rattle.abstract_state.specs.State.{Bytes, HasByte, HasNumber, ContainsSlot, ContainsStack, slot_at, Spares, Fills};
+ghost use Rattle.abstract_state.specs.Kinds.{IsMarked, JoinsSlot};
+ghost use Rattle.abstract_state.specs.Frame.{IsMarkedAt, StoresSlot, StoresSlots, SpillsSlot};
 
 use crate::known::Known;
 use crate::slot::Slot;
 
 /// Which of a slot's bytes are set for sure; those of a spilled address count as unset.
 fn marks(slot: Slot) -> [bool; 8]
-    ensures { (lengths : Lengths) (bytes : Bytes) (i : ℕ) → ContainsSlot slot lengths bytes i → ContainsSlot (Slot.Marks result) lengths bytes i }
+    ensures contains { (lengths : Lengths) (bytes : Bytes) (i : ℕ) → ContainsSlot slot lengths bytes i → ContainsSlot (Slot.Marks result) lengths bytes i }
+    ensures marked { (j : ℕ) → j < 8 → IsMarked slot j → slice_index_or result j false ≡ true }
 {
     match slot {
         Slot::Marks(marks) => marks,
@@ -24,7 +27,9 @@ fn none_set() -> [bool; 8]
     [false; 8]
 }
 
-fn all_set() -> [bool; 8] {
+fn all_set() -> [bool; 8]
+    ensures { (j : ℕ) → j < 8 → slice_index_or result j false ≡ true }
+{
     [true; 8]
 }
 
@@ -32,6 +37,7 @@ fn all_set() -> [bool; 8] {
 fn both(a: &[bool; 8], b: &[bool; 8]) -> [bool; 8]
     ensures left { (j : ℕ) → j < 8 → slice_index_or result j false ≡ true → slice_index_or a.now j false ≡ true }
     ensures right { (j : ℕ) → j < 8 → slice_index_or result j false ≡ true → slice_index_or b.now j false ≡ true }
+    ensures all { (j : ℕ) → j < 8 → slice_index_or a.now j false ≡ true → slice_index_or b.now j false ≡ true → slice_index_or result j false ≡ true }
 {
     let mut marks = *a;
     for j in 0..8 {
@@ -44,6 +50,7 @@ fn both(a: &[bool; 8], b: &[bool; 8]) -> [bool; 8]
 pub fn join(a: Slot, b: Slot) -> Slot
     ensures left { (lengths : Lengths) (bytes : Bytes) (i : ℕ) → ContainsSlot a lengths bytes i → ContainsSlot result lengths bytes i }
     ensures right { (lengths : Lengths) (bytes : Bytes) (i : ℕ) → ContainsSlot b lengths bytes i → ContainsSlot result lengths bytes i }
+    ensures joins { JoinsSlot a b result }
 {
     if let (Slot::Spilled(x), Slot::Spilled(y)) = (a, b) {
         return match x.join(y) {
@@ -60,6 +67,7 @@ pub fn join(a: Slot, b: Slot) -> Slot
 pub fn join_slots(a: &mut [Slot; 64], b: &[Slot; 64])
     ensures left { (lengths : Lengths) (bytes : Bytes) → ContainsStack a.old lengths bytes → ContainsStack a.new lengths bytes }
     ensures right { (lengths : Lengths) (bytes : Bytes) → ContainsStack b.now lengths bytes → ContainsStack a.new lengths bytes }
+    ensures joins { (i : ℕ) → i < 64 → JoinsSlot (slot_at a.old i) (slot_at b.now i) (slot_at a.new i) }
 {
     for i in 0..64 {
         a[i] = join(a[i], b[i]);
@@ -93,7 +101,8 @@ fn is_marked(marks: &[bool; 8], j: usize, first: usize, place: usize, count: usi
 fn rewritten(slot: Slot, first: usize, place: usize, count: usize) -> Slot
     requires first { first ≤ 504 }
     requires place { place + count ≤ 512 }
-    ensures { (lengths : Lengths) (old new : Bytes) (i : ℕ) → first ≡ 8 * i → ContainsSlot slot lengths old i → Spares place count old new → Fills place count new → ContainsSlot result lengths new i }
+    ensures stores { (i : ℕ) → first ≡ 8 * i → StoresSlot place count i slot result }
+    ensures contains { (lengths : Lengths) (old new : Bytes) (i : ℕ) → first ≡ 8 * i → ContainsSlot slot lengths old i → Spares place count old new → Fills place count new → ContainsSlot result lengths new i }
 {
     if first + 8 <= place {
         return slot;
@@ -108,7 +117,8 @@ fn rewritten(slot: Slot, first: usize, place: usize, count: usize) -> Slot
 /// Notes a store of so many bytes of a number.
 pub fn overwrite(slots: &mut [Slot; 64], place: usize, count: usize)
     requires { place + count ≤ 512 }
-    ensures { (lengths : Lengths) (old new : Bytes) → ContainsStack slots.old lengths old → Spares place count old new → Fills place count new → ContainsStack slots.new lengths new }
+    ensures stores { StoresSlots place count slots.old slots.new }
+    ensures contains { (lengths : Lengths) (old new : Bytes) → ContainsStack slots.old lengths old → Spares place count old new → Fills place count new → ContainsStack slots.new lengths new }
 {
     for i in 0..64 {
         slots[i] = rewritten(slots[i], 8 * i, place, count);
@@ -118,7 +128,8 @@ pub fn overwrite(slots: &mut [Slot; 64], place: usize, count: usize)
 /// Notes that all eight bytes of a slot hold a number.
 pub fn spill(slots: &mut [Slot; 64], slot: usize, known: Known)
     requires { slot < 64 }
-    ensures { (lengths : Lengths) (old new : Bytes) (n : ℕ) → ContainsStack slots.old lengths old → ContainsKnown known lengths n → HasNumber new (8 * slot) n → Spares (8 * slot) 8 old new → ContainsStack slots.new lengths new }
+    ensures spills { SpillsSlot slot known slots.old slots.new }
+    ensures contains { (lengths : Lengths) (old new : Bytes) (n : ℕ) → ContainsStack slots.old lengths old → ContainsKnown known lengths n → HasNumber new (8 * slot) n → Spares (8 * slot) 8 old new → ContainsStack slots.new lengths new }
 {
     slots[slot] = Slot::Spilled(known);
 }
@@ -126,7 +137,9 @@ pub fn spill(slots: &mut [Slot; 64], slot: usize, known: Known)
 /// What was spilled into a slot.
 pub fn filled(slots: &[Slot; 64], slot: usize) -> Option<Known>
     requires { slot < 64 }
-    ensures { IfSome result (λ k. (lengths : Lengths) (bytes : Bytes) → ContainsStack slots.now lengths bytes → (n : ℕ) × ContainsKnown k lengths n × HasNumber bytes (8 * slot) n) }
+    ensures there { (known : Known) → slot_at slots.now slot ≡ Slot.Spilled known → result ≡ Some known }
+    ensures spilled { IfSome result (λ k. slot_at slots.now slot ≡ Slot.Spilled k) }
+    ensures contains { IfSome result (λ k. (lengths : Lengths) (bytes : Bytes) → ContainsStack slots.now lengths bytes → (n : ℕ) × ContainsKnown k lengths n × HasNumber bytes (8 * slot) n) }
 {
     match slots[slot] {
         Slot::Spilled(known) => Some(known),
@@ -137,7 +150,8 @@ pub fn filled(slots: &[Slot; 64], slot: usize) -> Option<Known>
 /// Whether a byte is set for sure.
 fn is_set(slots: &[Slot; 64], place: usize) -> bool
     requires { place < 512 }
-    ensures { IsTrue result → (lengths : Lengths) (bytes : Bytes) → ContainsStack slots.now lengths bytes → HasByte bytes place }
+    ensures marked { IsMarkedAt slots.now place → IsTrue result }
+    ensures contains { IsTrue result → (lengths : Lengths) (bytes : Bytes) → ContainsStack slots.now lengths bytes → HasByte bytes place }
 {
     let marks = marks(slots[place / 8]);
     marks[place % 8]
@@ -146,7 +160,8 @@ fn is_set(slots: &[Slot; 64], place: usize) -> bool
 /// Whether so many bytes are set for sure.
 pub fn are_set(slots: &[Slot; 64], place: usize, count: usize) -> bool
     requires { place + count ≤ 512 }
-    ensures { IsTrue result → (lengths : Lengths) (bytes : Bytes) → ContainsStack slots.now lengths bytes → (j : ℕ) → j < count → HasByte bytes (place + j) }
+    ensures marked { ((j : ℕ) → j < count → IsMarkedAt slots.now (place + j)) → IsTrue result }
+    ensures contains { IsTrue result → (lengths : Lengths) (bytes : Bytes) → ContainsStack slots.now lengths bytes → (j : ℕ) → j < count → HasByte bytes (place + j) }
 {
     for j in 0..count {
         if !is_set(slots, place + j) {

@@ -1,4 +1,4 @@
-ghost use Rattle.std.specs.Prelude.{◌≡◌, ◌≢◌, ℕ, ◌+◌, ◌-◌, ◌*◌, ◌/◌, ◌%◌, ◌^◌, ◌<◌, ◌≤◌, Option, Some, Ok, IfSome, IfOk, IsOk, IsTrue, None, length, slice_set, slice_index_or, pos};
+ghost use Rattle.std.specs.Prelude.{◌≡◌, ◌≢◌, IfErr, [], ◌∷◌, ℕ, ◌+◌, ◌-◌, ◌*◌, ◌/◌, ◌%◌, ◌^◌, ◌<◌, ◌≤◌, Option, Some, Ok, IfSome, IfOk, IsOk, IsTrue, None, length, slice_set, slice_index_or, pos};
 ghost use Rattle.abstract_state.specs.Lent.{Lengths, length_of, bound_of, HasTail};
 ghost use Rattle.abstract_state.specs.declared.region.Region.{Region as TheRegion};
 ghost use Rattle.abstract_state.specs.Quantity.{Contains as ContainsNumber, Within as WithinNumber};
@@ -7,8 +7,11 @@ ghost use Rattle.abstract_state.specs.State.{Span, lengths_of, IsLong, WithinLon
 ghost use Rattle.std.specs.Int.{cast_unsigned, w64};
 ghost use Rattle.abstract_state.specs.Kinds.{HasNumberAt, HasNumberIn, WritesNumber, IsContextAt, IsStackAt};
 ghost use Rattle.abstract_state.specs.Exact.{Fact, Says, Holds, IsNumberIn};
-ghost use Rattle.abstract_state.specs.Guard.{SameBut};
+ghost use Rattle.abstract_state.specs.Guard.{IsOperand, SameBut, SameMemory};
+ghost use Rattle.abstract_state.specs.Frame.{IsStackByte};
 ghost use Rattle.abstract_state.specs.Steps.{after};
+ghost use Rattle.abstract_state.specs.Unset.{HasUnset};
+ghost use Rattle.bpf_words.specs.Flow.{read_operand};
 ghost use Rattle.meaning.specs.State.{State, start, register_of, operand_in};
 
 use crate::bounds::Bounds;
@@ -104,7 +107,10 @@ impl AbsState {
         ensures holds { (fact : Fact) → Holds fact (register_at self.now.registers register) → IsOk result × IfOk result (λ k. Says fact k) }
         ensures floor { HasNumberAt self.now register → IsOk result }
         ensures context { (n : ℕ) → IsContextAt n (register_at self.now.registers register) → IsOk result × IfOk result (λ k. IsContextAt n (AbsReg.Set k)) }
+        ensures frame { (p offset : ℕ) → IsStackByte p offset (register_at self.now.registers register) → IsOk result × IfOk result (λ k. IsStackByte p offset (AbsReg.Set k)) }
         ensures numbers { HasNumberAt self.now register → IfOk result (λ k. IsNumber k) }
+        ensures unset { IfErr result (λ e. (e ≡ Refusal.UnsetRegister) × HasUnset self.now (register ∷ [])) }
+        ensures set { IfOk result (λ _. HasUnset self.now (register ∷ []) → ⊥) }
     {
         match self.registers[register.index()] {
             AbsReg::Unset => Err(Refusal::UnsetRegister),
@@ -117,8 +123,11 @@ impl AbsState {
         ensures sound { IfOk result (λ k. (lengths : Lengths) (s : State) → Contains self.now lengths s → (n : ℕ) × (operand_in s operand ≡ Ok n) × ContainsKnown k lengths n) }
         ensures holds { (r : ℕ) (fact : Fact) → operand ≡ Operand.Source r → Holds fact (register_at self.now.registers r) → IsOk result × IfOk result (λ k. Says fact k) }
         ensures constant { (region : TheRegion) (k : ℕ) → operand ≡ Operand.Immediate (pos k) → k < 2 ^ 31 → IsOk result × IfOk result (λ v. IsNumberIn region k k None v) }
+        ensures one { (region : TheRegion) (n : ℕ) → IsOperand region self.now operand n → IsOk result × IfOk result (λ k. IsNumberIn region n n None k) }
         ensures floor { HasNumberIn self.now operand → IsOk result }
         ensures numbers { HasNumberIn self.now operand → IfOk result (λ k. IsNumber k) }
+        ensures unset { IfErr result (λ e. (e ≡ Refusal.UnsetRegister) × HasUnset self.now (read_operand operand)) }
+        ensures set { IfOk result (λ _. HasUnset self.now (read_operand operand) → ⊥) }
     {
         match operand {
             Operand::Immediate(value) => Ok(Known::Number(Quantity::constant(extended(value)))),
@@ -131,7 +140,7 @@ impl AbsState {
         ensures contains { (lengths : Lengths) (s : State) (n : ℕ) → Contains self.old lengths s → ContainsKnown known lengths n → Contains self.new lengths (with_register s register n) }
         ensures others { SameBut register self.old self.new }
         ensures there { register_at self.new.registers register ≡ AbsReg.Set known }
-        ensures bounds { self.new.bounds ≡ self.old.bounds }
+        ensures memory { SameMemory self.old self.new }
     {
         self.registers[register.index()] = AbsReg::Set(known);
     }
@@ -140,6 +149,7 @@ impl AbsState {
     pub fn write(&mut self, register: Register, known: Option<Known>) -> Flow
         ensures sound { (lengths : Lengths) (s : State) (n : ℕ) → Contains self.old lengths s → WithinKnown known lengths n → WithinState (after result self.new) lengths (with_register s register n) }
         ensures others { IfSome (after result self.new) (λ b. SameBut register self.old b) }
+        ensures memory { IfSome (after result self.new) (λ b. SameMemory self.old b) }
         ensures holds { (fact : Fact) → IfSome known (λ k. Says fact k) → IfSome (after result self.new) (λ b. Holds fact (register_at b.registers register)) }
         ensures numbers { AreNumbers known → IfSome (after result self.new) (λ b. WritesNumber self.old register b) }
     {

@@ -1,5 +1,5 @@
 //! One tail of a number x: a number t, if it is there, so that x + t is at most a length.
-ghost use Rattle.std.specs.Prelude.{◌≡◌, ℕ, ◌+◌, ◌≤◌, Option, Some, None, IfSome};
+ghost use Rattle.std.specs.Prelude.{◌≡◌, ℕ, ◌+◌, ◌≤◌, min, Option, Some, None, IfSome};
 ghost use Rattle.abstract_state.specs.Lent.{HasTail, InRange, InRanges};
 ghost use Rattle.abstract_state.specs.Exact.{tail_after};
 
@@ -64,6 +64,7 @@ pub fn difference(tail: Option<u32>, taken: u64) -> Option<u32>
 pub fn greater(a: Option<u32>, b: Option<u32>) -> Option<u32>
     ensures contains { (long x y z : ℕ) → HasTail a long x → HasTail b long y → z ≤ x → z ≤ y → HasTail result long z }
     ensures there { (u : ℕ) → b ≡ Some u → (t : ℕ) × (result ≡ Some t) }
+    ensures none { a ≡ None → b ≡ None → result ≡ None }
 {
     match (a, b) {
         (Some(t), Some(u)) => Some(t.max(u)),
@@ -76,6 +77,7 @@ pub fn greater(a: Option<u32>, b: Option<u32>) -> Option<u32>
 pub fn lesser(a: Option<u32>, b: Option<u32>) -> Option<u32>
     ensures left { (long x : ℕ) → HasTail a long x → HasTail result long x }
     ensures right { (long x : ℕ) → HasTail b long x → HasTail result long x }
+    ensures lesser { (t u : ℕ) → a ≡ Some t → b ≡ Some u → result ≡ Some (min t u) }
 {
     match (a, b) {
         (Some(t), Some(u)) => Some(t.min(u)),

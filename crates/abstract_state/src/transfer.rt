@@ -1,9 +1,9 @@
 //! What an operation makes of quantities.
-ghost use Rattle.std.specs.Prelude.{◌≡◌, ℕ, ◌+◌, ◌-◌, ◌*◌, ◌/◌, ◌%◌, ◌^◌, ◌<◌, ◌≤◌, Option, None, IfSome, bit_and, bit_or, bit_xor};
+ghost use Rattle.std.specs.Prelude.{◌≡◌, ℕ, ◌+◌, ◌-◌, ◌*◌, ◌/◌, ◌%◌, ◌^◌, ◌<◌, ◌≤◌, Option, Some, None, IfSome, bit_and, bit_or, bit_xor};
 ghost use Rattle.abstract_state.specs.Lent.{Lengths, HasTails, InRange, InRanges};
 ghost use Rattle.abstract_state.specs.declared.region.Region.{Region};
-ghost use Rattle.abstract_state.specs.Quantity.{InBits, Contains, Within, Fits, Maps, MapsBoth, Narrows};
-ghost use Rattle.abstract_state.specs.Exact.{tail_after, IsIn};
+ghost use Rattle.abstract_state.specs.Quantity.{InBits, Contains, Within, Fits, Maps, MapsBoth, Narrows, KeepsBits};
+ghost use Rattle.abstract_state.specs.Exact.{tail_after, HasBits, IsIn, IsConstant, Folds};
 ghost use Rattle.meaning.specs.Value.{bits_of, cut, value_of};
 
 use crate::quantity::Quantity;
@@ -44,6 +44,7 @@ impl Quantity {
     pub fn only(self) -> Option<u64>
         ensures contains { IfSome result (λ n. (lengths : Lengths) (x : ℕ) → Contains self lengths x → x ≡ n) }
         ensures ends { IfSome result (λ n. (self.range.low ≡ n) × (self.range.high ≡ n)) }
+        ensures there { self.range.low ≡ self.range.high → result ≡ Some self.range.low }
     {
         if self.range.low == self.range.high {
             Some(self.range.low)
@@ -54,7 +55,8 @@ impl Quantity {
 
     /// The operand of an operation of the width.
     pub fn cut_to(self, width: Width) -> Option<Quantity>
-        ensures { (lengths : Lengths) (x : ℕ) → Contains self lengths x → Within result lengths (cut width x) }
+        ensures contains { (lengths : Lengths) (x : ℕ) → Contains self lengths x → Within result lengths (cut width x) }
+        ensures whole { width ≡ Width.Full → result ≡ Some self }
     {
         match width {
             Width::Full => Some(self),
@@ -66,13 +68,15 @@ impl Quantity {
     pub fn moved(self, width: Width) -> Option<Quantity>
         ensures contains { (lengths : Lengths) (x : ℕ) → Contains self lengths x → Within result lengths (cut width x) }
         ensures narrows { width ≡ Width.Full → Narrows result self.range self.tails }
+        ensures bits { width ≡ Width.Full → KeepsBits result self.bits }
     {
         Quantity::finish(width, self.bits, self.range, self.tails)
     }
 
     /// The bits of the sum.
     fn sum_bits(self, other: Quantity) -> Bits
-        ensures { (lengths : Lengths) (x y : ℕ) → Contains self lengths x → Contains other lengths y → InBits result ((x + y) % 2 ^ 64) }
+        ensures contains { (lengths : Lengths) (x y : ℕ) → Contains self lengths x → Contains other lengths y → InBits result ((x + y) % 2 ^ 64) }
+        ensures constants { (region : Region) (m n : ℕ) (t u : Option ℕ) → IsIn region self m m t → IsIn region other n n u → m + n < 2 ^ 64 → HasBits result (m + n) (m + n) }
     {
         if self.bits.greatest() & other.bits.greatest() != 0 {
             if let (Some(a), Some(b)) = (self.only(), other.only()) {
@@ -167,7 +171,8 @@ impl Quantity {
 
     /// The bits that both have.
     pub fn and(self, other: Quantity, width: Width) -> Option<Quantity>
-        ensures { MapsBoth width self other result (λ x y. value_of Arithmetic.And width x y) }
+        ensures contains { MapsBoth width self other result (λ x y. value_of Arithmetic.And width x y) }
+        ensures constants { (region : Region) → width ≡ Width.Full → (m n : ℕ) → IsConstant region self m → IsConstant region other n → IfSome result (λ q. IsConstant region q (bit_and m n)) }
     {
         Quantity::finish(
             width,
@@ -179,7 +184,8 @@ impl Quantity {
 
     /// The bits that either has.
     pub fn or(self, other: Quantity, width: Width) -> Option<Quantity>
-        ensures { MapsBoth width self other result (λ x y. value_of Arithmetic.Or width x y) }
+        ensures contains { MapsBoth width self other result (λ x y. value_of Arithmetic.Or width x y) }
+        ensures constants { (region : Region) → width ≡ Width.Full → (m n : ℕ) → IsConstant region self m → IsConstant region other n → IfSome result (λ q. IsConstant region q (bit_or m n)) }
     {
         Quantity::finish(
             width,
@@ -191,7 +197,8 @@ impl Quantity {
 
     /// The bits that one has and the other has not.
     pub fn xor(self, other: Quantity, width: Width) -> Option<Quantity>
-        ensures { MapsBoth width self other result (λ x y. value_of Arithmetic.Xor width x y) }
+        ensures contains { MapsBoth width self other result (λ x y. value_of Arithmetic.Xor width x y) }
+        ensures constants { (region : Region) → width ≡ Width.Full → (m n : ℕ) → IsConstant region self m → IsConstant region other n → IfSome result (λ q. IsConstant region q (bit_xor m n)) }
     {
         Quantity::finish(
             width,
@@ -337,7 +344,8 @@ fn mask(width: Width) -> u64
 
 /// What an operation gives on operands of the width.
 fn apply(operation: Arithmetic, width: Width, a: Quantity, b: Quantity) -> Option<Quantity>
-    ensures { MapsBoth width a b result (λ x y. value_of operation width x y) }
+    ensures contains { MapsBoth width a b result (λ x y. value_of operation width x y) }
+    ensures constants { (region : Region) → width ≡ Width.Full → (m n : ℕ) → Folds operation m n → IsConstant region a m → IsConstant region b n → IfSome result (λ q. IsConstant region q (value_of operation Width.Full m n)) }
 {
     match operation {
         Arithmetic::Add => a.add(b, width),
@@ -359,7 +367,8 @@ fn apply(operation: Arithmetic, width: Width, a: Quantity, b: Quantity) -> Optio
 
 /// What an operation gives of two registers' numbers.
 pub fn transfer(operation: Arithmetic, width: Width, a: Quantity, b: Quantity) -> Option<Quantity>
-    ensures { (lengths : Lengths) (x y : ℕ) → Contains a lengths x → Contains b lengths y → Within result lengths (value_of operation width (cut width x) (cut width y)) }
+    ensures contains { (lengths : Lengths) (x y : ℕ) → Contains a lengths x → Contains b lengths y → Within result lengths (value_of operation width (cut width x) (cut width y)) }
+    ensures constants { (region : Region) → width ≡ Width.Full → (m n : ℕ) → Folds operation m n → IsConstant region a m → IsConstant region b n → IfSome result (λ q. IsConstant region q (value_of operation Width.Full m n)) }
 {
     let a = a.cut_to(width)?;
     let b = b.cut_to(width)?;

@@ -1,5 +1,5 @@
 //! Operations on one number.
-ghost use Rattle.std.specs.Prelude.{◌≡◌, ℕ, ◌+◌, ◌%◌, ◌^◌, ◌<◌, ◌≤◌, Option, IfSome, IfOk, IsOk};
+ghost use Rattle.std.specs.Prelude.{◌≡◌, ◌≢◌, IfErr, ℕ, ◌+◌, ◌%◌, ◌^◌, ◌<◌, ◌≤◌, Option, IfSome, IfOk, IsOk};
 ghost use Rattle.abstract_state.specs.Lent.{Lengths};
 ghost use Rattle.abstract_state.specs.Quantity.{Contains, Fits};
 ghost use Rattle.abstract_state.specs.Known.{ContainsKnown, WithinKnown, IsNumber, AreNumbers};
@@ -38,6 +38,7 @@ impl Known {
         ensures sound { IfOk result (λ o. (lengths : Lengths) (x y : ℕ) → ContainsKnown self lengths x → Fits width y → WithinKnown o lengths y) }
         ensures floor { IsNumber self → IsOk result }
         ensures numbers { IfOk result (λ o. AreNumbers o) }
+        ensures not_unset { IfErr result (λ e. e ≢ Refusal.UnsetRegister) }
     {
         let Known::Number(a) = self else {
             return Err(Refusal::PointerArithmetic);
@@ -53,6 +54,7 @@ impl Known {
         ensures sound { IfOk result (λ o. (lengths : Lengths) (x : ℕ) → ContainsKnown self lengths x → WithinKnown o lengths (negated width (cut width x))) }
         ensures floor { IsNumber self → IsOk result }
         ensures numbers { IfOk result (λ o. AreNumbers o) }
+        ensures not_unset { IfErr result (λ e. e ≢ Refusal.UnsetRegister) }
     {
         let known = self.replaced(width)?;
         Ok(known)
@@ -63,6 +65,7 @@ impl Known {
         ensures sound { IfOk result (λ o. (lengths : Lengths) (x : ℕ) → ContainsKnown self lengths x → WithinKnown o lengths (extended extension x)) }
         ensures floor { IsNumber self → IsOk result }
         ensures numbers { IfOk result (λ o. AreNumbers o) }
+        ensures not_unset { IfErr result (λ e. e ≢ Refusal.UnsetRegister) }
     {
         let known = self.replaced(width_of(extension))?;
         Ok(known)
@@ -73,6 +76,7 @@ impl Known {
         ensures sound { IfOk result (λ k. (lengths : Lengths) (x : ℕ) → ContainsKnown self lengths x → ContainsKnown k lengths (converted conversion bits x)) }
         ensures floor { IsNumber self → IsOk result }
         ensures numbers { IfOk result (λ k. IsNumber k) }
+        ensures not_unset { IfErr result (λ e. e ≢ Refusal.UnsetRegister) }
     {
         let Known::Number(_) = self else {
             return Err(Refusal::PointerArithmetic);

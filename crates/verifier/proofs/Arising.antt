@@ -5,7 +5,10 @@ use Rattle.std.specs.List.{slice_get}
 use Rattle.std.specs.Result.{IfErr, IsErrAnd}
 use Rattle.verifier.specs.declared.refusal.StructureFault.TheVariants.{JumpIntoWide}
 use Rattle.verifier.specs.declared.refusal.VerifyError.{VerifyError}
-use Rattle.verifier.specs.declared.refusal.VerifyError.TheVariants.{OutOfMemory}
+use Rattle.verifier.specs.declared.refusal.VerifyError.TheVariants.{State as StateRefused, OutOfMemory}
+use Rattle.verifier.specs.declared.walk.Stop.{Stop}
+use Rattle.verifier.specs.declared.walk.Stop.TheVariants.{Refused, OutOfMemory as NoMemory}
+use Rattle.abstract_state.specs.declared.refusal.Refusal.{Refusal}
 use Rattle.std.specs.declared.alloc.Global.{Global}
 use Rattle.std.proofs.lemmas.Bool.{cases_eq}
 use Rattle.std.proofs.lemmas.Option.{same_Some, slice_get_within}
@@ -16,9 +19,9 @@ use Rattle.bpf_words.specs.Flow.{StartsAt, IsPaired, jump_of, slots_of, falls_th
 use Rattle.meaning.specs.Step.{Program}
 use Rattle.abstract_state.specs.declared.state.AbsState.{AbsState}
 use Rattle.abstract_state.specs.State.{register_at}
-use Rattle.abstract_state.specs.Kinds.{IsContextAt}
+use Rattle.abstract_state.specs.Kinds.{IsContextAt, IsStackAt}
 use Rattle.verifier.specs.Structure.{IsStructured}
-use Rattle.verifier.specs.Arises.{Takes, IsLongBehind, IsTarget, Arises, ArisesAt, AllArise, FallsFrom, FallsAs, MayRefuse, IsCause, first, fell, jumped}
+use Rattle.verifier.specs.Arises.{Takes, IsLongBehind, IsTarget, Arises, ArisesAt, AllArise, FallsFrom, FallsAs, MayRefuse, IsCause, RefusesAt, first, fell, jumped}
 use Rattle.verifier.specs.Waiting.{States, unboxed, waiting_at}
 use Rattle.verifier.specs.Walk.{Between}
 use Rattle.verifier.proofs.Waits.{waiting-set_same, waiting-set_other, set_twice, read_waiting}
@@ -172,12 +175,12 @@ second_falls profile program slot falling second falls a e =
     (λ (other : to ≡ slot → ⊥). (to, (f.1.0, (omega arith), between, f.1.3, f.1.4)))
     (cases_eq to slot)
 
-pub entry_falls : (profile : Profile) (program : Program) (entry : AbsState) → 0 < length program → IsPaired program → IsContextAt 0 (register_at entry.registers 1) → FallsAs profile program 0 (Some entry)
-entry_falls profile program entry some paired context a e =
+pub entry_falls : (profile : Profile) (program : Program) (entry : AbsState) → 0 < length program → IsPaired program → IsContextAt 0 (register_at entry.registers 1) → IsStackAt 512 (register_at entry.registers 10) → FallsAs profile program 0 (Some entry)
+entry_falls profile program entry some paired context frame a e =
     let start = starts_at program 0 some paired.begins in
     let is : entry ≡ a = same_Some entry a e in
     let none : Between program 0 0 = λ k low high. absurd (omega arith) in
-    (0, (start.0, (omega arith), none, start.1, subst (λ x. Arises profile program 0 x) is (first context)))
+    (0, (start.0, (omega arith), none, start.1, subst (λ x. Arises profile program 0 x) is (first context frame)))
 
 -- ---- a refusal that is passed on
 pub passed_on : {T : Type 0} (r : Result T VerifyError) (e : VerifyError) (P : VerifyError → Type 0) → IsErrAnd r (λ y. y ≡ e) → P e → IfErr r P
@@ -187,4 +190,23 @@ passed_on (Err y) e P is p = subst P (sym is) p
 -- a program of which each instruction is granted is refused for want of memory alone
 pub only_memory : (profile : Profile) (program : Program) (e : VerifyError) (P : Type 0) → (P → MayRefuse profile program → ⊥) → IsCause profile program e → P → e ≡ OutOfMemory
 only_memory profile program e P grants (inl none) p = none
-only_memory profile program e P grants (inr may) p = absurd (grants p may)
+only_memory profile program e P grants (inr may) p = absurd (grants p may.0)
+
+-- a refusal at a slot has its cause there
+pub refuses_at : {T : Type 0} (profile : Profile) (program : Program) (r : Result T VerifyError) (slot : ℕ) (fault : Refusal) → IfErr r (IsCause profile program) → r ≡ Err (StateRefused slot fault) → RefusesAt profile program slot fault
+refuses_at profile program (Ok t) slot fault cause is = absurd (cc)
+refuses_at profile program (Err e) slot fault (inl none) is = absurd (cc)
+refuses_at profile program (Err e) slot fault (inr may) is =
+    let same : StateRefused may.0.slot may.0.fault ≡ StateRefused slot fault = cc (may.1, is) in
+    let at : may.0.slot ≡ slot = cc in
+    let why : may.0.fault ≡ fault = cc in
+    (may.0, at, why)
+
+-- a refusal of an instruction that is passed on
+pub refused_for : {T : Type 0} (r : Result T Stop) (e fault : Refusal) (P : Refusal → Type 0) → IsErrAnd r (λ y. y ≡ Refused e) → P e → r ≡ Err (Refused fault) → P fault
+refused_for (Ok t) e fault P is p same = absurd (cc)
+refused_for (Err y) e fault P is p same = let one : e ≡ fault = cc in subst P one p
+
+pub not_refused : {T : Type 0} (r : Result T Stop) (fault : Refusal) (P : Type 0) → IsErrAnd r (λ y. y ≡ NoMemory) → r ≡ Err (Refused fault) → P
+not_refused (Ok t) fault P is same = absurd (cc)
+not_refused (Err y) fault P is same = absurd (cc)

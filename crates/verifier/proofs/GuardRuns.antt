@@ -20,7 +20,7 @@ use Rattle.abstract_state.specs.declared.state.AbsState.{AbsState}
 use Rattle.abstract_state.specs.State.{register_at}
 use Rattle.abstract_state.specs.Kinds.{HasNumberAt, IsContextAt, IsNumberReg}
 use Rattle.abstract_state.specs.Exact.{Fact, LentIn, NumberIn, AnyNumber, Holds, tail_after}
-use Rattle.abstract_state.specs.Guard.{Yields, lent_begin, lent_end, lent_moved, lent_added, constant, lent_read}
+use Rattle.abstract_state.specs.Guard.{Yields, lent_begin, lent_end, lent_moved, lent_added, copied, lent_read}
 use Rattle.abstract_state.proofs.Exact.{any_is_number, in_is_number}
 use Rattle.abstract_state.proofs.Regions.{limit_low}
 use Rattle.verifier.specs.declared.refusal.StructureFault.TheVariants.{BackwardJump, JumpOut, JumpIntoWide, FallOff, WriteR10}
@@ -154,7 +154,7 @@ row_granted profile region n offset slot insn a sized row_begin at = of_row 2 _ 
 row_granted profile region n offset slot insn a sized row_end at = of_row 3 _ (lent_end region 3 1 sized.lends at.0)
 row_granted profile region n offset slot insn a sized row_move at = of_row 4 _ (lent_moved region 4 2 0 (Some 0) at.0)
 row_granted profile region n offset slot insn a sized row_add at = of_row 4 _ (adds profile region n a sized.short at)
-row_granted profile region n offset slot insn a sized row_zero at = of_row 0 _ (constant region 0 0 (omega arith))
+row_granted profile region n offset slot insn a sized row_zero at = of_row 0 _ (copied region 0 0 (Immediate (pos 0)) refl)
 row_granted profile region n offset slot insn a sized row_branch at = of_guard region n (tests region n a at)
 row_granted profile region n offset slot insn a sized row_read at = of_row 0 AnyNumber (reads profile region n offset a sized at)
 row_granted profile region n offset slot insn a sized row_exit at = of_numbers at
@@ -180,7 +180,7 @@ fell_at profile region n offset slot insn a b sized row_add at takes long falls 
 fell_at profile region n offset slot insn a b sized row_zero at takes long falls = (
   ends_stay region a b (takes.others 2 (λ e. omega arith)) (takes.others 3 (λ e. omega arith)) at.0,
   stays a b 4 (Holds (LentIn region n n (tail_after (Some 0) n))) (takes.others 4 (λ e. omega arith)) at.1,
-  in_is_number region 0 0 None _ (takes.yields 0 (NumberIn region 0 0 None) (constant region 0 0 (omega arith))),
+  in_is_number region 0 0 None _ (takes.yields 0 (NumberIn region 0 0 None) (copied region 0 0 (Immediate (pos 0)) refl)),
 )
 fell_at profile region n offset slot insn a b sized row_branch at takes long falls = (
   stays a b 2 (Holds (LentIn region 0 0 (Some 0))) (takes.others 2 (λ e. omega arith) (λ e. cc)) at.0.0,
@@ -220,7 +220,7 @@ at_seven : (region : Region) (n slot : ℕ) (a : AbsState) → slot ≡ 7 → At
 at_seven region n slot a is at = subst (λ k. At region n k a) is at
 
 guard_at : (profile : Profile) (region : Region) (n offset slot : ℕ) (a : AbsState) → IsSized profile region n offset → Arises profile (guard region n offset) slot a → At region n slot a
-guard_at profile region n offset slot a sized (first context) = context
+guard_at profile region n offset slot a sized (first context frame) = context
 guard_at profile region n offset slot a sized (fell {slot = before} {a = old} {insn = insn} from starts falls takes long) =
     fell_at profile region n offset before insn old a sized (row_at region n offset before insn starts) (guard_at profile region n offset before old sized from) takes long falls
 guard_at profile region n offset slot a sized (jumped {slot = before} {n = k} {a = old} {insn = insn} from starts jumps takes) =
@@ -229,7 +229,7 @@ guard_at profile region n offset slot a sized (jumped {slot = before} {n = k} {a
 guard_at profile region n offset slot a sized (joined {a = left} {b = right} target one two joins) =
     let is = target_is region n offset slot target in
     subst (λ (to : ℕ). At region n to a) (sym is)
-    ((joins 0 (omega arith)).numbers (at_seven region n slot left is (guard_at profile region n offset slot left sized one)) (at_seven region n slot right is (guard_at profile region n offset slot right sized two)))
+    ((joins.registers 0 (omega arith)).numbers (at_seven region n slot left is (guard_at profile region n offset slot left sized one)) (at_seven region n slot right is (guard_at profile region n offset slot right sized two)))
 
 guard_may : (profile : Profile) (region : Region) (n offset : ℕ) → IsSized profile region n offset → MayRefuse profile (guard region n offset) → ⊥
 guard_may profile region n offset sized may =

@@ -7,6 +7,7 @@ pub mod Refusals
 pub mod Taking
 pub mod Arising
 pub mod PlainRuns
+pub mod FramedRuns
 pub mod GuardRuns
 pub mod Reaching
 pub mod Enough

@@ -21,21 +21,21 @@ use Rattle.abstract_state.specs.Guard.{LeavesOthers}
 use Rattle.verifier.specs.Plain.{IsFree, IsFreeOperand, IsPlainInsn, IsPlain, Leads, Path, begins, goes, with_written}
 use Rattle.verifier.specs.Arises.{Takes, Arises, first, fell, jumped, joined, MayRefuse, of_numbers}
 
-nothing_in : (i : ℕ) → Contains [] i → ⊥
+pub nothing_in : (i : ℕ) → Contains [] i → ⊥
 nothing_in i (k, h, e) = omega arith
 
-is_written : (o : Option ℕ) (i : ℕ) → (o ≡ Some i) ⊎ (o ≡ Some i → ⊥)
+pub is_written : (o : Option ℕ) (i : ℕ) → (o ≡ Some i) ⊎ (o ≡ Some i → ⊥)
 is_written None i = inr (λ e. cc)
 is_written (Some r) i =
     ⊎_elim (λ (same : r ≡ i). inl (ap Some same)) (λ (other : r ≡ i → ⊥). inr (λ e. other (same_Some r i e))) (cases_eq r i)
 
-not_in : (o : Option ℕ) (done : List ℕ) (i : ℕ) → (o ≡ Some i → ⊥) → (Contains done i → ⊥) → Contains (with_written o done) i → ⊥
+pub not_in : (o : Option ℕ) (done : List ℕ) (i : ℕ) → (o ≡ Some i → ⊥) → (Contains done i → ⊥) → Contains (with_written o done) i → ⊥
 not_in None done i spared missing c = missing c
 not_in (Some r) done i spared missing c =
     ⊎_elim (λ one. ⊎_elim (nothing_in i) (λ same. spared (ap Some same)) (Contains-push_cases [] r i one)) missing (Contains-append_cases (r ∷ []) done i c)
 
 -- a register is a number, or a path leaves it unwritten
-abbrev Known : Program → ℕ → AbsState → ℕ → Type 0
+abbrev pub Known : Program → ℕ → AbsState → ℕ → Type 0
 Known program slot a i = HasNumberAt a i ⊎ ((done : List ℕ) × Path program slot done × (Contains done i → ⊥))
 
 -- what is known before a slot of a plain program
@@ -60,11 +60,11 @@ first_number a Arsh d h = h (0, omega arith, refl)
 first_number a SignedDiv d h = h (0, omega arith, refl)
 first_number a SignedMod d h = h (0, omega arith, refl)
 
-operand_number : (a : AbsState) (o : Operand) → IsFreeOperand o → ((r : ℕ) → Contains (read_operand o) r → IsFree r → HasNumberAt a r) → HasNumberIn a o
+pub operand_number : (a : AbsState) (o : Operand) → IsFreeOperand o → ((r : ℕ) → Contains (read_operand o) r → IsFree r → HasNumberAt a r) → HasNumberIn a o
 operand_number a (Immediate value) free h = tt
 operand_number a (Source register) free h = h register (0, omega arith, refl) free
 
-reads : (a : AbsState) (insn : Insn) → IsPlainInsn insn → IsContextAt 0 (register_at a.registers 1) → ((r : ℕ) → Contains (read_by insn) r → IsFree r → HasNumberAt a r) → ReadsNumbers a insn
+pub reads : (a : AbsState) (insn : Insn) → IsPlainInsn insn → IsContextAt 0 (register_at a.registers 1) → ((r : ℕ) → Contains (read_by insn) r → IsFree r → HasNumberAt a r) → ReadsNumbers a insn
 reads a (Compute w op d o) (fd, fo) context h = (
   first_number a op d (λ c. h d (Contains-append_left (read_first op d) (read_operand o) d c) fd),
   operand_number a o fo (λ r c f. h r (Contains-append_right (read_first op d) (read_operand o) r c) f),
@@ -130,7 +130,7 @@ carried_at profile program slot to a b insn plain at starts leads takes =
     }
 
 plain_at : (profile : Profile) (program : Program) (slot : ℕ) (a : AbsState) → IsPlain program → Arises profile program slot a → PlainAt program slot a
-plain_at profile program slot a plain (first context) = record {
+plain_at profile program slot a plain (first context frame) = record {
   context = context;
   registers = λ i h. inr ([], begins, nothing_in i);
 }
@@ -142,10 +142,10 @@ plain_at profile program slot a plain (joined {a = left} {b = right} target one 
     let at_left = plain_at profile program slot left plain one in
     let at_right = plain_at profile program slot right plain two in
     record {
-      context = (joins 1 (omega arith)).context 0 at_left.context at_right.context;
+      context = (joins.registers 1 (omega arith)).context 0 at_left.context at_right.context;
       registers = λ i h.
           ⊎_elim
-          (λ (x : HasNumberAt left i). ⊎_elim (λ (y : HasNumberAt right i). inl ((joins i h).numbers x y)) (λ p. inr p) (at_right.registers i h))
+          (λ (x : HasNumberAt left i). ⊎_elim (λ (y : HasNumberAt right i). inl ((joins.registers i h).numbers x y)) (λ p. inr p) (at_right.registers i h))
           (λ p. inr p)
           (at_left.registers i h);
     }

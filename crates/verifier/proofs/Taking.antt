@@ -13,7 +13,7 @@ use Rattle.bpf_words.specs.declared.instruction.Operand.{Operand}
 use Rattle.bpf_words.specs.declared.instruction.Operand.TheVariants.{Source}
 use Rattle.bpf_words.specs.declared.instruction.Insn.{Insn}
 use Rattle.bpf_words.specs.declared.instruction.Insn.TheVariants.{Compute, Negate, Extend, Convert, Jump, JumpLong, Branch, Load, LoadSigned, Store, LoadWide, Exit}
-use Rattle.bpf_words.specs.Flow.{written_by}
+use Rattle.bpf_words.specs.Flow.{written_by, jump_of}
 use Rattle.abstract_state.specs.declared.known.Known.TheVariants.{Number, Context, Stack, Lent}
 use Rattle.abstract_state.specs.declared.state.AbsReg.{AbsReg}
 use Rattle.abstract_state.specs.declared.state.AbsReg.TheVariants.{Unset, Set}
@@ -23,8 +23,10 @@ use Rattle.abstract_state.specs.State.{register_at}
 use Rattle.abstract_state.specs.Branch.{LeavesSides}
 use Rattle.abstract_state.specs.Kinds.{HasNumberAt, HasNumberIn, IsNumberReg, KeepsAll, KeepsKind, ReadsNumbers, WritesNumber, Carries}
 use Rattle.abstract_state.specs.Exact.{Fact, LentIn, Holds}
-use Rattle.abstract_state.specs.Guard.{Yields, lent_begin, lent_end, lent_moved, lent_added, constant, lent_read, LeavesOthers}
-use Rattle.verifier.specs.Arises.{Guards, behind, IsGranted, of_numbers, of_row, of_guard, TakesNumbers, Takes, IsLongBehind}
+use Rattle.abstract_state.specs.Guard.{Yields, lent_begin, lent_end, lent_moved, lent_added, copied, moved, folded, wide, lent_read, lent_read_signed, stack_read, stack_read_signed, refilled, Stores, stored, Spills, spilled, LeavesOthers, LeavesMemory, LengthensMemory}
+use Rattle.abstract_state.specs.Frame.{StoresSlots, SpillsSlot}
+use Rattle.abstract_state.specs.declared.known.Known.{Known}
+use Rattle.verifier.specs.Arises.{Guards, behind, IsGranted, of_numbers, of_row, of_guard, of_store, of_spill, TakesNumbers, Takes, IsLongBehind}
 use Rattle.verifier.proofs.Passing.{IsStraight}
 
 pub at_some : {T : Type 0} (o : Option T) (P : T → Type 0) (t : T) → IfSome o P → o ≡ Some t → P t
@@ -37,8 +39,15 @@ yields_writes profile a insn d fact (lent_begin region d' base lends h) = refl
 yields_writes profile a insn d fact (lent_end region d' base lends h) = refl
 yields_writes profile a insn d fact (lent_moved region d' r n t h) = refl
 yields_writes profile a insn d fact (lent_added region d' k n t h near) = refl
-yields_writes profile a insn d fact (constant region d' k small) = refl
+yields_writes profile a insn d fact (copied region d' n o h) = refl
+yields_writes profile a insn d fact (moved d' r known h) = refl
+yields_writes profile a insn d fact (folded region operation d' m n o folds left h) = refl
+yields_writes profile a insn d fact (wide region d' n) = refl
 yields_writes profile a insn d fact (lent_read region size d' r o low high t h short within) = refl
+yields_writes profile a insn d fact (lent_read_signed region size d' r o low high t h short within) = refl
+yields_writes profile a insn d fact (stack_read size d' base p o h m) = refl
+yields_writes profile a insn d fact (stack_read_signed size d' base p o h m) = refl
+yields_writes profile a insn d fact (refilled d' base i o known h less is) = refl
 
 no_row : (profile : Profile) (a : AbsState) (insn : Insn) (d : ℕ) (fact : Fact) → written_by insn ≡ None → Yields profile a insn d fact → ⊥
 no_row profile a insn d fact none row = let both : None ≡ Some d = sym none ∙ yields_writes profile a insn d fact row in absurd (cc)
@@ -46,17 +55,28 @@ no_row profile a insn d fact none row = let both : None ≡ Some d = sym none �
 no_guard : (a : AbsState) (insn : Insn) (region : Region) (n : ℕ) → IsStraight insn → Guards a insn region n → ⊥
 no_guard a insn region n straight (behind lent l r n' high low2 high2 t tail distance apart h g) = straight
 
+-- a store writes no register, and is neither an exit nor a comparison
+stores_none : (a : AbsState) (insn : Insn) (p count : ℕ) → Stores a insn p count → (insn ≡ Exit → ⊥) × (written_by insn ≡ None) × ((distance : ℤ) → jump_of insn ≡ Some distance → ⊥)
+stores_none a insn p count (stored size base p' offset value at within number) = (λ e. cc, refl, λ distance e. cc)
+
+spills_none : (a : AbsState) (insn : Insn) (i : ℕ) (known : Known) → Spills a insn i known → (insn ≡ Exit → ⊥) × (written_by insn ≡ None) × ((distance : ℤ) → jump_of insn ≡ Some distance → ⊥)
+spills_none a insn i known (spilled base r i' offset known' at within held) = (λ e. cc, refl, λ distance e. cc)
+
 -- what is promised of a step in each of these cases
-pub step_granted : (profile : Profile) (a : AbsState) (insn : Insn) (P : Type 0) → IsStraight insn → (ReadsNumbers a insn → P) → ((d : ℕ) (fact : Fact) → Yields profile a insn d fact → P) → IsGranted profile a insn → P
-step_granted profile a insn P straight numbers row (of_numbers reads) = numbers reads
-step_granted profile a insn P straight numbers row (of_row d fact yields) = row d fact yields
-step_granted profile a insn P straight numbers row (of_guard region n guard) = absurd (no_guard a insn region n straight guard)
+pub step_granted : (profile : Profile) (a : AbsState) (insn : Insn) (P : Type 0) → IsStraight insn → (ReadsNumbers a insn → P) → ((d : ℕ) (fact : Fact) → Yields profile a insn d fact → P) → ((p count : ℕ) → Stores a insn p count → P) → ((i : ℕ) (known : Known) → Spills a insn i known → P) → IsGranted profile a insn → P
+step_granted profile a insn P straight numbers row stores spills (of_numbers reads) = numbers reads
+step_granted profile a insn P straight numbers row stores spills (of_row d fact yields) = row d fact yields
+step_granted profile a insn P straight numbers row stores spills (of_guard region n guard) = absurd (no_guard a insn region n straight guard)
+step_granted profile a insn P straight numbers row stores spills (of_store p count store) = stores p count store
+step_granted profile a insn P straight numbers row stores spills (of_spill i known spill) = spills i known spill
 
 -- an exit that is granted reads a number
 pub exit_granted : (profile : Profile) (a : AbsState) (insn : Insn) → insn ≡ Exit → IsGranted profile a insn → HasNumberAt a 0
 exit_granted profile a insn is (of_numbers reads) = subst (ReadsNumbers a) is reads
 exit_granted profile a insn is (of_row d fact row) = absurd (no_row profile a insn d fact (ap written_by is) row)
 exit_granted profile a insn is (of_guard region n (behind lent l r n' high low2 high2 t tail distance apart h g)) = absurd (cc)
+exit_granted profile a insn is (of_store p count store) = absurd ((stores_none a insn p count store).0 is)
+exit_granted profile a insn is (of_spill i known spill) = absurd ((spills_none a insn i known spill).0 is)
 
 -- what is promised of a comparison of two addresses in one lent region, of its answer
 abbrev pub IfGuards : AbsState → Width → Comparison → ℕ → Operand → (Region → ℕ → Type 0) → Type 0
@@ -78,9 +98,11 @@ branch_granted profile a insn width comparison left right distance P is floor re
 branch_granted profile a insn width comparison left right distance P is floor regions (of_row d fact row) = absurd (no_row profile a insn d fact (ap written_by is) row)
 branch_granted profile a insn width comparison left right distance P is floor regions (of_guard region n guard) =
     guard_is a insn width comparison left right distance (λ region k. P) region n is regions guard
+branch_granted profile a insn width comparison left right distance P is floor regions (of_store p count store) = absurd ((stores_none a insn p count store).2 distance (ap jump_of is))
+branch_granted profile a insn width comparison left right distance P is floor regions (of_spill i known spill) = absurd ((spills_none a insn i known spill).2 distance (ap jump_of is))
 
 -- ---- what is known past an instruction
-writes_takes : (a b : AbsState) (insn : Insn) (d : ℕ) → written_by insn ≡ Some d → WritesNumber a d b → TakesNumbers a insn b
+pub writes_takes : (a b : AbsState) (insn : Insn) (d : ℕ) → written_by insn ≡ Some d → WritesNumber a d b → TakesNumbers a insn b
 writes_takes a b insn d is writes = record {
   written = λ i e. subst (λ k. HasNumberAt b k) (same_Some d i (sym is ∙ e)) writes.written;
   kept = λ i was.
@@ -104,10 +126,13 @@ carries_takes a b (Store z base o v) is reads carries = absurd reads
 carries_takes a b (LoadWide d v) is reads carries = writes_takes a b (LoadWide d v) d refl carries
 carries_takes a b Exit is reads carries = absurd is
 
-pub step_takes : (profile : Profile) (a b : AbsState) (insn : Insn) (o : Option AbsState) → IsStraight insn → o ≡ Some b → (ReadsNumbers a insn → IfSome o (λ x. Carries a insn x)) → IfSome o (λ x. LeavesOthers a insn x) → ((d : ℕ) (fact : Fact) → Yields profile a insn d fact → IfSome o (λ x. Holds fact (register_at x.registers d))) → Takes profile a insn b
-step_takes profile a b insn o straight live carries others rows = record {
+pub step_takes : (profile : Profile) (a b : AbsState) (insn : Insn) (o : Option AbsState) → IsStraight insn → o ≡ Some b → (ReadsNumbers a insn → IfSome o (λ x. Carries a insn x)) → IfSome o (λ x. LeavesOthers a insn x) → IfSome o (λ x. LeavesMemory a insn x) → ((p count : ℕ) → Stores a insn p count → IfSome o (λ x. StoresSlots p count a.stack x.stack)) → ((i : ℕ) (known : Known) → Spills a insn i known → IfSome o (λ x. SpillsSlot i known a.stack x.stack)) → ((d : ℕ) (fact : Fact) → Yields profile a insn d fact → IfSome o (λ x. Holds fact (register_at x.registers d))) → Takes profile a insn b
+step_takes profile a b insn o straight live carries others memory stores spills rows = record {
   numbers = λ reads. carries_takes a b insn straight reads (at_some o (λ x. Carries a insn x) b (carries reads) live);
   others = at_some o (λ x. LeavesOthers a insn x) b others live;
+  memory = at_some o (λ x. LeavesMemory a insn x) b memory live;
+  stores = λ p count row. at_some o (λ x. StoresSlots p count a.stack x.stack) b (stores p count row) live;
+  spills = λ i known row. at_some o (λ x. SpillsSlot i known a.stack x.stack) b (spills i known row) live;
   yields = λ d fact row. at_some o (λ x. Holds fact (register_at x.registers d)) b (rows d fact row) live;
 }
 
@@ -121,10 +146,13 @@ none_taken a insn none = record {
   kept = λ i was. was;
 }
 
-pub jump_takes : (profile : Profile) (a : AbsState) (insn : Insn) → written_by insn ≡ None → LeavesOthers a insn a → Takes profile a insn a
-jump_takes profile a insn none others = record {
+pub jump_takes : (profile : Profile) (a : AbsState) (insn : Insn) (distance : ℤ) → written_by insn ≡ None → jump_of insn ≡ Some distance → LeavesOthers a insn a → LeavesMemory a insn a → Takes profile a insn a
+jump_takes profile a insn distance none jumps others memory = record {
   numbers = λ reads. none_taken a insn none;
   others = others;
+  memory = memory;
+  stores = λ p count row. absurd ((stores_none a insn p count row).2 distance jumps);
+  spills = λ i known row. absurd ((spills_none a insn i known row).2 distance jumps);
   yields = λ d fact row. absurd (no_row profile a insn d fact none row);
 }
 
@@ -135,8 +163,8 @@ keeps_number (Set (Context p)) y keeps number = absurd number
 keeps_number (Set (Stack p)) y keeps number = absurd number
 keeps_number (Set (Lent p)) y keeps number = absurd number
 
-pub edge_takes : (profile : Profile) (a b : AbsState) (insn : Insn) (width : Width) (comparison : Comparison) (left : ℕ) (right : Operand) (distance : ℤ) (edge : Option AbsState) → insn ≡ Branch width comparison left right distance → edge ≡ Some b → IfSome edge (λ x. LeavesSides left right a x) → (HasNumberAt a left → HasNumberIn a right → IfSome edge (λ x. KeepsAll a x)) → Takes profile a insn b
-edge_takes profile a b insn width comparison left right distance edge is live leaves kinds = record {
+pub edge_takes : (profile : Profile) (a b : AbsState) (insn : Insn) (width : Width) (comparison : Comparison) (left : ℕ) (right : Operand) (distance : ℤ) (edge : Option AbsState) → insn ≡ Branch width comparison left right distance → edge ≡ Some b → IfSome edge (λ x. LeavesSides left right a x) → IfSome edge (λ x. LengthensMemory a x) → (HasNumberAt a left → HasNumberIn a right → IfSome edge (λ x. KeepsAll a x)) → Takes profile a insn b
+edge_takes profile a b insn width comparison left right distance edge is live leaves memory kinds = record {
   numbers = λ reads.
       let both = subst (ReadsNumbers a) is reads in
       let keeps = at_some edge (λ x. KeepsAll a x) b (kinds both.0 both.1) live in
@@ -145,5 +173,8 @@ edge_takes profile a b insn width comparison left right distance edge is live le
         kept = λ i was. keeps_number _ _ (keeps i) was;
       };
   others = subst (λ (i : Insn). LeavesOthers a i b) (sym is) (at_some edge (λ x. LeavesSides left right a x) b leaves live);
+  memory = subst (λ (i : Insn). LeavesMemory a i b) (sym is) (at_some edge (λ x. LengthensMemory a x) b memory live);
+  stores = λ p count row. absurd ((stores_none a insn p count row).2 distance (ap jump_of is));
+  spills = λ i known row. absurd ((spills_none a insn i known row).2 distance (ap jump_of is));
   yields = λ d fact row. absurd (no_row profile a insn d fact (ap written_by is) row);
 }

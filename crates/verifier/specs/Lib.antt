@@ -6,3 +6,4 @@ pub mod Arises
 pub mod Guard
 pub mod Reaches
 pub mod Judged
+pub mod Framed

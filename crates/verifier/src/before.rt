@@ -3,7 +3,8 @@ ghost use Rattle.std.specs.Prelude.{◌≡◌, ◌↔◌, ℕ, ◌<◌, length, 
 ghost use Rattle.bpf_words.specs.declared.instruction.Insn.{Insn};
 ghost use Rattle.bpf_words.specs.Flow.{StartsAt};
 ghost use Rattle.bpf_words.specs.Words.{program_of};
-ghost use Rattle.verifier.specs.Arises.{ArisesAt};
+ghost use Rattle.verifier.specs.Arises.{ArisesAt, RefusesAt};
+ghost use Rattle.abstract_state.specs.declared.refusal.Refusal.{Refusal as TheRefusal};
 ghost use Rattle.verifier.specs.Plain.{IsPlain};
 ghost use Rattle.verifier.specs.Guard.{IsGuard};
 ghost use Rattle.verifier.specs.Structure.{FirstFault};
@@ -31,6 +32,7 @@ pub fn state_before(
     ensures contains { IfOk result (ContainsRuns profile (program_of words.now) slot) }
     ensures arises { IfOk result (λ known. (insn : Insn) → StartsAt (program_of words.now) slot insn → ArisesAt profile (program_of words.now) slot known) }
     ensures structure { (at : ℕ) (fault : StructureFault) → (result ≡ Err (VerifyError.Structure at fault)) ↔ FirstFault (program_of words.now) at fault }
+    ensures refused { (at : ℕ) (fault : TheRefusal) → result ≡ Err (VerifyError.State at fault) → RefusesAt profile (program_of words.now) at fault }
     ensures plain { IfErr result (λ e. IsPlain (program_of words.now) → e ≡ VerifyError.OutOfMemory) }
     ensures guard { IfErr result (λ e. IsGuard profile (program_of words.now) → e ≡ VerifyError.OutOfMemory) }
     ensures before { IfErr result (IsBefore slot) }
@@ -55,6 +57,7 @@ pub fn states_before(
     ensures contains { IfOk result (λ states. ContainAllRuns profile (program_of words.now) states.items) }
     ensures arises { IfOk result (λ states. AriseEverywhere profile (program_of words.now) states.items) }
     ensures structure { (at : ℕ) (fault : StructureFault) → (result ≡ Err (VerifyError.Structure at fault)) ↔ FirstFault (program_of words.now) at fault }
+    ensures refused { (at : ℕ) (fault : TheRefusal) → result ≡ Err (VerifyError.State at fault) → RefusesAt profile (program_of words.now) at fault }
     ensures plain { IfErr result (λ e. IsPlain (program_of words.now) → e ≡ VerifyError.OutOfMemory) }
     ensures guard { IfErr result (λ e. IsGuard profile (program_of words.now) → e ≡ VerifyError.OutOfMemory) }
     ensures before { IfErr result (IsBefore (length (program_of words.now))) }

@@ -3,10 +3,13 @@ ghost use Rattle.std.specs.Prelude.{◌≡◌, ◌↔◌, ℕ, length, Err, IfOk
 ghost use Rattle.bpf_words.specs.Words.{program_of};
 ghost use Rattle.meaning.specs.Safe.{Safe, SafeIn, IsBlindToLink};
 ghost use Rattle.verifier.specs.Plain.{IsPlain};
+ghost use Rattle.verifier.specs.Framed.{IsFramed};
 ghost use Rattle.verifier.specs.Guard.{IsGuard};
 ghost use Rattle.verifier.specs.Structure.{IsStructured, FirstFault};
 ghost use Rattle.verifier.specs.Reaches.{IsBefore};
 ghost use Rattle.verifier.specs.Judged.{Rejects};
+ghost use Rattle.verifier.specs.Arises.{RefusesAt};
+ghost use Rattle.abstract_state.specs.declared.refusal.Refusal.{Refusal as TheRefusal};
 ghost use Rattle.verifier.specs.declared.refusal.StructureFault.{StructureFault};
 
 use crate::refusal::VerifyError;
@@ -71,7 +74,8 @@ impl Verified {
 
 /// Accepts a program of which every run ends with a number, and that reads of a span no more than the profile lets it. The places
 /// and targets of all instructions are looked at first, and then what is known of the machine before each; the first slot at fault is
-/// named (of the second kind of fault the clauses say only that it is a slot of the program).
+/// named (of the second kind of fault the clauses say that what is known before the slot doesn't grant its instruction, and that the
+/// fault is an unset register exactly where the instruction reads one).
 pub fn verify(alloc: Global, words: &Words<'_>, profile: Profile) -> Result<Verified, VerifyError>
     ensures same { IfOk result (λ verified. verified ≡ program_of words.now) }
     ensures safe { IfOk result (λ verified. Safe verified) }
@@ -79,7 +83,9 @@ pub fn verify(alloc: Global, words: &Words<'_>, profile: Profile) -> Result<Veri
     ensures blind { profile ≡ Profile.One → IfOk result (λ verified. IsBlindToLink verified) }
     ensures structured { IfOk result (λ _. IsStructured (program_of words.now)) }
     ensures structure { (slot : ℕ) (fault : StructureFault) → (result ≡ Err (VerifyError.Structure slot fault)) ↔ FirstFault (program_of words.now) slot fault }
+    ensures refused { (at : ℕ) (fault : TheRefusal) → result ≡ Err (VerifyError.State at fault) → RefusesAt profile (program_of words.now) at fault }
     ensures plain { IfErr result (λ e. IsPlain (program_of words.now) → e ≡ VerifyError.OutOfMemory) }
+    ensures framed { IfErr result (λ e. IsFramed (program_of words.now) → e ≡ VerifyError.OutOfMemory) }
     ensures guard { IfErr result (λ e. IsGuard profile (program_of words.now) → e ≡ VerifyError.OutOfMemory) }
     ensures before { IfErr result (IsBefore (length (program_of words.now))) }
     ensures rejects { IfErr result (λ e. Rejects profile (program_of words.now) e) }

@@ -1,7 +1,7 @@
 //! One walk over the slots, with what is known of the machine before each.
-ghost use Rattle.std.specs.Prelude.{◌≡◌, ◌≢◌, ℕ, ℤ, pos, ◌+◌, ◌<◌, ◌≤◌, length, Option, Some, IfOk, IfErr};
+ghost use Rattle.std.specs.Prelude.{◌≡◌, ◌≢◌, ℕ, ℤ, pos, ◌+◌, ◌<◌, ◌≤◌, length, Option, Some, Err, IfOk, IfErr, ◌↔◌};
 ghost use Rattle.bpf_words.specs.declared.profile.Profile.{Profile as TheProfile};
-ghost use Rattle.bpf_words.specs.Flow.{IsPaired, StartsAt, jump_of, written_by};
+ghost use Rattle.bpf_words.specs.Flow.{IsPaired, StartsAt, jump_of, read_by, written_by};
 ghost use Rattle.bpf_words.specs.Words.{program_of};
 ghost use Rattle.meaning.specs.Safe.{Safe, SafeIn};
 ghost use Rattle.meaning.specs.State.{State};
@@ -9,6 +9,8 @@ ghost use Rattle.meaning.specs.Step.{Program};
 ghost use Rattle.abstract_state.specs.Lent.{Lengths};
 ghost use Rattle.abstract_state.specs.State.{Span, lengths_of, Contains, WithinState, does};
 ghost use Rattle.abstract_state.specs.Steps.{after};
+ghost use Rattle.abstract_state.specs.Unset.{HasUnset};
+ghost use Rattle.abstract_state.specs.declared.refusal.Refusal.{Refusal as TheRefusal};
 ghost use Rattle.verifier.specs.Structure.{IsOfState, IsStructured};
 ghost use Rattle.verifier.specs.Arises.{Arises, ArisesAt, AllArise, IsTarget, IsGranted, IsCause, FallsAs, FallsFrom};
 ghost use Rattle.verifier.specs.Waiting.{waiting_at};
@@ -115,6 +117,7 @@ fn compare(
     ensures kept { IfOk result (λ _. Keeps waiting.old waiting.new) }
     ensures sound { IfOk result (λ flow. (span : Span) (s : State) → span.profile ≡ profile → Contains state.old (lengths_of span) s → Advances (lengths_of span) slot insn.now (after flow state.new) waiting.new (does span s insn.now)) }
     ensures floor { IsGranted profile state.old insn.now → IfErr result (λ stop. stop ≡ Stop.OutOfMemory) }
+    ensures unset { (fault : TheRefusal) → result ≡ Err (Stop.Refused fault) → (fault ≡ TheRefusal.UnsetRegister) ↔ HasUnset state.old (read_by insn.now) }
     ensures arises { (program : Program) → StartsAt program slot insn.now → Arises profile program slot state.old → AllArise profile program waiting.old → IfOk result (λ flow. AllArise profile program waiting.new × FallsFrom profile program slot insn.now (after flow state.new)) }
 {
     let Insn::Branch {
@@ -147,6 +150,7 @@ fn pass(
     ensures kept { IfOk result (λ _. Keeps waiting.old waiting.new) }
     ensures sound { IfOk result (λ flow. (span : Span) (s : State) → span.profile ≡ profile → Contains state.old (lengths_of span) s → Advances (lengths_of span) slot insn.now (after flow state.new) waiting.new (does span s insn.now)) }
     ensures floor { IsGranted profile state.old insn.now → IfErr result (λ stop. stop ≡ Stop.OutOfMemory) }
+    ensures unset { (fault : TheRefusal) → result ≡ Err (Stop.Refused fault) → (fault ≡ TheRefusal.UnsetRegister) ↔ HasUnset state.old (read_by insn.now) }
     ensures arises { (program : Program) → StartsAt program slot insn.now → Arises profile program slot state.old → AllArise profile program waiting.old → IfOk result (λ flow. AllArise profile program waiting.new × FallsFrom profile program slot insn.now (after flow state.new)) }
 {
     match *insn {

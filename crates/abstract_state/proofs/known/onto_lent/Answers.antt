@@ -4,8 +4,8 @@ use Rattle.abstract_state.specs.Known.{WithinKnown}
 use Rattle.abstract_state.proofs.Addresses.{adds, sum_lent}
 use Rattle.abstract_state.proofs.known.onto_lent.Goals as goal
 
-pub returns-in-Full-Add : goal.returns-in-Full-Add
-returns-in-Full-Add c = IfOk-weaker c.lent.result _ _
+pub returns-in-Full-Add-clause-sound : goal.returns-in-Full-Add-clause-sound
+returns-in-Full-Add-clause-sound c = IfOk-weaker c.lent.result _ _
     (λ o h lengths x y a b.
     subst (λ (n : ℕ). WithinKnown o lengths n)
     (sum_lent c.args.place.region x b.0 ∙ ap (λ (n : ℕ). (x + n) % 2 ^ 64) (sym b.1) ∙ sym (adds c.args.operation c.args.width x y c.in-Full-Add.is-1 c.in-Full-Add.is-0))

@@ -11,8 +11,8 @@ loop-j-preserved c = λ lengths bytes k s h.
     (λ (most : c.loop-j.j ≤ k).
     let same : c.loop-j.j ≡ k = omega arith in
     let yes : IsTrue c.is_set.result = search rules in
-    subst (λ (i : ℕ). HasByte bytes (c.args.place + i)) same (c.is_set.ensures yes lengths bytes s))
+    subst (λ (i : ℕ). HasByte bytes (c.args.place + i)) same (c.is_set.ensures.contains yes lengths bytes s))
     (cases_lt k c.loop-j.j)
 
-pub returns : goal.returns
-returns c = λ _ lengths bytes s j h. c.loop-j.invariant lengths bytes j s (omega (arith, c.loop-j-test.false))
+pub returns-clause-contains : goal.returns-clause-contains
+returns-clause-contains c = λ _ lengths bytes s j h. c.loop-j.invariant lengths bytes j s (omega (arith, c.loop-j-test.false))

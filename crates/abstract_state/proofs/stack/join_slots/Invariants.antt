@@ -1,5 +1,6 @@
 use Rattle.std.proofs.Common.{ℕ, ◌<◌, ◌≤◌, ◌≡◌, length}
 use Rattle.abstract_state.specs.Lent.{Lengths}
+use Rattle.abstract_state.specs.Kinds.{JoinsSlot}
 use Rattle.abstract_state.specs.State.{Bytes, ContainsSlot, slot_at}
 use Rattle.abstract_state.proofs.stack.join_slots.Given as goal
 
@@ -8,5 +9,6 @@ invariant-loop-i l = record {
   long : length l.a ≡ 64;
   left : (k : ℕ) (lengths : Lengths) (bytes : Bytes) → k < l.i → ContainsSlot (slot_at l.initial.a k) lengths bytes k → ContainsSlot (slot_at l.a k) lengths bytes k;
   right : (k : ℕ) (lengths : Lengths) (bytes : Bytes) → k < l.i → ContainsSlot (slot_at l.b k) lengths bytes k → ContainsSlot (slot_at l.a k) lengths bytes k;
+  joins : (k : ℕ) → k < l.i → JoinsSlot (slot_at l.initial.a k) (slot_at l.b k) (slot_at l.a k);
   rest : (k : ℕ) → l.i ≤ k → slot_at l.a k ≡ slot_at l.initial.a k;
 }

@@ -1,5 +1,32 @@
-use Rattle.std.proofs.Common.{arith}
+use Rattle.std.proofs.Common.{◌≡◌, ◌*◌, ◌<◌, ◌≤◌, ℕ, length, [], subst, sym, ap, ◌∙◌, rules, arith}
+use Rattle.abstract_state.specs.declared.slot.Slot.{Slot}
+use Rattle.abstract_state.specs.declared.slot.Slot.TheVariants.{Marks}
+use Rattle.abstract_state.specs.Frame.{StoresSlot}
+use Rattle.abstract_state.specs.State.{ContainsSlot, slot_at}
+use Rattle.abstract_state.proofs.Lists.{written_at, read_again, beyond}
 use Rattle.abstract_state.proofs.stack.overwrite.Goals as goal
 
-pub returns : goal.returns
-returns c = λ lengths old new s spares fills i h. c.loop-i.invariant.done i lengths old new (omega (arith, c.loop-i-test.false)) (s i h) spares fills
+pub returns-clause-contains : goal.returns-clause-contains
+returns-clause-contains c = λ lengths old new s spares fills i h. c.loop-i.invariant.done i lengths old new (omega (arith, c.loop-i-test.false)) (s i h) spares fills
+
+pub returns-clause-stores : goal.returns-clause-stores
+returns-clause-stores c = λ i h. c.loop-i.invariant.stores i (omega (arith, c.loop-i-test.false))
+
+pub loop-i-preserved : goal.loop-i-preserved
+loop-i-preserved c =
+    let within : c.loop-i.i < length c.loop-i.slots = omega arith in
+    let before = λ (k : ℕ) (e : k ≡ c.loop-i.i).
+    let from : c.loop-i.i ≤ k = omega arith in
+    sym (c.loop-i.invariant.rest k from) ∙ read_again c.loop-i.slots c.loop-i.i k (Marks []) c.index-slots-i.result within e in
+    record {
+      long = search rules;
+      done = λ k lengths old new h s spares fills.
+          written_at c.loop-i.slots c.loop-i.i k c.rewritten.result (Marks []) (λ (v : Slot). ContainsSlot v lengths new k) within h
+          (λ e. c.rewritten.ensures.contains lengths old new k (sym (ap (λ (n : ℕ). 8 * n) e)) (subst (λ (v : Slot). ContainsSlot v lengths old k) (before k e) s) spares fills)
+          (λ less. c.loop-i.invariant.done k lengths old new less s spares fills);
+      stores = λ k h.
+          written_at c.loop-i.slots c.loop-i.i k c.rewritten.result (Marks []) (λ (v : Slot). StoresSlot c.args.place c.args.count k (slot_at c.args.slots.now k) v) within h
+          (λ e. subst (λ (v : Slot). StoresSlot c.args.place c.args.count k v c.rewritten.result) (sym (before k e)) (c.rewritten.ensures.stores k (sym (ap (λ (n : ℕ). 8 * n) e))))
+          (λ less. c.loop-i.invariant.stores k less);
+      rest = λ k h. beyond c.loop-i.slots c.loop-i.i k c.rewritten.result (Marks []) h ∙ c.loop-i.invariant.rest k (omega arith);
+    }

@@ -1,15 +1,40 @@
-use Rattle.std.proofs.Common.{◌+◌, ◌*◌, false, get_or, sym, ◌∙◌, arith}
+use Rattle.std.proofs.Common.{◌+◌, ◌*◌, false, get_or, refl, sym, ◌∙◌, arith}
+use Rattle.abstract_state.proofs.Frames.{mark_kept, mark_set}
 use Rattle.abstract_state.proofs.Slots.{slot_kept, stored_byte}
 use Rattle.abstract_state.proofs.stack.rewritten.Goals as goal
 
-pub returns-then-first-place : goal.returns-then-first-place
-returns-then-first-place c = λ lengths old new i at s spares fills.
+pub returns-then-first-place-clause-contains : goal.returns-then-first-place-clause-contains
+returns-then-first-place-clause-contains c = λ lengths old new i at s spares fills.
     slot_kept c.args.slot lengths old new i (λ j h. spares (8 * i + j) (λ a b. absurd (omega (arith, c.if-first-place.true)))) s
 
-pub returns-then-place-count : goal.returns-then-place-count
-returns-then-place-count c = λ lengths old new i at s spares fills.
+pub returns-then-place-count-clause-contains : goal.returns-then-place-count-clause-contains
+returns-then-place-count-clause-contains c = λ lengths old new i at s spares fills.
     slot_kept c.args.slot lengths old new i (λ j h. spares (8 * i + j) (λ a b. absurd (omega (arith, c.if-place-count.true)))) s
 
-pub returns : goal.returns
-returns c = λ lengths old new i at s spares fills j h m.
-    stored_byte old new (get_or c.marks-marks.result j false) c.args.first c.args.place c.args.count i j at (c.marks-marks.ensures lengths old i s j h) spares fills (sym (c.with_store.ensures j h) ∙ m)
+pub returns-clause-contains : goal.returns-clause-contains
+returns-clause-contains c = λ lengths old new i at s spares fills j h m.
+    stored_byte old new (get_or c.marks-marks.result j false) c.args.first c.args.place c.args.count i j at (c.marks-marks.ensures.contains lengths old i s j h) spares fills (sym (c.with_store.ensures j h) ∙ m)
+
+pub returns-then-first-place-clause-stores : goal.returns-then-first-place-clause-stores
+returns-then-first-place-clause-stores c = λ i at. record {
+  before = λ h. refl;
+  behind = λ h. refl;
+  kept = λ j h m. m;
+  set = λ j h a b. absurd (omega (arith, c.if-first-place.true));
+}
+
+pub returns-then-place-count-clause-stores : goal.returns-then-place-count-clause-stores
+returns-then-place-count-clause-stores c = λ i at. record {
+  before = λ h. refl;
+  behind = λ h. refl;
+  kept = λ j h m. m;
+  set = λ j h a b. absurd (omega (arith, c.if-place-count.true));
+}
+
+pub returns-clause-stores : goal.returns-clause-stores
+returns-clause-stores c = λ i at. record {
+  before = λ h. absurd (omega (arith, c.if-first-place.false));
+  behind = λ h. absurd (omega (arith, c.if-place-count.false));
+  kept = λ j h m. c.with_store.ensures j h ∙ mark_kept (get_or c.marks-marks.result j false) _ (c.marks-marks.ensures.marked j h m);
+  set = λ j h a b. c.with_store.ensures j h ∙ mark_set (get_or c.marks-marks.result j false) c.args.place c.args.first j c.args.count (omega arith) (omega arith);
+}

@@ -6,7 +6,7 @@ use Rattle.verifier.specs.Guard.{IsGuard}
 use Rattle.verifier.specs.Arises.{IsCause}
 use Rattle.verifier.specs.Reaches.{IsStateBelow, IsBefore}
 use Rattle.verifier.proofs.Refusals.{no_fault, named}
-use Rattle.verifier.proofs.Arising.{only_memory}
+use Rattle.verifier.proofs.Arising.{only_memory, refuses_at}
 use Rattle.verifier.proofs.PlainRuns.{plain_grants}
 use Rattle.verifier.proofs.GuardRuns.{guard_structured, guard_grants}
 use Rattle.verifier.proofs.Reaching.{err_more, is_before, none_of_structure}
@@ -39,3 +39,6 @@ returns-clause-guard c =
 
 pub returns-clause-before : goal.returns-clause-before
 returns-clause-before c = err_more c.walk_each.result (IsStateBelow (length (program_of c.args.words.now))) (IsBefore (length (program_of c.args.words.now))) (is_before (length (program_of c.args.words.now))) c.walk_each.ensures.below
+
+pub returns-clause-refused : goal.returns-clause-refused
+returns-clause-refused c = λ at fault is. refuses_at c.args.profile (program_of c.args.words.now) c.walk_each.result at fault c.walk_each.ensures.floor is

@@ -1,4 +1,4 @@
-use Rattle.std.proofs.Common.{◌≡◌, length, sym, subst}
+use Rattle.std.proofs.Common.{◌≡◌, length, sym, subst, inl, refl}
 use Rattle.bpf_words.specs.Words.{program_of}
 use Rattle.verifier.specs.declared.refusal.VerifyError.TheVariants.{OutOfMemory}
 use Rattle.meaning.specs.Safe.{Safe, SafeIn, IsBlindToLink}
@@ -10,9 +10,12 @@ use Rattle.verifier.specs.Plain.{IsPlain}
 use Rattle.verifier.specs.Guard.{IsGuard}
 use Rattle.verifier.specs.Reaches.{IsBefore}
 use Rattle.verifier.proofs.Reaching.{is_before}
-use Rattle.verifier.proofs.Arising.{passed_on, only_memory}
+use Rattle.verifier.proofs.Arising.{passed_on, only_memory, refuses_at}
 use Rattle.verifier.proofs.PlainRuns.{plain_grants}
+use Rattle.verifier.proofs.FramedRuns.{framed_grants}
+use Rattle.verifier.specs.Framed.{IsFramed}
 use Rattle.verifier.proofs.GuardRuns.{guard_structured, guard_grants}
+use Rattle.verifier.specs.Arises.{IsCause}
 use Rattle.verifier.proofs.verify.verify.Goals as goal
 
 pub returns-in-Err-clause-structure : goal.returns-in-Err-clause-structure
@@ -76,3 +79,21 @@ returns-clause-blind c = λ one.
 pub invariant_of-result : goal.invariant_of-result
 invariant_of-result c =
     (subst Safe (sym c.in_ok-of.ensures) c.in_ok-walk.ensures.safe, subst (SafeIn c.args.profile) (sym c.in_ok-of.ensures) c.in_ok-walk.ensures.seen)
+
+pub returns-in_err-walk-clause-refused : goal.returns-in_err-walk-clause-refused
+returns-in_err-walk-clause-refused c = λ at fault is.
+    refuses_at c.args.profile (program_of c.args.words.now) c.from_residual.result at fault
+    (passed_on c.from_residual.result c.in_err-walk.field-0.0 (IsCause c.args.profile (program_of c.args.words.now)) c.from_residual.ensures.1 c.in_err-walk.ensures.floor) is
+
+pub returns-in_err-of-clause-refused : goal.returns-in_err-of-clause-refused
+returns-in_err-of-clause-refused c = λ at fault is.
+    refuses_at c.args.profile (program_of c.args.words.now) c.from_residual-in_err-of.result at fault
+    (passed_on c.from_residual-in_err-of.result OutOfMemory (IsCause c.args.profile (program_of c.args.words.now)) c.from_residual-in_err-of.ensures.1 (inl refl)) is
+
+pub returns-in_err-walk-clause-framed : goal.returns-in_err-walk-clause-framed
+returns-in_err-walk-clause-framed c =
+    passed_on c.from_residual.result c.in_err-walk.field-0.0 (λ e. IsFramed (program_of c.args.words.now) → e ≡ OutOfMemory) c.from_residual.ensures.1
+    (only_memory c.args.profile (program_of c.args.words.now) c.in_err-walk.field-0.0 (IsFramed (program_of c.args.words.now)) (framed_grants c.args.profile (program_of c.args.words.now)) c.in_err-walk.ensures.floor)
+
+pub returns-in-Err-clause-framed : goal.returns-in-Err-clause-framed
+returns-in-Err-clause-framed c = λ framed. absurd (no_fault _ _ _ framed.structured c.in-Err.ensures)

@@ -12,4 +12,4 @@ returns-clause-kept c = λ lengths s within.
 
 pub returns-clause-arises : goal.returns-clause-arises
 returns-clause-arises c = λ profile program slot target waits arises.
-    joined target (subst (λ a. Arises profile program slot a) (sym c.deref_mut.ensures.value) (waits c.in-Some.earlier.value (ap unboxed c.in-Some.is))) arises c.join.ensures.kinds
+    joined target (subst (λ a. Arises profile program slot a) (sym c.deref_mut.ensures.value) (waits c.in-Some.earlier.value (ap unboxed c.in-Some.is))) arises (record { registers = c.join.ensures.kinds; slots = c.join.ensures.slots; bounds = c.join.ensures.bounds })

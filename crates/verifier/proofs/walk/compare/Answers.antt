@@ -1,4 +1,4 @@
-use Rattle.std.proofs.Common.{◌≡◌, ◌+◌, ◌≤◌, Some, sym, ap, ◌∙◌, subst, arith}
+use Rattle.std.proofs.Common.{◌≡◌, ◌+◌, ◌≤◌, Some, sym, ap, ◌∙◌, subst, arith, ◌↔◌}
 use Rattle.bpf_words.specs.Flow.{jump_of, falls_through}
 use Rattle.abstract_state.specs.State.{lengths_of}
 use Rattle.abstract_state.specs.Lent.{bound_of}
@@ -8,6 +8,11 @@ use Rattle.verifier.proofs.Passing.{insn_advances}
 use Rattle.verifier.proofs.Taking.{branch_granted, guard_is, edge_takes, at_some}
 use Rattle.verifier.proofs.Arising.{jump_target, jump_arises, edge_falls}
 use Rattle.std.proofs.lemmas.Bool.{false≢true}
+use Rattle.bpf_words.specs.Flow.{read_by}
+use Rattle.abstract_state.specs.Unset.{HasUnset}
+use Rattle.abstract_state.specs.declared.refusal.Refusal.TheVariants.{UnsetRegister}
+use Rattle.verifier.proofs.Arising.{refused_for, not_refused}
+use Rattle.bpf_words.specs.declared.instruction.Insn.{Insn}
 use Rattle.verifier.proofs.walk.compare.Goals as goal
 
 pub record-requires : goal.record-requires
@@ -36,11 +41,11 @@ returns-clause-arises c = λ program starts from all.
       c.in_ok-record.ensures.arises c.args.profile program all (jump_target program c.args.slot j.0 c.target.result c.args.insn.now _ starts jumps j.1 t)
           (λ b live.
           jump_arises c.args.profile program c.args.slot j.0 c.target.result c.args.insn.now _ c.args.state.now b starts from jumps j.1 t
-          (edge_takes c.args.profile c.args.state.now b c.args.insn.now c.in-Branch.width c.in-Branch.comparison c.in-Branch.left c.in-Branch.right _ c.in_ok-edges.edges.taken c.in-Branch.is live e.taken_others e.taken_kinds)),
+          (edge_takes c.args.profile c.args.state.now b c.args.insn.now c.in-Branch.width c.in-Branch.comparison c.in-Branch.left c.in-Branch.right _ c.in_ok-edges.edges.taken c.in-Branch.is live e.taken_others e.taken_memory e.taken_kinds)),
       subst (λ o. FallsFrom c.args.profile program c.args.slot c.args.insn.now o) (sym c.go_on.ensures)
           (edge_falls c.args.profile program c.args.slot c.args.insn.now c.args.state.now c.in_ok-edges.edges.untaken starts from (ap falls_through c.in-Branch.is)
           (λ b live. (
-            edge_takes c.args.profile c.args.state.now b c.args.insn.now c.in-Branch.width c.in-Branch.comparison c.in-Branch.left c.in-Branch.right _ c.in_ok-edges.edges.untaken c.in-Branch.is live e.untaken_others e.untaken_kinds,
+            edge_takes c.args.profile c.args.state.now b c.args.insn.now c.in-Branch.width c.in-Branch.comparison c.in-Branch.left c.in-Branch.right _ c.in_ok-edges.edges.untaken c.in-Branch.is live e.untaken_others e.untaken_memory e.untaken_kinds,
             λ region n guard.
                 guard_is c.args.state.now c.args.insn.now c.in-Branch.width c.in-Branch.comparison c.in-Branch.left c.in-Branch.right _ (λ at m. m ≤ bound_of b.bounds at) region n c.in-Branch.is
                 (λ at r m high low2 high2 q tail side apart wide greater one two.
@@ -57,3 +62,11 @@ returns-in_err-edges-clause-floor c = λ granted.
     (λ region r n high low2 high2 t tail side apart wide greater one two.
     c.in_err-edges.ensures.regions region r n high low2 high2 tail (Some t) side wide (subst IsOrder (sym greater) tt) one two)
     granted))
+
+pub returns-in_err-edges-clause-unset : goal.returns-in_err-edges-clause-unset
+returns-in_err-edges-clause-unset c = λ fault is.
+    refused_for c.from_residual.result c.in_err-edges.field-0.0 fault (λ fault. (fault ≡ UnsetRegister) ↔ HasUnset c.args.state.now (read_by c.args.insn.now)) c.from_residual.ensures.1
+    (subst (λ (i : Insn). (c.in_err-edges.field-0.0 ≡ UnsetRegister) ↔ HasUnset c.args.state.now (read_by i)) (sym c.in-Branch.is) c.in_err-edges.ensures.unset) is
+
+pub returns-in_err-record-clause-unset : goal.returns-in_err-record-clause-unset
+returns-in_err-record-clause-unset c = λ fault is. not_refused c.from_residual-in_err-record.result fault _ c.from_residual-in_err-record.ensures.1 is

@@ -1,14 +1,18 @@
-use Rattle.std.proofs.Common.{◌≡◌, ◌+◌, Some, refl, sym, ap, ◌∙◌, subst, arith}
+use Rattle.std.proofs.Common.{◌≡◌, ◌+◌, Some, refl, sym, ap, ◌∙◌, subst, arith, ◌↔◌}
 use Rattle.bpf_words.specs.Flow.{jump_of}
 use Rattle.abstract_state.specs.State.{lengths_of, WithinState, does}
 use Rattle.verifier.specs.Waiting.{waiting_at}
 use Rattle.verifier.proofs.Passing.{jump_advances, straight, lands_advances}
+use Rattle.bpf_words.specs.Flow.{read_by}
+use Rattle.abstract_state.specs.Unset.{HasUnset}
+use Rattle.abstract_state.specs.declared.refusal.Refusal.TheVariants.{UnsetRegister}
+use Rattle.verifier.proofs.Arising.{refused_for, not_refused}
 use Rattle.verifier.proofs.walk.pass.Goals as goal
 use Rattle.std.proofs.lemmas.Bool.{false≢true}
 use Rattle.abstract_state.specs.Steps.{after}
 use Rattle.bpf_words.specs.Flow.{written_by}
 use Rattle.bpf_words.specs.declared.instruction.Insn.{Insn}
-use Rattle.abstract_state.specs.Guard.{LeavesOthers}
+use Rattle.abstract_state.specs.Guard.{LeavesOthers, LeavesMemory}
 use Rattle.verifier.proofs.Taking.{step_granted, exit_granted, step_takes, jump_takes}
 use Rattle.verifier.proofs.Arising.{jump_target, jump_arises, step_falls, no_falls}
 
@@ -49,11 +53,12 @@ returns-in_ok-step-in_default c = record {
   size = refl;
   kept = λ slot lengths s waits. waits;
   floor = λ granted. tt;
+  unset = λ fault is. absurd (cc);
   arises = λ program starts from all.
       let is = straight c.args.insn.now c.in_default.not-Jump c.in_default.not-JumpLong c.in_default.not-Branch c.in_default.not-Exit in (
         all,
         step_falls c.args.profile program c.args.slot c.args.insn.now c.args.state.now (after c.in_ok-step-in_default.field-0 c.step.new.self) is starts from
-            (λ b live. step_takes c.args.profile c.args.state.now b c.args.insn.now (after c.in_ok-step-in_default.field-0 c.step.new.self) is live c.in_ok-step-in_default.ensures.carries c.in_ok-step-in_default.ensures.others (λ d fact row. (c.in_ok-step-in_default.ensures.yields d fact row).1)),
+            (λ b live. step_takes c.args.profile c.args.state.now b c.args.insn.now (after c.in_ok-step-in_default.field-0 c.step.new.self) is live c.in_ok-step-in_default.ensures.carries c.in_ok-step-in_default.ensures.others c.in_ok-step-in_default.ensures.memory (λ p count row. (c.in_ok-step-in_default.ensures.stores p count row).1) (λ i known row. (c.in_ok-step-in_default.ensures.spills i known row).1) (λ d fact row. (c.in_ok-step-in_default.ensures.yields d fact row).1)),
       );
   sound = λ span s which contains.
       lands_advances c.args.insn.now (lengths_of span) c.args.slot _ c.args.waiting.now _
@@ -68,7 +73,7 @@ returns-in_ok-add-in-Jump-clause-arises c = λ program starts from all.
     let t : c.target.result ≡ c.args.slot + 1 + j.0 = c.target.ensures j.0 (jumps ∙ ap Some j.1) in
     let stays = subst (λ (i : Insn). LeavesOthers c.args.state.now i c.args.state.now) (sym c.in-Jump.is) refl in (
       c.in_ok-add-in-Jump.ensures.arises c.args.profile program all (jump_target program c.args.slot j.0 c.target.result c.args.insn.now _ starts jumps j.1 t)
-          (jump_arises c.args.profile program c.args.slot j.0 c.target.result c.args.insn.now _ c.args.state.now c.args.state.now starts from jumps j.1 t (jump_takes c.args.profile c.args.state.now c.args.insn.now (ap written_by c.in-Jump.is) stays)),
+          (jump_arises c.args.profile program c.args.slot j.0 c.target.result c.args.insn.now _ c.args.state.now c.args.state.now starts from jumps j.1 t (jump_takes c.args.profile c.args.state.now c.args.insn.now _ (ap written_by c.in-Jump.is) jumps stays (subst (λ (i : Insn). LeavesMemory c.args.state.now i c.args.state.now) (sym c.in-Jump.is) (refl, refl)))),
       no_falls c.args.profile program c.args.slot c.args.insn.now,
     )
 
@@ -79,7 +84,7 @@ returns-in_ok-add-in-JumpLong-clause-arises c = λ program starts from all.
     let t : c.target-in-JumpLong.result ≡ c.args.slot + 1 + j.0 = c.target-in-JumpLong.ensures j.0 (jumps ∙ ap Some j.1) in
     let stays = subst (λ (i : Insn). LeavesOthers c.args.state.now i c.args.state.now) (sym c.in-JumpLong.is) refl in (
       c.in_ok-add-in-JumpLong.ensures.arises c.args.profile program all (jump_target program c.args.slot j.0 c.target-in-JumpLong.result c.args.insn.now _ starts jumps j.1 t)
-          (jump_arises c.args.profile program c.args.slot j.0 c.target-in-JumpLong.result c.args.insn.now _ c.args.state.now c.args.state.now starts from jumps j.1 t (jump_takes c.args.profile c.args.state.now c.args.insn.now (ap written_by c.in-JumpLong.is) stays)),
+          (jump_arises c.args.profile program c.args.slot j.0 c.target-in-JumpLong.result c.args.insn.now _ c.args.state.now c.args.state.now starts from jumps j.1 t (jump_takes c.args.profile c.args.state.now c.args.insn.now _ (ap written_by c.in-JumpLong.is) jumps stays (subst (λ (i : Insn). LeavesMemory c.args.state.now i c.args.state.now) (sym c.in-JumpLong.is) (refl, refl)))),
       no_falls c.args.profile program c.args.slot c.args.insn.now,
     )
 
@@ -89,7 +94,24 @@ returns-in_err-step-in_default-clause-floor c = λ granted.
     (step_granted c.args.profile c.args.state.now c.args.insn.now _ (straight c.args.insn.now c.in_default.not-Jump c.in_default.not-JumpLong c.in_default.not-Branch c.in_default.not-Exit)
     c.in_err-step-in_default.ensures.floor
     (λ d fact row. (c.in_err-step-in_default.ensures.yields d fact row).0)
+    (λ p count row. (c.in_err-step-in_default.ensures.stores p count row).0)
+    (λ i known row. (c.in_err-step-in_default.ensures.spills i known row).0)
     granted))
 
 pub returns-in_err-exit-in-Exit-clause-floor : goal.returns-in_err-exit-in-Exit-clause-floor
 returns-in_err-exit-in-Exit-clause-floor c = λ granted. absurd (false≢true (c.in_err-exit-in-Exit.ensures.floor (exit_granted c.args.profile c.args.state.now c.args.insn.now c.in-Exit.is granted)))
+
+pub returns-in_err-add-in-Jump-clause-unset : goal.returns-in_err-add-in-Jump-clause-unset
+returns-in_err-add-in-Jump-clause-unset c = λ fault is. not_refused c.from_residual.result fault _ c.from_residual.ensures.1 is
+
+pub returns-in_err-add-in-JumpLong-clause-unset : goal.returns-in_err-add-in-JumpLong-clause-unset
+returns-in_err-add-in-JumpLong-clause-unset c = λ fault is. not_refused c.from_residual-in_err-add-in-JumpLong.result fault _ c.from_residual-in_err-add-in-JumpLong.ensures.1 is
+
+pub returns-in_err-exit-in-Exit-clause-unset : goal.returns-in_err-exit-in-Exit-clause-unset
+returns-in_err-exit-in-Exit-clause-unset c = λ fault is.
+    refused_for c.from_residual-in_err-exit-in-Exit.result c.in_err-exit-in-Exit.field-0.0 fault (λ fault. (fault ≡ UnsetRegister) ↔ HasUnset c.args.state.now (read_by c.args.insn.now)) c.from_residual-in_err-exit-in-Exit.ensures.1
+    (subst (λ (i : Insn). (c.in_err-exit-in-Exit.field-0.0 ≡ UnsetRegister) ↔ HasUnset c.args.state.now (read_by i)) (sym c.in-Exit.is) c.in_err-exit-in-Exit.ensures.unset) is
+
+pub returns-in_err-step-in_default-clause-unset : goal.returns-in_err-step-in_default-clause-unset
+returns-in_err-step-in_default-clause-unset c = λ fault is.
+    refused_for c.from_residual-in_err-step-in_default.result c.in_err-step-in_default.field-0.0 fault (λ fault. (fault ≡ UnsetRegister) ↔ HasUnset c.args.state.now (read_by c.args.insn.now)) c.from_residual-in_err-step-in_default.ensures.1 c.in_err-step-in_default.ensures.unset is

@@ -3,7 +3,8 @@ use Rattle.abstract_state.specs.State.{lengths_of}
 use Rattle.abstract_state.specs.Steps.{after}
 use Rattle.verifier.proofs.Walking.{arrived, passed, skipped}
 use Rattle.verifier.proofs.walk.visit.Goals as goal
-use Rattle.std.proofs.Common.{refl, inl, inr}
+use Rattle.std.proofs.Common.{refl, inl, inr, Err, ap}
+use Rattle.verifier.specs.declared.walk.Stop.{Stop}
 use Rattle.verifier.proofs.Arising.{falls_here, falls_next, dead_falls}
 use Rattle.verifier.proofs.Reaching.{covers_passed}
 use Rattle.verifier.proofs.Waits.{within_some}
@@ -35,14 +36,19 @@ returns-in-Ok-clause-floor c = λ program paired structured starts all falls.
 pub returns-in-Err-Refused-clause-floor : goal.returns-in-Err-Refused-clause-floor
 returns-in-Err-Refused-clause-floor c = λ program paired structured starts all falls.
     let a = c.in-Live.ensures.arises c.args.profile program all (falls_here c.args.profile program c.args.slot c.args.insn.now (after c.args.flow c.args.state.now) starts falls) in (
-      inr (record {
-        slot = c.args.slot;
-        state = c.arrive.new.state;
-        insn = c.args.insn.now;
-        arises = a.1 c.arrive.new.state refl;
-        starts = starts;
-        refused = λ granted. let only = c.in-Err-Refused.ensures.floor granted in absurd (cc (only, c.in-Err-Refused.field-0-is));
-      }),
+      inr (
+        record {
+          slot = c.args.slot;
+          state = c.arrive.new.state;
+          insn = c.args.insn.now;
+          arises = a.1 c.arrive.new.state refl;
+          starts = starts;
+          refused = λ granted. let only = c.in-Err-Refused.ensures.floor granted in absurd (cc (only, c.in-Err-Refused.field-0-is));
+          fault = c.in-Err-Refused.fault;
+          unset = c.in-Err-Refused.ensures.unset c.in-Err-Refused.fault (ap (λ (stop : Stop). Err stop) c.in-Err-Refused.field-0-is);
+        },
+        refl,
+      ),
       tt,
     )
 

@@ -25,7 +25,7 @@ loop-slot-init c =
       count = search rules;
       contains = contain_none c.args.profile (program_of c.args.words.now) c.in_ok-states.states.items;
       waits = λ slot a e. let none = c.in_ok-waiting.ensures.nothing slot in absurd (cc);
-      falls = entry_falls c.args.profile (program_of c.args.words.now) c.entry-state.result some (program_of-paired c.args.words.now c.len.ensures.sound) c.entry-state.ensures.context;
+      falls = entry_falls c.args.profile (program_of c.args.words.now) c.entry-state.result some (program_of-paired c.args.words.now c.len.ensures.sound) c.entry-state.ensures.context c.entry-state.ensures.frame;
       arises = arise_none c.args.profile (program_of c.args.words.now) c.in_ok-states.states.items;
     }
 

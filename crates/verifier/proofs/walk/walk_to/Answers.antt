@@ -20,7 +20,7 @@ loop-slot-init c =
       follows = begins c.args.profile (program_of c.args.words.now) c.entry-state.result c.in_ok-waiting.waiting some (program_of-paired c.args.words.now c.len.ensures.sound) c.entry-state.ensures.contains;
       covers = covers_begin c.args.profile (program_of c.args.words.now) c.entry-state.result c.in_ok-waiting.waiting c.entry-state.ensures.contains;
       waits = λ slot a e. let none = c.in_ok-waiting.ensures.nothing slot in absurd (cc);
-      falls = entry_falls c.args.profile (program_of c.args.words.now) c.entry-state.result some (program_of-paired c.args.words.now c.len.ensures.sound) c.entry-state.ensures.context;
+      falls = entry_falls c.args.profile (program_of c.args.words.now) c.entry-state.result some (program_of-paired c.args.words.now c.len.ensures.sound) c.entry-state.ensures.context c.entry-state.ensures.frame;
     }
 
 pub visit-requires-clause-jumps : goal.visit-requires-clause-jumps

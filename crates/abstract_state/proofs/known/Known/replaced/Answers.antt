@@ -9,7 +9,7 @@ use Rattle.abstract_state.proofs.known.Known.replaced.Goals as goal
 pub returns-in_default-cut_to-clause-sound : goal.returns-in_default-cut_to-clause-sound
 returns-in_default-cut_to-clause-sound c = λ lengths x y k f.
     let a = subst (λ (v : Known). ContainsKnown v lengths x) c.in-Number.is k in
-    absurd (at_none (λ q. Contains q lengths (cut c.args.width x)) _ c.in_default-cut_to.is (c.cut_to.ensures lengths x a))
+    absurd (at_none (λ q. Contains q lengths (cut c.args.width x)) _ c.in_default-cut_to.is (c.cut_to.ensures.contains lengths x a))
 
 pub returns-clause-sound : goal.returns-clause-sound
 returns-clause-sound c = λ lengths x y k f. (_, refl, c.unknown.ensures lengths y f)

@@ -6,4 +6,4 @@ use Rattle.abstract_state.proofs.quantity.Quantity.count.Goals as goal
 pub returns : goal.returns
 returns c = λ lengths y b f.
     subst (λ (n : ℕ). Within c.and.result lengths n) (mask_is c.args.width c.mask.result y c.mask.ensures)
-    (c.and.ensures lengths y c.mask.result b (c.constant.ensures.contains lengths) f (mask_fits c.args.width c.mask.result c.mask.ensures))
+    (c.and.ensures.contains lengths y c.mask.result b (c.constant.ensures.contains lengths) f (mask_fits c.args.width c.mask.result c.mask.ensures))

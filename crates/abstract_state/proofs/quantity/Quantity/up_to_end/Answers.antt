@@ -1,9 +1,10 @@
-use Rattle.std.proofs.Common.{◌≤◌, ℕ, sym, ap, subst, ◌∙◌, arith}
+use Rattle.std.proofs.Common.{◌≡◌, ◌-◌, ◌≤◌, ℕ, sym, ap, subst, ◌∙◌, arith}
 use Rattle.abstract_state.specs.Lent.{limit_of, tail_of}
 use Rattle.abstract_state.specs.declared.region.Tails.{Tails}
-use Rattle.abstract_state.specs.Quantity.{Contains}
+use Rattle.abstract_state.specs.Quantity.{Contains, KnowsHigh}
 use Rattle.abstract_state.proofs.Options.{at_some, some_is, where_some}
-use Rattle.abstract_state.proofs.Regions.{limit_low, longest, longest_is}
+use Rattle.abstract_state.proofs.Regions.{limit_low, limit_power, longest, longest_is}
+use Rattle.abstract_state.proofs.KnownBits.{end_bits}
 use Rattle.abstract_state.proofs.quantity.Quantity.up_to_end.Goals as goal
 
 pub returns-clause-contains : goal.returns-clause-contains
@@ -22,4 +23,6 @@ returns-clause-is c = λ reach. where_some _ c.normal.result (λ q is.
     let zero = c.ending.ensures.there in
     let limit = some_is _ c.normal.result q is (c.normal.ensures.limits c.args.region 0 zero) in
     let tails = (some_is _ c.normal.result q is c.normal.ensures.narrows).2 in
-    (omega arith, omega arith, ap (λ (s : Tails). tail_of s c.args.region) tails ∙ zero))
+    let high = some_is _ c.normal.result q is (c.normal.ensures.high_bits c.args.region 0 zero) in
+    let whole : limit_of c.args.region - 0 ≡ limit_of c.args.region = omega arith in
+    (omega arith, omega arith, ap (λ (s : Tails). tail_of s c.args.region) tails ∙ zero, end_bits q.bits (limit_of c.args.region) (limit_power c.args.region) (λ x h. (holds x h).bits) (subst (λ (n : ℕ). KnowsHigh q.bits 0 n) whole high)))

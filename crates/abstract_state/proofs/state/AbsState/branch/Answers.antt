@@ -1,8 +1,12 @@
-use Rattle.std.proofs.Common.{◌≡◌, ◌≤◌, Option, true, false, refl, sym, subst}
+use Rattle.std.proofs.Common.{◌≡◌, ◌≤◌, Option, true, false, refl, sym, subst, ◌↔◌, ◌∷◌}
 use Rattle.std.specs.Option.{IfSome}
 use Rattle.abstract_state.specs.declared.state.AbsState.{AbsState}
 use Rattle.abstract_state.specs.Lent.{bound_of}
 use Rattle.abstract_state.specs.Branch.{Edge}
+use Rattle.abstract_state.specs.declared.refusal.Refusal.TheVariants.{UnsetRegister}
+use Rattle.abstract_state.specs.Unset.{HasUnset}
+use Rattle.bpf_words.specs.Flow.{read_operand}
+use Rattle.abstract_state.proofs.Unsets.{passed}
 use Rattle.abstract_state.proofs.state.AbsState.branch.Goals as goal
 
 pub returns-in_err-holds-clause-regions : goal.returns-in_err-holds-clause-regions
@@ -20,3 +24,13 @@ returns-clause-untaken c = subst (λ (o : Option AbsState). Edge c.args.self.now
 pub returns-clause-guards : goal.returns-clause-guards
 returns-clause-guards c = λ region r n high l2 h2 t t1 e other w greater a b.
     subst (λ (o : Option AbsState). IfSome o (λ x. n ≤ bound_of x.bounds region)) (sym c.live-2.ensures) (c.in_ok-fails.ensures.guards region r n high l2 h2 t t1 e other w greater refl a b)
+
+pub returns-in_err-holds-clause-unset : goal.returns-in_err-holds-clause-unset
+returns-in_err-holds-clause-unset c =
+    passed c.from_residual.result c.in_err-holds.field-0.0 (λ e. (e ≡ UnsetRegister) ↔ HasUnset c.args.self.now (c.args.left ∷ read_operand c.args.right.now)) c.from_residual.ensures.1
+    (c.in_err-holds.ensures.unset)
+
+pub returns-in_err-fails-clause-unset : goal.returns-in_err-fails-clause-unset
+returns-in_err-fails-clause-unset c =
+    passed c.from_residual-in_err-fails.result c.in_err-fails.field-0.0 (λ e. (e ≡ UnsetRegister) ↔ HasUnset c.args.self.now (c.args.left ∷ read_operand c.args.right.now)) c.from_residual-in_err-fails.ensures.1
+    (c.in_err-fails.ensures.unset)

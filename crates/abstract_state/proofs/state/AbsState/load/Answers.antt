@@ -1,8 +1,10 @@
-use Rattle.std.proofs.Common.{ℕ, subst, refl, ◌<◌, ◌^◌}
+use Rattle.std.proofs.Common.{◌≡◌, ◌*◌, true, false, ℕ, Option, Ok, subst, sym, ap, ◌∙◌, refl, ◌<◌, ◌^◌}
 use Rattle.std.proofs.lemmas.Result.{IfOk-weaker}
 use Rattle.abstract_state.specs.declared.known.Known.{Known}
 use Rattle.abstract_state.specs.Known.{ContainsKnown}
 use Rattle.abstract_state.specs.State.{lengths_of, LoadsAs}
+use Rattle.abstract_state.specs.Frame.{AreMarked}
+use Rattle.abstract_state.proofs.Frames.{place_is}
 use Rattle.abstract_state.proofs.state.AbsState.load.Goals as goal
 
 pub returns-in-Context-clause-sound : goal.returns-in-Context-clause-sound
@@ -21,3 +23,25 @@ returns-clause-sound c = λ span s n same a b.
 
 pub returns-in-Some-clause-lent_numbers : goal.returns-in-Some-clause-lent_numbers
 returns-in-Some-clause-lent_numbers c = λ p e. absurd (c.in-Some.ensures.stack_alone p e)
+
+pub returns-in-Context-clause-spilled : goal.returns-in-Context-clause-spilled
+returns-in-Context-clause-spilled c = λ i known h less z is. let place = place_is (8 * i) c.args.offset c.args.base h in let bad = sym c.in-Context.is ∙ place.1 in absurd (cc)
+
+pub returns-in-Context-clause-marked : goal.returns-in-Context-clause-marked
+returns-in-Context-clause-marked c = λ p h m. let place = place_is p c.args.offset c.args.base h in let bad = sym c.in-Context.is ∙ place.1 in absurd (cc)
+
+pub returns-in-Some-clause-spilled : goal.returns-in-Some-clause-spilled
+returns-in-Some-clause-spilled c = λ i known h less z is. ap (λ (o : Option Known). Ok o) (c.in-Some.ensures.spilled i known h less z is)
+
+pub returns-in-Some-clause-marked : goal.returns-in-Some-clause-marked
+returns-in-Some-clause-marked c = λ p h m. (refl, c.in-Some.ensures.marked p h m)
+
+pub returns-in_err-bytes-clause-spilled : goal.returns-in_err-bytes-clause-spilled
+returns-in_err-bytes-clause-spilled c = λ i known h less z is. absurd (c.in_default-fill.not-Some known (c.fill.ensures.spilled i known h less z is))
+
+pub returns-in_err-bytes-clause-marked : goal.returns-in_err-bytes-clause-marked
+returns-in_err-bytes-clause-marked c = λ p h m.
+    let bad : false ≡ true = c.in_err-bytes.ensures.stack p h (subst (λ (k : ℕ). AreMarked c.args.self.now.stack p k) (sym c.count.ensures.value) m) in absurd (cc)
+
+pub returns-clause-spilled : goal.returns-clause-spilled
+returns-clause-spilled c = λ i known h less z is. absurd (c.in_default-fill.not-Some known (c.fill.ensures.spilled i known h less z is))

@@ -1,7 +1,7 @@
-use Rattle.std.proofs.Common.{true, false, ◌≡◌, ◌+◌, ◌%◌, ◌^◌, ℕ, Some, Ok, refl, arith, sym, subst, ap, ◌∙◌}
+use Rattle.std.proofs.Common.{true, false, ◌≡◌, ◌+◌, ◌*◌, ◌%◌, ◌^◌, ℕ, Some, Ok, refl, arith, sym, subst, ap, ◌∙◌, ◌↔◌, [], ◌∷◌}
 use Rattle.abstract_state.specs.Kinds.{IsNumberField}
 use Rattle.abstract_state.specs.Lent.{begin_field, end_field, limit_of}
-use Rattle.abstract_state.specs.Exact.{LentIn, AnyNumber}
+use Rattle.abstract_state.specs.Exact.{LentIn, AnyNumber, Exactly}
 use Rattle.abstract_state.proofs.Exact.{lent_is, any_number}
 use Rattle.abstract_state.proofs.Regions.{begin_low, end_low}
 use Rattle.std.proofs.lemmas.Int.{to_z-of_z}
@@ -9,6 +9,12 @@ use Rattle.std.specs.Int.{cast_unsigned, w16, w64}
 use Rattle.meaning.specs.Memory.{load, bytes_in}
 use Rattle.abstract_state.specs.State.{lengths_of}
 use Rattle.abstract_state.proofs.Steps.{loads}
+use Rattle.abstract_state.specs.declared.state.AbsReg.TheVariants.{Set}
+use Rattle.abstract_state.specs.Frame.{IsStackByte}
+use Rattle.abstract_state.proofs.Frames.{exactly}
+use Rattle.abstract_state.specs.declared.refusal.Refusal.TheVariants.{UnsetRegister}
+use Rattle.abstract_state.specs.Unset.{HasUnset}
+use Rattle.abstract_state.proofs.Unsets.{passed, all_unset, none_unset}
 use Rattle.abstract_state.proofs.state.AbsState.load_into.Goals as goal
 
 pub returns-clause-sound : goal.returns-clause-sound
@@ -85,3 +91,45 @@ pub returns-clause-lent : goal.returns-clause-lent
 returns-clause-lent c = λ region o low high t e h short within.
     let place = lent_is region low high t c.in_ok-a.a (c.in_ok-a.ensures.holds (LentIn region low high t) h).1 in
     (refl, c.write.ensures.holds AnyNumber (any_number c.in_ok-known.known (c.in_ok-known.ensures.lent_numbers place.0 place.1)))
+
+pub returns-in_err-a-clause-stack : goal.returns-in_err-a-clause-stack
+returns-in_err-a-clause-stack c = λ p h m. let bad : false ≡ true = (c.in_err-a.ensures.frame p _ h).0 in absurd (cc)
+
+pub returns-in_err-a-clause-spilled : goal.returns-in_err-a-clause-spilled
+returns-in_err-a-clause-spilled c = λ i known h less z is. let bad : false ≡ true = (c.in_err-a.ensures.frame (8 * i) _ h).0 in absurd (cc)
+
+pub returns-in_err-known-clause-stack : goal.returns-in_err-known-clause-stack
+returns-in_err-known-clause-stack c = λ p h m.
+    let same : c.displacement.result ≡ cast_unsigned w64 c.args.offset = c.displacement.ensures ∙ ap (cast_unsigned w64) (to_z-of_z w16 c.args.offset c.ranges.offset) in
+    let place = subst (λ (n : ℕ). IsStackByte p n (Set c.in_ok-a.a)) (sym same) (c.in_ok-a.ensures.frame p _ h).1 in
+    let bad : false ≡ true = (c.in_err-known.ensures.marked p place m).0 in absurd (cc)
+
+pub returns-in_err-known-clause-spilled : goal.returns-in_err-known-clause-spilled
+returns-in_err-known-clause-spilled c = λ i known h less z is.
+    let same : c.displacement.result ≡ cast_unsigned w64 c.args.offset = c.displacement.ensures ∙ ap (cast_unsigned w64) (to_z-of_z w16 c.args.offset c.ranges.offset) in
+    let place = subst (λ (n : ℕ). IsStackByte (8 * i) n (Set c.in_ok-a.a)) (sym same) (c.in_ok-a.ensures.frame (8 * i) _ h).1 in
+    let bad = c.in_err-known.ensures.spilled i known place less z is in absurd (cc)
+
+pub returns-clause-stack : goal.returns-clause-stack
+returns-clause-stack c = λ p h m.
+    let same : c.displacement.result ≡ cast_unsigned w64 c.args.offset = c.displacement.ensures ∙ ap (cast_unsigned w64) (to_z-of_z w16 c.args.offset c.ranges.offset) in
+    let place = subst (λ (n : ℕ). IsStackByte p n (Set c.in_ok-a.a)) (sym same) (c.in_ok-a.ensures.frame p _ h).1 in
+    (refl, c.write.ensures.holds AnyNumber (any_number c.in_ok-known.known (c.in_ok-known.ensures.marked p place m).1))
+
+pub returns-clause-spilled : goal.returns-clause-spilled
+returns-clause-spilled c = λ i known h less z is.
+    let same : c.displacement.result ≡ cast_unsigned w64 c.args.offset = c.displacement.ensures ∙ ap (cast_unsigned w64) (to_z-of_z w16 c.args.offset c.ranges.offset) in
+    let place = subst (λ (n : ℕ). IsStackByte (8 * i) n (Set c.in_ok-a.a)) (sym same) (c.in_ok-a.ensures.frame (8 * i) _ h).1 in
+    let back = c.in_ok-known.ensures.spilled i known place less z is in
+    let there : c.in_ok-known.known ≡ Some known = cc in
+    (refl, c.write.ensures.holds (Exactly known) (exactly c.in_ok-known.known known there))
+
+pub returns-in_err-a-clause-unset : goal.returns-in_err-a-clause-unset
+returns-in_err-a-clause-unset c =
+    passed c.from_residual.result c.in_err-a.field-0.0 (λ e. (e ≡ UnsetRegister) ↔ HasUnset c.args.self.now (c.args.base ∷ [])) c.from_residual.ensures.1
+    (all_unset c.args.self.now (c.args.base ∷ []) _ c.in_err-a.ensures.unset)
+
+pub returns-in_err-known-clause-unset : goal.returns-in_err-known-clause-unset
+returns-in_err-known-clause-unset c =
+    passed c.from_residual-in_err-known.result c.in_err-known.field-0.0 (λ e. (e ≡ UnsetRegister) ↔ HasUnset c.args.self.now (c.args.base ∷ [])) c.from_residual-in_err-known.ensures.1
+    (none_unset c.args.self.now (c.args.base ∷ []) _ c.in_err-known.ensures.not_unset c.in_ok-a.ensures.set)

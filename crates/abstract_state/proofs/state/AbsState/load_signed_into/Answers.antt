@@ -1,19 +1,62 @@
-use Rattle.std.proofs.Common.{◌≡◌, ◌+◌, ◌%◌, ◌^◌, ℕ, Ok, refl, subst, ap, ◌∙◌}
+use Rattle.std.proofs.Common.{◌≡◌, ◌+◌, ◌%◌, ◌^◌, true, false, ℕ, Ok, refl, sym, subst, ap, ◌∙◌, arith, ◌↔◌, [], ◌∷◌}
 use Rattle.std.proofs.lemmas.Int.{to_z-of_z}
 use Rattle.std.specs.Int.{cast_unsigned, w16, w64}
 use Rattle.meaning.specs.Memory.{load, bytes_in_signed}
 use Rattle.meaning.specs.Value.{with_sign}
 use Rattle.abstract_state.specs.State.{lengths_of}
 use Rattle.abstract_state.proofs.Steps.{loads_signed, sign_fits}
+use Rattle.abstract_state.specs.declared.state.AbsReg.TheVariants.{Set}
+use Rattle.abstract_state.specs.Exact.{LentIn, AnyNumber}
+use Rattle.abstract_state.specs.Frame.{IsStackByte}
+use Rattle.abstract_state.proofs.Exact.{lent_is}
+use Rattle.abstract_state.specs.declared.refusal.Refusal.TheVariants.{UnsetRegister}
+use Rattle.abstract_state.specs.Unset.{HasUnset}
+use Rattle.abstract_state.proofs.Unsets.{passed, all_unset, none_unset}
 use Rattle.abstract_state.proofs.state.AbsState.load_signed_into.Goals as goal
 
 pub returns-clause-sound : goal.returns-clause-sound
 returns-clause-sound c = λ span s held.
     let same : c.displacement.result ≡ cast_unsigned w64 c.args.offset = c.displacement.ensures ∙ ap (cast_unsigned w64) (to_z-of_z w16 c.args.offset c.ranges.offset) in
     let a = c.in_ok-a.ensures.sound (lengths_of span) s held in
-    let v = c.in_ok-load_signed.ensures span s a.0 held a.2 in (
+    let v = c.in_ok-load_signed.ensures.sound span s a.0 held a.2 in (
       _,
       loads_signed span s c.args.size c.args.destination c.args.base c.args.offset a.0 v.0 c.requires a.1
           (subst (λ (o : ℕ). load span.bytes s.stack ((a.0 + o) % 2 ^ 64) (bytes_in_signed c.args.size) ≡ Ok v.0) same v.1),
       c.write.ensures.sound (lengths_of span) s (with_sign c.args.size v.0) held (_, refl, c.unknown.ensures (lengths_of span) (with_sign c.args.size v.0) (sign_fits c.args.size v.0)),
     )
+
+pub returns-in_err-a-clause-lent : goal.returns-in_err-a-clause-lent
+returns-in_err-a-clause-lent c = λ region o low high t e h short within. let bad : false ≡ true = (c.in_err-a.ensures.holds (LentIn region low high t) h).0 in absurd (cc)
+
+pub returns-in_err-load_signed-clause-lent : goal.returns-in_err-load_signed-clause-lent
+returns-in_err-load_signed-clause-lent c = λ region o low high t e h short within.
+    let same : c.displacement.result ≡ cast_unsigned w64 c.args.offset = c.displacement.ensures ∙ ap (cast_unsigned w64) (to_z-of_z w16 c.args.offset c.ranges.offset) in
+    let at : c.displacement.result ≡ o = same ∙ ap (cast_unsigned w64) e ∙ omega arith in
+    let place = lent_is region low high t c.in_ok-a.a (c.in_ok-a.ensures.holds (LentIn region low high t) h).1 in
+    let end : place.0.offset.range.high ≡ high = place.3.1 in
+    let bad : false ≡ true = c.in_err-load_signed.ensures.lent region place.0 place.1 place.2 (omega arith) (omega arith) in absurd (cc)
+
+pub returns-in_err-a-clause-stack : goal.returns-in_err-a-clause-stack
+returns-in_err-a-clause-stack c = λ p h m. let bad : false ≡ true = (c.in_err-a.ensures.frame p _ h).0 in absurd (cc)
+
+pub returns-in_err-load_signed-clause-stack : goal.returns-in_err-load_signed-clause-stack
+returns-in_err-load_signed-clause-stack c = λ p h m.
+    let same : c.displacement.result ≡ cast_unsigned w64 c.args.offset = c.displacement.ensures ∙ ap (cast_unsigned w64) (to_z-of_z w16 c.args.offset c.ranges.offset) in
+    let place = subst (λ (n : ℕ). IsStackByte p n (Set c.in_ok-a.a)) (sym same) (c.in_ok-a.ensures.frame p _ h).1 in
+    let bad : false ≡ true = c.in_err-load_signed.ensures.marked p place m in absurd (cc)
+
+pub returns-clause-lent : goal.returns-clause-lent
+returns-clause-lent c = λ region o low high t e h short within. (refl, c.write.ensures.holds AnyNumber tt)
+
+pub returns-clause-stack : goal.returns-clause-stack
+returns-clause-stack c = λ p h m. (refl, c.write.ensures.holds AnyNumber tt)
+
+pub returns-in_err-a-clause-unset : goal.returns-in_err-a-clause-unset
+returns-in_err-a-clause-unset c =
+    passed c.from_residual.result c.in_err-a.field-0.0 (λ e. (e ≡ UnsetRegister) ↔ HasUnset c.args.self.now (c.args.base ∷ [])) c.from_residual.ensures.1
+    (all_unset c.args.self.now (c.args.base ∷ []) _ c.in_err-a.ensures.unset)
+
+pub returns-in_err-load_signed-clause-unset : goal.returns-in_err-load_signed-clause-unset
+returns-in_err-load_signed-clause-unset c =
+    passed c.from_residual-in_err-load_signed.result c.in_err-load_signed.field-0.0 (λ e. (e ≡ UnsetRegister) ↔ HasUnset c.args.self.now (c.args.base ∷ [])) c.from_residual-in_err-load_signed.ensures.1
+    (none_unset c.args.self.now (c.args.base ∷ []) _ c.in_err-load_signed.ensures.not_unset c.in_ok-a.ensures.set)

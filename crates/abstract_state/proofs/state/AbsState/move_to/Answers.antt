@@ -1,7 +1,14 @@
-use Rattle.std.proofs.Common.{◌≡◌, true, false, None, refl}
-use Rattle.abstract_state.specs.Exact.{LentIn, NumberIn}
+use Rattle.std.proofs.Common.{◌≡◌, true, false, None, refl, ◌↔◌, subst}
+use Rattle.abstract_state.specs.Exact.{LentIn, NumberIn, Exactly, NoLess, IsNoLess}
+use Rattle.std.specs.Option.{IfSome}
+use Rattle.abstract_state.specs.declared.known.Known.{Known}
 use Rattle.abstract_state.specs.State.{lengths_of}
 use Rattle.abstract_state.proofs.Steps.{moves}
+use Rattle.abstract_state.proofs.Exact.{one_number}
+use Rattle.abstract_state.specs.declared.refusal.Refusal.TheVariants.{UnsetRegister}
+use Rattle.abstract_state.specs.Unset.{HasUnset}
+use Rattle.bpf_words.specs.Flow.{read_operand}
+use Rattle.abstract_state.proofs.Unsets.{passed, all_unset, none_unset}
 use Rattle.abstract_state.proofs.state.AbsState.move_to.Goals as goal
 
 pub returns-clause-sound : goal.returns-clause-sound
@@ -23,6 +30,33 @@ pub returns-clause-lent : goal.returns-clause-lent
 returns-clause-lent c = λ region r n t w e h.
     (refl, c.write.ensures.holds (LentIn region n n t) (c.in_ok-known.ensures.lent region w n t (c.in_ok-b.ensures.holds r (LentIn region n n t) e h).1).1)
 
-pub returns-clause-constant : goal.returns-clause-constant
-returns-clause-constant c = λ region k w e small.
-    (refl, c.write.ensures.holds (NumberIn region k k None) (c.in_ok-known.ensures.constant region w k None (c.in_ok-b.ensures.constant region k e small).1))
+pub returns-in_err-b-clause-copies : goal.returns-in_err-b-clause-copies
+returns-in_err-b-clause-copies c = λ region n w o. let bad : false ≡ true = (c.in_err-b.ensures.one region n o).0 in absurd (cc)
+
+pub returns-in_err-known-clause-copies : goal.returns-in_err-known-clause-copies
+returns-in_err-known-clause-copies c = λ region n w o.
+    let bad : false ≡ true = c.in_err-known.ensures.floor (one_number region n n None _ (c.in_ok-b.ensures.one region n o).1) in absurd (cc)
+
+pub returns-clause-copies : goal.returns-clause-copies
+returns-clause-copies c = λ region n w o. (refl, c.write.ensures.holds (NumberIn region n n None) (c.in_ok-known.ensures.constant region w n None (c.in_ok-b.ensures.one region n o).1))
+
+pub returns-in_err-b-clause-unset : goal.returns-in_err-b-clause-unset
+returns-in_err-b-clause-unset c =
+    passed c.from_residual.result c.in_err-b.field-0.0 (λ e. (e ≡ UnsetRegister) ↔ HasUnset c.args.self.now (read_operand c.args.operand)) c.from_residual.ensures.1
+    (all_unset c.args.self.now (read_operand c.args.operand) _ c.in_err-b.ensures.unset)
+
+pub returns-in_err-known-clause-unset : goal.returns-in_err-known-clause-unset
+returns-in_err-known-clause-unset c =
+    passed c.from_residual-in_err-known.result c.in_err-known.field-0.0 (λ e. (e ≡ UnsetRegister) ↔ HasUnset c.args.self.now (read_operand c.args.operand)) c.from_residual-in_err-known.ensures.1
+    (none_unset c.args.self.now (read_operand c.args.operand) _ c.in_err-known.ensures.not_unset c.in_ok-b.ensures.set)
+
+pub returns-in_err-b-clause-moves : goal.returns-in_err-b-clause-moves
+returns-in_err-b-clause-moves c = λ r known w e h. let bad : false ≡ true = (c.in_err-b.ensures.holds r (Exactly known) e h).0 in absurd (cc)
+
+pub returns-in_err-known-clause-moves : goal.returns-in_err-known-clause-moves
+returns-in_err-known-clause-moves c = λ r known w e h. let bad : false ≡ true = (c.in_err-known.ensures.whole w).0 in absurd (cc)
+
+pub returns-clause-moves : goal.returns-clause-moves
+returns-clause-moves c = λ r known w e h.
+    let same = (c.in_ok-b.ensures.holds r (Exactly known) e h).1 in
+    (refl, c.write.ensures.holds (NoLess known) (subst (λ (k : Known). IfSome c.in_ok-known.known (λ v. IsNoLess k v)) same (c.in_ok-known.ensures.whole w).1))

@@ -1,11 +1,17 @@
-use Rattle.std.proofs.Common.{◌≡◌, Ok, ℕ, ℤ, pos, refl, subst, sym, ap, ◌∙◌, rules, arith}
+use Rattle.std.proofs.Common.{◌≡◌, None, Ok, ℕ, ℤ, pos, refl, subst, sym, ap, ◌∙◌, rules, arith}
 use Rattle.std.proofs.lemmas.Int.{to_z-of_z}
 use Rattle.std.specs.Int.{w32, w64, cast_unsigned}
 use mir.Val.{SFits}
 use Rattle.std.proofs.lemmas.Result.{IfOk-weaker}
 use Rattle.meaning.specs.State.{operand_in}
-use Rattle.abstract_state.specs.Exact.{Holds}
+use Rattle.abstract_state.specs.Exact.{Holds, IsIn, NumberIn}
+use Rattle.bpf_words.specs.declared.instruction.Operand.{Operand}
+use Rattle.abstract_state.specs.Guard.{IsOperand}
 use Rattle.abstract_state.specs.State.{register_at}
+use Rattle.std.specs.Result.{IfOk, IfErr}
+use Rattle.abstract_state.specs.Unset.{HasUnset}
+use Rattle.abstract_state.specs.declared.refusal.Refusal.TheVariants.{UnsetRegister}
+use Rattle.bpf_words.specs.Flow.{read_operand}
 use Rattle.abstract_state.proofs.state.AbsState.operand.Goals as goal
 
 pub returns-in-Immediate-clause-sound : goal.returns-in-Immediate-clause-sound
@@ -27,5 +33,23 @@ returns-in-Immediate-clause-constant c = λ region k e small.
     let fits : SFits w32 c.in-Immediate.value = search rules in
     let value : c.in-Immediate.value ≡ pos k = cc in
     let is : c.extended.result ≡ k = c.extended.ensures ∙ ap (cast_unsigned w64) (to_z-of_z w32 c.in-Immediate.value fits ∙ value) ∙ omega arith in
-    let found = c.constant.ensures.is region in
-    (refl, (found.0 ∙ is, found.1 ∙ is, found.2))
+    (refl, subst (λ (v : ℕ). IsIn region c.constant.result v v None) is (c.constant.ensures.is region))
+
+pub returns-in-Immediate-clause-one : goal.returns-in-Immediate-clause-one
+returns-in-Immediate-clause-one c = λ region n e.
+    let fits : SFits w32 c.in-Immediate.value = search rules in
+    let same = to_z-of_z w32 c.in-Immediate.value fits in
+    let given = subst (λ (o : Operand). IsOperand region c.args.self.now o n) c.in-Immediate.is e in
+    (refl, subst (λ (v : ℕ). IsIn region c.constant.result v v None) (c.extended.ensures ∙ ap (cast_unsigned w64) same ∙ sym given) (c.constant.ensures.is region))
+
+pub returns-in-Source-clause-one : goal.returns-in-Source-clause-one
+returns-in-Source-clause-one c = λ region n h. c.read.ensures.holds (NumberIn region n n None) (subst (λ (o : Operand). IsOperand region c.args.self.now o n) c.in-Source.is h)
+
+pub returns-in-Immediate-clause-set : goal.returns-in-Immediate-clause-set
+returns-in-Immediate-clause-set c = λ unset. subst (λ (o : Operand). HasUnset c.args.self.now (read_operand o)) c.in-Immediate.is unset
+
+pub returns-in-Source-clause-unset : goal.returns-in-Source-clause-unset
+returns-in-Source-clause-unset c = subst (λ (o : Operand). IfErr c.read.result (λ e. (e ≡ UnsetRegister) × HasUnset c.args.self.now (read_operand o))) (sym c.in-Source.is) c.read.ensures.unset
+
+pub returns-in-Source-clause-set : goal.returns-in-Source-clause-set
+returns-in-Source-clause-set c = subst (λ (o : Operand). IfOk c.read.result (λ _. HasUnset c.args.self.now (read_operand o) → ⊥)) (sym c.in-Source.is) c.read.ensures.set

@@ -1,7 +1,9 @@
-use Rattle.std.proofs.Common.{◌≤◌, refl, subst, ◌∙◌, Option, arith}
+use Rattle.std.proofs.Common.{◌≡◌, ◌≤◌, refl, subst, ◌∙◌, Option, arith}
 use Rattle.std.specs.Option.{IfSome}
 use Rattle.abstract_state.specs.declared.branch.Pair.{Pair}
 use Rattle.abstract_state.specs.declared.state.AbsState.{AbsState}
+use Rattle.abstract_state.specs.declared.bounds.Bounds.{Bounds}
+use Rattle.abstract_state.specs.Guard.{LengthensMemory}
 use Rattle.abstract_state.specs.Lent.{bound_of}
 use Rattle.abstract_state.specs.Branch.{LongFrom}
 use Rattle.abstract_state.proofs.Options.{where_some, some_is}
@@ -46,3 +48,16 @@ returns-in-Live-clause-kinds c = λ left right numbers.
     let two = c.keep_right.ensures.kinds (number_kept c.args.self.now c.keep.new.self c.args.right.now one right) both.1 in
     after_any c.raise-in-Live.result c.raise-in-Live.new.self (λ (b : AbsState). KeepsAll c.args.self.now b)
     (keeps_on c.args.self.now c.keep.new.self c.keep_right.new.self c.raise-in-Live.new.self one two (c.raise-in-Live.ensures.same ∙ c.raise.ensures.same))
+
+pub returns-in-Live-clause-memory : goal.returns-in-Live-clause-memory
+returns-in-Live-clause-memory c =
+    let stays = c.in-Live.ensures.stack ∙ c.keep_right.ensures.memory.0 ∙ c.keep.ensures.memory.0 in
+    let bounds = c.keep_right.ensures.memory.1 ∙ c.keep.ensures.memory.1 in
+    where_some (λ (b : AbsState). LengthensMemory c.args.self.now b) _
+    (λ b is. (
+      some_is (λ (v : AbsState). v.stack ≡ c.raise.new.self.stack) _ b is c.raise-in-Live.ensures.stack ∙ stays,
+      λ region.
+          let first = c.in-Live.ensures.grows region in
+          let more : bound_of c.raise.new.self.bounds region ≤ bound_of b.bounds region = some_is (λ (v : AbsState). bound_of c.raise.new.self.bounds region ≤ bound_of v.bounds region) _ b is (c.raise-in-Live.ensures.grows region) in
+          subst (λ (x : Bounds). bound_of x region ≤ bound_of b.bounds region) bounds (omega (arith, first, more)),
+    ))

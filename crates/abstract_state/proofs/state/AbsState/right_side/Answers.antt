@@ -9,6 +9,10 @@ use mir.Val.{SFits}
 use Rattle.abstract_state.specs.Branch.{ReadsAs}
 use Rattle.abstract_state.specs.Exact.{Holds}
 use Rattle.abstract_state.specs.State.{register_at}
+use Rattle.std.specs.Result.{IfOk, IfErr}
+use Rattle.abstract_state.specs.Unset.{HasUnset}
+use Rattle.abstract_state.specs.declared.refusal.Refusal.TheVariants.{UnsetRegister}
+use Rattle.bpf_words.specs.Flow.{read_operand}
 use Rattle.abstract_state.proofs.state.AbsState.right_side.Goals as goal
 
 pub returns-in-Immediate-clause-sound : goal.returns-in-Immediate-clause-sound
@@ -37,3 +41,12 @@ pub returns-in-Source-clause-holds : goal.returns-in-Source-clause-holds
 returns-in-Source-clause-holds c = λ r fact e h.
     let same : r ≡ c.in-Source.register = cc in
     c.read.ensures.holds fact (subst (λ (k : ℕ). Holds fact (register_at c.args.self.now.registers k)) same h)
+
+pub returns-in-Immediate-clause-set : goal.returns-in-Immediate-clause-set
+returns-in-Immediate-clause-set c = λ unset. subst (λ (o : Operand). HasUnset c.args.self.now (read_operand o)) c.in-Immediate.is unset
+
+pub returns-in-Source-clause-unset : goal.returns-in-Source-clause-unset
+returns-in-Source-clause-unset c = subst (λ (o : Operand). IfErr c.read.result (λ e. (e ≡ UnsetRegister) × HasUnset c.args.self.now (read_operand o))) (sym c.in-Source.is) c.read.ensures.unset
+
+pub returns-in-Source-clause-set : goal.returns-in-Source-clause-set
+returns-in-Source-clause-set c = subst (λ (o : Operand). IfOk c.read.result (λ _. HasUnset c.args.self.now (read_operand o) → ⊥)) (sym c.in-Source.is) c.read.ensures.set

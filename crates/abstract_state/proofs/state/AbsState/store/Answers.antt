@@ -1,10 +1,15 @@
-use Rattle.std.proofs.Common.{◌≡◌, ◌+◌, ◌%◌, ◌/◌, ◌*◌, ◌≤◌, ◌^◌, ℕ, List, Option, Ok, refl, subst, ap, ◌∙◌, sym, arith}
+use Rattle.std.proofs.Common.{◌≡◌, ◌+◌, ◌%◌, ◌/◌, ◌*◌, ◌≤◌, ◌^◌, ℕ, List, Option, Ok, refl, subst, ap, ◌∙◌, sym, rules, arith}
 use Rattle.meaning.specs.Memory.{stack_base, bytes_in, store, stored}
 use Rattle.abstract_state.specs.declared.known.Known.{Known}
 use Rattle.abstract_state.specs.Known.{ContainsKnown}
 use Rattle.abstract_state.specs.State.{lengths_of, bytes_of, Bytes, HasNumber, Contains, Spares, with_stack}
 use Rattle.abstract_state.proofs.Loads.{stores_stack}
 use Rattle.abstract_state.proofs.Memories.{after_store, store_spares, store_fills, store_number}
+use Rattle.std.specs.Bool.{IsTrue}
+use Rattle.bpf_words.specs.declared.instruction.Size.{Size}
+use Rattle.abstract_state.specs.Frame.{StoresSlots, SpillsSlot}
+use Rattle.abstract_state.proofs.Frames.{place_is, place_of, no_number, spill_stores}
+use Rattle.abstract_state.proofs.state.AbsState.store.Goals.{else-count-eq8-via-then-count-eq8+else-p-eq0, else-count-eq8-via-else-count-eq8}
 use Rattle.abstract_state.proofs.state.AbsState.store.Goals as goal
 
 pub returns-then-p-eq0-clause-sound : goal.returns-then-p-eq0-clause-sound
@@ -15,7 +20,7 @@ returns-then-p-eq0-clause-sound c = λ span s n v a kb kv.
     let address = ap (λ (m : ℕ). (m + c.args.offset) % 2 ^ 64) place ∙ c.in_ok-p.ensures.at stack_base (omega arith) in
     let whole : 8 * (c.in_ok-p.p / 8) ≡ c.in_ok-p.p = omega (arith, c.if-p-eq0.true) in
     let new : Bytes = bytes_of (stored s.stack c.in_ok-p.p 8 v) in
-    let slots = c.spill.ensures (lengths_of span) (bytes_of s.stack) new v a.stack kv
+    let slots = c.spill.ensures.contains (lengths_of span) (bytes_of s.stack) new v a.stack kv
     (subst (λ (m : ℕ). HasNumber new m v) (sym whole) (store_number s.stack c.in_ok-p.p v a.long within))
     (subst (λ (m : ℕ). Spares m 8 (bytes_of s.stack) new) (sym whole) (store_spares s.stack c.in_ok-p.p 8 v a.long within)) in
     subst (λ (k : ℕ). (x : List (Option ℕ)) × (store span.bytes s.stack ((n + c.args.offset) % 2 ^ 64) k v ≡ Ok x) × Contains (record c.args.self.now { stack = c.spill.new.slots }) (lengths_of span) (with_stack s x)) eight (
@@ -31,10 +36,63 @@ returns-clause-sound c = λ span s n v a kb kv.
     let within : c.in_ok-p.p + count ≤ 512 = c.in_ok-p.ensures.within in
     let address = ap (λ (m : ℕ). (m + c.args.offset) % 2 ^ 64) place ∙ c.in_ok-p.ensures.at stack_base (omega arith) in
     let new : Bytes = bytes_of (stored s.stack c.in_ok-p.p count v) in
-    let slots = c.overwrite.ensures (lengths_of span) (bytes_of s.stack) new a.stack
+    let slots = c.overwrite.ensures.contains (lengths_of span) (bytes_of s.stack) new a.stack
     (store_spares s.stack c.in_ok-p.p count v a.long within) (store_fills s.stack c.in_ok-p.p count v a.long within) in
     subst (λ (k : ℕ). (x : List (Option ℕ)) × (store span.bytes s.stack ((n + c.args.offset) % 2 ^ 64) k v ≡ Ok x) × Contains (record c.args.self.now { stack = c.overwrite.new.slots }) (lengths_of span) (with_stack s x)) c.count-count.ensures.value (
       stored s.stack c.in_ok-p.p count v,
       ap (λ (m : ℕ). store span.bytes s.stack m count v) address ∙ stores_stack span.bytes s.stack c.in_ok-p.p count v within,
       after_store c.args.self.now (record c.args.self.now { stack = c.overwrite.new.slots }) (lengths_of span) s c.in_ok-p.p count v a within refl refl slots,
     )
+
+pub returns-then-is_number-clause-stores : goal.returns-then-is_number-clause-stores
+returns-then-is_number-clause-stores c = λ p h within n. let yes : IsTrue c.is_number.result = search rules in absurd (no_number p c.args.offset c.args.base (c.is_number.ensures.0 yes) h)
+
+pub returns-then-is_number-clause-spills : goal.returns-then-is_number-clause-spills
+returns-then-is_number-clause-spills c = λ i h less z. let yes : IsTrue c.is_number.result = search rules in absurd (no_number (8 * i) c.args.offset c.args.base (c.is_number.ensures.0 yes) h)
+
+pub returns-in_default-clause-stores : goal.returns-in_default-clause-stores
+returns-in_default-clause-stores c = λ p h within n. let place = place_is p c.args.offset c.args.base h in absurd (c.in_default.not-Stack place.0 place.1)
+
+pub returns-in_default-clause-spills : goal.returns-in_default-clause-spills
+returns-in_default-clause-spills c = λ i h less z. let place = place_is (8 * i) c.args.offset c.args.base h in absurd (c.in_default.not-Stack place.0 place.1)
+
+pub returns-in_err-p-clause-stores : goal.returns-in_err-p-clause-stores
+returns-in_err-p-clause-stores c = λ p h within n.
+    let bad = c.in_err-p.ensures.floor p (place_of p c.args.offset c.args.base c.in-Stack.place c.in-Stack.is h) (omega (arith, within, c.count-count.ensures.value)) in absurd (cc)
+
+pub returns-in_err-p-clause-spills : goal.returns-in_err-p-clause-spills
+returns-in_err-p-clause-spills c = λ i h less z.
+    let eight = c.count-count.ensures.value ∙ ap (λ (k : Size). bytes_in k) z in
+    let bad = c.in_err-p.ensures.floor (8 * i) (place_of (8 * i) c.args.offset c.args.base c.in-Stack.place c.in-Stack.is h) (omega (arith, eight)) in absurd (cc)
+
+pub returns-then-p-eq0-clause-stores : goal.returns-then-p-eq0-clause-stores
+returns-then-p-eq0-clause-stores c = λ p h within n.
+    let found = c.in_ok-p.ensures.floor p (place_of p c.args.offset c.args.base c.in-Stack.place c.in-Stack.is h) (omega (arith, within, c.count-count.ensures.value)) in
+    let same : c.in_ok-p.p ≡ p = cc in
+    let eight : bytes_in c.args.size ≡ 8 = sym c.count-count.ensures.value ∙ c.if-count-eq8.true in
+    let whole : p ≡ 8 * (c.in_ok-p.p / 8) = omega (arith, same, c.if-p-eq0.true) in
+    (refl, spill_stores p (bytes_in c.args.size) (c.in_ok-p.p / 8) c.args.value c.args.self.now.stack c.spill.new.slots eight whole n c.spill.ensures.spills)
+
+pub returns-then-p-eq0-clause-spills : goal.returns-then-p-eq0-clause-spills
+returns-then-p-eq0-clause-spills c = λ i h less z.
+    let eight = c.count-count.ensures.value ∙ ap (λ (k : Size). bytes_in k) z in
+    let found = c.in_ok-p.ensures.floor (8 * i) (place_of (8 * i) c.args.offset c.args.base c.in-Stack.place c.in-Stack.is h) (omega (arith, eight)) in
+    let same : c.in_ok-p.p ≡ 8 * i = cc in
+    let slot : c.in_ok-p.p / 8 ≡ i = omega (arith, same) in
+    (refl, subst (λ (k : ℕ). SpillsSlot k c.args.value c.args.self.now.stack c.spill.new.slots) slot c.spill.ensures.spills)
+
+pub returns-clause-stores : goal.returns-clause-stores
+returns-clause-stores c = λ p h within n.
+    let found = c.in_ok-p.ensures.floor p (place_of p c.args.offset c.args.base c.in-Stack.place c.in-Stack.is h) (omega (arith, within, c.count-count.ensures.value)) in
+    let same : c.in_ok-p.p ≡ p = cc in (
+      refl,
+      subst (λ (k : ℕ). StoresSlots p k c.args.self.now.stack c.overwrite.new.slots) c.count-count.ensures.value
+          (subst (λ (k : ℕ). StoresSlots k c.count-count.result c.args.self.now.stack c.overwrite.new.slots) same c.overwrite.ensures.stores),
+    )
+
+pub returns-clause-spills : goal.returns-clause-spills
+returns-clause-spills c = λ i h less z.
+    let eight = c.count-count.ensures.value ∙ ap (λ (k : Size). bytes_in k) z in
+    let found = c.in_ok-p.ensures.floor (8 * i) (place_of (8 * i) c.args.offset c.args.base c.in-Stack.place c.in-Stack.is h) (omega (arith, eight)) in
+    let same : c.in_ok-p.p ≡ 8 * i = cc in
+    absurd (elim c.else-count-eq8.branch [ else-count-eq8-via-then-count-eq8+else-p-eq0 w ↦ omega (arith, same, w.if-p-eq0.false) | else-count-eq8-via-else-count-eq8 w ↦ w.if-count-eq8.false eight ])

@@ -1,10 +1,14 @@
-use Rattle.std.proofs.Common.{◌≡◌, true, false, ℕ, Option, Some, ◌∙◌, sym, ap, subst}
+use Rattle.std.proofs.Common.{◌≡◌, true, false, ℕ, Option, Some, ◌∙◌, sym, ap, subst, ◌↔◌, ◌∷◌}
 use Rattle.std.specs.Option.{IfSome}
 use Rattle.meaning.specs.Value.{cut, holds_of}
 use Rattle.abstract_state.specs.declared.branch.Pair.{Pair}
 use Rattle.abstract_state.specs.Exact.{LentIn}
 use Rattle.abstract_state.specs.Branch.{LongFrom}
 use Rattle.abstract_state.specs.State.{lengths_of}
+use Rattle.abstract_state.specs.declared.refusal.Refusal.TheVariants.{UnsetRegister}
+use Rattle.abstract_state.specs.Unset.{HasUnset}
+use Rattle.bpf_words.specs.Flow.{read_operand}
+use Rattle.abstract_state.proofs.Unsets.{passed, first_unset, rest_unset, none_unset, neither_unset}
 use Rattle.abstract_state.proofs.state.AbsState.take_edge.Goals as goal
 
 pub returns-clause-sound : goal.returns-clause-sound
@@ -38,3 +42,21 @@ returns-clause-guards c = λ region r n high l2 h2 t t1 e other w greater not a 
     let apart = c.is_one_register-same.ensures r e other in
     let long = c.in_ok-pair.ensures.guards region n high l2 h2 t t1 w greater not (c.in_ok-a.ensures.holds (LentIn region n high t1) a).1 (c.in_ok-b.ensures.holds r (LentIn region l2 h2 (Some t)) e b).1 in
     c.refine.ensures.raised region n (subst (λ (o : Option Pair). IfSome o (λ p. LongFrom region n p.left)) (sym (c.unless-pair.ensures.apart apart)) long)
+
+pub returns-in_err-a-clause-unset : goal.returns-in_err-a-clause-unset
+returns-in_err-a-clause-unset c =
+    passed c.from_residual.result c.in_err-a.field-0.0 (λ e. (e ≡ UnsetRegister) ↔ HasUnset c.args.self.now (c.args.left ∷ read_operand c.args.right.now)) c.from_residual.ensures.1
+    (first_unset c.args.self.now c.args.left (read_operand c.args.right.now) _ c.in_err-a.ensures.unset)
+
+pub returns-in_err-b-clause-unset : goal.returns-in_err-b-clause-unset
+returns-in_err-b-clause-unset c =
+    passed c.from_residual-in_err-b.result c.in_err-b.field-0.0 (λ e. (e ≡ UnsetRegister) ↔ HasUnset c.args.self.now (c.args.left ∷ read_operand c.args.right.now)) c.from_residual-in_err-b.ensures.1
+    (rest_unset c.args.self.now c.args.left (read_operand c.args.right.now) _ c.in_err-b.ensures.unset)
+
+pub returns-in_err-pair-clause-unset : goal.returns-in_err-pair-clause-unset
+returns-in_err-pair-clause-unset c =
+    passed c.from_residual-in_err-pair.result c.in_err-pair.field-0.0 (λ e. (e ≡ UnsetRegister) ↔ HasUnset c.args.self.now (c.args.left ∷ read_operand c.args.right.now)) c.from_residual-in_err-pair.ensures.1
+    (none_unset c.args.self.now (c.args.left ∷ read_operand c.args.right.now) _ c.in_err-pair.ensures.not_unset (neither_unset c.args.self.now c.args.left (read_operand c.args.right.now) c.in_ok-a.ensures.set c.in_ok-b.ensures.set))
+
+pub returns-clause-set : goal.returns-clause-set
+returns-clause-set c = neither_unset c.args.self.now c.args.left (read_operand c.args.right.now) c.in_ok-a.ensures.set c.in_ok-b.ensures.set

@@ -35,7 +35,7 @@ returns-clause-arises c = λ profile program all falls.
     let waits = read_arises profile program c.self.inside.states.items c.args.slot c.index_mut.result.now c.take.result c.in-Some.waiting.value within c.index_mut.ensures.value c.take.ensures.value every (ap unboxed c.in-Some.is) in
     let fell = falls c.args.state.now (ap (λ f. after f c.args.state.now) c.in-Live.is) in (
       arise_taken profile program c.self.inside.states.items c.args.slot c.take.new.self within c.take.ensures.after every,
-      at_one profile program c.args.slot c.join.new.self (joined waits.0 fell (subst (λ a. Arises profile program c.args.slot a) (sym c.deref.ensures) waits.1) c.join.ensures.kinds),
+      at_one profile program c.args.slot c.join.new.self (joined waits.0 fell (subst (λ a. Arises profile program c.args.slot a) (sym c.deref.ensures) waits.1) (record { registers = c.join.ensures.kinds; slots = c.join.ensures.slots; bounds = c.join.ensures.bounds })),
     )
 
 pub returns-in_default-flow-clause-arises : goal.returns-in_default-flow-clause-arises
