@@ -1,5 +1,5 @@
 -- What a map of last counters says of the operations.
-use Rattle.std.proofs.Common.{◌≡◌, ℕ, ◌<◌, ◌≤◌, true, false, cond, List, [], ◌∷◌, ◌++◌, Some, None, sym, ap, refl, ◌∙◌, arith, ⊎_elim}
+use Rattle.std.proofs.Common.{◌≡◌, ℕ, ◌<◌, ◌≤◌, true, false, cond, List, [], ◌∷◌, ◌++◌, Option, Some, None, MatchOption, sym, ap, refl, ◌∙◌, arith, ⊎_elim}
 use Rattle.std.specs.Prelude.{nat_eq}
 use Rattle.std.specs.List.{Contains}
 use Rattle.std.specs.Map.{lookup}
@@ -13,7 +13,7 @@ use Rattle.change_ops.specs.Operations.{id_of}
 use Rattle.change_ops.specs.declared.id.OpId.{OpId}
 use Rattle.change_ops.specs.declared.operation.Op.{Op}
 use Rattle.char_sequence.specs.Acceptance.{Used}
-use Rattle.char_sequence.specs.Newest.{IsNewest}
+use Rattle.char_sequence.specs.Newest.{IsNewest, IsLast}
 
 find_lookup : (es : List (ℕ × ℕ)) (q : ℕ) → find nat_cmp q es ≡ lookup (nat_eq q) es
 find_lookup [] q = refl
@@ -48,6 +48,20 @@ pub used_none : (ops : List Op) (m : FinMap nat_cmp ℕ) → IsNewest ops m → 
 used_none ops m n id e u =
     let r = n.covered u.0 u.1 in
     none-some r.0 (sym e ∙ ap (get m) (sym u.2) ∙ r.1)
+
+pub last_of : (ops : List Op) (m : FinMap nat_cmp ℕ) → IsNewest ops m → (node : ℕ) (r : Option ℕ) → r ≡ get m node → MatchOption r ((o : Op) → Contains ops o → (id_of o).node ≡ node → ⊥) (IsLast ops node)
+last_of ops m n node None e = λ o held same.
+    let r = n.covered o held in
+    none-some r.0 (e ∙ ap (get m) (sym same) ∙ r.1)
+last_of ops m n node (Some last) e = record {
+  covered =
+      λ o held same.
+      let r = n.covered o held in
+      let is : last ≡ r.0 = same_Some last r.0 (e ∙ ap (get m) (sym same) ∙ r.1) in
+      let le : (id_of o).counter ≤ r.0 = r.2 in
+      omega arith;
+  reached = n.reached node last (sym e);
+}
 
 -- an id that is used in none of the operations of these counters is used in no other operations of theirs
 pub used_other : (ops others : List Op) (m : FinMap nat_cmp ℕ) (id : OpId) → IsNewest ops m → IsNewest others m → (Used ops id → ⊥) → Used others id → ⊥

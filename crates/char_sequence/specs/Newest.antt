@@ -9,3 +9,8 @@ use Rattle.change_ops.specs.declared.operation.Op.{Op}
 pub record IsNewest (ops : List Op) (newest : FinMap nat_cmp ℕ) : Type 0 where
   pub covered : (o : Op) → Contains ops o → (last : ℕ) × (get newest (id_of o).node ≡ Some last) × ((id_of o).counter ≤ last)
   pub reached : (node last : ℕ) → get newest node ≡ Some last → (o : Op) × Contains ops o × ((id_of o).node ≡ node) × ((id_of o).counter ≡ last)
+
+-- an operation of the peer has the counter, and none of them a greater one
+pub record IsLast (ops : List Op) (node last : ℕ) : Type 0 where
+  pub covered : (o : Op) → Contains ops o → (id_of o).node ≡ node → (id_of o).counter ≤ last
+  pub reached : (o : Op) × Contains ops o × ((id_of o).node ≡ node) × ((id_of o).counter ≡ last)

@@ -1,8 +1,8 @@
-ghost use Rattle.std.specs.Prelude.{◌≡◌, ◌++◌, ◌∷◌, [], List, IsTrue, ◌↔◌, IfOk, IfErr};
+ghost use Rattle.std.specs.Prelude.{◌≡◌, ◌++◌, ◌∷◌, [], List, Contains, IsTrue, ◌↔◌, MatchOption, IfOk, IfErr};
 ghost use Rattle.change_ops.specs.Operations.{id_of};
 ghost use Rattle.change_ops.specs.declared.operation.Op.{Op};
 ghost use Rattle.char_sequence.specs.Acceptance.{Used};
-ghost use Rattle.char_sequence.specs.Newest.{IsNewest};
+ghost use Rattle.char_sequence.specs.Newest.{IsNewest, IsLast};
 
 use change_ops::id::OpId;
 use indexmap::IndexMap;
@@ -36,6 +36,13 @@ impl Newest {
         Newest {
             counters: IndexMap::new(alloc),
         }
+    }
+
+    /// The last counter of a peer, if it made an operation.
+    pub fn last(&self, node: u16) -> Option<u64>
+        ensures { (ops : List Op) → IsNewest ops self.now → MatchOption result ((o : Op) → Contains ops o → (id_of o).node ≡ node → ⊥) (IsLast ops node) }
+    {
+        self.counters.get(&node).copied()
     }
 
     /// Whether an operation of the same peer has a counter as great.
