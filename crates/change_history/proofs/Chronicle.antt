@@ -1,21 +1,26 @@
 -- How a history goes on from one accepted change to the next.
-use Rattle.std.proofs.Common.{◌≡◌, ℕ, zero, suc, ◌+◌, ◌-◌, ◌<◌, ◌≤◌, List, [], ◌∷◌, ◌++◌, Option, Some, None, Result, Ok, Err, IfOk, is_ok, OnOk, IsErrAnd, MatchResult, if◌then◌else◌, refl, sym, ap, ◌∙◌, subst, ◌⊎◌, inl, inr, ⊎_elim, arith, rules, length, get_or, take, append_assoc, add-one, length-take, length-append}
+use Rattle.std.proofs.Common.{◌≡◌, ℕ, zero, suc, ◌+◌, ◌-◌, ◌<◌, ◌≤◌, List, [], ◌∷◌, ◌++◌, Option, Some, None, Result, Ok, Err, IfOk, is_ok, IsErrAnd, MatchResult, if◌then◌else◌, refl, sym, ap, ◌∙◌, subst, ◌⊎◌, inl, inr, ⊎_elim, arith, rules, length, get_or, take, append_assoc, add-one, length-take, length-append}
 use Rattle.std.specs.List.{slice_get}
 use Rattle.std.proofs.lemmas.List.{length_push, take_at, append-nil}
-use Rattle.std.proofs.lemmas.Option.{none-some, same_Some, slice_get_within, slice_get_read, slice_get-get_or}
+use Rattle.std.proofs.lemmas.Option.{none-some, same_Some, slice_get_within, slice_get-get_or}
 use Rattle.std.proofs.Math.Seq.{take-length}
 use Rattle.change_ops.specs.declared.operation.Op.{Op}
 use Rattle.change_ops.specs.Changes.{Edit, operations}
 use Rattle.change_ops.specs.Lines.{ops_of, ops_of_lines}
 use Rattle.change_ops.specs.declared.line.Line.{Line}
 use Rattle.change_history.specs.declared.parts.Parts.{Parts}
-use Rattle.change_history.specs.Accepted.{operations_of, MayFollow, AllFollow, IsFirstRefused, IsAccepted, IsRefused, AreAccepted}
+use Rattle.change_history.specs.Accepted.{operations_of, MayFollow, MayNotFollow, AllFollow, IsFirstRefused, FirstRefused, IsAccepted, IsRefused, AreAccepted}
+use Rattle.change_history.specs.Tally.{AreOf, IsTally, IsAdmitted, StretchAdmitted}
+use Rattle.change_history.specs.declared.refusal.Refusal.{Refusal}
+use Rattle.change_history.specs.declared.tally.Tally.{Tally}
+use Rattle.change_ops.specs.Operations.{id_of}
+use Rattle.mark_anchors.proofs.Lists.{contains_from}
 use Rattle.change_history.specs.declared.refusal.ApplyError.{ApplyError}
 use Rattle.change_history.specs.declared.refusal.SubmitError.{SubmitError}
 use Rattle.change_history.specs.declared.refusal.ApplyError.TheVariants as apply
 use Rattle.change_history.specs.declared.refusal.SubmitError.TheVariants as submit
 use Rattle.change_history.specs.declared.history.Draft.{Draft}
-use Rattle.change_history.specs.Kept.{Keeps, IsHistory, IsSpare, IsDraft, Applied, StandAt, StretchApplied, AreApplied, IsNotApplied, error_at}
+use Rattle.change_history.specs.Kept.{Keeps, IsHistory, IsSpare, IsDraft, StandAt, IsApplied, AreAllAccepted, IsNotAccepted, error_at}
 
 pub operations_of-push : (changes : List Edit) (change : Edit) → operations_of (changes ++ change ∷ []) ≡ operations_of changes ++ operations change
 unfolding operations_of
@@ -67,45 +72,61 @@ follow_more ops added count o here before m = λ i op below g.
     subst (λ (k : ℕ). MayFollow (ops ++ take k added) op) (sym same) (subst (λ (p : Op). MayFollow (ops ++ take count added) p) one m))
     (cases_below i count below)
 
-pub kept_more : (ops added : List Op) (count : ℕ) (o : Op) (new : Parts) → slice_get added count ≡ Some o → Keeps ((ops ++ take count added) ++ o ∷ []) new → Keeps (ops ++ take (count + 1) added) new
-kept_more ops added count o new here k =
-    subst (λ (xs : List Op). Keeps xs new) (append_assoc ops (take count added) (o ∷ []) ∙ ap (λ (ts : List Op). ops ++ ts) (sym (take_push added count o here))) k
+-- ---- the operations of a change are admitted
+-- an operation that stands alone
+pub stand_one : (added : List Op) (at : ℕ) (op : Op) → slice_get added at ≡ Some op → StandAt added at (op ∷ [])
+stand_one added at op here zero o g = let place : at + 0 ≡ at = omega arith in ap (slice_get added) place ∙ here ∙ g
+stand_one added at op here (suc i) o g = absurd (none-some o g)
 
--- ---- what the application of operations answers
-pub applied_more : (ops added : List Op) (index : ℕ) (o : Op) (new : Parts) → slice_get added index ≡ Some o → AllFollow ops added index → MayFollow (ops ++ take index added) o × Keeps ((ops ++ take index added) ++ o ∷ []) new → AllFollow ops added (index + 1) × Keeps (ops ++ take (index + 1) added) new
-applied_more ops added index o new here before m = (follow_more ops added index o here before m.0, kept_more ops added index o new here m.1)
+pub stand_first : (added : List Op) (at : ℕ) (op : Op) → StandAt added at (op ∷ []) → slice_get added at ≡ Some op
+stand_first added at op stand = let place : at + 0 ≡ at = omega arith in ap (slice_get added) (sym place) ∙ stand 0 op refl
 
--- one operation, at this place of several
-pub one_applied : (ops added : List Op) (from : ℕ) (o : Op) (new : Parts) (r : Result (Unit {0}) ApplyError) → slice_get added from ≡ Some o → AllFollow ops added from → Applied (ops ++ take from added) o new r → StretchApplied ops added from 1 new r
-one_applied ops added from o new (Ok done) here before h = applied_more ops added from o new here before h
-one_applied ops added from o new (Err (apply.Refused refusal)) here before h =
+pub own_at : (added : List Op) (node at : ℕ) (op : Op) → AreOf node added → slice_get added at ≡ Some op → (id_of op).node ≡ node
+own_at added node at op own here = own op (contains_from added at op here)
+
+pub admitted_one : (ops added : List Op) (from node : ℕ) (parts : Parts) (old new : Tally) (op : Op) → IsAdmitted ops added from node parts old → slice_get added from ≡ Some op → MayFollow (ops ++ take from added) op → IsTally ops (take from added ++ op ∷ []) node new → IsAdmitted ops added (from + 1) node parts new
+admitted_one ops added from node parts old new op a here m counted = record {
+  kept = a.kept;
+  own = a.own;
+  follow = follow_more ops added from op here a.follow m;
+  counted = subst (λ (xs : List Op). IsTally ops xs node new) (sym (take_push added from op here)) counted;
+}
+
+pub refused_one : (ops added : List Op) (from node : ℕ) (parts : Parts) (old new : Tally) (op : Op) (refusal : Refusal) → IsAdmitted ops added from node parts old → slice_get added from ≡ Some op → MayNotFollow (ops ++ take from added) op refusal → StretchAdmitted ops added from 1 node parts new (Err (apply.Refused refusal))
+refused_one ops added from node parts old new op refusal a here not =
     let first : from + 0 ≡ from = omega arith in
-    (0, omega arith, subst (λ (n : ℕ). IsFirstRefused ops added n refusal) (sym first) (record { operation = o; here = here; refused = h; before = before }))
-one_applied ops added from o new (Err apply.OutOfMemory) here before h = tt
+    (0, omega arith, subst (λ (n : ℕ). IsFirstRefused ops added n refusal) (sym first) (record { operation = op; here = here; refused = not; before = a.follow }))
 
--- the next one of a stretch is refused
-pub stretch_refused : (ops added : List Op) (from index count : ℕ) (o : Op) (new : Parts) (error : ApplyError) → index < count → slice_get added (from + index) ≡ Some o → AllFollow ops added (from + index) → Applied (ops ++ take (from + index) added) o new (Err error) → StretchApplied ops added from count new (Err error)
-stretch_refused ops added from index count o new (apply.Refused refusal) below here before h = (index, below, record { operation = o; here = here; refused = h; before = before })
-stretch_refused ops added from index count o new apply.OutOfMemory below here before h = tt
+-- the next one of a run
+pub run_begun : (ops added : List Op) (from node : ℕ) (parts : Parts) (tally : Tally) → IsAdmitted ops added from node parts tally → IsAdmitted ops added (from + 0) node parts tally
+run_begun ops added from node parts tally a = let same : from ≡ from + 0 = omega arith in subst (λ (n : ℕ). IsAdmitted ops added n node parts tally) same a
 
--- a run, its inserts one after the other
-pub run_begun : (ops added : List Op) (from : ℕ) (parts : Parts) → AllFollow ops added from → Keeps (ops ++ take from added) parts → AllFollow ops added (from + 0) × Keeps (ops ++ take (from + 0) added) parts
-run_begun ops added from parts before k =
-    let same : from + 0 ≡ from = omega arith in
-    subst (λ (n : ℕ). AllFollow ops added n × Keeps (ops ++ take n added) parts) (sym same) (before, k)
+pub run_more : (ops added : List Op) (from index node : ℕ) (parts : Parts) (tally : Tally) → IsAdmitted ops added (from + index + 1) node parts tally → IsAdmitted ops added (from + (index + 1)) node parts tally
+run_more ops added from index node parts tally a = let same : from + index + 1 ≡ from + (index + 1) = omega arith in subst (λ (n : ℕ). IsAdmitted ops added n node parts tally) same a
 
-pub run_more : (ops added : List Op) (from index : ℕ) (o : Op) (new : Parts) → slice_get added (from + index) ≡ Some o → AllFollow ops added (from + index) → MayFollow (ops ++ take (from + index) added) o × Keeps ((ops ++ take (from + index) added) ++ o ∷ []) new
-    → AllFollow ops added (from + (index + 1)) × Keeps (ops ++ take (from + (index + 1)) added) new
-run_more ops added from index o new here before m =
-    let same : from + index + 1 ≡ from + (index + 1) = omega arith in
-    subst (λ (n : ℕ). AllFollow ops added n × Keeps (ops ++ take n added) new) same (applied_more ops added (from + index) o new here before m)
+pub run_refused : (ops added : List Op) (from index count node : ℕ) (parts : Parts) (tally : Tally) (error : ApplyError) → index < count → StretchAdmitted ops added (from + index) 1 node parts tally (Err error) → StretchAdmitted ops added from count node parts tally (Err error)
+run_refused ops added from index count node parts tally (apply.Refused refusal) below h =
+    let low : h.0 < 1 = h.1 in
+    let place : (from + index) + h.0 ≡ from + index = omega arith in
+    (index, below, subst (λ (n : ℕ). IsFirstRefused ops added n refusal) place h.2)
+run_refused ops added from index count node parts tally apply.OutOfMemory below h = tt
 
--- operations stand among themselves
-pub stand_alone : (ops : List Op) → StandAt ops 0 ops
-stand_alone ops = λ i op g. let same : 0 + i ≡ i = omega arith in ap (slice_get ops) same ∙ g
+-- ---- the operations of a change are applied
+pub applied_one : {E : Type 0} (ops added : List Op) (from : ℕ) (old new : Parts) (op : Op) (r : Result (Unit {0}) E) → IsApplied ops added from old → slice_get added from ≡ Some op → IfOk r (λ _. Keeps ((ops ++ take from added) ++ op ∷ []) new) → IfOk r (λ _. IsApplied ops added (from + 1) new)
+applied_one ops added from old new op (Ok done) a here kept = record {
+  follow = a.follow;
+  kept = subst (λ (xs : List Op). Keeps xs new) (append_assoc ops (take from added) (op ∷ []) ∙ ap (λ (ts : List Op). ops ++ ts) (sym (take_push added from op here))) kept;
+}
+applied_one ops added from old new op (Err e) a here kept = tt
 
-pub alone_kept : (ops : List Op) (parts : Parts) (added : List Op) → Keeps ops parts → Keeps (ops ++ take 0 added) parts
-alone_kept ops parts added k = subst (λ (xs : List Op). Keeps xs parts) (sym (append-nil ops)) k
+pub follows_at : (ops added : List Op) (from : ℕ) (old : Parts) (op : Op) → IsApplied ops added from old → slice_get added from ≡ Some op → MayFollow (ops ++ take from added) op
+follows_at ops added from old op a here = a.follow from op (slice_get_within added from op here) here
+
+pub applying_begun : (ops added : List Op) (from : ℕ) (parts : Parts) → IsApplied ops added from parts → IsApplied ops added (from + 0) parts
+applying_begun ops added from parts a = let same : from ≡ from + 0 = omega arith in subst (λ (n : ℕ). IsApplied ops added n parts) same a
+
+pub applying_more : (ops added : List Op) (from index : ℕ) (parts : Parts) → IsApplied ops added (from + index + 1) parts → IsApplied ops added (from + (index + 1)) parts
+applying_more ops added from index parts a = let same : from + index + 1 ≡ from + (index + 1) = omega arith in subst (λ (n : ℕ). IsApplied ops added n parts) same a
 
 -- ---- the lines of a change
 -- where the operations of the line at an index begin
@@ -147,45 +168,46 @@ ops_pushed (x ∷ ls) l = let e = ops_pushed ls l in omega (arith, length-append
 pub begin_next : (lines : List Line) (index : ℕ) (line : Line) → slice_get lines index ≡ Some line → begin_of lines (index + 1) ≡ begin_of lines index + length (ops_of line)
 begin_next lines index line g = ap (λ (ls : List Line). length (ops_of_lines ls)) (take_push lines index line g) ∙ ops_pushed (take index lines) line
 
-pub lines_begun : (ops : List Op) (lines : List Line) (parts : Parts) → Keeps ops parts → AllFollow ops (ops_of_lines lines) (begin_of lines 0) × Keeps (ops ++ take (begin_of lines 0) (ops_of_lines lines)) parts
-lines_begun ops lines parts k =
-    let none = none_before lines in
-    let all = ops_of_lines lines in (
-      subst (λ (n : ℕ). AllFollow ops all n) (sym none) (follow_none ops all),
-      subst (λ (n : ℕ). Keeps (ops ++ take n all) parts) (sym none) (subst (λ (xs : List Op). Keeps xs parts) (sym (append-nil ops)) k),
-    )
+pub end_of : (lines : List Line) (count : ℕ) → count ≡ length lines → begin_of lines count ≡ length (ops_of_lines lines)
+end_of lines count whole = ap (λ (ls : List Line). length (ops_of_lines ls)) (ap (λ k. take k lines) whole ∙ take-length lines)
 
-pub line_applied : (ops : List Op) (lines : List Line) (index : ℕ) (line : Line) (new : Parts) (done : Unit {0}) → slice_get lines index ≡ Some line
-    → StretchApplied ops (ops_of_lines lines) (begin_of lines index) (length (ops_of line)) new (Ok done)
-    → AllFollow ops (ops_of_lines lines) (begin_of lines (index + 1)) × Keeps (ops ++ take (begin_of lines (index + 1)) (ops_of_lines lines)) new
-line_applied ops lines index line new done g h =
+pub admitting_begun : (ops : List Op) (lines : List Line) (node : ℕ) (parts : Parts) (tally : Tally) → Keeps ops parts → AreOf node (ops_of_lines lines) → IsTally ops [] node tally → IsAdmitted ops (ops_of_lines lines) (begin_of lines 0) node parts tally
+admitting_begun ops lines node parts tally k own t =
     let all = ops_of_lines lines in
-    subst (λ (n : ℕ). AllFollow ops all n × Keeps (ops ++ take n all) new) (sym (begin_next lines index line g)) h
+    subst (λ (n : ℕ). IsAdmitted ops all n node parts tally) (sym (none_before lines)) (record { kept = k; own = own; follow = follow_none ops all; counted = t })
 
-pub refused_at : (ops : List Op) (lines : List Line) (index : ℕ) (line : Line) (new : Parts) (error : ApplyError) → slice_get lines index ≡ Some line
-    → StretchApplied ops (ops_of_lines lines) (begin_of lines index) (length (ops_of line)) new (Err error) → IsNotApplied ops lines (error_at index error)
-refused_at ops lines index line new (apply.Refused refusal) here h = record { line = line; here = here; place = h.0; within = h.1; first = h.2 }
-refused_at ops lines index line new apply.OutOfMemory here h = tt
+pub line_admitted : (ops : List Op) (lines : List Line) (index : ℕ) (line : Line) (node : ℕ) (parts : Parts) (tally : Tally) → slice_get lines index ≡ Some line → IsAdmitted ops (ops_of_lines lines) (begin_of lines index + length (ops_of line)) node parts tally → IsAdmitted ops (ops_of_lines lines) (begin_of lines (index + 1)) node parts tally
+line_admitted ops lines index line node parts tally g h =
+    subst (λ (n : ℕ). IsAdmitted ops (ops_of_lines lines) n node parts tally) (sym (begin_next lines index line g)) h
 
-pub applied_all : (ops : List Op) (lines : List Line) (count : ℕ) (new : Parts) → count ≡ length lines → AllFollow ops (ops_of_lines lines) (begin_of lines count) × Keeps (ops ++ take (begin_of lines count) (ops_of_lines lines)) new → AreApplied ops lines new
-applied_all ops lines count new whole h =
+pub refused_at : (ops : List Op) (lines : List Line) (index : ℕ) (line : Line) (node : ℕ) (parts : Parts) (new : Tally) (error : ApplyError) → slice_get lines index ≡ Some line
+    → StretchAdmitted ops (ops_of_lines lines) (begin_of lines index) (length (ops_of line)) node parts new (Err error) → IsNotAccepted ops lines (error_at index error)
+refused_at ops lines index line node parts new (apply.Refused refusal) here h = record { line = line; here = here; place = h.0; within = h.1; first = h.2 }
+refused_at ops lines index line node parts new apply.OutOfMemory here h = tt
+
+pub admitted_all : (ops : List Op) (lines : List Line) (count node : ℕ) (parts : Parts) (tally : Tally) → count ≡ length lines → IsAdmitted ops (ops_of_lines lines) (begin_of lines count) node parts tally → AreAllAccepted ops lines
+admitted_all ops lines count node parts tally whole a = subst (λ (n : ℕ). AllFollow ops (ops_of_lines lines) n) (end_of lines count whole) a.follow
+
+pub applying_lines : (ops : List Op) (lines : List Line) (parts : Parts) → Keeps ops parts → AreAllAccepted ops lines → IsApplied ops (ops_of_lines lines) (begin_of lines 0) parts
+applying_lines ops lines parts k all =
+    let added = ops_of_lines lines in
+    subst (λ (n : ℕ). IsApplied ops added n parts) (sym (none_before lines)) (record { follow = all; kept = subst (λ (xs : List Op). Keeps xs parts) (sym (append-nil ops)) k })
+
+pub line_applied : (ops : List Op) (lines : List Line) (index : ℕ) (line : Line) (parts : Parts) → slice_get lines index ≡ Some line → IsApplied ops (ops_of_lines lines) (begin_of lines index + length (ops_of line)) parts → IsApplied ops (ops_of_lines lines) (begin_of lines (index + 1)) parts
+line_applied ops lines index line parts g h = subst (λ (n : ℕ). IsApplied ops (ops_of_lines lines) n parts) (sym (begin_next lines index line g)) h
+
+pub applied_all : (ops : List Op) (lines : List Line) (count : ℕ) (parts : Parts) → count ≡ length lines → IsApplied ops (ops_of_lines lines) (begin_of lines count) parts → Keeps (ops ++ ops_of_lines lines) parts
+applied_all ops lines count parts whole a =
     let all = ops_of_lines lines in
-    let end : begin_of lines count ≡ length all = ap (λ (ls : List Line). length (ops_of_lines ls)) (ap (λ k. take k lines) whole ∙ take-length lines) in
-    record {
-      follow = subst (λ (n : ℕ). AllFollow ops all n) end h.0;
-      kept = subst (λ (ts : List Op). Keeps (ops ++ ts) new) (ap (λ k. take k all) end ∙ take-length all) h.1;
-    }
+    subst (λ (ts : List Op). Keeps (ops ++ ts) parts) (ap (λ k. take k all) (end_of lines count whole) ∙ take-length all) a.kept
 
 -- ---- a change more
 -- the operations of the change were all applied
-pub drafted : (changes xs : List Edit) (change : Edit) (lines : List Line) (draft : Draft) → changes ≡ xs → draft.added ≡ change ∷ [] → lines ≡ change.lines → length changes < 4096 → AreApplied (operations_of xs) lines draft.parts → IsDraft xs change draft
-drafted changes xs change lines draft same alone e few h = record {
+pub drafted : (changes : List Edit) (change : Edit) (lines : List Line) (draft : Draft) → draft.added ≡ change ∷ [] → lines ≡ change.lines → IsAccepted changes change → Keeps (operations_of changes ++ ops_of_lines lines) draft.parts → IsDraft changes change draft
+drafted changes change lines draft alone e accepted kept = record {
   added = alone;
-  accepted = record {
-    room = omega (arith, ap length same);
-    follow = subst (λ (ls : List Line). AllFollow (operations_of xs) (ops_of_lines ls) (length (ops_of_lines ls))) e h.follow;
-  };
-  kept = subst (λ (ops : List Op). Keeps ops draft.parts) (ap (λ (ls : List Line). operations_of xs ++ ops_of_lines ls) e ∙ sym (operations_of-push xs change)) h.kept;
+  accepted = accepted;
+  kept = subst (λ (ops : List Op). Keeps ops draft.parts) (ap (λ (ls : List Line). operations_of changes ++ ops_of_lines ls) e ∙ sym (operations_of-push changes change)) kept;
 }
 
 -- a draft put in place
@@ -239,23 +261,30 @@ spare_after changes change parts spare h is = λ p same.
 pub no_spare : (changes : List Edit) (spare : Option Parts) → spare ≡ None → IsSpare changes spare
 no_spare changes spare is = λ p same. absurd (none-some p (sym is ∙ same))
 
-pub caught_up_result : (changes : List Edit) (change : Edit) (lines : List Line) (new : Parts) (r : Result (Unit {0}) SubmitError) → 0 < length changes → change ≡ get_or changes (length changes - 1) change → lines ≡ change.lines → MatchResult r (λ _. AreApplied (operations_of (take (length changes - 1) changes)) lines new) (IsNotApplied (operations_of (take (length changes - 1) changes)) lines) → OnOk r (Keeps (operations_of changes) new)
-caught_up_result changes change lines new (Ok done) some is e applied =
-    caught_up_last changes change lines new (slice_get_read changes (length changes) (length changes - 1) change refl (omega arith) is) e applied.kept
-caught_up_result changes change lines new (Err error) some is e applied = tt
+-- the last change is accepted after those before it
+pub last_accepted : (changes : List Edit) (change : Edit) (lines : List Line) → AreAccepted changes → slice_get changes (length changes - 1) ≡ Some change → lines ≡ change.lines → AreAllAccepted (operations_of (take (length changes - 1) changes)) lines
+last_accepted changes change lines all g e =
+    subst (λ (ls : List Line). AreAllAccepted (operations_of (take (length changes - 1) changes)) ls) (sym e) (all (length changes - 1) change g).follow
+
+pub caught_up_result : {E : Type 0} (changes : List Edit) (change : Edit) (lines : List Line) (new : Parts) (r : Result (Unit {0}) E) → slice_get changes (length changes - 1) ≡ Some change → lines ≡ change.lines → IfOk r (λ _. Keeps (operations_of (take (length changes - 1) changes) ++ ops_of_lines lines) new) → IfOk r (λ _. Keeps (operations_of changes) new)
+caught_up_result changes change lines new (Ok done) g e kept = caught_up_last changes change lines new g e kept
+caught_up_result changes change lines new (Err error) g e kept = tt
 
 -- a copy of the parts
 pub kept_copy : {E : Type 0} (r : Result Parts E) (parts : Parts) (changes xs : List Edit) → changes ≡ xs → Keeps (operations_of changes) parts → IfOk r (λ p. p ≡ parts) → IfOk r (Keeps (operations_of xs))
 kept_copy (Ok p) parts changes xs same kept is = subst (λ (x : List Edit × Parts). Keeps (operations_of x.0) x.1) (λ i. (same i, sym is i)) kept
 kept_copy (Err e) parts changes xs same kept is = tt
 
--- ---- an error handed on
-pub not_applied : (r : Result Parts SubmitError) (ops : List Op) (lines : List Line) (error : SubmitError) → IsErrAnd r (λ e. e ≡ error) → IsNotApplied ops lines error → MatchResult r (AreApplied ops lines) (IsNotApplied ops lines)
-not_applied (Ok p) ops lines error same why = absurd same
-not_applied (Err e) ops lines error same why = subst (IsNotApplied ops lines) (sym same) why
+-- ---- what is told of a change
+pub admitted_or_refused : (changes : List Edit) (change : Edit) (lines : List Line) (r : Result (Unit {0}) SubmitError) → length changes < 4096 → lines ≡ change.lines → MatchResult r (λ _. AreAllAccepted (operations_of changes) lines) (IsNotAccepted (operations_of changes) lines) → MatchResult r (λ _. IsAccepted changes change) (IsRefused changes change)
+admitted_or_refused changes change lines (Ok done) few e all = record {
+  room = few;
+  follow = subst (λ (ls : List Line). AreAllAccepted (operations_of changes) ls) e all;
+}
+admitted_or_refused changes change lines (Err submit.HistoryFull) few e why = absurd why
+admitted_or_refused changes change lines (Err (submit.Refused index refusal)) few e why = (few, subst (λ (ls : List Line). FirstRefused (operations_of changes) ls index refusal) e why)
+admitted_or_refused changes change lines (Err submit.OutOfMemory) few e why = few
 
-pub no_memory : (r : Result Draft SubmitError) (changes xs : List Edit) (change : Edit) → changes ≡ xs → length changes < 4096 → IsErrAnd r (λ e. e ≡ submit.OutOfMemory) → MatchResult r (IsDraft xs change) (IsRefused xs change)
-no_memory (Ok d) changes xs change along few same = absurd same
-no_memory (Err e) changes xs change along few same =
-    let room : length xs < 4096 = omega (arith, ap length along) in
-    subst (IsRefused xs change) (sym same) room
+pub refused_draft : (r : Result Draft SubmitError) (changes : List Edit) (change : Edit) (error : SubmitError) → IsErrAnd r (λ e. e ≡ error) → IsRefused changes change error → MatchResult r (IsDraft changes change) (IsRefused changes change)
+refused_draft (Ok d) changes change error same why = absurd same
+refused_draft (Err e) changes change error same why = subst (IsRefused changes change) (sym same) why

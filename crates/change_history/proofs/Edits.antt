@@ -1,19 +1,15 @@
--- The edits among operations have all their inserts, so they are refused what the operations are refused.
-use Rattle.std.proofs.Common.{◌≡◌, List, [], ◌∷◌, Bool, true, false, cond, Ok, Err, length, refl, sym, ap, ◌∙◌, subst, ⊎_elim, arith}
+-- The edits among operations have all their inserts, so they accept what the operations accept.
+use Rattle.std.proofs.Common.{◌≡◌, List, [], ◌∷◌, Bool, true, false, cond, length, refl, sym, ap, ◌∙◌, subst, ⊎_elim, arith}
 use Rattle.std.specs.List.{filter, count_by, Contains}
 use Rattle.std.proofs.lemmas.Bool.{false≢true}
 use Rattle.std.proofs.lemmas.List.Elements.{All-contains, All-contains_itself, All-filter, filter_passes, Contains-append_cases, Contains-append_left, Contains-append_right, Contains-push_cases}
 use Rattle.std.proofs.lemmas.List.Sums.{length-filter}
 use Rattle.change_ops.specs.declared.operation.Op.{Op}
 use Rattle.change_ops.specs.declared.operation.Op.TheVariants.{Insert, Remove, AddMark, RemoveMark}
-use Rattle.change_ops.specs.Operations.{id_of, is_insert, is_edit}
-use Rattle.char_sequence.specs.Acceptance.{Used, Accepts, Checked}
+use Rattle.change_ops.specs.Operations.{is_insert, is_edit}
+use Rattle.char_sequence.specs.Acceptance.{Accepts}
 use Rattle.char_sequence.specs.Held.{HasInserts}
-use Rattle.char_sequence.specs.declared.sequence.SequenceError.{SequenceError}
-use Rattle.char_sequence.specs.declared.sequence.SequenceError.TheVariants.{StaleCounter, UnknownRef, DocumentFull}
 use Rattle.char_sequence.proofs.Parts as parts
-use Rattle.change_history.specs.Accepted.{MayNotFollow}
-use Rattle.change_history.specs.Kept.{refusal_of}
 
 -- what a filter keeps was there, and passes
 pub kept_was : {X : Type 0} (p : X → Bool) (xs : List X) (x : X) → Contains (filter p xs) x → Contains xs x
@@ -46,7 +42,7 @@ inserts_among (Remove id t ∷ ops) = inserts_among ops
 inserts_among (AddMark id a s e ∷ ops) = inserts_among ops
 inserts_among (RemoveMark id k s e ∷ ops) = inserts_among ops
 
-inserts_counted : (ops : List Op) → count_by is_insert (filter is_edit ops) ≡ count_by is_insert ops
+pub inserts_counted : (ops : List Op) → count_by is_insert (filter is_edit ops) ≡ count_by is_insert ops
 inserts_counted ops =
     sym (length-filter is_insert (filter is_edit ops)) ∙ ap length (inserts_among ops) ∙ length-filter is_insert ops
 
@@ -63,19 +59,6 @@ edits_part ops = record {
   count = inserts_counted ops;
 }
 
--- ---- acceptance over the edits, where the counter isn't used by any operation
+-- ---- acceptance over the edits
 pub accepts_part : (ops : List Op) (op : Op) → Accepts ops op → Accepts (filter is_edit ops) op
 accepts_part ops op a = parts.accepts_part ops (filter is_edit ops) (edits_part ops) op a
-
-pub accepts_whole : (ops : List Op) (op : Op) → (Used ops (id_of op) → ⊥) → Accepts (filter is_edit ops) op → Accepts ops op
-accepts_whole ops op unused a = parts.checked_all {T = Unit {0}} ops (filter is_edit ops) (edits_part ops) op (Ok tt) unused a
-
-refusal_kept : (T : Type 0) (ops : List Op) (op : Op) (error : SequenceError) → Checked {T = T} ops op (Err error) → MayNotFollow ops op (refusal_of error)
-refusal_kept T ops op StaleCounter h = h
-refusal_kept T ops op UnknownRef h = h
-refusal_kept T ops op DocumentFull h = h
-
--- a refusal over the edits is one over all operations
-pub refused_whole : (T : Type 0) (ops : List Op) (op : Op) (error : SequenceError) → (Used ops (id_of op) → ⊥) → Checked {T = T} (filter is_edit ops) op (Err error) → MayNotFollow ops op (refusal_of error)
-refused_whole T ops op error unused h =
-    refusal_kept T ops op error (parts.checked_all {T = T} ops (filter is_edit ops) (edits_part ops) op (Err error) unused h)

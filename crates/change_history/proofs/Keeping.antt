@@ -1,7 +1,6 @@
 -- How the parts go on from one accepted operation to the next.
-use Rattle.std.proofs.Common.{◌≡◌, ℕ, ◌<◌, ◌≤◌, ◌&&◌, ◌↔◌, List, [], ◌∷◌, ◌++◌, Bool, true, false, Option, Some, MatchOption, Result, Ok, Err, IfOk, IsTrue, sym, ap, ◌∙◌, subst, inl, arith, rules, length, nat_le, cond}
+use Rattle.std.proofs.Common.{◌≡◌, ℕ, ◌<◌, ◌≤◌, List, [], ◌∷◌, ◌++◌, Bool, true, false, Option, Some, MatchOption, Result, Ok, Err, IfOk, sym, ap, ◌∙◌, subst, inl, arith, rules, length, cond}
 use Rattle.std.proofs.lemmas.Bool.{false≢true}
-use Rattle.std.proofs.lemmas.Bool.Decides.{nat_tests}
 use Rattle.std.specs.List.{filter, count_by, Contains}
 use Rattle.std.proofs.lemmas.List.Elements.{filter-append}
 use Rattle.std.proofs.lemmas.List.Sums.{length-filter}
@@ -29,21 +28,6 @@ filter_push_yes p xs y passes = filter-append p xs (y ∷ []) ∙ ap (λ b. filt
 
 pub filter_push_no : {X : Type 0} (p : X → Bool) (xs : List X) (y : X) → p y ≡ false → filter p (xs ++ y ∷ []) ≡ filter p xs
 filter_push_no p xs y fails = filter-append p xs (y ∷ []) ∙ ap (λ b. filter p xs ++ cond b (y ∷ []) []) fails ∙ search rules
-
--- ---- what a check tells
-pub unused_by : (ops : List Op) (op : Op) (id : OpId) → id ≡ id_of op → IsTrue false ↔ Used ops id → Used ops (id_of op) → ⊥
-unused_by ops op id e iff used = absurd (false≢true (iff.1 (subst (λ (i : OpId). Used ops i) (sym e) used)))
-
-pub too_many : (ops : List Op) (op : Op) (marks : List Op) → marks ≡ filter is_mark ops → (is_mark op && nat_le 4096 (length marks)) ≡ true → IsMarkTooMany ops op
-too_many ops op marks e h =
-    let both : (is_mark op ≡ true) × (4096 ≤ length marks) = grind (arith, nat_tests) in
-    (both.0, subst (λ (n : ℕ). 4096 ≤ n) (ap length e ∙ length-filter is_mark ops) both.1)
-
-pub not_too_many : (ops : List Op) (op : Op) (marks : List Op) → marks ≡ filter is_mark ops → (is_mark op && nat_le 4096 (length marks)) ≡ false → IsMarkTooMany ops op → ⊥
-not_too_many ops op marks e h t =
-    let mark : is_mark op ≡ true = t.0 in
-    let many : 4096 ≤ length marks = subst (λ (n : ℕ). 4096 ≤ n) (sym (ap length e ∙ length-filter is_mark ops)) t.1 in
-    grind (arith, nat_tests)
 
 -- ---- the parts after an operation
 pub keeps_edit : {A E : Type 0} (r : Result A E) (ops : List Op) (op : Op) (old new : Parts) → is_edit op ≡ true → is_mark op ≡ false → Keeps ops old → new.marks ≡ old.marks → IsNewest (ops ++ op ∷ []) new.newest → IfOk r (λ _. Shows new.sequence.elements (ops ++ op ∷ [])) → IfOk r (λ _. Holds new.sequence (filter is_edit ops ++ op ∷ [])) → IfOk r (λ _. Keeps (ops ++ op ∷ []) new)

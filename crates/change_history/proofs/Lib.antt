@@ -2,3 +2,4 @@ pub mod Chronicle
 pub mod Edits
 pub mod Keeping
 pub mod AlikeLaws
+pub mod Counting

@@ -1,5 +1,5 @@
 -- What is kept of accepted operations, beside the operations themselves.
-use Rattle.std.specs.Prelude.{◌≡◌, ℕ, ◌+◌, ◌-◌, ◌<◌, List, ◌++◌, ◌∷◌, [], length, take, slice_get, Option, Some, Result, Ok, Err}
+use Rattle.std.specs.Prelude.{◌≡◌, ℕ, ◌+◌, ◌-◌, List, ◌++◌, ◌∷◌, [], length, take, slice_get, Option, Some, Result, IfOk}
 use Rattle.std.specs.List.{filter}
 use Rattle.change_ops.specs.declared.operation.Op.{Op}
 use Rattle.change_ops.specs.Operations.{is_edit, is_mark}
@@ -11,11 +11,7 @@ use Rattle.change_ops.specs.Lines.{ops_of_lines}
 use Rattle.change_ops.specs.declared.line.Line.{Line}
 use Rattle.change_history.specs.declared.parts.Parts.{Parts}
 use Rattle.change_history.specs.declared.history.Draft.{Draft}
-use Rattle.change_history.specs.Accepted.{MayFollow, MayNotFollow, AllFollow, IsFirstRefused, FirstRefused, IsAccepted, AreAccepted, operations_of}
-use Rattle.char_sequence.specs.declared.sequence.SequenceError.{SequenceError}
-use Rattle.char_sequence.specs.declared.sequence.SequenceError.TheVariants as sequence
-use Rattle.change_history.specs.declared.refusal.Refusal.{Refusal}
-use Rattle.change_history.specs.declared.refusal.Refusal.TheVariants as refusal
+use Rattle.change_history.specs.Accepted.{AllFollow, FirstRefused, IsAccepted, AreAccepted, operations_of}
 use Rattle.change_history.specs.declared.refusal.ApplyError.{ApplyError}
 use Rattle.change_history.specs.declared.refusal.ApplyError.TheVariants as apply
 use Rattle.change_history.specs.declared.refusal.SubmitError.{SubmitError}
@@ -28,43 +24,37 @@ pub record Keeps (ops : List Op) (parts : Parts) : Type 0 where
   pub marks : parts.marks ≡ filter is_mark ops
   pub newest : IsNewest ops parts.newest
 
--- a sequence's refusal as one of the history
-abbrev pub refusal_of : SequenceError → Refusal
-refusal_of sequence.StaleCounter = refusal.StaleCounter
-refusal_of sequence.UnknownRef = refusal.UnknownRef
-refusal_of sequence.DocumentFull = refusal.DocumentFull
-
--- what the application of an operation answers, and leaves
-abbrev pub Applied : List Op → Op → Parts → Result (Unit {0}) ApplyError → Type 0
-Applied ops op new (Ok done) = MayFollow ops op × Keeps (ops ++ op ∷ []) new
-Applied ops op new (Err (apply.Refused refusal)) = MayNotFollow ops op refusal
-Applied ops op new (Err apply.OutOfMemory) = MayFollow ops op
-
 -- the operations stand among others, from this place on
 abbrev pub StandAt : List Op → ℕ → List Op → Type 0
 StandAt all from ops = (i : ℕ) (op : Op) → slice_get ops i ≡ Some op → slice_get all (from + i) ≡ Some op
-
--- what the application of so many operations, of several those from this place on, answers, and leaves
-abbrev pub StretchApplied : List Op → List Op → ℕ → ℕ → Parts → Result (Unit {0}) ApplyError → Type 0
-StretchApplied ops added from count new (Ok done) = AllFollow ops added (from + count) × Keeps (ops ++ take (from + count) added) new
-StretchApplied ops added from count new (Err (apply.Refused refusal)) = (place : ℕ) × (place < count) × IsFirstRefused ops added (from + place) refusal
-StretchApplied ops added from count new (Err apply.OutOfMemory) = Unit {0}
 
 -- the error of a line as one of its change
 abbrev pub error_at : ℕ → ApplyError → SubmitError
 error_at index (apply.Refused refusal) = Refused index refusal
 error_at index apply.OutOfMemory = OutOfMemory
 
--- the operations of lines were all accepted and applied, in their order, and these are the parts then
-pub record AreApplied (ops : List Op) (lines : List Line) (new : Parts) : Type 0 where
-  pub follow : AllFollow ops (ops_of_lines lines) (length (ops_of_lines lines))
-  pub kept : Keeps (ops ++ ops_of_lines lines) new
+-- the operations of lines are accepted, one after the other
+abbrev pub AreAllAccepted : List Op → List Line → Type 0
+AreAllAccepted ops lines = AllFollow ops (ops_of_lines lines) (length (ops_of_lines lines))
 
--- why they were not: the first that is refused
-abbrev pub IsNotApplied : List Op → List Line → SubmitError → Type 0
-IsNotApplied ops lines HistoryFull = ⊥
-IsNotApplied ops lines (Refused index refusal) = FirstRefused ops lines index refusal
-IsNotApplied ops lines OutOfMemory = Unit {0}
+-- why they are not: the first that is refused
+abbrev pub IsNotAccepted : List Op → List Line → SubmitError → Type 0
+IsNotAccepted ops lines HistoryFull = ⊥
+IsNotAccepted ops lines (Refused index refusal) = FirstRefused ops lines index refusal
+IsNotAccepted ops lines OutOfMemory = Unit {0}
+
+-- all of the operations are accepted, and the first so many are applied
+pub record IsApplied (ops added : List Op) (count : ℕ) (parts : Parts) : Type 0 where
+  pub follow : AllFollow ops added (length added)
+  pub kept : Keeps (ops ++ take count added) parts
+
+-- the operations are the next ones of several that are accepted
+abbrev pub AreAcceptedNext : List Op → Parts → Type 0
+AreAcceptedNext next parts = (ops : List Op) × ((added : List Op) × ((from : ℕ) × IsApplied ops added from parts × StandAt added from next))
+
+-- they are applied, whatever stands before and behind them
+abbrev pub Applies : {E : Type 0} → List Op → Parts → Parts → Result (Unit {0}) E → Type 0
+Applies next old new result = (ops added : List Op) (from : ℕ) → IsApplied ops added from old → StandAt added from next → IfOk result (λ _. IsApplied ops added (from + length next) new)
 
 -- the changes were accepted one after another, and these are the parts of their operations
 pub record IsHistory (changes : List Edit) (parts : Parts) : Type 0 where

@@ -1,4 +1,5 @@
 pub mod Accepted
 pub mod Kept
+pub mod Tally
 pub mod VersionAt
 pub mod Alike

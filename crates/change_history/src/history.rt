@@ -1,7 +1,7 @@
-ghost use Rattle.std.specs.Prelude.{◌≡◌, ℕ, ◌≤◌, ◌+◌, ◌-◌, List, [], ◌++◌, ◌∷◌, length, take, MatchResult, MatchOption, IfOk, OnOk};
+ghost use Rattle.std.specs.Prelude.{◌≡◌, ◌≤◌, ◌+◌, ◌-◌, List, [], ◌++◌, ◌∷◌, length, take, MatchResult, MatchOption, IfOk};
 ghost use Rattle.change_ops.specs.Changes.{Edit, operations};
 ghost use Rattle.change_ops.specs.Runs.{inserts_of};
-ghost use Rattle.change_ops.specs.Lines.{ops_of};
+ghost use Rattle.change_ops.specs.Lines.{ops_of, ops_of_lines};
 ghost use Rattle.change_ops.specs.declared.operation.Op.{Op};
 ghost use Rattle.char_sequence.specs.Order.{SameSet};
 ghost use Rattle.char_sequence.specs.Tree.{Present};
@@ -9,12 +9,13 @@ ghost use Rattle.char_sequence.specs.Newest.{IsLastCounter};
 ghost use Rattle.mark_anchors.specs.Format.{IsFormat};
 ghost use Rattle.span_flatten.specs.Spans.{Span, AreSpans};
 ghost use Rattle.span_flatten.specs.Version.{IsVersion};
-ghost use Rattle.change_history.specs.Accepted.{AllFollow, IsAccepted, IsRefused, AreAccepted, operations_of};
+ghost use Rattle.change_history.specs.Accepted.{IsAccepted, IsRefused, AreAccepted, operations_of};
 ghost use Rattle.change_history.specs.Alike.{FormsAreAlike};
-ghost use Rattle.change_history.specs.Kept.{Keeps, StandAt, StretchApplied, AreApplied, IsNotApplied, IsDraft, error_at};
+ghost use Rattle.change_history.specs.Kept.{Keeps, AreAllAccepted, AreAcceptedNext, Applies, IsDraft};
 
+use crate::admission::admit_all;
 use crate::parts::Parts;
-use crate::refusal::{ApplyError, SubmitError};
+use crate::refusal::SubmitError;
 use change_ops::change::Change;
 use change_ops::id::OpId;
 use change_ops::line::Line;
@@ -34,8 +35,8 @@ pub struct History {
     // A linked list, since a draft brings the node of its change: to put it in place takes no memory.
     changes: LinkedList<Change>,
     parts: Parts,
-    // The parts without the last change: the next one is applied to these, since one of its lines may be refused
-    // after others were applied. None where they were used up; a copy then takes their place.
+    // The parts without the last change: the next one is applied to these, and those of all changes stay as they are
+    // until it is put in place. None where they were used up for want of memory; a copy then takes their place.
     spare: Option<Parts>,
 }
 
@@ -62,54 +63,44 @@ impl Model for History {
     ghost invariant = { λ h. IsHistory h.changes h.parts × IsSpare h.changes h.spare };
 }
 
-fn at_index(index: usize, error: ApplyError) -> SubmitError
-    ensures { result ≡ error_at index error }
-{
-    match error {
-        ApplyError::Refused(refusal) => SubmitError::Refused { index, refusal },
-        ApplyError::OutOfMemory => SubmitError::OutOfMemory,
-    }
-}
-
-/// Applies the inserts of a run in their order, up to the first that is refused; after an error the parts are of no use.
-fn apply_run(parts: &mut Parts, run: &Run) -> Result<(), ApplyError>
-    requires { (ops : List Op) × Keeps ops parts.old }
-    ensures { (ops added : List Op) (from : ℕ) → StandAt added from (inserts_of run.now) → AllFollow ops added from → Keeps (ops ++ take from added) parts.old → StretchApplied ops added from (length (inserts_of run.now)) parts.new result }
+/// Applies the inserts of a run, which are accepted; after an error the parts are of no use.
+fn apply_run(parts: &mut Parts, run: &Run) -> Result<(), AllocError>
+    requires { AreAcceptedNext (inserts_of run.now) parts.old }
+    ensures { Applies (inserts_of run.now) parts.old parts.new result }
 {
     for index in 0..run.characters().len() {
-        parts.apply(&run.insert(index))?;
+        parts.add(&run.insert(index))?;
     }
     Ok(())
 }
 
 /// Applies the operations of a line in the same way.
-fn apply_line(parts: &mut Parts, line: &Line) -> Result<(), ApplyError>
-    requires { (ops : List Op) × Keeps ops parts.old }
-    ensures { (ops added : List Op) (from : ℕ) → StandAt added from (ops_of line.now) → AllFollow ops added from → Keeps (ops ++ take from added) parts.old → StretchApplied ops added from (length (ops_of line.now)) parts.new result }
+fn apply_line(parts: &mut Parts, line: &Line) -> Result<(), AllocError>
+    requires { AreAcceptedNext (ops_of line.now) parts.old }
+    ensures { Applies (ops_of line.now) parts.old parts.new result }
 {
     match line {
-        Line::Operation(op) => parts.apply(op),
+        Line::Operation(op) => parts.add(op),
         Line::Run(run) => apply_run(parts, run),
     }
 }
 
-/// Applies lines in their order, up to the first that is refused; after an error the parts are of no use.
-fn apply_all(parts: &mut Parts, lines: &[Line]) -> Result<(), SubmitError>
-    requires { (ops : List Op) × Keeps ops parts.old }
-    ensures { (ops : List Op) → Keeps ops parts.old → MatchResult result (λ _. AreApplied ops lines.now parts.new) (IsNotApplied ops lines.now) }
+/// Applies lines whose operations are accepted; after an error the parts are of no use.
+fn apply_all(parts: &mut Parts, lines: &[Line]) -> Result<(), AllocError>
+    requires { (ops : List Op) × Keeps ops parts.old × AreAllAccepted ops lines.now }
+    ensures { (ops : List Op) → Keeps ops parts.old → AreAllAccepted ops lines.now → IfOk result (λ _. Keeps (ops ++ ops_of_lines lines.now) parts.new) }
 {
     for index in 0..lines.len() {
-        if let Err(error) = apply_line(parts, &lines[index]) {
-            return Err(at_index(index, error));
-        }
+        apply_line(parts, &lines[index])?;
     }
     Ok(())
 }
 
 /// Applies the last of the changes to the parts of those before it.
-fn catch_up(parts: &mut Parts, changes: &LinkedList<Change>) -> Result<(), SubmitError>
-    requires { Keeps (operations_of (take (length changes.now - 1) changes.now)) parts.old }
-    ensures { OnOk result (Keeps (operations_of changes.now) parts.new) }
+fn catch_up(parts: &mut Parts, changes: &LinkedList<Change>) -> Result<(), AllocError>
+    requires kept { Keeps (operations_of (take (length changes.now - 1) changes.now)) parts.old }
+    requires accepted { AreAccepted changes.now }
+    ensures { IfOk result (λ _. Keeps (operations_of changes.now) parts.new) }
 {
     match changes.back() {
         Some(change) => apply_all(parts, change.lines()),
@@ -170,9 +161,10 @@ impl History {
         self.parts.clone()
     }
 
-    /// The parts that follow the lines, if these are accepted next.
-    fn parts_after(&mut self, lines: &[Line]) -> Result<Parts, SubmitError>
-        ensures applied { MatchResult result (AreApplied (operations_of self.old) lines.now) (IsNotApplied (operations_of self.old) lines.now) }
+    /// The parts that follow the lines, whose operations are accepted next.
+    fn parts_after(&mut self, lines: &[Line]) -> Result<Parts, AllocError>
+        requires { AreAllAccepted (operations_of self.old) lines.now }
+        ensures applied { IfOk result (Keeps (operations_of self.old ++ ops_of_lines lines.now)) }
         ensures same { self.new ≡ self.old }
     {
         let mut parts = self.working_parts()?;
@@ -180,14 +172,27 @@ impl History {
         Ok(parts)
     }
 
+    /// Whether the change is accepted next, which is found before anything is changed.
+    fn admit(&self, change: &Change) -> Result<(), SubmitError>
+        ensures { MatchResult result (λ _. IsAccepted self.now change.now) (IsRefused self.now change.now) }
+    {
+        if self.changes.len() >= CHANGE_LIMIT {
+            return Err(SubmitError::HistoryFull);
+        }
+        admit_all(
+            *self.changes.allocator(),
+            &self.parts,
+            change.node(),
+            change.lines(),
+        )
+    }
+
     /// The change with all that it takes to put it in place, if it is accepted next; nothing is put in place yet.
     pub fn draft(&mut self, change: Change) -> Result<Draft, SubmitError>
         ensures drafted { MatchResult result (IsDraft self.old change) (IsRefused self.old change) }
         ensures same { self.new ≡ self.old }
     {
-        if self.changes.len() >= CHANGE_LIMIT {
-            return Err(SubmitError::HistoryFull);
-        }
+        self.admit(&change)?;
         let parts = self.parts_after(change.lines())?;
         let added = alone(*self.changes.allocator(), change)?;
         Ok(Draft { added, parts })

@@ -1,5 +1,5 @@
-ghost use Rattle.std.specs.Prelude.{◌≡◌, ◌<◌, List, [], ◌++◌, ◌∷◌, true, length, Contains, MatchResult, MatchOption, IfOk, nat_le, ◌&&◌};
-ghost use Rattle.change_ops.specs.Operations.{id_of, is_mark};
+ghost use Rattle.std.specs.Prelude.{◌≡◌, ◌↔◌, ◌<◌, ℕ, List, [], ◌++◌, ◌∷◌, true, false, length, Contains, Some, IsTrue, MatchResult, MatchOption, IfOk};
+ghost use Rattle.change_ops.specs.Operations.{id_of, is_mark, Names};
 ghost use Rattle.change_ops.specs.declared.operation.Op.{Op};
 ghost use Rattle.char_sequence.specs.Order.{SameSet};
 ghost use Rattle.char_sequence.specs.Tree.{Present};
@@ -8,13 +8,16 @@ ghost use Rattle.mark_anchors.specs.Format.{IsFormat};
 ghost use Rattle.span_flatten.specs.Spans.{Span, AreSpans};
 ghost use Rattle.span_flatten.specs.Version.{IsVersion};
 ghost use Rattle.change_history.specs.Accepted.{MayFollow, MayNotFollow};
-ghost use Rattle.change_history.specs.Kept.{Keeps, Applied, refusal_of};
+ghost use Rattle.char_sequence.specs.Acceptance.{IsUnknown};
+ghost use Rattle.change_history.specs.Kept.{Keeps};
+ghost use Rattle.change_history.specs.Tally.{IsTally, AreNext, Admits};
 
 use crate::refusal::{ApplyError, Refusal};
+use crate::tally::Tally;
 use change_ops::id::OpId;
-use change_ops::operation::Op;
+use change_ops::operation::{Named, Op};
 use char_sequence::newest::Newest;
-use char_sequence::sequence::{Sequence, SequenceError};
+use char_sequence::sequence::Sequence;
 use mark_anchors::format::Format;
 use mark_anchors::marks::{Marks, MarksError};
 use span_flatten::flatten::{flatten, same_set_same_spans};
@@ -37,22 +40,6 @@ impl Drop for Parts {
             marks: _,
             newest: _,
         } = self;
-    }
-}
-
-fn is_mark_too_many(marks: &Marks, op: &Op) -> bool
-    ensures { result ≡ (is_mark op.now && nat_le 4096 (length marks.now)) }
-{
-    op.is_mark() && marks.is_full()
-}
-
-fn refusal(error: SequenceError) -> Refusal
-    ensures { result ≡ refusal_of error }
-{
-    match error {
-        SequenceError::StaleCounter => Refusal::StaleCounter,
-        SequenceError::UnknownRef => Refusal::UnknownRef,
-        SequenceError::DocumentFull => Refusal::DocumentFull,
     }
 }
 
@@ -82,24 +69,80 @@ impl Parts {
         }
     }
 
-    /// Whether the operation is accepted after those applied.
-    fn check(&self, op: &Op) -> Result<(), Refusal>
-        ensures { (ops : List Op) → Keeps ops self.now → MatchResult result (λ _. MayFollow ops op.now) (MayNotFollow ops op.now) }
+    /// The tally of the operations that were applied, for a peer's next one.
+    pub fn tally(&self, alloc: Global, node: u16) -> Tally
+        ensures { (ops : List Op) → Keeps ops self.now → IsTally ops [] node result }
     {
-        if self.newest.is_used(op.id()) {
+        Tally {
+            node,
+            last: self.newest.last(node).unwrap_or(0),
+            characters: self.sequence.len(),
+            marks: self.marks.operations().len(),
+            inserted: Vec::new(alloc),
+        }
+    }
+
+    /// Whether an operation inserts the character.
+    fn has(&self, tally: &Tally, id: OpId) -> bool
+        ensures { (ops own : List Op) (node : ℕ) → Keeps ops self.now → IsTally ops own node tally.now → IsTrue result ↔ Present (ops ++ own) id }
+    {
+        tally.has(id) || self.sequence.has(id)
+    }
+
+    fn is_there(&self, tally: &Tally, named: Option<OpId>) -> bool
+        ensures yes { (ops own : List Op) (node : ℕ) → Keeps ops self.now → IsTally ops own node tally.now → result ≡ true → (x : OpId) → named ≡ Some x → Present (ops ++ own) x }
+        ensures no { (ops own : List Op) (node : ℕ) → Keeps ops self.now → IsTally ops own node tally.now → result ≡ false → (x : OpId) × (named ≡ Some x) × (Present (ops ++ own) x → ⊥) }
+    {
+        match named {
+            Some(id) => self.has(tally, id),
+            None => true,
+        }
+    }
+
+    /// Whether a character that the operation names is not there.
+    fn is_unknown(&self, tally: &Tally, op: &Op) -> bool
+        ensures yes { (ops own : List Op) (node : ℕ) → Keeps ops self.now → IsTally ops own node tally.now → result ≡ true → IsUnknown (ops ++ own) op.now }
+        ensures no { (ops own : List Op) (node : ℕ) → Keeps ops self.now → IsTally ops own node tally.now → result ≡ false → (x : OpId) → Names op.now x → Present (ops ++ own) x }
+    {
+        let Named { first, second } = op.named();
+        !self.is_there(tally, first) || !self.is_there(tally, second)
+    }
+
+    /// Whether a peer's operation is accepted after those applied and those counted since.
+    fn check(&self, tally: &Tally, op: &Op) -> Result<(), Refusal>
+        ensures { (ops own : List Op) (node : ℕ) → Keeps ops self.now → IsTally ops own node tally.now → (id_of op.now).node ≡ node → MatchResult result (λ _. MayFollow (ops ++ own) op.now) (MayNotFollow (ops ++ own) op.now) }
+    {
+        if tally.is_stale(op) {
             return Err(Refusal::StaleCounter);
         }
-        if let Err(error) = self.sequence.check(op) {
-            return Err(refusal(error));
+        if self.is_unknown(tally, op) {
+            return Err(Refusal::UnknownRef);
         }
-        if is_mark_too_many(&self.marks, op) {
+        if tally.is_character_too_many(op) {
+            return Err(Refusal::DocumentFull);
+        }
+        if tally.is_mark_too_many(op) {
             return Err(Refusal::MarksFull);
         }
         Ok(())
     }
 
+    /// Counts a peer's next operation, if it is accepted; after an error the tally is of no use.
+    pub fn admit(&self, tally: &mut Tally, op: &Op) -> Result<(), ApplyError>
+        requires { AreNext (op.now ∷ []) self.now tally.old }
+        ensures { Admits (op.now ∷ []) self.now tally.old tally.new result }
+    {
+        if let Err(refusal) = self.check(tally, op) {
+            return Err(ApplyError::Refused(refusal));
+        }
+        match tally.note(op) {
+            Ok(()) => Ok(()),
+            Err(_) => Err(ApplyError::OutOfMemory),
+        }
+    }
+
     /// Adds an accepted operation to the parts that it belongs to; after an error they are of no use.
-    fn add(&mut self, op: &Op) -> Result<(), AllocError>
+    pub fn add(&mut self, op: &Op) -> Result<(), AllocError>
         requires { (ops : List Op) × Keeps ops self.old × MayFollow ops op.now }
         ensures { (ops : List Op) → Keeps ops self.old → MayFollow ops op.now → IfOk result (λ _. Keeps (ops ++ op.now ∷ []) self.new) }
     {
@@ -109,20 +152,6 @@ impl Parts {
             Op::Remove { .. } => self.sequence.remove(op),
             Op::AddMark { .. } => add_mark(&mut self.marks, op),
             Op::RemoveMark { .. } => add_mark(&mut self.marks, op),
-        }
-    }
-
-    /// Applies an operation, if it is accepted; after an error the parts are of no use.
-    pub fn apply(&mut self, op: &Op) -> Result<(), ApplyError>
-        requires { (ops : List Op) × Keeps ops self.old }
-        ensures { (ops : List Op) → Keeps ops self.old → Applied ops op.now self.new result }
-    {
-        if let Err(refusal) = self.check(op) {
-            return Err(ApplyError::Refused(refusal));
-        }
-        match self.add(op) {
-            Ok(()) => Ok(()),
-            Err(_) => Err(ApplyError::OutOfMemory),
         }
     }
 

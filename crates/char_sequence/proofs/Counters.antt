@@ -1,5 +1,5 @@
 -- What a map of last counters says of the operations.
-use Rattle.std.proofs.Common.{◌≡◌, ℕ, ◌<◌, ◌≤◌, true, false, cond, List, [], ◌∷◌, ◌++◌, Some, None, sym, ap, refl, ◌∙◌, arith, ⊎_elim, inl, inr}
+use Rattle.std.proofs.Common.{◌≡◌, ℕ, ◌<◌, ◌≤◌, true, false, cond, List, [], ◌∷◌, ◌++◌, Option, Some, None, MatchOption, sym, ap, refl, ◌∙◌, arith, ⊎_elim}
 use Rattle.std.specs.Prelude.{nat_eq}
 use Rattle.std.specs.List.{Contains}
 use Rattle.std.specs.Map.{lookup}
@@ -13,7 +13,7 @@ use Rattle.change_ops.specs.Operations.{id_of}
 use Rattle.change_ops.specs.declared.id.OpId.{OpId}
 use Rattle.change_ops.specs.declared.operation.Op.{Op}
 use Rattle.char_sequence.specs.Acceptance.{Used}
-use Rattle.char_sequence.specs.Newest.{IsNewest, IsLastCounter}
+use Rattle.char_sequence.specs.Newest.{IsNewest, IsLast}
 
 find_lookup : (es : List (ℕ × ℕ)) (q : ℕ) → find nat_cmp q es ≡ lookup (nat_eq q) es
 find_lookup [] q = refl
@@ -48,6 +48,20 @@ pub used_none : (ops : List Op) (m : FinMap nat_cmp ℕ) → IsNewest ops m → 
 used_none ops m n id e u =
     let r = n.covered u.0 u.1 in
     none-some r.0 (sym e ∙ ap (get m) (sym u.2) ∙ r.1)
+
+pub last_of : (ops : List Op) (m : FinMap nat_cmp ℕ) → IsNewest ops m → (node : ℕ) (r : Option ℕ) → r ≡ get m node → MatchOption r ((o : Op) → Contains ops o → (id_of o).node ≡ node → ⊥) (IsLast ops node)
+last_of ops m n node None e = λ o held same.
+    let r = n.covered o held in
+    none-some r.0 (e ∙ ap (get m) (sym same) ∙ r.1)
+last_of ops m n node (Some last) e = record {
+  covered =
+      λ o held same.
+      let r = n.covered o held in
+      let is : last ≡ r.0 = same_Some last r.0 (e ∙ ap (get m) (sym same) ∙ r.1) in
+      let le : (id_of o).counter ≤ r.0 = r.2 in
+      omega arith;
+  reached = n.reached node last (sym e);
+}
 
 -- an id that is used in none of the operations of these counters is used in no other operations of theirs
 pub used_other : (ops others : List Op) (m : FinMap nat_cmp ℕ) (id : OpId) → IsNewest ops m → IsNewest others m → (Used ops id → ⊥) → Used others id → ⊥
@@ -99,22 +113,3 @@ apart_nodes k node q e apart =
       | true ↦ λ t. absurd (apart (sym (eqb-true k q t) ∙ e))
       | false ↦ λ t. refl
     ] refl
-
--- ---- a peer's last counter
-pub last_there : (ops : List Op) (newest : FinMap nat_cmp ℕ) → IsNewest ops newest → (node last : ℕ) → get newest node ≡ Some last → IsLastCounter ops node last
-last_there ops newest n node last e = record {
-  greatest = λ o within same.
-      let c = n.covered o within in
-      let one : last ≡ c.0 = same_Some last c.0 (sym e ∙ ap (get newest) (sym same) ∙ c.1) in
-      let upper : (id_of o).counter ≤ c.0 = c.2 in
-      omega arith;
-  reached = inr (n.reached node last e);
-}
-
-pub last_none : (ops : List Op) (newest : FinMap nat_cmp ℕ) → IsNewest ops newest → (node : ℕ) → get newest node ≡ None → IsLastCounter ops node 0
-last_none ops newest n node e = record {
-  greatest = λ o within same.
-      let c = n.covered o within in
-      absurd (none-some c.0 (sym e ∙ ap (get newest) (sym same) ∙ c.1));
-  reached = inl refl;
-}

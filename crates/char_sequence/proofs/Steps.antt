@@ -15,7 +15,7 @@ use Rattle.change_ops.specs.declared.operation.Op.TheVariants.{Insert, Remove}
 use Rattle.char_sequence.specs.declared.sequence.Element.{Element}
 use Rattle.char_sequence.specs.Tree.{Present, Removed, IsTree}
 use Rattle.char_sequence.specs.Order.{IsAt, IsText, Shows}
-use Rattle.char_sequence.specs.Acceptance.{Used, IsStale, IsUnknown, Accepts}
+use Rattle.char_sequence.specs.Acceptance.{Used, IsUnknown, Accepts}
 use Rattle.char_sequence.specs.Newest.{IsNewest}
 use Rattle.char_sequence.specs.Held.{Contents, Holds}
 use Rattle.char_sequence.specs.Places.{IsStart, IsPast, IsAfter}
@@ -39,6 +39,16 @@ visible_of ops es id e text (k, here, is) = (
       elim e.visible as (λ b. e.visible ≡ b → b ≡ true) [
         | true ↦ λ t. refl
         | false ↦ λ f. absurd (p.1 (subst (λ z. Removed ops z) is (text.hidden k e here f)))
+      ] refl,
+)
+
+pub present_iff : (ops : List Op) (es : List Element) (id : OpId) (b : Bool) → IsText ops es → (b ≡ true → HasId es id) → (b ≡ false → HasId es id → ⊥) → IsTrue b ↔ Present ops id
+present_iff ops es id b text there missing = (
+  λ t. let at = there t in subst (λ z. Present ops z) at.1.2 (present_at ops es text at.0 at.1.0 at.1.1),
+  λ p.
+      elim b as (λ v. b ≡ v → b ≡ true) [
+        | true ↦ λ t. t
+        | false ↦ λ f. absurd (missing f (stands ops es text id p))
       ] refl,
 )
 
@@ -138,24 +148,6 @@ accepts_other c ops others op h k a = record {
 }
 
 -- ---- checks
-pub stale_by_use : (ops : List Op) (op : Op) (id : OpId) → id ≡ id_of op → Used ops id → IsStale ops op
-stale_by_use ops op id is u = inl (subst (λ z. Used ops z) is u)
-
-pub stale_by_name : (ops : List Op) (op : Op) (id : OpId) (named : Option OpId) → id ≡ id_of op → ((x : OpId) → named ≡ Some x → Names op x) → (x : OpId) × (named ≡ Some x) × (id.counter ≤ x.counter) → IsStale ops op
-stale_by_name ops op id named is names (x, e, le) = inr (x, names x e, subst (λ z. z.counter ≤ x.counter) is le)
-
-pub not_stale : (ops : List Op) (op : Op) (id : OpId) (first second : Option OpId) → id ≡ id_of op → (Used ops id → ⊥) → ((x : OpId) → Names op x → (first ≡ Some x) ⊎ (second ≡ Some x)) → ((x : OpId) → first ≡ Some x → x.counter < id.counter) → ((x : OpId) → second ≡ Some x → x.counter < id.counter) → IsStale ops op → ⊥
-not_stale ops op id first second is unused names above above' (inl u) = unused (subst (λ z. Used ops z) (sym is) u)
-not_stale ops op id first second is unused names above above' (inr (x, n, h)) =
-    let le : id.counter ≤ x.counter = subst (λ z. z.counter ≤ x.counter) (sym is) h in
-    let less : x.counter < id.counter =
-    ⊎_elim
-    (λ (e : first ≡ Some x). above x e)
-    (λ (e : second ≡ Some x). above' x e)
-    (names x n)
-    in
-    omega arith
-
 pub lost : (ops : List Op) (op : Op) (es : List Element) (named : Option OpId) → IsText ops es → ((x : OpId) → named ≡ Some x → Names op x) → (x : OpId) × (named ≡ Some x) × (HasId es x → ⊥) → IsUnknown ops op
 lost ops op es named text names (x, e, none) = (x, names x e, λ h. none (stands ops es text x h))
 

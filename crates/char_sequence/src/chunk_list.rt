@@ -85,10 +85,13 @@ impl Model for ChunkList {
 ghost use Rattle.char_sequence.specs.Chunks.{IsSpot, IsSpotOf};
 ghost use Rattle.char_sequence.specs.Rooms.{IsRoom};
 
-/// The position of a name.
+/// The position of a name. In text that is typed on, it is the name itself, so this is tried first.
 fn position_of(names: &[usize], name: usize) -> Option<usize>
     ensures { MatchOption result ((i : ℕ) → slice_get names.now i ≡ Some name → ⊥) (λ i. slice_get names.now i ≡ Some name) }
 {
+    if name < names.len() && names[name] == name {
+        return Some(name);
+    }
     for position in 0..names.len() {
         if names[position] == name {
             return Some(position);

@@ -1,8 +1,8 @@
-ghost use Rattle.std.specs.Prelude.{◌≡◌, ◌++◌, ◌∷◌, [], List, IsTrue, ◌↔◌, IfOk, IfErr};
+ghost use Rattle.std.specs.Prelude.{◌≡◌, ◌++◌, ◌∷◌, [], List, Contains, IsTrue, ◌↔◌, MatchOption, IfOk, IfErr};
 ghost use Rattle.change_ops.specs.Operations.{id_of};
 ghost use Rattle.change_ops.specs.declared.operation.Op.{Op};
 ghost use Rattle.char_sequence.specs.Acceptance.{Used};
-ghost use Rattle.char_sequence.specs.Newest.{IsNewest, IsLastCounter};
+ghost use Rattle.char_sequence.specs.Newest.{IsNewest, IsLast, IsLastCounter};
 
 use change_ops::id::OpId;
 use indexmap::IndexMap;
@@ -38,6 +38,13 @@ impl Newest {
         }
     }
 
+    /// The last counter of a peer, if it made an operation.
+    pub fn last(&self, node: u16) -> Option<u64>
+        ensures { (ops : List Op) → IsNewest ops self.now → MatchOption result ((o : Op) → Contains ops o → (id_of o).node ≡ node → ⊥) (IsLast ops node) }
+    {
+        self.counters.get(&node).copied()
+    }
+
     /// Whether an operation of the same peer has a counter as great.
     pub fn is_used(&self, id: OpId) -> bool
         ensures { (ops : List Op) → IsNewest ops self.now → IsTrue result ↔ Used ops id }
@@ -52,8 +59,8 @@ impl Newest {
     pub fn last_counter(&self, node: u16) -> u64
         ensures { (ops : List Op) → IsNewest ops self.now → IsLastCounter ops node result }
     {
-        match self.counters.get(&node) {
-            Some(last) => *last,
+        match self.last(node) {
+            Some(last) => last,
             None => 0,
         }
     }

@@ -65,7 +65,7 @@ impl Model for Sequence {
 }
 
 ghost use Rattle.change_ops.specs.Ids.{Less};
-ghost use Rattle.change_ops.specs.Operations.{is_insert, Names};
+ghost use Rattle.change_ops.specs.Operations.{id_of, is_insert, Names};
 ghost use Rattle.char_sequence.specs.Tree.{Present, Removed, IsTree};
 ghost use Rattle.char_sequence.specs.Order.{IsAt, IsText, Shows, SameSet};
 ghost use Rattle.char_sequence.specs.Acceptance.{IsStale, IsUnknown, Accepts, Checked};
@@ -96,14 +96,22 @@ fn is_there(elements: &ChunkList, named: Option<OpId>) -> bool
     }
 }
 
+/// Whether the operation's counter is above those of the characters that it names.
+pub fn is_above_named(op: &Op) -> bool
+    ensures yes { result ≡ true → (x : OpId) → Names op.now x → x.counter < (id_of op.now).counter }
+    ensures no { result ≡ false → (x : OpId) × Names op.now x × ((id_of op.now).counter ≤ x.counter) }
+{
+    let id = op.id();
+    let Named { first, second } = op.named();
+    is_above(id, first) && is_above(id, second)
+}
+
 /// Whether the operation's counter is not above each that it has to be above.
 fn is_stale(newest: &Newest, op: &Op) -> bool
     ensures yes { (ops : List Op) → IsNewest ops newest.now → result ≡ true → IsStale ops op.now }
     ensures no { (ops : List Op) → IsNewest ops newest.now → result ≡ false → IsStale ops op.now → ⊥ }
 {
-    let id = op.id();
-    let Named { first, second } = op.named();
-    newest.is_used(id) || !is_above(id, first) || !is_above(id, second)
+    newest.is_used(op.id()) || !is_above_named(op)
 }
 
 /// Whether a character that the operation names is not there.
@@ -203,6 +211,13 @@ impl Sequence {
         ensures { IfOk result (λ table. table ≡ self.now.elements) }
     {
         self.elements.place_table(alloc)
+    }
+
+    /// Whether the character is there, removed or not.
+    pub fn has(&self, id: OpId) -> bool
+        ensures { (ops : List Op) → Shows self.now.elements ops → IsTrue result ↔ Present ops id }
+    {
+        self.elements.has(id)
     }
 
     /// Whether the character is there and not removed.

@@ -86,6 +86,9 @@ key_from_range (RemoveMark id key start end) r is = is.0
 pub marks_none : (es : List Element) (operations : List Op) → AreFirstMarks es operations 0 []
 marks_none es operations = record { sized = refl; placed = λ i p g. absurd (none-some p g) }
 
+pub no_marks : (es : List Element) (operations : List Op) (marks : List PlacedMark) → length operations ≡ 0 → marks ≡ [] → AreFirstMarks es operations (length operations) marks
+no_marks es operations marks empty none = subst (λ (p : ℕ × List PlacedMark). AreFirstMarks es operations p.0 p.1) (λ i. (sym empty i, sym none i)) (marks_none es operations)
+
 pub marks_more : (es : List Element) (operations : List Op) (k : ℕ) (o : Op) (marks : List PlacedMark) (p : PlacedMark) → slice_get operations k ≡ Some o → IsPlaced es p.key o p → p.index ≡ k → AreFirstMarks es operations k marks → AreFirstMarks es operations (k + 1) (marks ++ p ∷ [])
 marks_more es operations k o marks p at is index first =
     let size : length marks ≡ k = first.sized in

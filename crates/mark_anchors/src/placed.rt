@@ -17,6 +17,7 @@ use change_ops::attribute::{Attribute, Color, Key, Link};
 use change_ops::id::OpId;
 use change_ops::operation::{Anchor, Op};
 use char_sequence::place_table::PlaceTable;
+use char_sequence::sequence::Sequence;
 use std::alloc::{AllocError, Global};
 
 /// A mark operation, by its index, with its key and the places that it covers: from `start` up to `end`, which is not one of them.
@@ -71,7 +72,7 @@ fn placed_mark(places: &PlaceTable<'_>, operation: &Op, index: usize) -> PlacedM
 }
 
 /// The mark operations with their places, each looked up once.
-pub(crate) fn placed_marks(
+fn placed_marks(
     alloc: Global,
     places: &PlaceTable<'_>,
     operations: &[Op],
@@ -84,6 +85,22 @@ pub(crate) fn placed_marks(
         marks.push(placed_mark(places, &operations[index], index))?;
     }
     Ok(marks)
+}
+
+/// The mark operations with their places in the text. Where there is none, no table of places is made.
+pub(crate) fn marks_in(
+    alloc: Global,
+    sequence: &Sequence,
+    operations: &[Op],
+) -> Result<Vec<PlacedMark>, AllocError>
+    requires { (ops : List Op) × Shows sequence.now.elements ops × AreMarks ops operations.now }
+    ensures { IfOk result (λ marks. AreAllPlaced sequence.now.elements operations.now marks.items) }
+{
+    if operations.is_empty() {
+        return Ok(Vec::new(alloc));
+    }
+    let places = sequence.place_table(alloc)?;
+    placed_marks(alloc, &places, operations)
 }
 
 /// Those of the marks that are of the key.

@@ -12,7 +12,7 @@ use crate::comments::{CommentMarks, comment_marks, comments_at};
 use crate::format::Format;
 use crate::key_marks::{KeyMarks, in_order, places_of};
 use crate::marks::Marks;
-use crate::placed::{PlacedMark, color_at, holds_at, link_at, marks_of, placed_marks};
+use crate::placed::{PlacedMark, color_at, holds_at, link_at, marks_in, marks_of};
 use crate::stretch::{Stretch, no_stretches};
 use change_ops::attribute::{CommentNumber, Key};
 use change_ops::id::OpId;
@@ -61,8 +61,7 @@ impl Marks {
         ensures marks { IfOk result (λ resolved. resolved.marks ≡ self.now) }
     {
         let operations = self.operations();
-        let places = sequence.place_table(alloc)?;
-        let marks = placed_marks(alloc, &places, operations)?;
+        let marks = marks_in(alloc, sequence, operations)?;
         let comments = comment_marks(alloc, &marks)?;
         Ok(ResolvedMarks {
             sequence,

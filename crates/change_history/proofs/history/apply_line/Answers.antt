@@ -1,22 +1,28 @@
-use Rattle.std.proofs.Common.{◌≡◌, ◌+◌, Some, [], ◌∷◌, ◌++◌, take, length, refl, sym, ap, ◌∙◌, subst, arith}
-use Rattle.std.specs.List.{slice_get}
+use Rattle.std.proofs.Common.{◌++◌, take, sym, subst}
 use Rattle.change_ops.specs.Lines.{ops_of}
 use Rattle.change_ops.specs.declared.line.Line.{Line}
-use Rattle.change_history.specs.Kept.{StandAt, StretchApplied}
-use Rattle.change_history.proofs.Chronicle.{one_applied}
+use Rattle.change_history.specs.Kept.{AreAcceptedNext, Applies}
+use Rattle.change_history.proofs.Chronicle.{stand_first, follows_at, applied_one}
 use Rattle.change_history.proofs.history.apply_line.Goals as goal
 
+pub add-requires : goal.add-requires
+add-requires c =
+    let next = subst (λ (l : Line). AreAcceptedNext (ops_of l) c.args.parts.now) c.in-Operation.is c.requires in
+    let ops = next.0 in
+    let added = next.1.0 in
+    let from = next.1.1.0 in
+    let a = next.1.1.1 in
+    (ops ++ take from added, a.kept, follows_at ops added from c.args.parts.now c.in-Operation.op a (stand_first added from c.in-Operation.op next.1.1.2))
+
+pub apply_run-requires : goal.apply_run-requires
+apply_run-requires c = subst (λ (l : Line). AreAcceptedNext (ops_of l) c.args.parts.now) c.in-Run.is c.requires
+
 pub returns-in-Operation : goal.returns-in-Operation
-returns-in-Operation c = λ ops added from stand before k.
-    let one = c.in-Operation.op in
-    let stands : StandAt added from (one ∷ []) = subst (λ (l : Line). StandAt added from (ops_of l)) c.in-Operation.is stand in
-    let same : from + 0 ≡ from = omega arith in
-    let here : slice_get added from ≡ Some one = ap (slice_get added) (sym same) ∙ stands 0 one refl in
-    subst (λ (l : Line). StretchApplied ops added from (length (ops_of l)) c.apply.new.self c.apply.result) (sym c.in-Operation.is)
-    (one_applied ops added from one c.apply.new.self c.apply.result here before (c.apply.ensures (ops ++ take from added) k))
+returns-in-Operation c =
+    let op = c.in-Operation.op in
+    subst (λ (l : Line). Applies (ops_of l) c.args.parts.now c.add.new.self c.add.result) (sym c.in-Operation.is) (λ ops added from a stand.
+    let here = stand_first added from op stand in
+    applied_one ops added from c.args.parts.now c.add.new.self op c.add.result a here (c.add.ensures (ops ++ take from added) a.kept (follows_at ops added from c.args.parts.now op a here)))
 
 pub returns-in-Run : goal.returns-in-Run
-returns-in-Run c = λ ops added from stand before k.
-    let stands = subst (λ (l : Line). StandAt added from (ops_of l)) c.in-Run.is stand in
-    subst (λ (l : Line). StretchApplied ops added from (length (ops_of l)) c.apply_run.new.parts c.apply_run.result) (sym c.in-Run.is)
-    (c.apply_run.ensures ops added from stands before k)
+returns-in-Run c = subst (λ (l : Line). Applies (ops_of l) c.args.parts.now c.apply_run.new.parts c.apply_run.result) (sym c.in-Run.is) c.apply_run.ensures

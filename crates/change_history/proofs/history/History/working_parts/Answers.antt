@@ -2,8 +2,11 @@ use Rattle.std.proofs.Common.{◌≡◌, ◌∙◌, IfOk, rules, sym}
 use Rattle.change_history.proofs.Chronicle.{kept_copy}
 use Rattle.change_history.proofs.history.History.working_parts.Goals as goal
 
-pub catch_up-requires : goal.catch_up-requires
-catch_up-requires c = c.self.invariant.1 c.in-Some.spare (sym c.take.ensures.value ∙ c.in-Some.is)
+pub catch_up-requires-clause-kept : goal.catch_up-requires-clause-kept
+catch_up-requires-clause-kept c = c.self.invariant.1 c.in-Some.spare (sym c.take.ensures.value ∙ c.in-Some.is)
+
+pub catch_up-requires-clause-accepted : goal.catch_up-requires-clause-accepted
+catch_up-requires-clause-accepted c = c.self.invariant.0.accepted
 
 pub returns-clause-kept : goal.returns-clause-kept
 returns-clause-kept c =

@@ -1,30 +1,35 @@
-use Rattle.std.proofs.Common.{sym, subst}
-use Rattle.std.specs.List.{filter}
-use Rattle.change_ops.specs.Operations.{is_edit}
-use Rattle.change_history.specs.Accepted.{MayNotFollow}
-use Rattle.change_history.proofs.Edits.{refused_whole, accepts_whole}
-use Rattle.change_history.proofs.Keeping.{unused_by, too_many, not_too_many}
+use Rattle.std.proofs.Common.{sym}
+use Rattle.change_ops.specs.Operations.{is_insert, is_mark}
+use Rattle.std.proofs.Common.{◌++◌}
+use Rattle.change_history.proofs.Counting.{at_limit, below_limit}
 use Rattle.change_history.proofs.parts.Parts.check.Goals as goal
 
-pub returns-in-Err : goal.returns-in-Err
-returns-in-Err c = λ ops k.
-    let unused = unused_by ops c.args.op.now c.id.result c.id.ensures (c.if-is_used.ensures ops k.newest) in
-    subst (λ r. MayNotFollow ops c.args.op.now r) (sym c.refusal.ensures)
-    (refused_whole (Unit {0}) ops c.args.op.now c.in-Err.error unused (c.in-Err.ensures (filter is_edit ops) k.held))
+pub returns-then-is_unknown : goal.returns-then-is_unknown
+returns-then-is_unknown c = λ ops own node k t of. (c.is_stale.ensures.no ops own node t of c.if-is_stale.false, c.is_unknown.ensures.yes ops own node k t c.if-is_unknown.true)
+
+pub returns-then-is_character_too_many : goal.returns-then-is_character_too_many
+returns-then-is_character_too_many c = λ ops own node k t of.
+    let known = c.is_unknown.ensures.no ops own node k t c.if-is_unknown.false in (
+      c.is_stale.ensures.no ops own node t of c.if-is_stale.false,
+      λ u. u.2 (known u.0 u.1),
+      at_limit is_insert (ops ++ own) c.args.op.now c.args.tally.now.characters 32768 t.characters (sym c.if-is_character_too_many.ensures),
+    )
 
 pub returns-then-is_mark_too_many : goal.returns-then-is_mark_too_many
-returns-then-is_mark_too_many c = λ ops k.
-    let unused = unused_by ops c.args.op.now c.id.result c.id.ensures (c.if-is_used.ensures ops k.newest) in
-    let a = accepts_whole ops c.args.op.now unused (c.in_default.ensures (filter is_edit ops) k.held) in (
-      a.fresh,
-      λ unknown. unknown.2 (a.known unknown.0 unknown.1),
-      a.room,
-      too_many ops c.args.op.now c.args.self.now.marks k.marks (sym c.if-is_mark_too_many.ensures),
+returns-then-is_mark_too_many c = λ ops own node k t of.
+    let known = c.is_unknown.ensures.no ops own node k t c.if-is_unknown.false in (
+      c.is_stale.ensures.no ops own node t of c.if-is_stale.false,
+      λ u. u.2 (known u.0 u.1),
+      below_limit is_insert (ops ++ own) c.args.op.now c.args.tally.now.characters 32768 t.characters (sym c.if-is_character_too_many.ensures),
+      at_limit is_mark (ops ++ own) c.args.op.now c.args.tally.now.marks 4096 t.marks (sym c.if-is_mark_too_many.ensures),
     )
 
 pub returns : goal.returns
-returns c = λ ops k.
-    let unused = unused_by ops c.args.op.now c.id.result c.id.ensures (c.if-is_used.ensures ops k.newest) in record {
-      accepted = accepts_whole ops c.args.op.now unused (c.in_default.ensures (filter is_edit ops) k.held);
-      room = not_too_many ops c.args.op.now c.args.self.now.marks k.marks (sym c.if-is_mark_too_many.ensures);
-    }
+returns c = λ ops own node k t of. record {
+  accepted = record {
+    fresh = c.is_stale.ensures.no ops own node t of c.if-is_stale.false;
+    known = c.is_unknown.ensures.no ops own node k t c.if-is_unknown.false;
+    room = below_limit is_insert (ops ++ own) c.args.op.now c.args.tally.now.characters 32768 t.characters (sym c.if-is_character_too_many.ensures);
+  };
+  room = below_limit is_mark (ops ++ own) c.args.op.now c.args.tally.now.marks 4096 t.marks (sym c.if-is_mark_too_many.ensures);
+}

@@ -8,7 +8,7 @@ pub invariant_of-result : goal.invariant_of-result
 invariant_of-result c =
     let es = c.args.sequence.now.elements in
     let operations = c.operations-operations.result.now in
-    let all : AreAllPlaced es operations c.in_ok-marks.marks.items = subst (λ (l : List Element). AreAllPlaced l operations c.in_ok-marks.marks.items) c.in_ok-places.ensures c.in_ok-marks.ensures in
+    let all : AreAllPlaced es operations c.in_ok-marks.marks.items = c.in_ok-marks.ensures in
     let read : (ms : List PlacedMark) → ms ≡ c.in_ok-marks.marks.items → AreAllPlaced es operations ms = λ ms same. subst (AreAllPlaced es operations) (sym same) all in
     let size : vec_len c.in_ok-comments.comments ≡ length c.in_ok-comments.comments.items = search rules in
     record {

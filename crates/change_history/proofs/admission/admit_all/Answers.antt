@@ -1,0 +1,39 @@
+use Rattle.std.proofs.Common.{◌≡◌, Some, length, arith, refl, sym, subst}
+use Rattle.std.specs.List.{slice_get}
+use Rattle.std.proofs.lemmas.Option.{slice_get_read}
+use Rattle.change_ops.specs.Lines.{ops_of_lines}
+use Rattle.change_history.specs.Kept.{IsNotAccepted}
+use Rattle.change_history.proofs.Chronicle.{begin_of, admitting_begun, line_stands, line_admitted, refused_at, admitted_all}
+use Rattle.change_history.proofs.admission.admit_all.Goals as goal
+
+pub loop-index-init : goal.loop-index-init
+loop-index-init c = λ ops k. admitting_begun ops c.args.lines.now c.args.node c.args.parts.now c.tally-tally.result k c.requires.own (c.tally-tally.ensures ops k)
+
+pub admit_line-requires : goal.admit_line-requires
+admit_line-requires c =
+    let lines = c.args.lines.now in
+    let here : slice_get lines c.loop-index.index ≡ Some c.index-lines-index.result =
+    slice_get_read lines (length lines) c.loop-index.index c.index-lines-index.result refl c.loop-index-test.true c.index-lines-index.is in
+    (c.requires.kept.0, (ops_of_lines lines, (begin_of lines c.loop-index.index, (c.args.node, c.loop-index.invariant c.requires.kept.0 c.requires.kept.1, line_stands lines c.loop-index.index c.index-lines-index.result here))))
+
+pub returns-in-Err : goal.returns-in-Err
+returns-in-Err c = λ ops k.
+    let lines = c.args.lines.now in
+    let here : slice_get lines c.loop-index.index ≡ Some c.index-lines-index.result =
+    slice_get_read lines (length lines) c.loop-index.index c.index-lines-index.result refl c.loop-index-test.true c.index-lines-index.is in
+    let told = c.in-Err.ensures ops (ops_of_lines lines) (begin_of lines c.loop-index.index) c.args.node (c.loop-index.invariant ops k) (line_stands lines c.loop-index.index c.index-lines-index.result here) in
+    subst (λ e. IsNotAccepted ops lines e) (sym c.at_index.ensures)
+    (refused_at ops lines c.loop-index.index c.index-lines-index.result c.args.node c.args.parts.now c.admit_line.new.tally c.in-Err.error here told)
+
+pub loop-index-preserved : goal.loop-index-preserved
+loop-index-preserved c = λ ops k.
+    let lines = c.args.lines.now in
+    let here : slice_get lines c.loop-index.index ≡ Some c.index-lines-index.result =
+    slice_get_read lines (length lines) c.loop-index.index c.index-lines-index.result refl c.loop-index-test.true c.index-lines-index.is in
+    let told = c.in_default.ensures ops (ops_of_lines lines) (begin_of lines c.loop-index.index) c.args.node (c.loop-index.invariant ops k) (line_stands lines c.loop-index.index c.index-lines-index.result here) in
+    line_admitted ops lines c.loop-index.index c.index-lines-index.result c.args.node c.args.parts.now c.admit_line.new.tally here told
+
+pub returns : goal.returns
+returns c = λ ops k.
+    let whole : c.loop-index.index ≡ length c.args.lines.now = omega arith in
+    admitted_all ops c.args.lines.now c.loop-index.index c.args.node c.args.parts.now c.loop-index.tally whole (c.loop-index.invariant ops k)
