@@ -1,38 +1,35 @@
 -- Where a subscriber is, and what is taken of it.
 use Rattle.std.proofs.Common.{◌≡◌, ℕ, ◌<◌, ◌==◌, List, [], Result, Ok, Err, length, set, get_or, refl, subst, inl, inr, sym, IsErrAnd}
-use Rattle.std.specs.Prelude.{Some, None, IfOk, IfErr, Bool, IsTrue, ◌↔◌}
+use Rattle.std.specs.Prelude.{Some, None, IfErr, Bool, IsTrue, ◌↔◌}
 use Rattle.std.proofs.lemmas.List.Quantifiers.{position-Some}
 use Rattle.std.proofs.lemmas.Option.{slice_get_read}
 use Rattle.bpf_words.specs.declared.profile.Profile.{Profile}
 use Rattle.bpf_words.specs.Words.{IsProgram, program_of}
 use Rattle.meaning.specs.Step.{Program}
 use Rattle.meaning.specs.Safe.{SafeIn}
-use Rattle.batches.specs.Batches.{Entry}
+use Rattle.batches.specs.Orderly.{IsOrderly}
+use Rattle.subscriber_queues.specs.Queue.{Taking}
 use Rattle.ingest_workers.specs.Holdings.{InOneHolding}
 use Rattle.refusals.specs.declared.reason.Reason.TheVariants as reason
 use Rattle.session_lines.specs.declared.reply.Reply.{Reply}
 use Rattle.session_lines.specs.declared.reply.Reply.TheVariants.{Refused}
 use Rattle.session_subscribers.specs.Holding.{Watched, place_in, AreSafe, Pulls, PullsAny}
 
-pub place_within : (held : List Watched) (id place : ℕ) → place_in held id ≡ Some place → place < length held
-place_within held id place there = (position-Some (λ one. one.id == id) held place (record { id = 0; taken = [] }) there).0
+pub place_within : (held : List Watched) (some : Watched) (id place : ℕ) → place_in held id ≡ Some place → place < length held
+place_within held some id place there = (position-Some (λ one. one.id == id) held place some there).0
 
-pulls_of : (id count place : ℕ) (held : List Watched) (one : Watched) (taken : List Entry) (out out' : List ℕ) (answer : Reply) → place_in held id ≡ Some place → one ≡ get_or held place one
-    → Pulls count one.taken taken out out' answer → PullsAny id count held (set held place (record one { taken = taken })) out out' answer
-pulls_of id count place held one taken out out' answer there read pulls = inl (record {
+pub pulled : (id count place : ℕ) (held : List Watched) (one : Watched) (items : Taking) (out out' : List ℕ) (answer : Reply) → place_in held id ≡ Some place → one ≡ get_or held place one
+    → Pulls count one.items items out out' answer → IsOrderly items.taken → PullsAny id count held (set held place (record one { items = items })) out out' answer
+pulled id count place held one items out out' answer there read pulls orderly = inl (record {
   place = place;
   there = there;
   one = one;
-  is = slice_get_read held (length held) place one refl (place_within held id place there) read;
-  taken = taken;
+  is = slice_get_read held (length held) place one refl (place_within held one id place there) read;
+  items = items;
   others = refl;
+  orderly = orderly;
   pulls = pulls;
 })
-
-pub pulled : {E : Type 0} (id count place : ℕ) (held : List Watched) (one : Watched) (taken : List Entry) (out out' : List ℕ) (r : Result Reply E) → place_in held id ≡ Some place → one ≡ get_or held place one
-    → IfOk r (Pulls count one.taken taken out out') → IfOk r (PullsAny id count held (set held place (record one { taken = taken })) out out')
-pulled id count place held one taken out out' (Ok answer) there read pulls = pulls_of id count place held one taken out out' answer there read pulls
-pulled id count place held one taken out out' (Err error) there read pulls = pulls
 
 pub none_pulled : (id count : ℕ) (held : List Watched) (out : List ℕ) → place_in held id ≡ None → PullsAny id count held held out out (Refused reason.NoSubscriber)
 none_pulled id count held out none = inr (record { none = none; same = refl; printed = refl; told = refl })

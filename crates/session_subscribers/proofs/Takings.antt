@@ -2,6 +2,7 @@
 use Rattle.std.proofs.Common.{◌≡◌, ℕ, ◌+◌, List, [], ◌∷◌, ◌++◌, arith, refl, sym, ap, ◌∙◌, append_assoc, length-append}
 use Rattle.std.specs.List.{flat_map}
 use Rattle.batches.specs.Batches.{Entry}
+use Rattle.subscriber_queues.specs.Queue.{Taking}
 use Rattle.session_lines.specs.Replies.{reply_text}
 use Rattle.session_lines.specs.declared.reply.Reply.{Reply}
 use Rattle.session_subscribers.specs.Items.{item_reply, item_line, Takes}
@@ -14,17 +15,17 @@ append_none : (l : List ℕ) → l ++ [] ≡ l
 append_none [] = refl
 append_none (x ∷ l) = ap (λ m. x ∷ m) (append_none l)
 
-pub taken_both : (n m k : ℕ) (a b c : List Entry) (out out' out'' : List ℕ) → k ≡ n + m → Takes n a b out out' → Takes m b c out' out'' → Takes k a c out out''
+pub taken_both : (n m k : ℕ) (a b c : Taking) (out out' out'' : List ℕ) → k ≡ n + m → Takes n a b out out' → Takes m b c out' out'' → Takes k a c out out''
 taken_both n m k a b c out out' out'' is one two = record {
   items = one.items ++ two.items;
-  next = two.next ∙ ap (λ l. l ++ two.items) one.next ∙ append_assoc a one.items two.items;
+  next = two.next ∙ ap (λ (e : Taking). record e { taken = e.taken ++ two.items }) one.next ∙ ap (λ l. record a { taken = l }) (append_assoc a.taken one.items two.items);
   printed = two.printed ∙ ap (λ l. l ++ flat_map item_line two.items) one.printed ∙ append_assoc out (flat_map item_line one.items) (flat_map item_line two.items)
       ∙ ap (λ l. out ++ l) (sym (lines_of_both one.items two.items));
   many = omega (arith, length-append one.items two.items, one.many, two.many, is);
 }
 
 -- an item is taken and its line appended
-pub one_taken : (item : Entry) (reply : Reply) (a b : List Entry) (out out' : List ℕ) → b ≡ a ++ item ∷ [] → reply ≡ item_reply item.what → out' ≡ out ++ (reply_text reply ++ 10 ∷ []) → Takes 1 a b out out'
+pub one_taken : (item : Entry) (reply : Reply) (a b : Taking) (out out' : List ℕ) → b ≡ record a { taken = a.taken ++ item ∷ [] } → reply ≡ item_reply item.what → out' ≡ out ++ (reply_text reply ++ 10 ∷ []) → Takes 1 a b out out'
 one_taken item reply a b out out' next is printed = record {
   items = item ∷ [];
   next = next;

@@ -7,10 +7,10 @@ use Rattle.meaning.specs.Step.{Program}
 use Rattle.meaning.specs.Safe.{SafeIn}
 use Rattle.verifier.specs.Judged.{Rejects}
 use Rattle.version_history.specs.Tokens.{Token}
-use Rattle.batches.specs.Batches.{Entry}
+use Rattle.batches.specs.Orderly.{IsOrderly}
 use Rattle.hub_core.specs.Machine.{State, Subscribes, Closes as ClosesAtHub}
 use Rattle.hub_core.specs.declared.error.NoSubscriber.{NoSubscriber}
-use Rattle.subscriber_queues.specs.Queue.{Sending, IsCapacity}
+use Rattle.subscriber_queues.specs.Queue.{Line, Sending, Taking, IsCapacity}
 use Rattle.ingest_workers.specs.Holdings.{InOneHolding}
 use Rattle.refusals.specs.declared.reason.Reason.{Reason}
 use Rattle.refusals.specs.declared.reason.Reason.TheVariants as reason
@@ -18,10 +18,10 @@ use Rattle.session_lines.specs.declared.reply.Reply.{Reply}
 use Rattle.session_lines.specs.declared.reply.Reply.TheVariants as reply
 use Rattle.session_subscribers.specs.Items.{Takes}
 
--- a subscriber that a session holds: its id, and the items that the session took of it
+-- a subscriber that a session holds: its id, and its end of the queue
 pub record Watched : Type 0 where
   pub id : ℕ
-  pub taken : List Entry
+  pub items : Taking
 
 -- where the one with an id is among these
 abbrev pub place_in : List Watched → ℕ → Option ℕ
@@ -32,14 +32,14 @@ abbrev pub first_of : Option ℕ → State Sending → ℕ
 first_of None s = length s.changes
 first_of (Some number) s = number
 
--- the program of these bytes, each run of which on what the profile lends ends with a number, was subscribed under this id with an empty
--- queue of this capacity, from its first version on
-pub record IsSubscribed (profile : Profile) (capacity : ℕ) (bytes : List ℕ) (first : Option ℕ) (id : ℕ) : Type 0 where
+-- the program of these bytes, each run of which on what the profile lends ends with a number, was subscribed under this id with the other end of
+-- this queue, which is empty and of this capacity, from its first version on
+pub record IsSubscribed (profile : Profile) (capacity : ℕ) (bytes : List ℕ) (first : Option ℕ) (id : ℕ) (line : Line) : Type 0 where
   pub program : IsProgram bytes
   pub safe : SafeIn profile (program_of bytes)
   pub token : Token Program
   pub same : token.value ≡ program_of bytes
-  pub holding : InOneHolding (λ old new. Subscribes old (first_of first old) token (record { sent = []; capacity = capacity }) (Ok id) new)
+  pub holding : InOneHolding (λ old new. Subscribes old (first_of first old) token (record { line = line; sent = []; capacity = capacity }) (Ok id) new)
 
 -- the bytes are a program, each run of which on what the profile lends ends with a number
 abbrev pub AreSafe : Profile → List ℕ → Type 0
@@ -55,9 +55,11 @@ IsNotSubscribed profile capacity bytes (Some number) reason.NoVersion = AreSafe 
 IsNotSubscribed profile capacity bytes first reason.OutOfMemory = AreSafe profile bytes
 IsNotSubscribed profile capacity bytes first _ = ⊥
 
--- one more is held, of which nothing was taken; or the same as before
+-- one more is held, with the end of its queue that nothing was taken from; or the same as before
 abbrev pub Adds : Profile → ℕ → List ℕ → Option ℕ → List Watched → Reply → List Watched → Type 0
-Adds profile capacity bytes first held (reply.Subscribed id) held' = (held' ≡ held ++ record { id = id; taken = [] } ∷ []) × IsSubscribed profile capacity bytes first id
+Adds profile capacity bytes first held (reply.Subscribed id) held' =
+    (line : Line) × (held' ≡ held ++ record { id = id; items = record { line = line; taken = []; shown = [] } } ∷ [])
+    × IsSubscribed profile capacity bytes first id line
 Adds profile capacity bytes first held (reply.Refused why) held' = (held' ≡ held) × IsNotSubscribed profile capacity bytes first why
 Adds profile capacity bytes first held _ held' = ⊥
 
@@ -72,21 +74,23 @@ Closes held id (reply.Refused why) held' = (why ≡ reason.NoSubscriber) × (pla
 Closes held id _ held' = ⊥
 
 -- items of one subscriber were taken, at most so many, and it is answered how many; or that no memory was found
-pub record Pulls (count : ℕ) (taken taken' : List Entry) (out out' : List ℕ) (answer : Reply) : Type 0 where
+pub record Pulls (count : ℕ) (items items' : Taking) (out out' : List ℕ) (answer : Reply) : Type 0 where
   pub many : ℕ
   pub most : many ≤ count
-  pub takes : Takes many taken taken' out out'
+  pub takes : Takes many items items' out out'
   pub told : (answer ≡ reply.Items many) ⊎ (answer ≡ reply.Refused reason.OutOfMemory)
 
--- items of the subscriber with the id were taken, and of no other
+-- items of the subscriber with the id were taken, and of no other. All that the session ever took of it are the batches of one program on
+-- versions one after another, the last perhaps unfinished
 pub record PullsHeld (id count : ℕ) (held held' : List Watched) (out out' : List ℕ) (answer : Reply) : Type 0 where
   pub place : ℕ
   pub there : place_in held id ≡ Some place
   pub one : Watched
   pub is : slice_get held place ≡ Some one
-  pub taken : List Entry
-  pub others : held' ≡ slice_set held place (record one { taken = taken })
-  pub pulls : Pulls count one.taken taken out out' answer
+  pub items : Taking
+  pub others : held' ≡ slice_set held place (record one { items = items })
+  pub orderly : IsOrderly items.taken
+  pub pulls : Pulls count one.items items out out' answer
 
 -- or none had it, and nothing was done
 pub record PullsNone (id : ℕ) (held held' : List Watched) (out out' : List ℕ) (answer : Reply) : Type 0 where

@@ -4,6 +4,7 @@ use Rattle.std.specs.List.{flat_map}
 use Rattle.batches.specs.declared.item.Finding.{Finding}
 use Rattle.batches.specs.declared.item.Finding.TheVariants as finding
 use Rattle.batches.specs.Batches.{Entry}
+use Rattle.subscriber_queues.specs.Queue.{Taking}
 use Rattle.session_lines.specs.Replies.{reply_text}
 use Rattle.session_lines.specs.declared.reply.Reply.{Reply}
 use Rattle.session_lines.specs.declared.reply.Reply.TheVariants as reply
@@ -17,9 +18,9 @@ item_reply (finding.End version spans) = reply.End version spans
 abbrev pub item_line : Entry → List ℕ
 item_line item = reply_text (item_reply item.what) ++ 10 ∷ []
 
--- so many items were taken after those that were taken before, and their lines appended in the same order
-pub record Takes (count : ℕ) (taken taken' : List Entry) (out out' : List ℕ) : Type 0 where
+-- so many items were taken of a queue after those that were taken before, and their lines appended in the same order
+pub record Takes (count : ℕ) (end end' : Taking) (out out' : List ℕ) : Type 0 where
   pub items : List Entry
-  pub next : taken' ≡ taken ++ items
+  pub next : end' ≡ record end { taken = end.taken ++ items }
   pub printed : out' ≡ out ++ flat_map item_line items
   pub many : length items ≡ count

@@ -146,6 +146,8 @@ impl<N: Naming + Ledger + Send + Sync, R: Threads + Wait + Copy + Send + Sync> S
             return Ok(Reply::Refused(Reason::NoSubscriber));
         };
         let one = &mut held[place];
-        self.pull_from(one.id, &mut one.items, count, out)
+        let reply = self.pull_from(one.id, &mut one.items, count, out)?;
+        one.items.stays_orderly();
+        Ok(reply)
     }
 }

@@ -22,8 +22,7 @@ pub struct SessionHub<'s, 'p, N: Naming + Ledger, R: Wait + Copy> {
     ghost range: { (1 ≤ workers) × (workers ≤ 16) },
 }
 
-/// A subscriber that the session made and hasn't closed, and the session's end of its queue. Contracts see its id and what was
-/// taken.
+/// A subscriber that the session made and hasn't closed, and the session's end of its queue.
 #[derive(Drop)]
 pub struct Held<N: Naming, R: Wait + Copy> {
     pub id: usize,
@@ -35,7 +34,7 @@ impl<N: Naming, R: Wait + Copy> Model for Held<N, R> {
 
     ghost Value = { Watched };
 
-    ghost view = { λ h. record { id = h.id; taken = h.items } };
+    ghost view = { λ h. record { id = h.id; items = h.items } };
 }
 
 /// Whether it has this id.

@@ -25,7 +25,8 @@ fn ends<N: Naming, R: Wait + Copy>(
     alloc: Global,
     capacity: usize,
 ) -> Result<(QueueSink<N, R>, Subscription<N, R>), Reason>
-    ensures ok { IfOk result (λ q. (q.0 ≡ record { sent = []; capacity = capacity }) × (q.1 ≡ [])) }
+    ensures sink { IfOk result (λ q. (q.0.sent ≡ []) × (q.0.capacity ≡ capacity)) }
+    ensures end { IfOk result (λ q. q.1 ≡ record { line = q.0.line; taken = []; shown = [] }) }
     ensures err { IfErr result (λ why. (profile : TheProfile) (bytes : List ℕ) (first : Option ℕ) → AreSafe profile bytes → IsNotSubscribed profile capacity bytes first why) }
 {
     match queue(rt, alloc, capacity) {

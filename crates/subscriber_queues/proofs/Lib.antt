@@ -1,2 +1,3 @@
 pub mod Empty
+pub mod Beginnings
 pub mod Moves

@@ -1,11 +1,28 @@
--- What a clause sees of a subscriber's queue.
-use Rattle.std.specs.Prelude.{ℕ, ◌≤◌, List, length}
+-- What a clause sees of the ends of a subscriber's queue.
+use Rattle.std.specs.Prelude.{◌≡◌, ℕ, ◌≤◌, List, ◌++◌, length}
+use Rattle.atomic_table.specs.Seated.{TableId}
 use Rattle.batches.specs.Batches.{Entry}
 
--- the hub's end: what was sent, and how many items may wait
+-- which queue an end is of
+abbrev pub Line : Type 0
+Line = TableId
+
+-- the hub's end: of which queue, what was sent, and how many items may wait
 pub record Sending : Type 0 where
+  pub line : Line
   pub sent : List Entry
   pub capacity : ℕ
+
+-- the subscriber's end: of which queue, what was taken, and what it knows to have been sent at least
+pub record Taking : Type 0 where
+  pub line : Line
+  pub taken : List Entry
+  pub shown : List Entry
+
+-- what was sent to a queue up to a moment
+pub record Showing : Type 0 where
+  pub line : Line
+  pub shown : List Entry
 
 -- how many items may wait in a queue
 abbrev pub IsCapacity : ℕ → Type 0
@@ -17,3 +34,15 @@ was_sent end = end.sent
 -- no fewer were sent than may wait, so that it may refuse one
 abbrev pub IsFull : Sending → Type 0
 IsFull end = end.capacity ≤ length end.sent
+
+-- the first list is a beginning of the second
+abbrev pub Begins : List Entry → List Entry → Type 0
+Begins items all = (rest : List Entry) × (all ≡ items ++ rest)
+
+-- both are beginnings of one list, so that the shorter one is a beginning of the other
+abbrev pub AreBeginnings : List Entry → List Entry → Type 0
+AreBeginnings items others = (all : List Entry) × Begins items all × Begins others all
+
+-- what was sent is what was taken and then what waits, no more than may
+abbrev pub AreEnds : Sending → Taking → Type 0
+AreEnds sink end = (waiting : List Entry) × (sink.sent ≡ end.taken ++ waiting) × (length waiting ≤ sink.capacity)

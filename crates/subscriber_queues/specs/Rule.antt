@@ -4,17 +4,19 @@ use mathlib.Core.Option.{some}
 use lib.ListN.{get_elem?}
 use Rattle.batches.specs.Batches.{Entry}
 use Rattle.batches.specs.Orderly.{IsOrderly}
+use Rattle.subscriber_queues.specs.Queue.{Begins}
 
--- what a seat knows: whether it may send or take, how many items may wait, and what it sent and took
+-- what a seat knows: whether it may send or take, how many items may wait, what it sent and took, and a beginning of what was sent
 pub record Seat : Type 0 where
   pub sends : Bool
   pub takes : Bool
   pub capacity : ℕ
   pub sent : List Entry
   pub taken : List Entry
+  pub shown : List Entry
 
-abbrev pub seat : Bool → Bool → ℕ → List Entry → List Entry → Seat
-seat sends takes capacity sent taken = record { sends = sends; takes = takes; capacity = capacity; sent = sent; taken = taken }
+abbrev pub seat : Bool → Bool → ℕ → List Entry → List Entry → List Entry → Seat
+seat sends takes capacity sent taken shown = record { sends = sends; takes = takes; capacity = capacity; sent = sent; taken = taken; shown = shown }
 
 -- what is so of a queue: the numbers of its two seats, how many items may wait, and what was sent and taken
 pub record Facts : Type 0 where
@@ -24,10 +26,11 @@ pub record Facts : Type 0 where
   pub sent : List Entry
   pub taken : List Entry
 
--- only the sender's seat may send, and it knows what was sent; only the taker's may take, and it knows what was taken
+-- only the sender's seat may send, and it knows what was sent; only the taker's may take, and it knows what was taken; what any was shown was sent
 pub record Fits (f : Facts) (number : ℕ) (v : Seat) : Type 0 where
   pub sends : v.sends ≡ true → (number ≡ f.sender) × (v.capacity ≡ f.capacity) × (v.sent ≡ f.sent)
   pub takes : v.takes ≡ true → (number ≡ f.taker) × (v.capacity ≡ f.capacity) × (v.taken ≡ f.taken)
+  pub shown : Begins v.shown f.sent
 
 -- the rule, over the items that wait, the oldest first, and over what the seats know
 pub record IsKept (waiting : List Entry) (seats : List Seat) : Type 0 where

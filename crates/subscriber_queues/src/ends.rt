@@ -1,9 +1,10 @@
 //! The two ends of a subscriber's queue.
 ghost use Rattle.std.specs.Prelude.{◌≡◌, ◌<◌, ◌↔◌, [], ◌∷◌, ◌++◌, IfOk, IfErr, OnOk, IfSome, IfNone};
+ghost use Rattle.crossbeam_queue.specs.Passes.{view as view_of};
 ghost use Rattle.batches.specs.Orderly.{IsOrderly};
-ghost use Rattle.subscriber_queues.specs.Queue.{IsCapacity};
+ghost use Rattle.subscriber_queues.specs.Queue.{IsCapacity, Begins, AreBeginnings, AreEnds};
 
-use crate::rule::{Ends, Knows, Line, Room, Sends, Takes};
+use crate::rule::{Ends, Knows, Line, Room, Sends, Shows, Takes, Whole};
 use batches::item::Item;
 use batches::sink::Sink;
 use crossbeam_queue::Pass;
@@ -16,7 +17,7 @@ use version_history::published::Naming;
 /// The most items that may wait in a queue.
 pub const CAPACITY_LIMIT: usize = 1024;
 
-/// The hub's end of a subscriber's queue. Contracts see what was sent, and the capacity.
+/// The hub's end of a subscriber's queue. Contracts see which queue it is of, what was sent, and the capacity.
 pub struct QueueSink<N: Naming, R: Wait + Copy> {
     rt: R,
     line: Arc<Line<N>, Global>,
@@ -41,12 +42,12 @@ impl<N: Naming, R: Wait + Copy> Model for QueueSink<N, R> {
 
     ghost Value = { Sending };
 
-    ghost view = { λ s. record { sent = (view_of s.pass).sent; capacity = ruled_capacity (arc_value s.line) } };
+    ghost view = { λ s. record { line = s.pass.table_id; sent = (view_of s.pass).sent; capacity = ruled_capacity (arc_value s.line) } };
 
     ghost invariant = { λ s. IsPassOf (arc_value s.line) s.pass × ((view_of s.pass).sends ≡ true) × ((view_of s.pass).capacity ≡ ruled_capacity (arc_value s.line)) };
 }
 
-/// The subscriber's end of its queue. Contracts see what was taken.
+/// The subscriber's end of its queue. Contracts see which queue it is of, what was taken, and what was shown to have been sent.
 pub struct Subscription<N: Naming, R: Wait + Copy> {
     rt: R,
     line: Arc<Line<N>, Global>,
@@ -64,17 +65,51 @@ impl<N: Naming, R: Wait + Copy> Drop for Subscription<N, R> {
 }
 
 impl<N: Naming, R: Wait + Copy> Model for Subscription<N, R> {
-    ghost use Rattle.std.specs.Prelude.{◌≡◌, true, List};
+    ghost use Rattle.std.specs.Prelude.{◌≡◌, true};
     ghost use Rattle.std.specs.Arc.{arc_value};
     ghost use Rattle.crossbeam_queue.specs.Passes.{view as view_of, IsPassOf};
-    ghost use Rattle.batches.specs.Batches.{Entry};
     ghost use Rattle.batches.specs.Orderly.{IsOrderly};
+    ghost use Rattle.subscriber_queues.specs.Queue.{Taking};
 
-    ghost Value = { List Entry };
+    ghost Value = { Taking };
 
-    ghost view = { λ s. (view_of s.pass).taken };
+    ghost view = { λ s. record { line = s.pass.table_id; taken = (view_of s.pass).taken; shown = (view_of s.pass).shown } };
 
     ghost invariant = { λ s. IsPassOf (arc_value s.line) s.pass × ((view_of s.pass).takes ≡ true) × IsOrderly (view_of s.pass).taken };
+}
+
+/// What was sent to a queue up to a moment. It is known for good, and takes no memory.
+pub struct Shown<N: Naming> {
+    pass: Pass<Item<N>, Knows<N>>,
+}
+
+impl<N: Naming> Drop for Shown<N> {
+    fn drop(self) {
+        let Shown { pass: _ } = self;
+    }
+}
+
+impl<N: Naming> Model for Shown<N> {
+    ghost use Rattle.std.specs.Prelude.{◌≡◌, []};
+    ghost use Rattle.crossbeam_queue.specs.Passes.{view as view_of};
+    ghost use Rattle.subscriber_queues.specs.Queue.{Showing};
+
+    ghost Value = { Showing };
+
+    ghost view = { λ s. record { line = s.pass.table_id; shown = (view_of s.pass).shown } };
+
+    ghost invariant = { λ s. s.pass.me.1 ≡ [] };
+}
+
+impl<N: Naming> Shown<N> {
+    fn into_pass(self) -> Pass<Item<N>, Knows<N>>
+        ensures line { result.table_id ≡ self.line }
+        ensures shown { (view_of result).shown ≡ self.shown }
+        ensures idle { result.me.1 ≡ [] }
+    {
+        let Shown { pass } = self;
+        pass
+    }
 }
 
 impl<N: Naming, R: Wait + Copy> Sink<Item<N>> for QueueSink<N, R> {
@@ -89,22 +124,67 @@ impl<N: Naming, R: Wait + Copy> Sink<Item<N>> for QueueSink<N, R> {
         ensures ok { OnOk result (self.new.sent ≡ self.old.sent ++ item ∷ []) }
         ensures err { IfErr result (λ back. (back ≡ item) × (self.new.sent ≡ self.old.sent) × (self.new.capacity ≤ length self.new.sent)) }
         ensures capacity { self.new.capacity ≡ self.old.capacity }
+        ensures line { self.new.line ≡ self.old.line }
     {
         let line = &self.line;
         line.push_as::<Sends, R>(&self.rt, &mut self.pass, item)
     }
 }
 
+impl<N: Naming, R: Wait + Copy> QueueSink<N, R> {
+    /// Shows what was sent so far.
+    pub fn shown(&mut self) -> Shown<N>
+        ensures same { self.new ≡ self.old }
+        ensures shown { result ≡ record { line = self.old.line; shown = self.old.sent } }
+    {
+        let line = &self.line;
+        Shown {
+            pass: line.another::<Shows>(&mut self.pass),
+        }
+    }
+}
+
 impl<N: Naming, R: Wait + Copy> Subscription<N, R> {
-    /// Takes the item that waits longest; None where none waits. What was taken so far are the batches of one program on versions
-    /// in their order, the last perhaps unfinished. That the items are those of this queue's other end is the queue's promise, and
-    /// not said of the two values here.
+    /// Takes the item that waits longest; None where none waits, and then all that was shown has been taken. What was taken so far are
+    /// the batches of one program on versions in their order, the last perhaps unfinished, and of it and what was shown one begins the
+    /// other.
     pub fn take(&mut self) -> Option<Item<N>>
-        ensures some { IfSome result (λ item. self.new ≡ self.old ++ item ∷ []) }
-        ensures none { IfNone result (self.new ≡ self.old) }
-        ensures orderly { IsOrderly self.new }
+        ensures some { IfSome result (λ item. self.new ≡ record self.old { taken = self.old.taken ++ item ∷ [] }) }
+        ensures none { IfNone result ((self.new ≡ self.old) × Begins self.old.shown self.old.taken) }
+        ensures orderly { IsOrderly self.new.taken }
+        ensures begins { AreBeginnings self.new.taken self.new.shown }
     {
         self.line.pop_as::<Takes, R>(&self.rt, &mut self.pass)
+    }
+
+    /// The law of what was taken so far: the batches of one program on versions in their order, the last perhaps unfinished.
+    pub fn stays_orderly(&self)
+        ensures { IsOrderly self.now.taken }
+    {
+        let _line = &self.line;
+    }
+
+    /// Learns what was shown, in place of what it knew before.
+    pub fn learn(&mut self, shown: Shown<N>)
+        requires { shown.line ≡ self.old.line }
+        ensures { self.new ≡ record self.old { shown = shown.shown } }
+    {
+        self.line.absorb::<Shows>(&mut self.pass, shown.into_pass());
+    }
+
+    /// The law of the two ends of one queue: what was taken of it is a beginning of what was sent, and no more waits than may.
+    pub fn compare(self, sink: &mut QueueSink<N, R>) -> Subscription<N, R>
+        requires { self.line ≡ sink.old.line }
+        ensures sink { sink.new ≡ sink.old }
+        ensures end { result ≡ self }
+        ensures ends { AreEnds sink.old self }
+    {
+        let Subscription { rt, line, pass } = self;
+        let theirs = &sink.line;
+        theirs.absorb::<Whole>(&mut sink.pass, pass);
+        theirs.learn_as::<Whole>(&mut sink.pass);
+        let pass = theirs.another::<Whole>(&mut sink.pass);
+        Subscription { rt, line, pass }
     }
 }
 
@@ -125,7 +205,8 @@ pub fn queue<N: Naming, R: Wait + Copy>(
     alloc: Global,
     capacity: usize,
 ) -> Result<(QueueSink<N, R>, Subscription<N, R>), QueueError>
-    ensures ok { IfOk result (λ q. (q.0 ≡ record { sent = []; capacity = capacity }) × (q.1 ≡ [])) }
+    ensures sink { IfOk result (λ q. (q.0.sent ≡ []) × (q.0.capacity ≡ capacity)) }
+    ensures end { IfOk result (λ q. q.1 ≡ record { line = q.0.line; taken = []; shown = [] }) }
     ensures range { OnOk result (IsCapacity capacity) }
     ensures bad { IfErr result (λ e. (e ≡ QueueError.BadCapacity) ↔ ¬ IsCapacity capacity) }
 {
@@ -147,7 +228,8 @@ fn made<N: Naming, R: Wait + Copy, C: Room>(
 ) -> Result<(QueueSink<N, R>, Subscription<N, R>), AllocError>
     requires some { 0 < capacity }
     requires room { capacity ≡ C.room }
-    ensures { IfOk result (λ q. (q.0 ≡ record { sent = []; capacity = capacity }) × (q.1 ≡ [])) }
+    ensures sink { IfOk result (λ q. (q.0.sent ≡ []) × (q.0.capacity ≡ capacity)) }
+    ensures end { IfOk result (λ q. q.1 ≡ record { line = q.0.line; taken = []; shown = [] }) }
 {
     let (line, mut sender) = Line::<N>::ruled(alloc, capacity)?;
     let taker = line.another::<Ends<C>>(&mut sender);

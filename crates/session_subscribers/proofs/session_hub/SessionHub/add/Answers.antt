@@ -1,5 +1,6 @@
 use Rattle.std.proofs.Common.{rules, ◌≡◌, [], ◌∷◌, ◌++◌, Ok, refl, sym, subst, ◌∙◌}
 use Rattle.hub_core.specs.Machine.{Subscribes}
+use Rattle.subscriber_queues.specs.Queue.{Sending}
 use Rattle.ingest_workers.specs.Holdings.{InOneHolding}
 use Rattle.session_subscribers.specs.Holding.{first_of, IsNotSubscribed}
 use Rattle.session_subscribers.proofs.Holdings.{safe_bytes, passed_on}
@@ -37,14 +38,17 @@ returns-in_err-id-clause-err g c =
 
 pub returns-clause-ok : goal.returns-clause-ok
 returns-clause-ok g c =
-    let one : c.push_reserved.new.self.items ≡ c.args.held.now.items ++ record { id = c.in_ok-id.id; taken = [] } ∷ [] = search rules in
+    let queue = c.in_ok-sink.sink in
+    let one : c.push_reserved.new.self.items ≡ c.args.held.now.items ++ record { id = c.in_ok-id.id; items = record { line = queue.line; taken = []; shown = [] } } ∷ [] = search rules in
     let safe = safe_bytes c.args.profile c.in_ok-program.program c.args.bytes.now c.in_ok-program.ensures.ok in (
+      queue.line,
       one,
       record {
         program = safe.0;
         safe = safe.1;
         token = c.in_ok-token.token;
         same = c.in_ok-token.ensures.ok ∙ c.in_ok-program.ensures.ok.1;
-        holding = subst (λ queue. InOneHolding (λ old new. Subscribes old (first_of c.args.first old) c.in_ok-token.token queue (Ok c.in_ok-id.id) new)) c.in_ok-sink.ensures.ok.0 c.in_ok-id.ensures.ok;
+        holding = subst (λ (q : Sending). InOneHolding (λ old new. Subscribes old (first_of c.args.first old) c.in_ok-token.token q (Ok c.in_ok-id.id) new))
+            (λ i. record { line = queue.line; sent = c.in_ok-sink.ensures.sink.0 i; capacity = c.in_ok-sink.ensures.sink.1 i }) c.in_ok-id.ensures.ok;
       },
     )
