@@ -142,6 +142,14 @@ fn answer<N: Naming + Ledger + Send + Sync, R: Threads + Wait + Copy + Send + Sy
     }
 }
 
+/// Empties the lines of a reply, and gives back the room that they took beyond the one that is kept.
+fn empty_reply(out: &mut String)
+    ensures { string_bytes out.new ≡ [] }
+{
+    out.clear();
+    out.shrink_to(REPLY_ROOM);
+}
+
 /// Reads a request, does what it asks, and puts the lines of the reply in place of those of the one before.
 fn take_turn<N: Naming + Ledger + Send + Sync, R: Threads + Wait + Copy + Send + Sync, I: Read>(
     hub: &SessionHub<'_, '_, N, R>,
@@ -156,8 +164,7 @@ fn take_turn<N: Naming + Ledger + Send + Sync, R: Threads + Wait + Copy + Send +
         (record { count = share.new; held = held.new.items; reads = hub.now.reads })) }
     ensures share { share.old ≤ share.new }
 {
-    out.clear();
-    out.shrink_to(REPLY_ROOM);
+    empty_reply(out);
     match next_request(hub.alloc, lines)? {
         Next::Request(request) => {
             answer(hub, share, held, request, out)?.push_line(out)?;

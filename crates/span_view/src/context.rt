@@ -1,6 +1,5 @@
-ghost use Rattle.std.specs.Prelude.{◌≡◌, ◌≤◌, chars, count_by, length, unwrap_or};
+ghost use Rattle.std.specs.Prelude.{◌≡◌, ◌≤◌, chars, length, unwrap_or};
 ghost use Rattle.bpf_words.specs.Context.{Fits, span_bytes};
-ghost use Rattle.span_view.specs.Starts.{is_start};
 ghost use Rattle.span_view.specs.ContextOf.{flag, flags_of, facts_of, context_of, link_of};
 
 use crate::view::SpanView;
@@ -37,21 +36,11 @@ fn flags(format: &Format) -> u32
         + flag(format.code(), CODE)
 }
 
-/// How many bytes begin a character, of one byte or of several: a test of each by itself, which compilers make wide.
-fn start_count(bytes: &[u8]) -> usize
-    ensures { result ≡ count_by is_start bytes.now }
-{
-    bytes
-        .iter()
-        .filter(|byte| **byte < 128 || **byte >= 192)
-        .count()
-}
-
 fn character_count(text: &str) -> u32
     requires { length text.now ≤ 131072 }
     ensures { result ≡ length (chars text.now) }
 {
-    start_count(text.as_bytes()) as u32
+    text.chars().count() as u32
 }
 
 /// The text of the span's link, borrowed from its format; it has no byte where the span has no link.

@@ -18,7 +18,7 @@ returns-in_ok-push_line-in-Request-clause-ok g c =
       exchange,
       record {
         next = subst (λ n. IsNext c.args.lines.now.left n c.next_request.new.reader.left) c.in-Request.is c.in_ok-request.ensures;
-        met = subst (λ out. Answers c.in-Request.request before out items answer now) c.clear.ensures.bytes c.in_ok-answer-in-Request.ensures.answers;
+        met = subst (λ out. Answers c.in-Request.request before out items answer now) c.empty_reply.ensures c.in_ok-answer-in-Request.ensures.answers;
       },
       c.in_ok-push_line-in-Request.ensures,
       refl,
@@ -34,7 +34,7 @@ returns-in_ok-push_line-in-Refused-clause-ok g c =
         next = subst (λ n. IsNext c.args.lines.now.left n c.next_request.new.reader.left) c.in-Refused.is c.in_ok-request.ensures;
         met = (refl, refl, refl);
       },
-      refused_line _ _ c.from.result _ c.in_ok-push_line-in-Refused.ensures c.clear.ensures.bytes c.from.ensures,
+      refused_line _ _ c.from.result _ c.in_ok-push_line-in-Refused.ensures c.empty_reply.ensures c.from.ensures,
       refl,
       refl,
     )
@@ -43,7 +43,7 @@ pub returns-in_ok-push_line-in-TooLong-clause-ok : goal.returns-in_ok-push_line-
 returns-in_ok-push_line-in-TooLong-clause-ok g c = (
   inr (
     subst (λ n. IsNext c.args.lines.now.left n c.next_request.new.reader.left) c.in-TooLong.is c.in_ok-request.ensures,
-    refused_line _ _ reason.LineTooLong _ c.in_ok-push_line-in-TooLong.ensures c.clear.ensures.bytes refl,
+    refused_line _ _ reason.LineTooLong _ c.in_ok-push_line-in-TooLong.ensures c.empty_reply.ensures refl,
   ),
   refl,
 )

@@ -1,6 +1,4 @@
-use Rattle.std.proofs.Common.{◌≡◌, List, length, subst, arith, rules}
-use Rattle.char_sequence.specs.declared.sequence.Element.{Element}
-use Rattle.mark_anchors.specs.Placed.{AreAllPlaced}
+use Rattle.std.proofs.Common.{◌≡◌, length, rules}
 use Rattle.mark_anchors.proofs.Gathering.{no_marks}
 use Rattle.mark_anchors.proofs.placed.marks_in.Goals as goal
 

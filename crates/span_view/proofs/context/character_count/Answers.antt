@@ -1,8 +1,6 @@
-use Rattle.std.proofs.Common.{◌∙◌, ap}
-use Rattle.std.specs.List.{count_by}
-use Rattle.span_view.specs.Starts.{is_start}
-use Rattle.span_view.proofs.Starting.{starts_are_characters}
+use Rattle.std.proofs.Common.{rules}
+use Rattle.std.proofs.lemmas.Str.{chars_from_encodes}
 use Rattle.span_view.proofs.context.character_count.Goals as goal
 
 pub returns : goal.returns
-returns c = c.start_count.ensures ∙ ap (count_by is_start) c.as_bytes.ensures.value ∙ starts_are_characters c.args.text.now c.utf8.text
+returns c = search (rules, chars_from_encodes)
