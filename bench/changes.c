@@ -49,6 +49,10 @@ void insert_line(Changes *changes, Id id, Id place, uint32_t code) {
     add(changes, " %x\n", code);
 }
 
+void removal_line(Changes *changes, Id id, Id removed) {
+    add(changes, "d %llu@%u %llu@%u\n", (unsigned long long)id.counter, id.node, (unsigned long long)removed.counter, removed.node);
+}
+
 void mark_line(Changes *changes, Id id, const char *key_and_value, Id from, Id to) {
     add(changes, "m %llu@%u %s <%llu@%u <%llu@%u\n", (unsigned long long)id.counter, id.node, key_and_value,
         (unsigned long long)from.counter, from.node, (unsigned long long)to.counter, to.node);

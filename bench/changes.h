@@ -27,6 +27,7 @@ void let_go(Changes *changes);
 /* The first line of a change. */
 void begin_change(Changes *changes, uint32_t node, uint32_t count);
 void insert_line(Changes *changes, Id id, Id place, uint32_t code);
+void removal_line(Changes *changes, Id id, Id removed);
 /* A mark from before one character to before another; the key and the value as they are written, as "strong -". */
 void mark_line(Changes *changes, Id id, const char *key_and_value, Id from, Id to);
 

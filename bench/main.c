@@ -1,4 +1,4 @@
-/* Measures the libraries through crates/bench: bench [programs|texts|ids|linux].. does those parts, and with no word all. */
+/* Measures the libraries through crates/bench: bench [programs|texts|ids|marked_ids|linux].. does those parts, and with no word all. */
 #include "linux_bpf.h"
 #include "programs.h"
 #include "texts.h"
@@ -14,6 +14,7 @@ static const Part parts[] = {
     {"programs", measure_programs},
     {"texts", measure_texts},
     {"ids", measure_chosen_ids},
+    {"marked_ids", measure_marked_ids},
     {"linux", measure_linux},
 };
 

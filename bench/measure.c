@@ -69,6 +69,11 @@ void row(const char *what, double value, const char *unit) {
     fflush(stdout);
 }
 
+void pair(const char *what, double ours, double theirs, const char *unit) {
+    printf("%-64s %12.2f %12.2f %-3s %8.2f\n", what, ours, theirs, unit, ours / theirs);
+    fflush(stdout);
+}
+
 void expect(uint64_t found, uint64_t wanted, const char *what) {
     if (found != wanted) {
         fprintf(stderr, "%s: found %llu, not %llu\n", what, (unsigned long long)found, (unsigned long long)wanted);

@@ -28,6 +28,9 @@ size_t most_memory(void);
 /* Prints a line of results. */
 void row(const char *what, double value, const char *unit);
 
+/* Prints a line of ours beside a peer's, with the ratio. */
+void pair(const char *what, double ours, double theirs, const char *unit);
+
 /* Ends the program where a call didn't answer what it must. */
 void expect(uint64_t found, uint64_t wanted, const char *what);
 

@@ -59,6 +59,15 @@ void make_straight(Program *program, size_t slots) {
     slot(program, EXIT, 0, 0, 0, 0);
 }
 
+void make_moves(Program *program, size_t slots) {
+    start(program);
+    slot(program, MOV_IMMEDIATE, 0, 0, 0, 1);
+    for (int turn = 0; program->slots + 1 < slots; turn++) {
+        slot(program, MOV_REGISTER, 2 + turn % 4, turn % 4 == 0 ? 0 : 1 + turn % 4, 0, 0);
+    }
+    slot(program, EXIT, 0, 0, 0, 0);
+}
+
 void make_branches(Program *program, size_t slots, int place) {
     start(program);
     slot(program, LOAD32, 0, 1, place, 0);

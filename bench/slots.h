@@ -17,6 +17,8 @@ typedef struct {
 
 /* Arithmetic on registers and immediates, 64 and 32 bits wide. */
 void make_straight(Program *program, size_t slots);
+/* Moves from register to register. */
+void make_moves(Program *program, size_t slots);
 /* A comparison and an addition in turn; each comparison leads to the next slot whether it holds or not. */
 void make_branches(Program *program, size_t slots, int place);
 /* A store to the stack and a load from it in turn. */

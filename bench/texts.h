@@ -3,5 +3,6 @@
 
 void measure_texts(void);
 void measure_chosen_ids(void);
+void measure_marked_ids(void);
 
 #endif
