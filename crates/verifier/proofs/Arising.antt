@@ -202,6 +202,13 @@ refuses_at profile program (Err e) slot fault (inr may) is =
     let why : may.0.fault ≡ fault = cc in
     (may.0, at, why)
 
+-- a refusal with a cause names it
+pub caused : (profile : Profile) (program : Program) (e : VerifyError) (slot : ℕ) (fault : Refusal) → IsCause profile program e → e ≡ StateRefused slot fault → RefusesAt profile program slot fault
+caused profile program e slot fault cause is =
+    let refused : Result Program VerifyError = Err e in
+    let same : refused ≡ Err (StateRefused slot fault) = cc in
+    refuses_at profile program refused slot fault cause same
+
 -- a refusal of an instruction that is passed on
 pub refused_for : {T : Type 0} (r : Result T Stop) (e fault : Refusal) (P : Refusal → Type 0) → IsErrAnd r (λ y. y ≡ Refused e) → P e → r ≡ Err (Refused fault) → P fault
 refused_for (Ok t) e fault P is p same = absurd (cc)

@@ -8,17 +8,20 @@ use Rattle.verifier.specs.declared.refusal.VerifyError.{VerifyError}
 use Rattle.verifier.specs.declared.refusal.VerifyError.TheVariants.{Structure, State, OutOfMemory}
 use Rattle.verifier.specs.Structure.{IsStructured, FirstFault}
 use Rattle.verifier.specs.Plain.{IsPlain}
+use Rattle.verifier.specs.Framed.{IsFramed}
 use Rattle.verifier.specs.Guard.{IsGuard}
+use Rattle.verifier.specs.Arises.{RefusesAt}
 
 -- no instruction's place or target is at fault
 abbrev pub HasNoFault : Program → Type 0
 HasNoFault code = (slot : ℕ) (fault : StructureFault) → ¬ (FirstFault code slot fault)
 
 -- what a refusal says of a program: the first fault in its structure; or that this has none, and then, where a slot is named, that
--- the program has it and is neither plain nor a guard program of the profile
+-- the program has it and is neither plain, nor framed, nor a guard program of the profile, and that what is known before the slot doesn't
+-- grant its instruction, with an unset register named exactly where the instruction reads one
 abbrev pub Rejects : Profile → Program → VerifyError → Type 0
 Rejects profile code (Structure slot fault) = FirstFault code slot fault
-Rejects profile code (State slot fault) = HasNoFault code × (slot < length code) × ¬ (IsPlain code) × ¬ (IsGuard profile code)
+Rejects profile code (State slot fault) = HasNoFault code × (slot < length code) × ¬ (IsPlain code) × ¬ (IsFramed code) × ¬ (IsGuard profile code) × RefusesAt profile code slot fault
 Rejects profile code OutOfMemory = HasNoFault code
 
 -- why a program isn't accepted; none: it is structured, and every run of it on what the profile lends ends with a number

@@ -10,7 +10,7 @@ use Rattle.verifier.specs.Plain.{IsPlain}
 use Rattle.verifier.specs.Guard.{IsGuard}
 use Rattle.verifier.specs.Reaches.{IsBefore}
 use Rattle.verifier.proofs.Reaching.{is_before}
-use Rattle.verifier.proofs.Arising.{passed_on, only_memory, refuses_at}
+use Rattle.verifier.proofs.Arising.{passed_on, only_memory, refuses_at, caused}
 use Rattle.verifier.proofs.PlainRuns.{plain_grants}
 use Rattle.verifier.proofs.FramedRuns.{framed_grants}
 use Rattle.verifier.specs.Framed.{IsFramed}
@@ -63,7 +63,9 @@ returns-in_err-walk-clause-rejects c =
     passed_on c.from_residual.result e (Rejects c.args.profile program) c.from_residual.ensures.1
     (walk_rejects c.args.profile program e c.in_default.ensures c.in_err-walk.ensures.states c.in_err-walk.ensures.below
     (only_memory c.args.profile program e (IsPlain program) (plain_grants c.args.profile program) c.in_err-walk.ensures.floor)
-    (only_memory c.args.profile program e (IsGuard c.args.profile program) (guard_grants c.args.profile program) c.in_err-walk.ensures.floor))
+    (only_memory c.args.profile program e (IsFramed program) (framed_grants c.args.profile program) c.in_err-walk.ensures.floor)
+    (only_memory c.args.profile program e (IsGuard c.args.profile program) (guard_grants c.args.profile program) c.in_err-walk.ensures.floor)
+    (λ slot fault is. caused c.args.profile program e slot fault c.in_err-walk.ensures.floor is))
 
 pub returns-in_err-of-clause-rejects : goal.returns-in_err-of-clause-rejects
 returns-in_err-of-clause-rejects c =
