@@ -1,5 +1,5 @@
 -- A line is read as what it says just where it has that form.
-use Rattle.std.proofs.Common.{◌≡◌, ◌≢◌, ℕ, ◌^◌, ◌<◌, ◌≤◌, Bool, true, false, cond, ltb, leb, eqb, List, [], ◌∷◌, ◌++◌, length, Some, None, Result, Ok, Err, refl, sym, ap, subst, ◌∙◌, arith, lit≤}
+use Rattle.std.proofs.Common.{◌≡◌, ◌≢◌, ℕ, ◌^◌, ◌<◌, Bool, true, false, cond, ltb, leb, eqb, List, [], ◌∷◌, ◌++◌, length, Some, None, Result, Ok, Err, refl, sym, ap, subst, ◌∙◌, arith, lit≤}
 use Rattle.std.specs.Prelude.{not, codes, if◌then◌else◌, ◌&&◌}
 use Rattle.std.specs.Str.{bytes_eq}
 use Rattle.std.specs.List.{list_all, AllByRecursion}
@@ -16,7 +16,6 @@ use Rattle.bpf_words.specs.declared.profile.Profile.{Profile}
 use Rattle.bpf_words.specs.declared.profile.Profile.TheVariants.{One, Two}
 use Rattle.session_lines.specs.Commands.{Command, name_of, subscribe, pull, close, read, Number, IsCount, Count, IsFewChanges, FewChanges, OneWord, CommandForm, Grants, IsAsked}
 use Rattle.session_lines.specs.Reading.{small, small_number, is_count, is_few_changes, is_one_word, from_at, program_at, subscribe_at, pull_at, close_at, show_at, changes_at, newest_at, query_at, words_at, command_at}
-use Rattle.session_lines.specs.declared.query.Query.{Query}
 use Rattle.session_lines.specs.declared.query.Query.TheVariants.{Latest, Show, Changes, Newest}
 use Rattle.session_lines.specs.declared.request.SessionRequest.{SessionRequest}
 use Rattle.session_lines.specs.declared.fault.LineRefusal.{LineRefusal}

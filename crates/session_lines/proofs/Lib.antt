@@ -4,5 +4,6 @@ pub mod Digits
 pub mod Forms
 pub mod Legible
 pub mod Lining
+pub mod Settled
 pub mod Gatherings
 pub mod Nexts

@@ -1,11 +1,11 @@
 //! The requests of a session.
-ghost use Rattle.std.specs.Prelude.{◌≡◌, Result, IfOk, if◌then◌else◌, string_bytes};
+ghost use Rattle.std.specs.Prelude.{◌≡◌, ◌++◌, ◌∷◌, [], Result, IfOk, IsTrue, if◌then◌else◌, string_bytes};
 ghost use Rattle.change_ops.specs.Changes.{Edit};
 ghost use Rattle.change_ops.specs.declared.refusal.ChangeError.{ChangeError};
 ghost use Rattle.change_ops.specs.declared.refusal.ChangeError.TheVariants as reading;
 ghost use Rattle.session_lines.specs.declared.fault.LineRefusal.TheVariants as why;
-ghost use Rattle.session_lines.specs.Changes.{is_header as begins_change};
-ghost use Rattle.session_lines.specs.Gathering.{Gathers};
+ghost use Rattle.session_lines.specs.Changes.{is_header as begins_change, legible};
+ghost use Rattle.session_lines.specs.Gathering.{Gathers, IsSettled, KeepsLine};
 ghost use Rattle.session_lines.specs.Requests.{changed, IsRead, IsNext, GoesOn};
 
 use crate::changes::{followers, is_header, push_line};
@@ -16,8 +16,11 @@ use crate::reader::{Arrival, LineReader};
 use bpf_words::profile::Profile;
 use change_ops::change::{Change, read_change};
 use change_ops::refusal::ChangeError;
-use std::alloc::Global;
+use std::alloc::{AllocError, Global};
 use std::io::Read;
+
+/// The most bytes of a line that a change can have: a run of 256 characters of six digits each has no more.
+const LONGEST_RIGHT_LINE: usize = 2048;
 
 /// What a session is asked for.
 #[derive(Drop)]
@@ -83,18 +86,64 @@ impl From<Result<SessionRequest, LineRefusal>> for Next {
     }
 }
 
+/// Whether the refusal is of a line that is there.
+fn names_line(error: ChangeError) -> bool
+    ensures cut { IsTrue result → ¬ (error ≡ reading.Truncated) }
+    ensures memory { IsTrue result → ¬ (error ≡ reading.OutOfMemory) }
+{
+    match error {
+        ChangeError::BadLine(_)
+        | ChangeError::Limit(_)
+        | ChangeError::CharRefused(_)
+        | ChangeError::WrongPeer(_) => true,
+        ChangeError::Truncated | ChangeError::OutOfMemory => false,
+    }
+}
+
+/// Whether what is read of the text doesn't wait for further lines.
+fn is_settled(alloc: Global, text: &str) -> bool
+    ensures { IsTrue result → IsSettled text.now }
+{
+    match read_change(alloc, text) {
+        Ok(_) => true,
+        Err(error) => names_line(error),
+    }
+}
+
+/// Keeps a line behind the text of a change, unless what is read of that is settled. It answers whether it is then. Only a line that is
+/// too long to be right is worth the look: so what is kept is never much longer than a right change's text.
+fn keep_line(
+    alloc: Global,
+    text: &mut String,
+    line: &[u8],
+    settled: bool,
+) -> Result<bool, AllocError>
+    ensures { IfOk result (λ now. KeepsLine settled (string_bytes text.old) (legible line.now ++ 10 ∷ []) now (string_bytes text.new)) }
+{
+    if settled {
+        return Ok(true);
+    }
+    push_line(text, line)?;
+    if line.len() <= LONGEST_RIGHT_LINE {
+        return Ok(false);
+    }
+    Ok(is_settled(alloc, text.as_str()))
+}
+
 #[tactic(auto, using(crate::proofs::Gatherings::gathered_none, crate::proofs::Gatherings::gathered_more, crate::proofs::Gatherings::gathered_all, crate::proofs::Gatherings::gathered_cut, crate::proofs::Gatherings::gathered_end, crate::proofs::Gatherings::gathered_long))]
-/// Reads so many lines, and appends them to the text of a change.
+/// Reads so many lines, and appends them to the text of a change, as far as what is read of it needs them.
 fn gather<R: Read>(
+    alloc: Global,
     reader: &mut LineReader<R>,
     count: usize,
     text: &mut String,
 ) -> Result<Gathered, ReadFault>
     ensures { IfOk result (λ gathered. Gathers count reader.old.left (string_bytes text.old) gathered reader.new.left (string_bytes text.new)) }
 {
+    let mut settled = false;
     for _ in 0..count {
         match reader.advance()? {
-            Arrival::Whole => push_line(text, reader.line())?,
+            Arrival::Whole => settled = keep_line(alloc, text, reader.line(), settled)?,
             Arrival::Unended | Arrival::End => return Ok(Gathered::Cut),
             Arrival::TooLong => return Ok(Gathered::TooLong),
         }
@@ -120,7 +169,7 @@ fn next_change<R: Read>(alloc: Global, reader: &mut LineReader<R>) -> Result<Nex
     let line = reader.line();
     push_line(&mut text, line)?;
     let count = followers(line);
-    match gather(reader, count, &mut text)? {
+    match gather(alloc, reader, count, &mut text)? {
         Gathered::AllThere => Ok(change_of(alloc, &text)),
         Gathered::Cut => Ok(change_of(alloc, &text)),
         Gathered::TooLong => Ok(Next::TooLong),

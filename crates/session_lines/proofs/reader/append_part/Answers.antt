@@ -1,4 +1,4 @@
-use Rattle.std.proofs.Common.{◌-◌, take, length, subst, length-take-le}
+use Rattle.std.proofs.Common.{take, length, subst, length-take-le}
 use Rattle.std.specs.Io.BufRead.{FillKeeps}
 use Rattle.std.proofs.BufReadLemmas.{Consumes_shown, zero_unless_positive}
 use Rattle.session_lines.proofs.Unended.{unended_short}
