@@ -1,12 +1,13 @@
 -- The visible text of ranges of places, chunk after chunk.
-use Rattle.std.proofs.Common.{◌≡◌, ℕ, zero, suc, ◌+◌, ◌-◌, ◌≤◌, List, [], ◌∷◌, ◌++◌, Some, length, take, drop, slice_range, sym, ap, refl, ◌∙◌, arith, append_assoc, append-nil, length-append}
+use Rattle.std.proofs.Common.{◌≡◌, ℕ, zero, suc, cond, ◌+◌, ◌-◌, ◌≤◌, List, [], ◌∷◌, ◌++◌, Some, length, take, drop, slice_range, sym, ap, refl, ◌∙◌, arith, append_assoc, append-nil, length-append}
 use Rattle.std.specs.List.{slice_get}
 use Rattle.std.proofs.lemmas.Option.{same_Some, none-some}
 use Rattle.std.proofs.lemmas.List.{take_all, drop_all, drop-drop}
+use Rattle.std.proofs.lemmas.List.Sums.{sum_by-append}
 use Rattle.std.proofs.lemmas.Grind.{common_steps}
 use Rattle.char_sequence.specs.declared.sequence.Element.{Element}
 use Rattle.char_sequence.specs.Chunks.{joined, start_of}
-use Rattle.char_sequence.specs.Visible.{visible_text}
+use Rattle.char_sequence.specs.Visible.{visible_text, visible_count}
 use Rattle.char_sequence.proofs.VisibleText.{visible_none, visible_append}
 
 abbrev the_nil : List Element
@@ -21,8 +22,14 @@ take_nil zero = refl
 take_nil (suc n) = refl
 
 -- of no chunk
+range_nil : (from to : ℕ) → slice_range the_nil from to ≡ the_nil
+range_nil from to = ap (take (to - from)) (drop_nil from) ∙ take_nil (to - from)
+
 pub range_none : (from to : ℕ) → visible_text (slice_range [] from to) ≡ []
-range_none from to = ap (λ es. visible_text (take (to - from) es)) (drop_nil from) ∙ ap visible_text (take_nil (to - from)) ∙ visible_none
+range_none from to = ap visible_text (range_nil from to) ∙ visible_none
+
+pub count_none : (from to : ℕ) → visible_count (slice_range [] from to) ≡ 0
+count_none from to = ap visible_count (range_nil from to)
 
 take_append : (n : ℕ) (xs ys : List Element) → take n (xs ++ ys) ≡ take n xs ++ take (n - length xs) ys
 take_append n [] ys = let same : n ≡ n - 0 = omega arith in ap (λ m. take m ys) same ∙ sym (ap (λ z. z ++ take (n - 0) ys) (take_nil n))
@@ -66,10 +73,19 @@ joined_more (x ∷ xs) (suc i) c here =
     ap (λ n. joined (take n (x ∷ xs))) next ∙ ap (λ z. x ++ z) (joined_more xs i c here) ∙ sym (append_assoc x (joined (take i xs)) c)
 
 -- one chunk more
+range_next : (cs : List (List Element)) (i from to : ℕ) (c : List Element) → slice_get cs i ≡ Some c → from ≤ to → slice_range (joined (take (i + 1) cs)) from to ≡ slice_range (joined (take i cs)) from to ++ slice_range c (from - start_of cs i) (to - start_of cs i)
+range_next cs i from to c here order =
+    ap (λ es. slice_range es from to) (joined_more cs i c here)
+    ∙ range_append (joined (take i cs)) c from to order
+
+pub count_more : (cs : List (List Element)) (i from to : ℕ) (c : List Element) → slice_get cs i ≡ Some c → from ≤ to → visible_count (slice_range (joined (take (i + 1) cs)) from to) ≡ visible_count (slice_range (joined (take i cs)) from to) + visible_count (slice_range c (from - start_of cs i) (to - start_of cs i))
+count_more cs i from to c here order =
+    ap visible_count (range_next cs i from to c here order)
+    ∙ sum_by-append (λ e. cond e.visible 1 0) (slice_range (joined (take i cs)) from to) (slice_range c (from - start_of cs i) (to - start_of cs i))
+
 pub range_more : (cs : List (List Element)) (i from to : ℕ) (c : List Element) → slice_get cs i ≡ Some c → from ≤ to → visible_text (slice_range (joined (take (i + 1) cs)) from to) ≡ visible_text (slice_range (joined (take i cs)) from to) ++ visible_text (slice_range c (from - start_of cs i) (to - start_of cs i))
 range_more cs i from to c here order =
-    ap (λ es. visible_text (slice_range es from to)) (joined_more cs i c here)
-    ∙ ap visible_text (range_append (joined (take i cs)) c from to order)
+    ap visible_text (range_next cs i from to c here order)
     ∙ visible_append (slice_range (joined (take i cs)) from to) (slice_range c (from - start_of cs i) (to - start_of cs i))
 
 joined_cut : (cs : List (List Element)) (i : ℕ) → joined cs ≡ joined (take i cs) ++ joined (drop i cs)
@@ -109,13 +125,13 @@ drop_within cs p to reached =
     sym (ap (drop to) (joined_cut cs p) ∙ drop_append to front back ∙ ap (λ z. z ++ drop (to - length front) back) (drop_all to front reached))
 
 -- ---- read on from a place
-pub next_text : (cs through : List (List Element)) (q read to count : ℕ) (view : List Element) → to ≡ read + count → to ≤ start_of cs q → through ≡ take q cs → drop read (joined cs) ≡ view → visible_text (slice_range (joined through) read to) ≡ visible_text (take count view)
-next_text cs through q read to count view sum far front is =
+pub next_range : (cs through : List (List Element)) (q read to count : ℕ) (view : List Element) → to ≡ read + count → to ≤ start_of cs q → through ≡ take q cs → drop read (joined cs) ≡ view → slice_range (joined through) read to ≡ take count view
+next_range cs through q read to count view sum far front is =
     let left : to - read ≡ count = omega (arith, sum) in
-    ap (λ z. visible_text (slice_range (joined z) read to)) front
-    ∙ ap visible_text (range_within cs q read to (omega (arith, sum)) far)
-    ∙ ap (λ n. visible_text (take n (drop read (joined cs)))) left
-    ∙ ap (λ z. visible_text (take count z)) is
+    ap (λ z. slice_range (joined z) read to) front
+    ∙ range_within cs q read to (omega (arith, sum)) far
+    ∙ ap (λ n. take n (drop read (joined cs))) left
+    ∙ ap (take count) is
 
 pub next_left : (cs rest : List (List Element)) (p start read to count : ℕ) (view : List Element) → to ≡ read + count → start ≡ start_of cs p → start ≤ to → rest ≡ drop p cs → drop read (joined cs) ≡ view → drop (to - start) (joined rest) ≡ drop count view
 next_left cs rest p start read to count view sum at reached back is =

@@ -1,5 +1,5 @@
 -- Elements in chunks, and the index from ids to the chunks' names.
-use Rattle.std.specs.Prelude.{◌≡◌, ℕ, ◌+◌, ◌<◌, ◌≤◌, List, [], ◌∷◌, ◌++◌, Some, None, length, take, slice_get}
+use Rattle.std.specs.Prelude.{◌≡◌, ◌⊎◌, ℕ, ◌+◌, ◌<◌, ◌≤◌, List, [], ◌∷◌, ◌++◌, Some, None, length, take, slice_get}
 use Rattle.std.specs.Map.{lookup}
 use Rattle.change_ops.specs.Ids.{Less}
 use Rattle.change_ops.specs.declared.id.OpId.{OpId}
@@ -16,6 +16,15 @@ joined (chunk ∷ chunks) = chunk ++ joined chunks
 -- so many elements stand before the chunk at this position
 abbrev pub start_of : List (List Element) → ℕ → ℕ
 start_of chunks position = length (joined (take position chunks))
+
+-- the elements stand in so many chunks, each of 1 to 64 of them, of which the longest has so many, 0 where there is none
+pub record AreInChunks (elements : List Element) (count longest : ℕ) : Type 0 where
+  pub chunks : List (List Element)
+  pub whole : joined chunks ≡ elements
+  pub counted : count ≡ length chunks
+  pub each : (i : ℕ) (c : List Element) → slice_get chunks i ≡ Some c → (0 < length c) × (length c ≤ longest)
+  pub limit : longest ≤ 64
+  pub reached : (longest ≡ 0) ⊎ ((i : ℕ) × ((c : List Element) × (slice_get chunks i ≡ Some c) × (length c ≡ longest)))
 
 -- from 1 to 64 elements, with memory for 64
 pub record IsChunk (items : List Element) (capacity : ℕ) : Type 0 where

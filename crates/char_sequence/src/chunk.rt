@@ -1,4 +1,4 @@
-ghost use Rattle.std.specs.Prelude.{vec_capacity, string_bytes, false, ◌≡◌, ℕ, ◌<◌, ◌≤◌, ◌∷◌, [], Some, length, take, drop, set, insert, slice_get, MatchOption, IfSome};
+ghost use Rattle.std.specs.Prelude.{vec_capacity, string_bytes, false, ◌≡◌, ℕ, ◌<◌, ◌≤◌, ◌∷◌, [], Some, cond, length, take, drop, set, insert, slice_get, MatchOption, IfSome};
 ghost use Rattle.std.specs.String.{string_capacity};
 ghost use Rattle.std.specs.String.Boundary.{IsSplitPoint};
 ghost use Rattle.change_ops.specs.Ids.{Less};
@@ -7,8 +7,9 @@ ghost use Rattle.char_sequence.specs.Order.{IsAt};
 ghost use Rattle.char_sequence.specs.Index.{HasId};
 ghost use Rattle.char_sequence.specs.Places.{IsNext};
 ghost use Rattle.char_sequence.specs.Chunks.{IsFloor};
-ghost use Rattle.char_sequence.specs.Visible.{visible_text};
+ghost use Rattle.char_sequence.specs.Visible.{visible_text, visible_count};
 
+use crate::counting::count_visible;
 use crate::sequence::Element;
 use crate::visible::{visible_len, write_at, write_text};
 use change_ops::id::OpId;
@@ -45,6 +46,13 @@ fn lesser(a: OpId, b: OpId) -> OpId
     if a.is_below(b) { a } else { b }
 }
 
+/// How many visible characters an element adds.
+fn shown_by(element: &Element) -> usize
+    ensures { result ≡ cond element.now.visible 1 0 }
+{
+    if element.visible { 1 } else { 0 }
+}
+
 /// The least id.
 fn floor_of(elements: &[Element]) -> OpId
     requires { 0 < length elements.now }
@@ -62,6 +70,8 @@ pub(crate) struct Chunk {
     items: Vec<Element>,
     // Their visible text, so that the text of many chunks is copied chunk by chunk.
     text: String,
+    // How many of them are visible, so that the characters of many chunks are counted chunk by chunk.
+    shown: usize,
     // No id is less, so that a walk past greater ids takes one look at a chunk.
     floor: OpId,
 }
@@ -71,22 +81,24 @@ impl Drop for Chunk {
         let Chunk {
             items: _,
             text: _,
+            shown: _,
             floor: _,
         } = self;
     }
 }
 
 impl Model for Chunk {
-    ghost use Rattle.std.specs.Prelude.{List, vec_capacity, string_bytes};
+    ghost use Rattle.std.specs.Prelude.{◌≡◌, List, vec_capacity, string_bytes};
     ghost use Rattle.std.specs.String.{string_capacity};
     ghost use Rattle.char_sequence.specs.declared.sequence.Element.{Element};
     ghost use Rattle.char_sequence.specs.Chunks.{IsChunk, IsFloor, IsTextOf};
+    ghost use Rattle.char_sequence.specs.Visible.{visible_count};
 
     ghost Value = { List Element };
 
     ghost view = { λ c. c.items.items };
 
-    ghost invariant = { λ c. IsChunk c.items.items (vec_capacity c.items) × IsTextOf c.items.items (string_bytes c.text) (string_capacity c.text) × IsFloor c.items.items c.floor };
+    ghost invariant = { λ c. IsChunk c.items.items (vec_capacity c.items) × IsTextOf c.items.items (string_bytes c.text) (string_capacity c.text) × IsFloor c.items.items c.floor × (c.shown ≡ visible_count c.items.items) };
 }
 
 impl Chunk {
@@ -101,7 +113,13 @@ impl Chunk {
         let floor = element.id;
         items.push_reserved(element);
         write_text(&items, &mut text);
-        Chunk { items, text, floor }
+        let shown = count_visible(&items);
+        Chunk {
+            items,
+            text,
+            shown,
+            floor,
+        }
     }
 
     pub(crate) fn as_slice(&self) -> &[Element]
@@ -125,6 +143,13 @@ impl Chunk {
         ensures { result.now ≡ visible_text self.now }
     {
         self.text.as_str()
+    }
+
+    /// The number of visible characters.
+    pub(crate) fn shown(&self) -> usize
+        ensures { result ≡ visible_count self.now }
+    {
+        self.shown
     }
 
     /// The index within the chunk of an element of this id.
@@ -184,6 +209,7 @@ impl Chunk {
     {
         let at = self.text_before(place);
         self.floor = lesser(self.floor, element.id);
+        self.shown += shown_by(&element);
         self.items.insert(place, element).unwrap();
         write_at(&element, at, &mut self.text);
     }
@@ -195,6 +221,7 @@ impl Chunk {
     {
         self.items[place].visible = false;
         write_text(&self.items, &mut self.text);
+        self.shown = count_visible(&self.items);
     }
 
     /// Moves the elements from an index on into a chunk of their own.
@@ -210,10 +237,17 @@ impl Chunk {
         items.extend_from_slice(&self.items[at..]).unwrap();
         self.items.truncate(at);
         write_text(&self.items, &mut self.text);
+        self.shown = count_visible(&self.items);
         self.floor = floor_of(&self.items);
         write_text(&items, &mut text);
+        let shown = count_visible(&items);
         let floor = floor_of(&items);
-        Chunk { items, text, floor }
+        Chunk {
+            items,
+            text,
+            shown,
+            floor,
+        }
     }
 }
 
@@ -228,6 +262,7 @@ impl Clone for Chunk {
         Ok(Chunk {
             items,
             text,
+            shown: self.shown,
             floor: self.floor,
         })
     }

@@ -3,6 +3,7 @@
 
 mod chunk;
 mod chunk_list;
+mod counting;
 pub mod elements;
 pub mod newest;
 pub mod place_table;

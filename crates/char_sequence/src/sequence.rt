@@ -72,7 +72,7 @@ ghost use Rattle.char_sequence.specs.Acceptance.{IsStale, IsUnknown, Accepts, Ch
 ghost use Rattle.char_sequence.specs.Newest.{IsNewest};
 ghost use Rattle.char_sequence.specs.Held.{Holds};
 ghost use Rattle.char_sequence.specs.Index.{HasId};
-ghost use Rattle.char_sequence.specs.Chunks.{joined};
+ghost use Rattle.char_sequence.specs.Chunks.{joined, AreInChunks};
 ghost use Rattle.char_sequence.specs.Visible.{visible_text};
 
 /// Whether the counter of a named character, if there is one, is below this one's.
@@ -271,6 +271,7 @@ impl Sequence {
 
     /// The number of chunks that the characters are kept in, and the length of the longest.
     pub fn shape(&self) -> (usize, usize)
+        ensures chunks { AreInChunks self.now.elements result.0 result.1 }
         ensures limit { result.1 ≤ 64 }
         ensures enough { length self.now.elements ≤ result.0 * result.1 }
         ensures few { result.0 ≤ length self.now.elements }

@@ -1,11 +1,12 @@
 //! The visible text of consecutive elements, and of a range of places.
-ghost use Rattle.std.specs.Prelude.{◌≡◌, ◌≤◌, ◌+◌, ◌-◌, ◌*◌, ◌++◌, ◌∷◌, [], true, length, take, drop, slice_range, string_bytes, OnOk, OnErr};
+ghost use Rattle.std.specs.Prelude.{◌≡◌, ◌≤◌, ◌+◌, ◌-◌, ◌*◌, ◌++◌, ◌∷◌, [], true, length, take, drop, slice_range, string_bytes, IfOk, OnOk, OnErr};
 ghost use Rattle.std.specs.String.{string_len, string_capacity};
 ghost use Rattle.std.specs.String.Boundary.{IsSplitPoint};
 ghost use Rattle.char_sequence.specs.Chunks.{joined};
-ghost use Rattle.char_sequence.specs.Visible.{visible_text};
+ghost use Rattle.char_sequence.specs.Visible.{visible_text, visible_count};
 
 use crate::chunk::Chunk;
+use crate::counting::count_of_range;
 use crate::sequence::{CHARACTER_LIMIT, Element};
 use std::alloc::AllocError;
 
@@ -60,7 +61,7 @@ pub(crate) fn push_with_room(elements: &[Element], text: &mut String)
 }
 
 /// Those of a chunk's elements that stand at the places from `from` up to `to`, where the chunk starts at `start`.
-fn part(items: &[Element], start: usize, from: usize, to: usize) -> &[Element]
+pub(crate) fn part(items: &[Element], start: usize, from: usize, to: usize) -> &[Element]
     requires { from ≤ to }
     ensures value { result.now ≡ slice_range items.now (from - start) (to - start) }
     ensures few { length result.now ≤ length items.now }
@@ -71,7 +72,7 @@ fn part(items: &[Element], start: usize, from: usize, to: usize) -> &[Element]
 }
 
 /// Whether a part of elements is all of them.
-fn is_whole(part: &[Element], items: &[Element]) -> bool
+pub(crate) fn is_whole(part: &[Element], items: &[Element]) -> bool
     ensures { result ≡ true → length part.now ≡ length items.now }
 {
     part.len() == items.len()
@@ -137,19 +138,21 @@ fn push_range_with_room(chunks: &[Chunk], from: usize, to: usize, text: &mut Str
     }
 }
 
-/// Appends the visible text of a range of places; the error is want of memory, and changes nothing.
+/// Appends the visible text of a range of places, and says how many characters it has; the error is want of memory, and
+/// changes nothing.
 pub(crate) fn push_visible(
     chunks: &[Chunk],
     from: usize,
     to: usize,
     text: &mut String,
-) -> Result<(), AllocError>
+) -> Result<usize, AllocError>
     requires order { from ≤ to }
     requires few { length (joined chunks.now) ≤ CHARACTER_LIMIT }
     ensures ok { OnOk result (string_bytes text.new ≡ string_bytes text.old ++ visible_text (slice_range (joined chunks.now) from to)) }
+    ensures count { IfOk result (λ count. count ≡ visible_count (slice_range (joined chunks.now) from to)) }
     ensures err { OnErr result (string_bytes text.new ≡ string_bytes text.old) }
 {
     text.reserve(visible_len_of_range(chunks, from, to))?;
     push_range_with_room(chunks, from, to, text);
-    Ok(())
+    Ok(count_of_range(chunks, from, to))
 }

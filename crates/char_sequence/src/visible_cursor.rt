@@ -1,8 +1,8 @@
 //! The visible text, read piece after piece in one walk over the chunks.
-ghost use Rattle.std.specs.Prelude.{◌≡◌, ◌≤◌, ◌+◌, ◌++◌, length, take, drop, string_bytes, OnOk, OnErr};
+ghost use Rattle.std.specs.Prelude.{◌≡◌, ◌≤◌, ◌+◌, ◌++◌, length, take, drop, string_bytes, IfOk, OnOk, OnErr};
 ghost use Rattle.char_sequence.specs.Chunks.{joined};
 ghost use Rattle.char_sequence.specs.PlaceTables.{IsChunkAt};
-ghost use Rattle.char_sequence.specs.Visible.{visible_text};
+ghost use Rattle.char_sequence.specs.Visible.{visible_text, visible_count};
 
 use crate::chunk::Chunk;
 use crate::place_table::ChunkStart;
@@ -51,11 +51,12 @@ fn chunk_at(chunks: &[Chunk], place: usize) -> ChunkStart
 }
 
 impl VisibleCursor<'_> {
-    /// Reads so many characters, removed ones too, and appends those of them that are visible; the error is want of memory,
-    /// and changes nothing.
-    pub fn push_next(&mut self, count: usize, text: &mut String) -> Result<(), AllocError>
+    /// Reads so many characters, removed ones too, and appends those of them that are visible, of which it says how many they
+    /// are; the error is want of memory, and changes nothing.
+    pub fn push_next(&mut self, count: usize, text: &mut String) -> Result<usize, AllocError>
         requires { count ≤ length self.old }
         ensures text { OnOk result (string_bytes text.new ≡ string_bytes text.old ++ visible_text (take count self.old)) }
+        ensures characters { IfOk result (λ characters. characters ≡ visible_count (take count self.old)) }
         ensures left { OnOk result (self.new ≡ drop count self.old) }
         ensures err { OnErr result ((string_bytes text.new ≡ string_bytes text.old) × (self.new ≡ self.old)) }
     {
@@ -64,10 +65,10 @@ impl VisibleCursor<'_> {
         let last = chunk_at(chunks, to);
         let count_through = chunks.len().min(last.position + 1);
         let (through, _) = chunks.split_at(count_through);
-        push_visible(through, self.read, to, text)?;
+        let characters = push_visible(through, self.read, to, text)?;
         let (_, rest) = chunks.split_at(last.position);
         self.chunks = rest;
         self.read = to - last.start;
-        Ok(())
+        Ok(characters)
     }
 }

@@ -1,17 +1,18 @@
 -- The text is taken in range after range.
 use Rattle.std.proofs.Common.{◌≡◌, ℕ, zero, suc, ◌+◌, ◌-◌, ◌*◌, ◌<◌, ◌≤◌, Bool, true, false, cond, List, [], ◌∷◌, ◌++◌, Some, length, map, take, drop, refl, sym, ap, subst, ◌∙◌, arith, zero-add, append-nil, length-append, length-drop, All, IsUtf8, encode_utf8_all, ⊎_elim}
 use Rattle.std.specs.List.{filter, slice_get, slice_range}
-use Rattle.std.specs.Str.{IsCharBoundary}
+use Rattle.std.specs.Str.{IsCharBoundary, chars}
 use Rattle.std.proofs.lemmas.Bool.{cases_Bool}
 use Rattle.std.proofs.lemmas.Option.{none-some}
 use Rattle.std.proofs.lemmas.List.{map-append, take_all, drop_at, take_at}
+use Rattle.std.proofs.lemmas.List.Sums.{length-filter}
 use Rattle.std.proofs.lemmas.List.Elements.{All-append, All-cons, filter-append}
-use Rattle.std.proofs.lemmas.Str.{length-encode, len_utf8_bounds, length-le-encodes, IsUtf8-drop, IsCharBoundary-from_take}
+use Rattle.std.proofs.lemmas.Str.{length-encode, len_utf8_bounds, length-le-encodes, chars_from_encodes, IsUtf8-drop, IsCharBoundary-from_take}
 use Rattle.std.specs.Char.{encode_utf8}
 use Rattle.change_ops.specs.declared.operation.Op.{Op}
 use Rattle.char_sequence.specs.declared.sequence.Element.{Element}
 use Rattle.char_sequence.specs.Order.{Shows}
-use Rattle.char_sequence.specs.Visible.{visible_text}
+use Rattle.char_sequence.specs.Visible.{visible_text, visible_count}
 use Rattle.mark_anchors.specs.Format.{IsFormat}
 use Rattle.mark_anchors.specs.Formatting.{Formatting}
 use Rattle.mark_anchors.specs.Marks.{AreMarks}
@@ -21,7 +22,7 @@ use Rattle.span_flatten.specs.declared.version.Row.{Row}
 use Rattle.span_flatten.specs.Spans.{Shown, Cuts}
 use Rattle.span_flatten.specs.Taken.{element_of, is_visible, IsTaken}
 use Rattle.span_flatten.specs.Version.{rows_from, IsPiece, IsDraft, IsWhole, IsVersion}
-use Rattle.span_flatten.proofs.Laying.{spans_back, layout_back, rows_ordered, cut_starts, cut_ends}
+use Rattle.span_flatten.proofs.Laying.{spans_back, layout_back, rows_ordered, cut_starts, cut_ends, cut_counts, counts_few}
 use Rattle.span_flatten.proofs.Showing.{filter_from, shown_visible}
 
 none : {X : Type 0} (P : X → Type 0) → All P []
@@ -147,6 +148,28 @@ visible_short es =
     let few = filter_short es in
     omega arith
 
+-- the visible characters are those that the visible text spells, each of at least one byte
+pub count_spelt : (es : List Element) → IsUtf8 (visible_text es) → visible_count es ≡ length (chars (visible_text es))
+unfolding visible_text
+count_spelt es utf8 =
+    sym (length-filter is_visible es)
+    ∙ sym (characters_count (filter is_visible es))
+    ∙ ap length (chars_from_encodes (map (λ e. e.character) (filter is_visible es)) (visible_text es) utf8 refl)
+
+pub count_few : (es : List Element) → visible_count es ≤ length (visible_text es)
+unfolding visible_text
+count_few es =
+    let bytes = length-le-encodes (map (λ e. e.character) (filter is_visible es)) in
+    let count = characters_count (filter is_visible es) in
+    let same = length-filter is_visible es in
+    omega (arith, bytes, count, same)
+
+-- no row of a draft has more characters than the text has bytes
+pub draft_counts : (shown : List Shown) (text : List ℕ) (rows : List Row) → IsDraft shown text rows → All (λ row. row.characters ≤ length text) rows
+draft_counts shown text rows d =
+    subst (λ r. All (λ row. row.characters ≤ length text) r) (sym d.layout.end_to_end)
+    (subst (λ x. All (λ row. row.characters ≤ length x) (rows_from 0 d.spans)) (sym d.layout.whole) (counts_few 0 d.spans d.texts))
+
 range_short : (es : List Element) (from to : ℕ) → length (slice_range es from to) ≤ to - from
 range_short es from to = length_take_le (to - from) (drop from es)
   where
@@ -244,6 +267,9 @@ taken_whole elements marks place text rows limit t =
             subst (λ r. All (λ row. IsCharBoundary text row.end) r) (sym d.layout.end_to_end)
             (subst (λ x. All (λ row. IsCharBoundary x row.end) (rows_from 0 d.spans)) (sym d.layout.whole) (cut_ends d.spans d.texts));
       };
+      counted =
+          subst (λ r. All (λ row. row.characters ≡ length (chars (slice_range text row.start row.end))) r) (sym d.layout.end_to_end)
+          (subst (λ x. All (λ row. row.characters ≡ length (chars (slice_range x row.start row.end))) (rows_from 0 d.spans)) (sym d.layout.whole) (cut_counts d.spans));
     }
 
 pub taken_version : (elements : List Element) (marks : List Op) (place number : ℕ) (text : List ℕ) (rows : List Row) → length elements ≤ place → IsTaken elements marks place text rows → (ops : List Op) → Shows elements ops → AreMarks ops marks → IsVersion ops number (record { number = number; text = text; rows = rows })

@@ -1,5 +1,5 @@
 -- A version: the spans of a set of operations as one text, with a row for each span (Peritext, CSCW 2022).
-use Rattle.std.specs.Prelude.{◌≡◌, ◌<◌, ◌≤◌, ◌+◌, ℕ, List, [], ◌∷◌, length, map, flat_map, slice_range, All, encode_utf8_all}
+use Rattle.std.specs.Prelude.{◌≡◌, ◌<◌, ◌≤◌, ◌+◌, ℕ, List, [], ◌∷◌, length, map, flat_map, slice_range, All, chars, encode_utf8_all}
 use Rattle.std.specs.Str.{IsUtf8, IsCharBoundary}
 use Rattle.change_ops.specs.declared.operation.Op.{Op}
 use Rattle.span_flatten.specs.declared.version.Row.{Row}
@@ -25,13 +25,13 @@ spans_of version = spans_in version.text version.rows
 abbrev pub joined : List Span → List ℕ
 joined spans = flat_map (λ span. span.text) spans
 
--- a row for each span, one after another from this place on, each as long as its span's text
+-- a row for each span, one after another from this place on, each as long as its span's text, with the number of its characters
 abbrev pub rows_from : ℕ → List Span → List Row
 rows_from start [] = []
 rows_from start (span ∷ spans) =
-    let end = start + length span.text in record { start = start; end = end; format = span.format } ∷ rows_from end spans
+    let end = start + length span.text in record { start = start; end = end; characters = length (chars span.text); format = span.format } ∷ rows_from end spans
 
--- the spans are laid out as one text and a row (start, end, format) for each, end to end
+-- the spans are laid out as one text and a row (start, end, characters, format) for each, end to end
 pub record IsLayout (spans : List Span) (text : List ℕ) (rows : List Row) : Type 0 where
   pub whole : text ≡ joined spans
   pub end_to_end : rows ≡ rows_from 0 spans
@@ -48,6 +48,7 @@ pub record IsWithinLimits (text : List ℕ) (rows : List Row) : Type 0 where
 pub record IsWhole (text : List ℕ) (rows : List Row) : Type 0 where
   pub layout : IsLayout (spans_in text rows) text rows
   pub limits : IsWithinLimits text rows
+  pub counted : All (λ row. row.characters ≡ length (chars (slice_range text row.start row.end))) rows
 
 -- the version with this number of a set of operations
 pub record IsVersion (ops : List Op) (number : ℕ) (version : Snapshot) : Type 0 where

@@ -1,4 +1,4 @@
-ghost use Rattle.std.specs.Prelude.{◌≡◌, ◌<◌, ◌≤◌, ◌+◌, ◌-◌, ◌++◌, ℕ, List, IfOk, length, drop, string_bytes};
+ghost use Rattle.std.specs.Prelude.{◌≡◌, ◌<◌, ◌≤◌, ◌+◌, ◌-◌, ◌^◌, ◌++◌, ℕ, List, All, IfOk, length, drop, chars, string_bytes};
 ghost use Rattle.change_ops.specs.declared.operation.Op.{Op};
 ghost use Rattle.char_sequence.specs.declared.sequence.Element.{Element};
 ghost use Rattle.char_sequence.specs.Order.{Shows, SameSet};
@@ -11,24 +11,34 @@ ghost use Rattle.span_flatten.specs.Version.{IsPiece, IsDraft, IsVersion};
 use crate::version::{Row, Version};
 use char_sequence::sequence::Sequence;
 use char_sequence::visible_cursor::VisibleCursor;
-use mark_anchors::format::Format;
 use mark_anchors::marks::Marks;
 use mark_anchors::ranges::FormattedRange;
 use std::alloc::{AllocError, Global};
 
-/// Gives the text from `start` on a row, or lengthens the last row where that has the same format.
-fn add_row(rows: &mut Vec<Row>, start: usize, end: usize, format: Format) -> Result<(), AllocError>
-    ensures draft { IfOk result (λ _. (shown more : List Shown) (piece : Span) (text text' : List ℕ) → IsPiece more piece → piece.format ≡ format → text' ≡ text ++ piece.text → start ≡ length text → end ≡ length text' → IsDraft shown text rows.old.items → IsDraft (shown ++ more) text' rows.new.items) }
+/// Lengthens a row by so many characters, up to a new end.
+fn lengthen(row: &mut Row, end: usize, characters: usize)
+    requires { row.old.characters + characters < 2 ^ 64 }
+    ensures { row.new ≡ record { start = row.old.start; end = end; characters = row.old.characters + characters; format = row.old.format } }
+{
+    row.end = end;
+    row.characters += characters;
+}
+
+/// Adds a row, or lengthens the last row where that has the same format.
+fn add_row(rows: &mut Vec<Row>, row: Row) -> Result<(), AllocError>
+    requires counted { All (λ earlier. earlier.characters ≤ row.start) rows.old.items }
+    requires within { row.start + row.characters ≤ row.end }
+    ensures draft { IfOk result (λ _. (shown more : List Shown) (piece : Span) (text text' : List ℕ) → IsPiece more piece → piece.format ≡ row.format → text' ≡ text ++ piece.text → row.start ≡ length text → row.end ≡ length text' → row.characters ≡ length (chars piece.text) → IsDraft shown text rows.old.items → IsDraft (shown ++ more) text' rows.new.items) }
     ensures count { IfOk result (λ _. length rows.new.items ≤ length rows.old.items + 1) }
 {
     let count = rows.len();
     if count > 0 {
-        if rows[count - 1].format == format {
-            rows[count - 1].end = end;
+        if rows[count - 1].format == row.format {
+            lengthen(&mut rows[count - 1], row.end, row.characters);
             return Ok(());
         }
     }
-    rows.push(Row { start, end, format })?;
+    rows.push(row)?;
     Ok(())
 }
 
@@ -41,15 +51,22 @@ fn take_in(
 ) -> Result<(), AllocError>
     requires some { range.from < range.to }
     requires within { range.to - range.from ≤ length cursor.old }
+    requires counted { All (λ row. row.characters ≤ length (string_bytes text.old)) rows.old.items }
     ensures { (elements : List Element) (marks : List Op) → cursor.old ≡ drop range.from elements → IsOfFormat elements marks range → IsTaken elements marks range.from (string_bytes text.old) rows.old.items → IfOk result (λ _. IsTaken elements marks range.to (string_bytes text.new) rows.new.items × (cursor.new ≡ drop range.to elements)) }
 {
     let start = text.len();
-    cursor.push_next(range.to - range.from, text)?;
+    let characters = cursor.push_next(range.to - range.from, text)?;
     let end = text.len();
     if start == end {
         return Ok(());
     }
-    add_row(rows, start, end, range.format)?;
+    let row = Row {
+        start,
+        end,
+        characters,
+        format: range.format,
+    };
+    add_row(rows, row)?;
     Ok(())
 }
 

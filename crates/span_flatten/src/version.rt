@@ -3,10 +3,11 @@ ghost use Rattle.std.specs.Prelude.{◌≡◌};
 use mark_anchors::format::Format;
 use std::marker::Model;
 
-/// A span: from `start` to `end` in the version's text, in bytes, all of one format.
+/// A span: from `start` to `end` in the version's text, in bytes, all of one format, with the number of its characters.
 pub struct Row {
     pub start: usize,
     pub end: usize,
+    pub characters: usize,
     pub format: Format,
 }
 
@@ -15,6 +16,7 @@ impl Drop for Row {
         let Row {
             start: _,
             end: _,
+            characters: _,
             format: _,
         } = self;
     }

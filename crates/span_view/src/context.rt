@@ -36,11 +36,11 @@ fn flags(format: &Format) -> u32
         + flag(format.code(), CODE)
 }
 
-fn character_count(text: &str) -> u32
-    requires { length text.now ≤ 131072 }
-    ensures { result ≡ length (chars text.now) }
+/// A text has no more characters than bytes, so their count has 32 bits.
+fn character_count(span: &SpanView) -> u32
+    ensures { result ≡ length (chars span.now.text) }
 {
-    text.chars().count() as u32
+    span.characters as u32
 }
 
 /// The text of the span's link, borrowed from its format; it has no byte where the span has no link.
@@ -86,7 +86,7 @@ fn facts(span: &SpanView) -> Facts
     let format = span.format;
     Facts {
         text_len: span.text.len() as u32,
-        characters: character_count(span.text),
+        characters: character_count(span),
         flags: flags(format),
         color: color_number(format),
         link_len: link(span).len() as u32,

@@ -11,6 +11,8 @@ use std::marker::Model;
 pub struct SpanView<'a> {
     /// The span's text.
     pub text: &'a str,
+    /// The number of its characters.
+    pub characters: usize,
     pub format: &'a Format,
     /// The span's index among those of the version, from 0.
     pub index: usize,
@@ -21,14 +23,14 @@ pub struct SpanView<'a> {
 }
 
 impl<'a> Model for SpanView<'a> {
-    ghost use Rattle.std.specs.Prelude.{length};
+    ghost use Rattle.std.specs.Prelude.{◌≡◌, length, chars};
     ghost use Rattle.span_view.specs.Views.{LentSpan, IsWithinLimits};
 
     ghost Value = { LentSpan };
 
     ghost view = { λ v. record { text = v.text.now; format = v.format.now; index = v.index; count = v.count; version = v.version } };
 
-    ghost invariant = { λ v. IsWithinLimits (length v.text.now) v.index v.count };
+    ghost invariant = { λ v. IsWithinLimits (length v.text.now) v.index v.count × (v.characters ≡ length (chars v.text.now)) };
 }
 
 /// The span with this index in the version, if there is one.
@@ -40,6 +42,7 @@ pub fn view<'a>(version: &'a Version, index: usize) -> Option<SpanView<'a>>
     let text = &version.text()[row.start..row.end];
     Some(SpanView {
         text,
+        characters: row.characters,
         format: &row.format,
         index,
         count: rows.len(),

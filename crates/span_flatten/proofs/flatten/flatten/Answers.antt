@@ -1,4 +1,4 @@
-use Rattle.std.proofs.Common.{◌≡◌, ◌≤◌, ◌+◌, ◌∷◌, ◌++◌, ℕ, List, [], length, refl, sym, ap, ◌∙◌, subst, rules, arith, append_assoc, string_bytes, vec_len}
+use Rattle.std.proofs.Common.{◌≡◌, ◌≤◌, ◌∷◌, ◌++◌, ℕ, List, [], length, refl, sym, ap, ◌∙◌, subst, rules, arith, append_assoc, string_bytes, vec_len}
 use Rattle.std.specs.Vec.Iter.{into_iter_items}
 use Rattle.std.proofs.lemmas.List.{length_push}
 use Rattle.change_ops.specs.declared.operation.Op.{Op}
@@ -6,7 +6,7 @@ use Rattle.char_sequence.specs.declared.sequence.Element.{Element}
 use Rattle.mark_anchors.specs.Ranges.{AreRanges}
 use Rattle.mark_anchors.specs.declared.ranges.FormattedRange.{FormattedRange}
 use Rattle.span_flatten.specs.declared.version.Row.{Row}
-use Rattle.span_flatten.proofs.Taking.{IsAlong, along_none, along_more, along_room, turn_at, turn_end, taken_whole, taken_version}
+use Rattle.span_flatten.proofs.Taking.{IsAlong, along_none, along_more, along_room, turn_at, turn_end, taken_whole, taken_version, draft_counts}
 use Rattle.span_flatten.proofs.flatten.flatten.Goals as goal
 
 pub loop-range-init : goal.loop-range-init
@@ -47,6 +47,11 @@ take_in-requires-clause-within c =
     let steps : into_iter_items c.loop-range.range-iterator ≡ c.in-Some.range ∷ into_iter_items c.next.new.self = c.in-Some.ensures.steps.0 in
     let read = turn_at c.loop-range.yielded (into_iter_items c.next.new.self) xs c.in-Some.range (ap (λ l. c.loop-range.yielded ++ l) (sym steps) ∙ c.loop-range.invariant.rest) in
     along_room es c.args.marks.now xs (length c.loop-range.yielded) c.in-Some.range (string_bytes c.loop-range.text) c.loop-range.rows.items c.loop-range.cursor are read c.loop-range.invariant.along
+
+pub take_in-requires-clause-counted : goal.take_in-requires-clause-counted
+take_in-requires-clause-counted c =
+    let t = c.loop-range.invariant.along.taken in
+    draft_counts t.shown (string_bytes c.loop-range.text) c.loop-range.rows.items t.draft
 
 pub loop-range-preserved : goal.loop-range-preserved
 loop-range-preserved c =

@@ -3,6 +3,16 @@ use Rattle.char_sequence.specs.Chunks.{joined}
 use Rattle.char_sequence.proofs.Joined.{joined_enough, joined_few, shape_none}
 use Rattle.char_sequence.proofs.sequence.Sequence.shape.Goals as goal
 
+pub returns-clause-chunks : goal.returns-clause-chunks
+returns-clause-chunks c = record {
+  chunks = c.self.inside.elements.chunks;
+  whole = ap (λ v. v.elements) c.self.view_is;
+  counted = c.shape.ensures.count;
+  each = c.shape.ensures.each;
+  limit = c.shape.ensures.limit;
+  reached = c.shape.ensures.reached;
+}
+
 pub returns-clause-enough : goal.returns-clause-enough
 returns-clause-enough c =
     let same = ap (λ v. length v.elements) c.self.view_is in
