@@ -5,8 +5,6 @@
 #include "span.h"
 
 #define INLINE static inline __attribute__((always_inline))
-/* Makes clang forget what it knows of a variable, so that it leaves tests where they stand and lays out no jump back. */
-#define OPAQUE(variable) __asm__("" : "+r"(variable))
 
 /* The length of `http://` or `https://`, in letters of either case, where the bytes begin so and go on; else 0. */
 INLINE u64 scheme(const u8 *at, const u8 *end) {

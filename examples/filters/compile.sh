@@ -3,21 +3,90 @@
 #
 #     ./compile.sh strong.c > strong.hex
 #
-# CLANG, OBJCOPY and OBJDUMP name the tools, MCPU the instruction set, CFLAGS further options for clang.
+# COMPILER is the compiler: clang, or where that isn't there gcc for BPF (bpf-gcc, bpf-unknown-none-gcc). OBJCOPY and OBJDUMP are
+# the tools, MCPU is the instruction set, CFLAGS has further options. STRAIGHT has the options that are added, one after the other, as
+# long as a jump leads back; none if it is empty.
 set -eu
-objdump=${OBJDUMP:-llvm-objdump}
+if [ $# -ne 1 ] || [ "$1" = --help ]; then
+    sed -n '2,8s/^# \{0,1\}//p' "$0" >&2
+    exit 2
+fi
+source=$1
+
+# The first of the commands that is there; the first of all where none is.
+first_of() {
+    for name in "$@"; do
+        if command -v "$name" > /dev/null; then
+            echo "$name"
+            return
+        fi
+    done
+    echo "$1"
+}
+
+compiler=${COMPILER:-$(first_of clang bpf-gcc bpf-unknown-none-gcc)}
+case $(basename "$compiler") in
+*gcc*)
+    # Beside `bpf-gcc` stands `bpf-objdump`.
+    tools=${compiler%gcc*}
+    target=
+    straight=-fno-reorder-blocks
+    backend=
+    ;;
+*)
+    tools=llvm-
+    target='-target bpf'
+    straight='-disable-block-placement -jump-threading-threshold=0'
+    backend=-mllvm
+    ;;
+esac
+straight=${STRAIGHT-$straight}
+objdump=${OBJDUMP:-${tools}objdump}
 folder=$(mktemp -d)
 trap 'rm -rf "$folder"' EXIT
-"${CLANG:-clang}" -target bpf -mcpu="${MCPU:-v3}" -O2 -Wall -Werror ${CFLAGS:-} -c "$1" -o "$folder/object"
-# The program is the section .text. What it needs beside that has a relocation, and a second function would be called.
-if "$objdump" -r "$folder/object" | grep R_BPF >&2; then
-    echo "$1: the program needs what stands outside of it" >&2
+
+# Compiles with further options, and leaves the program's digits in the file `digits`.
+compile() {
+    # shellcheck disable=SC2086 # several options each
+    "$compiler" $target -mcpu="${MCPU:-v3}" -O2 -Wall -Werror ${CFLAGS:-} "$@" -c "$source" -o "$folder/object"
+    "${OBJCOPY:-${tools}objcopy}" -O binary --only-section=.text "$folder/object" "$folder/program"
+    od -An -v -tx1 "$folder/program" | tr -d ' \n' > "$folder/digits"
+}
+
+# Whether an instruction of the classes 5 and 6, jumps, has a negative distance.
+jumps_back() {
+    fold -w 16 "$folder/digits" | grep -q '^.[56de]....[89a-f]'
+}
+
+compile
+set --
+for option in $straight; do
+    if jumps_back; then
+        # shellcheck disable=SC2086 # nothing where options aren't for the backend
+        set -- "$@" $backend "$option"
+        compile "$@"
+    fi
+done
+
+# The program is the section .text: one function, which calls none and needs no data.
+"$objdump" -t "$folder/object" | awk '
+    NF > 2 && $(NF - 2) == ".text" && / F / { name[++count] = $NF; if ($NF ~ /^(link_)?filter$/) filter = count }
+    END {
+        if (count == 0) print "has no function in the section .text"
+        if (!filter) filter = 1
+        for (i = 1; i <= count; i++) if (i != filter) print "calls a function that isn'\''t inlined: " name[i]
+    }' > "$folder/wrong"
+"$objdump" -r "$folder/object" | awk '
+    /^RELOCATION RECORDS FOR / { here = /\[\.text\]/; next }
+    here && $2 ~ /^R_BPF/ {
+        wrong = $2 ~ /(64_32|DISP32)$/ ? "calls a function that isn'\''t inlined: " : "needs data that stands outside of the program: "
+        if (!told[wrong $3]++) print wrong $3
+    }' >> "$folder/wrong"
+if [ -s "$folder/wrong" ]; then
+    while read -r line; do
+        echo "$source: $line" >&2
+    done < "$folder/wrong"
     exit 1
 fi
-if [ "$("$objdump" -t "$folder/object" | grep -c ' F \.text')" -ne 1 ]; then
-    echo "$1: the program has more than one function" >&2
-    exit 1
-fi
-"${OBJCOPY:-llvm-objcopy}" -O binary --only-section=.text "$folder/object" "$folder/program"
-od -An -v -tx1 "$folder/program" | tr -d ' \n'
+cat "$folder/digits"
 echo

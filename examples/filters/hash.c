@@ -7,7 +7,7 @@ u64 filter(const struct span *span) {
     u32 hash = 2166136261u;
     if (len == 0 || len > 16)
         return 0;
-#pragma clang loop unroll(full)
+    UNROLL
     for (u32 i = 0; i < 16; i++)
         if (i < len)
             hash = (hash ^ text[i]) * 16777619u;

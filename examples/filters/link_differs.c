@@ -32,7 +32,7 @@ u64 link_filter(const struct linked_span *linked) {
         return 1;
     text += first;
     link += link_first;
-#pragma clang loop unroll(full)
+    UNROLL
     for (u64 i = 0; i <= 64; i++) {
         OPAQUE(text);
         OPAQUE(link);

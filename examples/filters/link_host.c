@@ -12,7 +12,7 @@ u64 link_filter(const struct linked_span *linked) {
     if (first == 0)
         return 0;
     const u8 *at = link + first;
-#pragma clang loop unroll(full)
+    UNROLL
     for (u64 i = 0; i <= 64; i++) {
         OPAQUE(at);
         if (at < link_end && !ends(*at)) {
@@ -25,7 +25,7 @@ u64 link_filter(const struct linked_span *linked) {
     if (at < link + 7 + LENGTH || at > link_end) /* the second is never so, which the verifier doesn't know */
         return 0;
     const u8 *end = at;
-#pragma clang loop unroll(full)
+    UNROLL
     for (u64 i = 0; i < 5; i++)
         if (end[-1] >= '0' && end[-1] <= '9')
             end--;
@@ -34,7 +34,7 @@ u64 link_filter(const struct linked_span *linked) {
     else
         end = at;
     const u8 *name = end - LENGTH;
-#pragma clang loop unroll(full)
+    UNROLL
     for (u64 i = 0; i < LENGTH; i++)
         if ((name[i] | 32) != host[i])
             return 0;

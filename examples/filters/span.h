@@ -2,6 +2,16 @@
 #ifndef SPAN_H
 #define SPAN_H
 
+/* Before a loop of a constant count, of at most 512 turns: the compiler unrolls it, since no jump may lead back. */
+#ifdef __clang__
+#define UNROLL _Pragma("clang loop unroll(full)")
+#else
+#define UNROLL _Pragma("GCC unroll 512")
+#endif
+
+/* Makes the compiler forget what it knows of a variable, so that it leaves tests where they stand. */
+#define OPAQUE(variable) __asm__("" : "+r"(variable))
+
 typedef __UINT8_TYPE__ u8;
 typedef __UINT32_TYPE__ u32;
 typedef __UINT64_TYPE__ u64;

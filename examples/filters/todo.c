@@ -5,7 +5,7 @@ u64 filter(const struct span *span) {
     const u8 *text = span->text;
     u32 len = span->len;
     u32 last = 0;
-#pragma clang loop unroll(full)
+    UNROLL
     for (u32 i = 0; i < 32; i++) {
         if (i < len) {
             last = last << 8 | text[i];

@@ -2,12 +2,125 @@ use clap::{Arg, ArgAction, Command, value_parser};
 use hub_requests::{MOST_LINK_BYTES, MOST_SESSIONS, MOST_WORKERS};
 use std::alloc::{AllocError, Global};
 
-/// What the exit status of each command says.
+/// What the exit statuses of all commands say.
 const STATUSES: &str =
     "The exit status is 0 if the command is done; 1 if its input is refused, or the
 program that is run meets a fault or runs out of steps; 2 if the command line is
 wrong; 3 if a read, a write, a bind or an accept fails. A refusal is printed as
-`refused <number> <Name>`, with its place behind it (docs/REFUSALS.md).";
+`refused <number> <Name>`, with its place behind it (docs/REFUSALS.md).
+
+Example:
+
+    $ printf 'mov r0, 1\\nexit\\n' | hub asm | hub check
+    accepted 2";
+
+const AFTER_ASM: &str =
+    "The exit status is 0 if the program is printed; 1 if the text is refused, with 30 to
+36 or 62, or there is no memory, with 45; 2 if the command line is wrong; 3 if a
+read or a write fails.
+
+Example:
+
+    $ printf 'mov r0, 1\\nexit\\n' | hub asm
+    b700000001000000
+    9500000000000000";
+
+const AFTER_CHECK: &str =
+    "The exit status is 0 if the program is accepted; 1 if it is refused, with 1 to 27 or
+63, or there is no memory, with 45; 2 if the command line is wrong; 3 if a read or
+a write fails.
+
+Example:
+
+    $ echo 9500000000000000 | hub check --explain
+    refused 15 UnsetRegister slot 0
+    slot 0: exit
+      r1 = context+0
+      r10 = stack-0
+      length >= 0";
+
+const AFTER_DIS: &str =
+    "The exit status is 0 if the text is printed; 1 if the bytes are no program, with 1 to
+9 or 63, or there is no memory, with 45; 2 if the command line is wrong; 3 if a
+read or a write fails.
+
+Example:
+
+    $ echo b7000000010000009500000000000000 | hub dis
+    mov r0, 1
+    exit";
+
+const AFTER_RUN: &str =
+    "The exit status is 0 if there is a verdict; 1 after a fault (F1 to F7) or `out of
+steps`, or if the program's bytes are refused, with 1 to 9 or 63, or the text, with
+62, or there is no memory, with 45; 2 if the command line is wrong; 3 if a read or a
+write fails. `hub run` also runs what `hub check` refuses.
+
+Example, of a program whose verdict is the length of the text:
+
+    $ printf 'why?' | hub run 61101000000000009500000000000000
+    verdict 4";
+
+const AFTER_SPANS: &str =
+    "The exit status is 0 if the spans are printed; 1 if a change is refused, with 40 to 44
+or 46 to 50, or the input isn't UTF-8, with 62, or there is no memory, with 45; 2 if
+the command line is wrong; 3 if a read or a write fails.
+
+Example:
+
+    $ printf 'change2 1 1\\nr 1@1 - 2 48 6d\\n' | hub spans
+    0 plain Hm";
+
+const AFTER_REPLAY: &str = "Lines of a session, and what answers each:
+
+    the lines of a change            ok version <n>
+    sub <capacity> <hex> [from <n>]  ok sub <id>
+    sub2 <capacity> <hex> ..         the same; the program may read the link
+    pull <id> <k>                    hit <version> <span> <verdict>,
+                                     end <version> <spans>, ..; ok items <m>
+    close <id>                       ok closed <id>
+
+With --read also:
+
+    latest                           ok latest <n>
+    show <version> <first> <k>       span <index> <format> <text>, ..; ok spans <n>
+    changes <from> <k>               the changes; ok changes <m>
+    newest <node>                    ok newest <counter>
+
+The exit status is 0 if the session has ended, whatever it was refused; 1 if there is
+no memory, with 45; 2 if the command line is wrong; 3 if a read or a write fails.
+
+Example:
+
+    $ printf 'change2 1 1\\nr 1@1 - 2 48 6d\\n' | hub replay
+    ok version 1";
+
+const AFTER_SERVE: &str = "Lines of a session, and what answers each:
+
+    the lines of a change            ok version <n>
+    sub <capacity> <hex> [from <n>]  ok sub <id>
+    sub2 <capacity> <hex> ..         the same; the program may read the link
+    pull <id> <k>                    hit <version> <span> <verdict>,
+                                     end <version> <spans>, ..; ok items <m>
+    close <id>                       ok closed <id>
+
+With --read also:
+
+    latest                           ok latest <n>
+    show <version> <first> <k>       span <index> <format> <text>, ..; ok spans <n>
+    changes <from> <k>               the changes; ok changes <m>
+    newest <node>                    ok newest <counter>
+
+The exit status is 0 if all sessions have ended, whatever they were refused; 1 if there
+is no memory, with 45; 2 if the command line is wrong; 3 if the port can't be bound, or
+an accept, a read or a write fails.
+
+Example, of one session that is answered through bash:
+
+    $ hub serve --port 4711 --sessions 1 &
+    port 4711
+    $ printf 'change2 1 1\\nr 1@1 - 2 48 6d\\n' | examples/clients/ask.sh 4711
+    ok version 1";
 
 /// The options of `run` whose fields have 32 bits, with their defaults and what they say of the span.
 static FIELDS: [(&str, &str, &str); 5] = [
@@ -38,7 +151,7 @@ UTF-8, at most 131,072 bytes; a line feed at the end belongs to it. Printed is
 `verdict <number>`, `fault <slot> F<k> <Name>` or `out of steps`. All numbers are
 decimal.",
         )
-        .after_help(STATUSES)
+        .after_help(AFTER_RUN)
         .arg(program)?;
     for (name, fallback, help) in FIELDS {
         let field = Arg::new(alloc, name)
@@ -81,7 +194,7 @@ fn asm<'a>(alloc: Global) -> Command<'a> {
 instruction, a label or nothing on each line (docs/INSTRUCTIONS.md). Printed is
 the program, a line of 16 hexadecimal digits for each slot.",
         )
-        .after_help(STATUSES)
+        .after_help(AFTER_ASM)
 }
 
 fn check<'a>(alloc: Global) -> Result<Command<'a>, AllocError> {
@@ -113,7 +226,7 @@ and from 15 on what is known before it, a line for each register and each eight
 bytes of the stack that are set, and one for the least length of the text, with
 --context 2 one for that of the link (docs/PROGRAMS.md).",
         )
-        .after_help(STATUSES)
+        .after_help(AFTER_CHECK)
         .arg(context)?
         .arg(explain)
 }
@@ -127,7 +240,7 @@ hexadecimal digits of either case; spaces, tabs and line breaks are skipped.
 Printed is its canonical text (docs/INSTRUCTIONS.md), which `hub asm` turns back
 into the same bytes.",
         )
-        .after_help(STATUSES)
+        .after_help(AFTER_DIS)
 }
 
 fn spans<'a>(alloc: Global) -> Command<'a> {
@@ -139,7 +252,7 @@ to back, in the order in which they are to be accepted (docs/CHANGES.md); empty
 input is no change. Printed are the spans of the last version, each as a line
 `<index> <format> <text>`.",
         )
-        .after_help(STATUSES)
+        .after_help(AFTER_SPANS)
 }
 
 /// How many threads filter.
@@ -169,7 +282,7 @@ fn replay<'a>(alloc: Global) -> Result<Command<'a>, AllocError> {
 changes, and subscriptions of programs. Printed are the replies. A request that is
 refused is answered `no <number> <Name>`, and the session goes on.",
         )
-        .after_help(STATUSES)
+        .after_help(AFTER_REPLAY)
         .arg(workers(alloc))?
         .arg(read(alloc))
 }
@@ -197,7 +310,7 @@ fn serve<'a>(alloc: Global) -> Result<Command<'a>, AllocError> {
 share one text. The program ends when as many sessions have ended as --sessions
 says.",
         )
-        .after_help(STATUSES)
+        .after_help(AFTER_SERVE)
         .arg(port)?
         .arg(sessions)?
         .arg(workers(alloc))?

@@ -32,6 +32,21 @@ impl From<AllocError> for Unread {
 /// What is said of a text that no link has.
 const BAD_LINK: &str = "error: a link's text has 1 to 1024 characters of ASCII from `!` to `~`\n";
 
+/// What is said beside the words for an argument that is missing.
+const NEEDED_BY_SERVE: &str =
+    "`hub serve` needs a port, 0 for one that the system chooses, and how many sessions it answers, as in:
+
+    hub serve --port 4711 --sessions 2
+";
+
+/// Whether the words name this command, behind the program's own name.
+fn is_command<S: AsStr>(words: &[S], name: &str) -> bool {
+    match words.get(1) {
+        Some(word) => word.as_str() == name,
+        None => false,
+    }
+}
+
 /// The value of an option, which has a default.
 fn number(matches: &ArgMatches<'_>, name: &str) -> u32 {
     matches.get_one::<u32>(name).unwrap_or(0)
@@ -114,12 +129,15 @@ fn request_of(alloc: Global, matches: &ArgMatches<'_>) -> Result<Request, Unread
 }
 
 /// What the command line's parser says: a help or the version, where it was asked for, or what is wrong.
-fn explained(alloc: Global, error: &Error) -> Result<Unread, AllocError> {
+fn explained<S: AsStr>(alloc: Global, words: &[S], error: &Error) -> Result<Unread, AllocError> {
     if error.kind() == ErrorKind::OutOfMemory {
         return Ok(Unread::Memory);
     }
-    let text = format!(in alloc; "{error}")?;
+    let mut text = format!(in alloc; "{error}")?;
     if error.use_stderr() {
+        if error.kind() == ErrorKind::MissingRequiredArgument && is_command(words, "serve") {
+            text.push_str(NEEDED_BY_SERVE)?;
+        }
         Ok(Unread::Usage(text))
     } else {
         Ok(Unread::Shown(text))
@@ -131,6 +149,6 @@ pub fn request<S: AsStr>(alloc: Global, words: &[S]) -> Result<Request, Unread> 
     let hub = hub(alloc)?;
     match hub.try_get_matches_from(words) {
         Ok(matches) => request_of(alloc, &matches),
-        Err(error) => Err(explained(alloc, &error)?),
+        Err(error) => Err(explained(alloc, words, &error)?),
     }
 }

@@ -1,0 +1,9 @@
+/* 21 TextBounds: the two tests become one, of a copy of `len` less 2, from which the verifier learns nothing of `len`. */
+#include "../span.h"
+
+u64 filter(const struct span *span) {
+    u32 len = span->len;
+    if (len >= 2 && len <= 20)
+        return span->text[1];
+    return 0;
+}
