@@ -691,20 +691,24 @@ def state_lines(state, profile):
     return lines + [f"  link length >= {state.lengths[1]}"] * (profile == 2)
 
 
-def answer(data, profile, explains=False):
-    """What `hub check` prints of bytes, with its exit status; of an accepted program the first line alone."""
+def known_lines(states, at, profile):
+    return state_lines(states[at], profile) if at in states else ["  no run comes there"]
+
+
+def answer(data, profile, detail=None):
+    """What `hub check` prints of bytes, with its exit status; with the detail "slot" or "all" what `--explain` adds. Of an accepted
+    program the lines between the first one and the listing, of what it can do, are left out."""
     refused = refusal(data)
     if refused:
         return 1, [refused]
-    found, states = misplaced(data), {}
+    found, states = misplaced(data), None
     if found is None:
         walk = Walk(data, profile)
         found, states = walk.refused, walk.states
-    if found is None:
-        return 0, [f"accepted {len(data) // 8}"]
-    reason, at = found
-    lines = [f"refused {reason} {REASONS[reason]} slot {at}"]
-    if explains:
-        lines.append(f"slot {at}: {line_of(data, at)}")
-        lines += state_lines(states[at], profile) if at in states else []
-    return 1, lines
+    reason, last = found or (None, len(data) // 8)
+    lines = [f"accepted {last}" if found is None else f"refused {reason} {REASONS[reason]} slot {last}"]
+    for at in starts(data):
+        if detail == "all" and at < last or detail and at == last:
+            lines.append(f"slot {at}: {line_of(data, at)}")
+            lines += known_lines(states, at, profile) if states is not None else []
+    return 1 if found else 0, lines

@@ -122,6 +122,9 @@ Example, of one session that is answered through bash:
     $ printf 'change2 1 1\\nr 1@1 - 2 48 6d\\n' | examples/clients/ask.sh 4711
     ok version 1";
 
+/// What `check --explain` can be asked for; the first without a word.
+static EXPLANATIONS: [&str; 2] = ["slot", "all"];
+
 /// The options of `run` whose fields have 32 bits, with their defaults and what they say of the span.
 static FIELDS: [(&str, &str, &str); 5] = [
     (
@@ -200,8 +203,15 @@ the program, a line of 16 hexadecimal digits for each slot.",
 fn check<'a>(alloc: Global) -> Result<Command<'a>, AllocError> {
     let explain = Arg::new(alloc, "explain")
         .long("explain")
-        .action(ArgAction::SetTrue)
-        .help("Also prints what the verifier knows of the program (docs/PROGRAMS.md)");
+        .value_name("WHAT")
+        .action(ArgAction::Set)
+        .num_args(0..=1)
+        .require_equals(true)
+        .default_missing_value("slot")
+        .value_parser(EXPLANATIONS.as_slice())
+        .help(
+            "Also prints what the verifier knows of the program (docs/PROGRAMS.md), with =all before each slot",
+        );
     let context = Arg::new(alloc, "context")
         .long("context")
         .value_name("NUMBER")
@@ -224,7 +234,10 @@ steps, the fields of the context that it can read, and the bytes of the text and
 of the link. Of one that is refused with 10 to 26: the instruction at that slot,
 and from 15 on what is known before it, a line for each register and each eight
 bytes of the stack that are set, and one for the least length of the text, with
---context 2 one for that of the link (docs/PROGRAMS.md).",
+--context 2 one for that of the link (docs/PROGRAMS.md).
+
+With --explain=all the same is printed of each slot: behind the other lines of an
+accepted program, and up to the slot at which one is refused.",
         )
         .after_help(AFTER_CHECK)
         .arg(context)?

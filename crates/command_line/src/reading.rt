@@ -3,7 +3,7 @@ use bpf_words::profile::Profile;
 use change_ops::attribute::Link;
 use clap::error::ErrorKind;
 use clap::{ArgMatches, Error};
-use hub_requests::{Command, Request, Sessions, SpanOptions, Workers};
+use hub_requests::{Command, Detail, Request, Sessions, SpanOptions, Workers};
 use std::alloc::{AllocError, Global};
 use std::convert::AsStr;
 
@@ -88,6 +88,15 @@ fn profile(matches: &ArgMatches<'_>) -> Profile {
     }
 }
 
+/// How much is said of the program that is checked.
+fn detail(matches: &ArgMatches<'_>) -> Detail {
+    match matches.get_str("explain") {
+        None => Detail::Verdict,
+        Some("all") => Detail::Listing,
+        Some(_) => Detail::Reason,
+    }
+}
+
 /// The number of workers, which is one where none is given.
 fn workers(matches: &ArgMatches<'_>) -> Workers {
     let count = matches.get_one::<u32>("workers").unwrap_or(1);
@@ -108,7 +117,7 @@ fn request_of(alloc: Global, matches: &ArgMatches<'_>) -> Result<Request, Unread
     let request = match matches.subcommand() {
         Some(("asm", _)) => Some(Request::Perform(Command::Asm)),
         Some(("check", check)) => Some(Request::Perform(Command::Check {
-            explain: check.get_flag("explain"),
+            detail: detail(check),
             profile: profile(check),
         })),
         Some(("dis", _)) => Some(Request::Perform(Command::Dis)),

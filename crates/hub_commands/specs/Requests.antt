@@ -1,7 +1,8 @@
 -- What is answered to each command.
-use Rattle.std.specs.Prelude.{ℕ, List, true, false, string_bytes}
+use Rattle.std.specs.Prelude.{ℕ, List, string_bytes}
 use Rattle.hub_requests.specs.declared.Command.{Command}
 use Rattle.hub_requests.specs.declared.Command.TheVariants.{Asm, Check, Dis, Run, Spans}
+use Rattle.hub_requests.specs.declared.Detail.TheVariants.{Verdict, Reason, Listing}
 use Rattle.hub_commands.specs.Answers.{Reply}
 use Rattle.hub_commands.specs.Programs.{IsAsmReply, IsCheckReply, IsExplainReply, IsDisReply, IsRunReply}
 use Rattle.hub_commands.specs.SpansReply.{IsSpansReply}
@@ -9,8 +10,9 @@ use Rattle.hub_commands.specs.SpansReply.{IsSpansReply}
 -- the reply that the command gives to an input
 abbrev pub IsReplyTo : Command → List ℕ → Reply → Type 0
 IsReplyTo Asm = IsAsmReply
-IsReplyTo (Check false profile) = IsCheckReply profile
-IsReplyTo (Check true profile) = IsExplainReply profile
+IsReplyTo (Check Verdict profile) = IsCheckReply profile
+IsReplyTo (Check Reason profile) = IsExplainReply profile
+IsReplyTo (Check Listing profile) = IsExplainReply profile
 IsReplyTo Dis = IsDisReply
 IsReplyTo (Run digits options) = IsRunReply (string_bytes digits) options
 IsReplyTo Spans = IsSpansReply

@@ -1,5 +1,5 @@
 //! What the verifier knows of a program, printed behind what `check` answers.
-ghost use Rattle.std.specs.Prelude.{◌≡◌, ℕ, pos, ◌+◌, ◌<◌, ◌≤◌, ◌++◌, List, length, Some, true, IfOk, slice_index};
+ghost use Rattle.std.specs.Prelude.{◌≡◌, ℕ, pos, ◌+◌, ◌<◌, ◌≤◌, ◌++◌, List, Some, true, IfOk, slice_index};
 ghost use Rattle.bpf_words.specs.Flow.{jump_of, falls_through, slots_of};
 ghost use Rattle.bpf_words.specs.Context.{SpanBytes};
 ghost use Rattle.bpf_words.specs.Words.{program_of};
@@ -8,7 +8,7 @@ ghost use Rattle.meaning.specs.Outcomes.{outcome, outcome_from};
 ghost use Rattle.meaning.specs.Safe.{IsSpan, Safe, SafeIn};
 ghost use Rattle.verifier.specs.Structure.{IsStructured};
 ghost use Rattle.hub_commands.specs.Answers.{IsAnswered};
-ghost use Rattle.verifier.specs.Judged.{Rejects, IsJudged};
+ghost use Rattle.verifier.specs.Judged.{IsJudged};
 ghost use Rattle.hub_commands.specs.Programs.{IsExplainedReply, IsExplainReply};
 
 use crate::answer::Answer;
@@ -16,46 +16,17 @@ use crate::check::{acceptance_answer, rejection};
 use crate::failure::Failure;
 use crate::hexadecimal::{decode_hex, without_blanks};
 use crate::input::read_input;
-use crate::known_lines::push_state;
+use crate::listing::{push_instructions, push_listing, push_listing_until};
 use crate::output::write_answer;
 use crate::reads::push_reads;
 use bpf_words::instruction::Insn;
 use bpf_words::profile::Profile;
 use bpf_words::words::Words;
-use disassembler::line::Line;
 use refusals::reason::Reason;
 use std::alloc::{AllocError, Global};
 use std::io::{Read, Write};
-use verifier::before::state_before;
+use verifier::before::states_before;
 use verifier::refusal::VerifyError;
-
-/// Appends the instruction of a slot.
-fn push_instruction(text: &mut String, words: &Words<'_>, slot: usize) -> Result<(), AllocError>
-    requires { slot < length (program_of words.now) }
-{
-    match words.insn(slot) {
-        Some(insn) => writeln!(text, "slot {slot}: {}", Line(insn)),
-        None => Ok(()),
-    }
-}
-
-/// Appends what is known of the machine before a slot at which `verify` refuses the program, so that some way leads there.
-fn push_state_before(
-    alloc: Global,
-    text: &mut String,
-    words: &Words<'_>,
-    profile: Profile,
-    slot: usize,
-) -> Result<(), AllocError>
-    requires { slot < length (program_of words.now) }
-{
-    match state_before(alloc, words, profile, slot) {
-        Ok(Some(state)) => push_state(text, profile, &state),
-        Ok(None) => text.push_str("  no run comes there\n"),
-        Err(VerifyError::OutOfMemory) => Err(AllocError),
-        Err(_) => text.push_str("  nothing is known\n"),
-    }
-}
 
 /// Whether a run can go on to the next instruction.
 fn falls_through(insn: &Insn) -> bool
@@ -127,38 +98,51 @@ fn most_steps(alloc: Global, words: &Words<'_>) -> Result<usize, AllocError>
     Ok(steps[0])
 }
 
-/// Appends the instruction at which a program is refused, and the state before it where the instruction is refused for that.
+/// Appends the instruction at which a program is refused, and the state before it where the instruction is refused for that; the same
+/// of all instructions up to there where the whole program is to be listed.
 fn push_refused(
     alloc: Global,
     text: &mut String,
     words: &Words<'_>,
     profile: Profile,
     error: VerifyError,
-) -> Result<(), AllocError>
-    requires { Rejects profile (program_of words.now) error }
-{
+    is_whole: bool,
+) -> Result<(), AllocError> {
     match error {
-        VerifyError::Structure { slot, .. } => push_instruction(text, words, slot),
+        VerifyError::Structure { slot, .. } => {
+            let first = if is_whole { 0 } else { slot };
+            push_instructions(text, words, first, slot)
+        }
         VerifyError::State { slot, .. } => {
-            push_instruction(text, words, slot)?;
-            push_state_before(alloc, text, words, profile, slot)
+            let first = if is_whole { 0 } else { slot };
+            push_listing_until(alloc, text, words, profile, first, slot)
         }
         VerifyError::OutOfMemory => Ok(()),
     }
 }
 
-/// Appends the greatest number of steps of an accepted program, and what it can read of a span.
+/// Appends the greatest number of steps of an accepted program, and what it can read of a span; then its listing, where that is asked for.
 fn push_accepted(
     alloc: Global,
     text: &mut String,
     words: &Words<'_>,
     profile: Profile,
+    is_whole: bool,
 ) -> Result<(), AllocError>
     requires structured { IsStructured (program_of words.now) }
     requires seen { SafeIn profile (program_of words.now) }
 {
     writeln!(text, "steps <= {}", most_steps(alloc, words)?)?;
-    push_reads(alloc, text, words, profile)
+    let states = match states_before(alloc, words, profile) {
+        Ok(states) => states,
+        Err(VerifyError::OutOfMemory) => return Err(AllocError),
+        Err(_) => return Ok(()),
+    };
+    push_reads(text, words, profile, &states)?;
+    if is_whole {
+        push_listing(text, words, profile, &states)?;
+    }
+    Ok(())
 }
 
 /// What is known of a program, by why it isn't accepted.
@@ -167,13 +151,14 @@ fn explanation(
     words: &Words<'_>,
     profile: Profile,
     rejection: Option<VerifyError>,
+    is_whole: bool,
 ) -> Result<String, AllocError>
     requires { IsJudged profile (program_of words.now) rejection }
 {
     let mut text = String::new(alloc);
     match rejection {
-        Some(error) => push_refused(alloc, &mut text, words, profile, error)?,
-        None => push_accepted(alloc, &mut text, words, profile)?,
+        Some(error) => push_refused(alloc, &mut text, words, profile, error, is_whole)?,
+        None => push_accepted(alloc, &mut text, words, profile, is_whole)?,
     }
     Ok(text)
 }
@@ -184,18 +169,24 @@ fn explained_answer(
     alloc: Global,
     words: &Words<'_>,
     profile: Profile,
+    is_whole: bool,
 ) -> Result<Answer, AllocError>
     ensures { IfOk result (λ answer. IsExplainedReply profile words.now answer) }
 {
     let rejection = rejection(alloc, words, profile);
     let Answer { ending, mut text } = acceptance_answer(alloc, words, rejection)?;
-    let explanation = explanation(alloc, words, profile, rejection)?;
+    let explanation = explanation(alloc, words, profile, rejection, is_whole)?;
     text.push_str(explanation.as_str())?;
     Ok(Answer { ending, text })
 }
 
-/// What `check --explain` answers to a program in hexadecimal.
-pub fn explain_answer(alloc: Global, profile: Profile, input: &[u8]) -> Result<Answer, AllocError>
+/// What `check --explain` answers to a program in hexadecimal, or `check --explain=all`, which lists the whole program.
+pub fn explain_answer(
+    alloc: Global,
+    profile: Profile,
+    is_whole: bool,
+    input: &[u8],
+) -> Result<Answer, AllocError>
     ensures { IfOk result (λ answer. IsExplainReply profile input.now answer) }
 {
     let digits = without_blanks(alloc, input)?;
@@ -203,15 +194,16 @@ pub fn explain_answer(alloc: Global, profile: Profile, input: &[u8]) -> Result<A
         return Answer::refused(alloc, &Reason::BadHex);
     };
     match Words::new(&bytes) {
-        Ok(words) => explained_answer(alloc, &words, profile),
+        Ok(words) => explained_answer(alloc, &words, profile, is_whole),
         Err(error) => Answer::refused(alloc, &Reason::Words(error)),
     }
 }
 
-/// The command `check --explain`: whether a program in hexadecimal is accepted, and what the verifier knows of it.
+/// The commands `check --explain` and `check --explain=all`: whether a program in hexadecimal is accepted, and what the verifier knows of it.
 pub fn explain<R: Read, W: Write>(
     alloc: Global,
     profile: Profile,
+    is_whole: bool,
     reader: &mut R,
     writer: &mut W,
 ) -> Result<u8, Failure>
@@ -219,6 +211,6 @@ pub fn explain<R: Read, W: Write>(
         (W.contents writer.old) (W.contents writer.new) status) }
 {
     let input = read_input(alloc, reader)?;
-    let answer = explain_answer(alloc, profile, &input)?;
+    let answer = explain_answer(alloc, profile, is_whole, &input)?;
     write_answer(writer, &answer)
 }

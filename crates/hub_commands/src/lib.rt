@@ -10,6 +10,7 @@ pub mod failure;
 mod hexadecimal;
 mod input;
 mod known_lines;
+mod listing;
 mod output;
 pub mod perform;
 mod reads;

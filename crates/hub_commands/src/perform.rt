@@ -9,7 +9,7 @@ use crate::explain::explain;
 use crate::failure::Failure;
 use crate::run::run;
 use crate::spans::spans;
-use hub_requests::Command;
+use hub_requests::{Command, Detail};
 use std::alloc::Global;
 use std::io::{Read, Write};
 
@@ -25,14 +25,11 @@ pub fn perform<R: Read, W: Write>(
 {
     match command {
         Command::Asm => asm(alloc, reader, writer),
-        Command::Check {
-            explain: false,
-            profile,
-        } => check(alloc, *profile, reader, writer),
-        Command::Check {
-            explain: true,
-            profile,
-        } => explain(alloc, *profile, reader, writer),
+        Command::Check { detail, profile } => match detail {
+            Detail::Verdict => check(alloc, *profile, reader, writer),
+            Detail::Reason => explain(alloc, *profile, false, reader, writer),
+            Detail::Listing => explain(alloc, *profile, true, reader, writer),
+        },
         Command::Dis => dis(alloc, reader, writer),
         Command::Run { digits, options } => {
             run(alloc, digits.as_bytes(), options, reader, writer)

@@ -12,9 +12,7 @@ use bpf_words::instruction::Insn;
 use bpf_words::profile::Profile;
 use bpf_words::register::Register;
 use bpf_words::words::Words;
-use std::alloc::{AllocError, Global};
-use verifier::before::states_before;
-use verifier::refusal::VerifyError;
+use std::alloc::AllocError;
 
 /// The fields of the context, by rising offset: the first byte of each, how many it has, and its name.
 static FIELDS: [(u64, u64, &str); 13] = [
@@ -169,20 +167,17 @@ fn push_bytes(text: &mut String, name: &str, count: u64) -> Result<(), AllocErro
     }
 }
 
-/// Appends what an accepted program can read of a span: a line for the fields of the context, one for the text, and one for the link
-/// where the profile lends it.
+/// Appends what an accepted program can read of a span, by what is known before each slot: a line for the fields of the context, one for
+/// the text, and one for the link where the profile lends it.
 pub fn push_reads(
-    alloc: Global,
     text: &mut String,
     words: &Words<'_>,
     profile: Profile,
-) -> Result<(), AllocError> {
-    let states = match states_before(alloc, words, profile) {
-        Ok(states) => states,
-        Err(VerifyError::OutOfMemory) => return Err(AllocError),
-        Err(_) => return Ok(()),
-    };
-    let reads = Reads::of(words, &states);
+    states: &[Option<AbsState>],
+) -> Result<(), AllocError>
+    requires { length states.now ≡ length (program_of words.now) }
+{
+    let reads = Reads::of(words, states);
     push_fields(text, &reads.fields)?;
     push_bytes(text, "text", reads.text)?;
     match profile {

@@ -23,6 +23,17 @@ pub struct SpanOptions {
     pub version: u64,
 }
 
+/// What `check` says of a program.
+#[derive(Clone, Copy)]
+pub enum Detail {
+    /// Whether it is accepted.
+    Verdict,
+    /// Then also why: what the verifier knows at the slot at fault, or what an accepted program can do.
+    Reason,
+    /// Then also the instructions, and what the verifier knows before each.
+    Listing,
+}
+
 /// What the program is asked to do with its whole input.
 #[derive(Drop)]
 pub enum Command {
@@ -30,8 +41,7 @@ pub enum Command {
     Asm,
     /// To say whether the program that it is in hexadecimal is accepted.
     Check {
-        /// Whether to say also what the verifier knows of it.
-        explain: bool,
+        detail: Detail,
         profile: Profile,
     },
     /// To print the text of the program that it is in hexadecimal.
