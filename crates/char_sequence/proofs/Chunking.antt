@@ -17,7 +17,7 @@ use Rattle.char_sequence.specs.declared.chunk_list.Room.{Room}
 use Rattle.char_sequence.specs.declared.chunk_list.Room.TheVariants.{First, In}
 use Rattle.char_sequence.specs.Rooms.{IsRoom}
 use Rattle.char_sequence.specs.Chunks.{joined, start_of, Chunked, IsIndexed, IsKept, IsSpot, IsSpotOf}
-use Rattle.char_sequence.proofs.Ids.{same_id_self, same_id_cases}
+use Rattle.char_sequence.proofs.Ids.{id_found, same_id_cases}
 use Rattle.char_sequence.proofs.Lists.{inserted_cases, inserted_here, inserted_still, slice_get_set_same, slice_get_set_other, set_cases}
 use Rattle.char_sequence.proofs.Joined.{get_left, joined_get, joined_found, joined_insert, joined_set, joined_split, split_left, split_right, split_start, split_start_right, start_after_chunk, start_within}
 
@@ -80,7 +80,7 @@ indexed_put cs names index more i c n k e ok here name h new other =
           (λ (v : (p < k) × (slice_get c p ≡ Some x)). ok.listed i c here p x v.1 gone)
           (λ (v : ((p ≡ k) × (e ≡ x)) ⊎ ((q : ℕ) × (p ≡ suc q) × (k ≤ q) × (slice_get c q ≡ Some x))).
           ⊎_elim
-          (λ (w : (p ≡ k) × (e ≡ x)). false≢true (sym apart ∙ ap (λ z. same_id e.id z.id) (sym w.1) ∙ same_id_self e.id))
+          (λ (w : (p ≡ k) × (e ≡ x)). false≢true (sym apart ∙ ap (λ z. same_id e.id z.id) (sym w.1) ∙ id_found e.id))
           (λ (w : (q : ℕ) × (p ≡ suc q) × (k ≤ q) × (slice_get c q ≡ Some x)). ok.listed i c here w.0 x w.3 gone)
           v)
           (inserted_cases c k e p x h at))
@@ -133,7 +133,7 @@ indexed_changed cs names index i c k o e ok here old is_id =
 -- ---- a chunk split in two
 not_here : (x : Element) (xs : List Element) (id : OpId) → same_id x.id id ≡ false → (HasId xs id → ⊥) → HasId (x ∷ xs) id → ⊥
 not_here x xs id apart none (zero, (e, g, is)) =
-    false≢true (sym apart ∙ ap (λ z. same_id x.id z) (sym is ∙ ap (λ w. w.id) (sym (same_Some x e g))) ∙ same_id_self x.id)
+    false≢true (sym apart ∙ ap (λ z. same_id x.id z) (sym is ∙ ap (λ w. w.id) (sym (same_Some x e g))) ∙ id_found x.id)
 not_here x xs id apart none (suc k, (e, g, is)) = none (k, (e, g, is))
 
 has_or_not : (es : List Element) (id : OpId) → HasId es id ⊎ (HasId es id → ⊥)

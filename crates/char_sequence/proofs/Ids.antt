@@ -1,8 +1,10 @@
 -- Ids are equal by their numbers, and are in a strict total order.
-use Rattle.std.proofs.Common.{◌≡◌, ℕ, ◌<◌, ◌≤◌, Bool, true, false, inl, inr, ◌⊎◌, sym, ap, subst, refl, ◌∙◌, arith, ⊎_elim, ◌&&◌}
+use Rattle.std.proofs.Common.{◌≡◌, ℕ, ◌<◌, ◌≤◌, true, false, inl, inr, ◌⊎◌, sym, ap, subst, refl, ◌∙◌, arith, ⊎_elim, ◌&&◌}
 use Rattle.std.specs.Prelude.{nat_eq}
-use Rattle.std.proofs.lemmas.Bool.{cases_lt, false≢true, eqb-true, eq-eqb}
-use Rattle.change_ops.specs.Ids.{Less}
+use Rattle.std.specs.Cmp.{Equal-is}
+use Rattle.std.proofs.lemmas.Bool.{cases_lt, eq-eqb}
+use Rattle.change_ops.specs.Ids.{Less, id_cmp}
+use Rattle.change_ops.proofs.IdLaws.{compares_ids}
 use Rattle.change_ops.specs.declared.id.OpId.{OpId}
 use Rattle.char_sequence.specs.Index.{same_id}
 
@@ -11,16 +13,14 @@ same_ids a b e f =
     let mk : ℕ → ℕ → OpId = λ c n. record { counter = c; node = n } in
     ap (λ c. mk c a.node) e ∙ ap (λ n. mk b.counter n) f
 
-both : (x y : Bool) → (x && y) ≡ true → (x ≡ true) × (y ≡ true)
-both true y e = (refl, e)
-both false y e = absurd (false≢true e)
-
 same_id_yes : (a b : OpId) → same_id a b ≡ true → a ≡ b
-same_id_yes a b e =
-    let r = both (nat_eq a.counter b.counter) (nat_eq a.node b.node) e in
-    same_ids a b (eqb-true a.counter b.counter r.0) (eqb-true a.node b.node r.1)
+same_id_yes a b e = (compares_ids a b).equal.0 ((Equal-is (id_cmp a b)).0 e)
 
-pub same_id_self : (a : OpId) → same_id a a ≡ true
+pub id_found : (a : OpId) → same_id a a ≡ true
+id_found a = (Equal-is (id_cmp a a)).1 ((compares_ids a a).equal.1 refl)
+
+-- the same by the numbers themselves
+pub same_id_self : (a : OpId) → (nat_eq a.counter a.counter && nat_eq a.node a.node) ≡ true
 same_id_self a = ap (λ b. b && nat_eq a.node a.node) (eq-eqb a.counter a.counter refl) ∙ eq-eqb a.node a.node refl
 
 pub same_id_cases : (a b : OpId) → (a ≡ b) ⊎ (same_id a b ≡ false)

@@ -56,7 +56,7 @@ pub record IsIndexed (chunks : List (List Element)) (names : List ℕ) (index : 
   pub behind : (id : OpId) (n : ℕ) → lookup (same_id id) index ≡ Some n → (i : ℕ) × ((c : List Element) × (slice_get names i ≡ Some n) × (slice_get chunks i ≡ Some c) × HasId c id)
   pub listed : (i : ℕ) (c : List Element) → slice_get chunks i ≡ Some c → (k : ℕ) (e : Element) → slice_get c k ≡ Some e → lookup (same_id e.id) index ≡ None → ⊥
 
--- chunks, and for how many more entries there is room
+-- chunks, and for how many more of them there is room
 pub record Chunked : Type 0 where
   pub chunks : List (List Element)
   pub room : ℕ

@@ -1,17 +1,26 @@
-ghost use Rattle.std.specs.Prelude.{◌≡◌, ℕ, ◌<◌, ◌≤◌, ◌+◌, ◌-◌, ◌^◌, ◌⊎◌, ◌∷◌, List, [], true, false, length, take, drop, slice_get, set, insert, OnErr, MatchOption, IfSome, OnOk, IfOk, Some, None};
+ghost use Rattle.std.specs.Prelude.{◌≡◌, ℕ, ◌<◌, ◌≤◌, ◌+◌, ◌-◌, ◌^◌, ◌⊎◌, ◌∷◌, ◌++◌, List, [], true, false, length, take, drop, slice_get, set, insert, OnErr, MatchOption, IfSome, OnOk, IfOk, Some, None};
 ghost use Rattle.std.specs.Map.{lookup};
 ghost use Rattle.char_sequence.specs.declared.sequence.Element.{Element};
 ghost use Rattle.char_sequence.specs.Order.{IsAt};
+ghost use Rattle.std.specs.BTreeMap.{Updates, IsUnchanged};
+ghost use Rattle.change_ops.specs.Ids.{id_cmp};
+ghost use Rattle.change_ops.specs.declared.id.OpId.{OpId};
+ghost use Rattle.change_ops.specs.declared.operation.Op.{Op};
+ghost use Rattle.change_ops.specs.Operations.{id_of};
+ghost use Rattle.char_sequence.specs.Acceptance.{Used};
+ghost use Rattle.char_sequence.specs.Newest.{IsNewest};
 ghost use Rattle.char_sequence.specs.Index.{same_id, HasId};
 ghost use Rattle.char_sequence.specs.Places.{IsPast, IsAfter};
 ghost use Rattle.char_sequence.specs.Chunks.{joined, start_of};
 
 use crate::chunk::{Blank, CHUNK_LIMIT, Chunk};
+use crate::newest::Newest;
 use crate::place_table::PlaceTable;
 use crate::sequence::Element;
 use change_ops::id::OpId;
-use indexmap::IndexMap;
 use std::alloc::{AllocError, Global};
+use std::collections::BTreeMap;
+use std::collections::btree_map::Entry;
 use std::marker::Model;
 
 /// A chunk by its position, and how many of its elements stand before.
@@ -65,19 +74,18 @@ pub(crate) struct ChunkList {
     chunks: Vec<Chunk>,
     // The chunks' numbers, given once, in the same order. A number stays as chunks before it are split.
     names: Vec<usize>,
-    // The name of each element's chunk.
-    index: IndexMap<OpId, usize>,
+    // The name of each element's chunk. A tree, and no hash map, since whoever writes the changes chooses the ids.
+    index: BTreeMap<OpId, usize>,
     count: usize,
 }
 
 impl Model for ChunkList {
     ghost use Rattle.std.specs.Prelude.{◌-◌, min, vec_len, vec_capacity};
-    ghost use Rattle.indexmap.specs.IndexMap.{spare};
     ghost use Rattle.char_sequence.specs.Chunks.{Chunked, IsKept};
 
     ghost Value = { Chunked };
 
-    ghost view = { λ l. record { chunks = l.chunks.items; room = min (spare l.index) (min (vec_capacity l.chunks - vec_len l.chunks) (vec_capacity l.names - vec_len l.names)) } };
+    ghost view = { λ l. record { chunks = l.chunks.items; room = min (vec_capacity l.chunks - vec_len l.chunks) (vec_capacity l.names - vec_len l.names) } };
 
     ghost invariant = { λ l. IsKept l.chunks.items l.names.items l.index.entries l.count };
 }
@@ -133,14 +141,43 @@ fn past_greater(chunks: &[Chunk], from: Spot, id: OpId) -> Spot
 }
 
 /// Gives the elements, which have names, a new one.
-fn rename(index: &mut IndexMap<OpId, usize>, elements: &[Element], name: usize)
+fn rename(index: &mut BTreeMap<OpId, usize>, elements: &[Element], name: usize)
     requires { (k : ℕ) (e : Element) → slice_get elements.now k ≡ Some e → lookup (same_id e.id) index.old.entries ≡ None → ⊥ }
     ensures renamed { (k : ℕ) (e : Element) → slice_get elements.now k ≡ Some e → lookup (same_id e.id) index.new.entries ≡ Some name }
     ensures kept { (q : OpId) → (HasId elements.now q → ⊥) → lookup (same_id q) index.new.entries ≡ lookup (same_id q) index.old.entries }
 {
     for element in elements {
-        index.insert(element.id, name).unwrap();
+        // Only an id that is not there wants memory.
+        let renamed: Result<_, _> = index.insert(element.id, name);
+        renamed.unwrap();
     }
+}
+
+/// Notes an id, and gives it a name; the error is want of memory, and changes nothing.
+fn enter(
+    index: &mut BTreeMap<OpId, usize>,
+    newest: &mut Newest,
+    id: OpId,
+    name: usize,
+) -> Result<(), AllocError>
+    requires { (ops : List Op) × IsNewest ops newest.old × (Used ops id → ⊥) }
+    ensures updates { OnOk result (Updates id_cmp index.old index.new id (Some name)) }
+    ensures noted { (ops : List Op) (op : Op) → id_of op ≡ id → IsNewest ops newest.old → IfOk result (λ _. IsNewest (ops ++ op ∷ []) newest.new) }
+    ensures unchanged { OnErr result (IsUnchanged index.old index.new) }
+    ensures same { OnErr result (newest.new ≡ newest.old) }
+{
+    // An entry has its memory before the id is noted.
+    match index.entry(id)? {
+        Entry::Vacant(entry) => {
+            newest.note(id)?;
+            entry.insert(name);
+        }
+        Entry::Occupied(mut entry) => {
+            newest.note(id)?;
+            entry.insert(name);
+        }
+    }
+    Ok(())
 }
 
 impl ChunkList {
@@ -151,7 +188,7 @@ impl ChunkList {
         ChunkList {
             chunks: Vec::new(alloc),
             names: Vec::new(alloc),
-            index: IndexMap::new(alloc),
+            index: BTreeMap::new(alloc),
             count: 0,
         }
     }
@@ -260,14 +297,14 @@ impl ChunkList {
         Ok(spot.after_split(at))
     }
 
-    /// Makes room for one more entry of each list.
+    /// Makes room for one more chunk.
     fn make_room(&mut self) -> Result<(), AllocError>
         ensures same { self.new.chunks ≡ self.old.chunks }
         ensures room { OnOk result (1 ≤ self.new.room) }
     {
         self.chunks.reserve(1)?;
         self.names.reserve(1)?;
-        self.index.reserve(1)
+        Ok(())
     }
 
     /// Finds where a new element goes, after its parent and past the greater ids, and makes room for it there.
@@ -287,43 +324,68 @@ impl ChunkList {
         } else {
             self.split(spot)?
         };
-        self.make_room()?;
         Ok(Room::In(spot))
     }
 
-    fn put_first(&mut self, blank: Blank, element: Element)
+    fn put_first(
+        &mut self,
+        newest: &mut Newest,
+        blank: Blank,
+        element: Element,
+    ) -> Result<(), AllocError>
         requires none { self.old.chunks ≡ [] }
         requires room { 1 ≤ self.old.room }
-        ensures { self.new.chunks ≡ (element ∷ []) ∷ [] }
+        requires fresh { (ops : List Op) × IsNewest ops newest.old × (Used ops element.id → ⊥) }
+        ensures ok { OnOk result (self.new.chunks ≡ (element ∷ []) ∷ []) }
+        ensures noted { (ops : List Op) (op : Op) → id_of op ≡ element.id → IsNewest ops newest.old → IfOk result (λ _. IsNewest (ops ++ op ∷ []) newest.new) }
+        ensures err { OnErr result ((self.new.chunks ≡ self.old.chunks) × (newest.new ≡ newest.old)) }
     {
-        self.index.insert(element.id, 0).unwrap();
+        enter(&mut self.index, newest, element.id, 0)?;
         self.names.push_reserved(0);
         self.chunks.push_reserved(Chunk::one(blank, element));
         self.count = 1;
+        Ok(())
     }
 
-    fn put_in(&mut self, spot: Spot, element: Element)
+    fn put_in(
+        &mut self,
+        newest: &mut Newest,
+        spot: Spot,
+        element: Element,
+    ) -> Result<(), AllocError>
         requires there { (chunk : List Element) × (slice_get self.old.chunks spot.position ≡ Some chunk) × (length chunk < 64) × (spot.at ≤ length chunk) }
-        requires room { 1 ≤ self.old.room }
         requires few { length (joined self.old.chunks) < 32768 }
-        ensures { (chunk : List Element) → slice_get self.old.chunks spot.position ≡ Some chunk → self.new.chunks ≡ set self.old.chunks spot.position (insert chunk spot.at element) }
+        requires fresh { (ops : List Op) × IsNewest ops newest.old × (Used ops element.id → ⊥) }
+        ensures ok { (chunk : List Element) → slice_get self.old.chunks spot.position ≡ Some chunk → OnOk result (self.new.chunks ≡ set self.old.chunks spot.position (insert chunk spot.at element)) }
+        ensures noted { (ops : List Op) (op : Op) → id_of op ≡ element.id → IsNewest ops newest.old → IfOk result (λ _. IsNewest (ops ++ op ∷ []) newest.new) }
+        ensures err { OnErr result ((self.new.chunks ≡ self.old.chunks) × (newest.new ≡ newest.old)) }
     {
         let name = self.names[spot.position];
-        self.index.insert(element.id, name).unwrap();
+        enter(&mut self.index, newest, element.id, name)?;
         self.chunks[spot.position].insert(spot.at, element);
         self.count += 1;
+        Ok(())
     }
 
-    /// Puts an element where there is room for it.
-    pub(crate) fn put(&mut self, room: Room, element: Element)
+    /// Notes an element's id, and puts the element where there is room for it; the error is want of memory, and changes nothing.
+    pub(crate) fn put(
+        &mut self,
+        newest: &mut Newest,
+        room: Room,
+        element: Element,
+    ) -> Result<(), AllocError>
         requires room { (place : ℕ) × IsRoom self.old room place }
         requires few { length (joined self.old.chunks) < 32768 }
-        ensures { (place : ℕ) → IsRoom self.old room place → joined self.new.chunks ≡ insert (joined self.old.chunks) place element }
+        requires fresh { (ops : List Op) × IsNewest ops newest.old × (Used ops element.id → ⊥) }
+        ensures ok { (place : ℕ) → IsRoom self.old room place → OnOk result (joined self.new.chunks ≡ insert (joined self.old.chunks) place element) }
+        ensures noted { (ops : List Op) (op : Op) → id_of op ≡ element.id → IsNewest ops newest.old → IfOk result (λ _. IsNewest (ops ++ op ∷ []) newest.new) }
+        ensures err { OnErr result ((joined self.new.chunks ≡ joined self.old.chunks) × (newest.new ≡ newest.old)) }
     {
         match room {
-            Room::First(blank) => self.put_first(blank, element),
-            Room::In(spot) => self.put_in(spot, element),
+            Room::First(blank) => self.put_first(newest, blank, element)?,
+            Room::In(spot) => self.put_in(newest, spot, element)?,
         }
+        Ok(())
     }
 
     /// Makes the element of this id a tombstone.

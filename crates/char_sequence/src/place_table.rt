@@ -11,8 +11,8 @@ ghost use Rattle.char_sequence.specs.PlaceTables.{AreStarts};
 use crate::chunk::Chunk;
 use crate::sequence::CHARACTER_LIMIT;
 use change_ops::id::OpId;
-use indexmap::IndexMap;
 use std::alloc::{AllocError, Global};
+use std::collections::BTreeMap;
 use std::marker::Model;
 
 /// The position of a chunk, and how many elements stand before it.
@@ -27,7 +27,7 @@ pub(crate) struct ChunkStart {
 pub struct PlaceTable<'a> {
     chunks: &'a [Chunk],
     // The name of each element's chunk.
-    index: &'a IndexMap<OpId, usize>,
+    index: &'a BTreeMap<OpId, usize>,
     // Where the chunk of each name stands.
     starts: Vec<ChunkStart>,
     count: usize,
@@ -74,7 +74,7 @@ impl<'a> PlaceTable<'a> {
         alloc: Global,
         chunks: &'a [Chunk],
         names: &[usize],
-        index: &'a IndexMap<OpId, usize>,
+        index: &'a BTreeMap<OpId, usize>,
         count: usize,
     ) -> Result<PlaceTable<'a>, AllocError>
         requires { IsKept chunks.now names.now index.now.entries count }

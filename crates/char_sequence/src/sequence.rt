@@ -168,15 +168,12 @@ impl Sequence {
         };
         let id = *id;
         let room = self.elements.reserve(*parent, id)?;
-        self.newest.note(id)?;
-        self.elements.put(
-            room,
-            Element {
-                id,
-                character: *character,
-                visible: true,
-            },
-        );
+        let element = Element {
+            id,
+            character: *character,
+            visible: true,
+        };
+        self.elements.put(&mut self.newest, room, element)?;
         Ok(())
     }
 

@@ -1,15 +1,15 @@
 use Rattle.std.proofs.Common.{◌≡◌, ◌<◌, ◌≤◌, Some, length, set, sym, ap, ◌∙◌, arith, subst}
 use Rattle.std.specs.List.{slice_get, insert}
 use Rattle.std.proofs.lemmas.Option.{same_Some, slice_get_within}
-use Rattle.std.proofs.lemmas.Result.{IfOk-at_ok}
-use Rattle.indexmap.specs.IndexMap.{Updates}
-use Rattle.char_sequence.specs.Index.{same_id}
-use Rattle.char_sequence.specs.Chunks.{joined}
+use Rattle.char_sequence.specs.Chunks.{joined, IsKept}
 use Rattle.char_sequence.proofs.Chunking.{kept_put, here_at}
 use Rattle.char_sequence.proofs.chunk_list.ChunkList.put_in.Goals as goal
 
 pub invariant_of-self : goal.invariant_of-self
-invariant_of-self c =
+invariant_of-self c = subst (λ z. IsKept c.self.inside.chunks.items c.self.inside.names.items z c.self.inside.count) (sym c.in_err-enter.ensures.unchanged) c.self.invariant
+
+pub invariant_of-self-2 : goal.invariant_of-self-2
+invariant_of-self-2 c =
     let same = ap (λ v. v.chunks) c.self.view_is in
     let there = c.requires.there in
     let old : slice_get c.self.inside.chunks.items c.args.spot.position ≡ Some there.0 = ap (λ z. slice_get z c.args.spot.position) same ∙ there.1 in
@@ -20,14 +20,13 @@ invariant_of-self c =
     let one = same_Some c.index_mut.result.now _ (sym here ∙ old) in
     let within : c.args.spot.at ≤ length c.index_mut.result.now = subst (λ z. c.args.spot.at ≤ length z) (sym one) there.3 in
     let few : length (joined c.self.inside.chunks.items) < 32768 = subst (λ z. length (joined z) < 32768) (sym same) c.requires.few in
-    let updates = IfOk-at_ok (λ _. Updates same_id c.self.inside.index c.insert.new.self c.args.element.id (Some c.index-name.result.now)) c.unwrap.ensures c.insert.ensures.updates in
-    kept_put _ _ _ _ _ c.args.spot.at c.index-name.result.now _ _ _ c.args.element c.self.invariant here name within c.insert-2.ensures few updates.1 updates.2
+    kept_put _ _ _ _ _ c.args.spot.at c.index-name.result.now _ _ _ c.args.element c.self.invariant here name within c.insert.ensures few c.in_ok-enter.ensures.updates.1 c.in_ok-enter.ensures.updates.2
 
-pub returns : goal.returns
-returns c =
+pub returns-clause-ok : goal.returns-clause-ok
+returns-clause-ok c =
     λ chunk g.
     let same = ap (λ v. v.chunks) c.self.view_is in
     let old : slice_get c.self.inside.chunks.items c.args.spot.position ≡ Some chunk = ap (λ z. slice_get z c.args.spot.position) same ∙ g in
     let here = here_at c.self.inside.chunks.items c.args.spot.position c.index_mut.result.now (slice_get_within c.self.inside.chunks.items c.args.spot.position _ old) c.index_mut.ensures.value in
     let one = same_Some c.index_mut.result.now _ (sym here ∙ old) in
-    ap (λ z. set c.self.inside.chunks.items c.args.spot.position z) (c.insert-2.ensures ∙ ap (λ z. insert z c.args.spot.at c.args.element) one) ∙ ap (λ z. set z c.args.spot.position (insert chunk c.args.spot.at c.args.element)) same
+    ap (λ z. set c.self.inside.chunks.items c.args.spot.position z) (c.insert.ensures ∙ ap (λ z. insert z c.args.spot.at c.args.element) one) ∙ ap (λ z. set z c.args.spot.position (insert chunk c.args.spot.at c.args.element)) same

@@ -13,8 +13,8 @@ reserve-requires c =
     let accepted = c.requires.accepted ops (subst (λ v. Holds v ops) c.self.view_is held) in
     λ m e. stands ops _ held.shows.text m (accepted.known m (subst (λ o. Names o m) (sym c.in-Insert.is) e))
 
-pub note-requires : goal.note-requires
-note-requires c =
+pub put-requires-clause-fresh : goal.put-requires-clause-fresh
+put-requires-clause-fresh c =
     let ops = c.self.invariant.1.0 in
     let held = c.self.invariant.1.1 in
     let accepted = c.requires.accepted ops (subst (λ v. Holds v ops) c.self.view_is held) in
@@ -37,11 +37,11 @@ invariant_of-self-2 c =
     let same = c.reserve.ensures.same in
     let r = c.in_ok-room.ensures.room in
     let within = room_within _ _ _ _ same r.1.3 in
-    let new = c.put.ensures r.1.0 r.1.3 in
+    let new = c.in_ok-put.ensures.ok r.1.0 r.1.3 in
     let text = placed_text _ _ _ c.in-Insert.id c.in-Insert.parent c.in-Insert.character r.0 r.1.0 r.1.1 r.1.2 within same new in
     let size = put_size _ _ _ _ _ same new within in (
       has_room ops _ _ _ size held.size c.requires.insert accepted,
-      (ops ++ c.args.op.now ∷ [], inserted_held _ _ _ _ c.args.op.now c.in-Insert.id c.in-Insert.parent c.in-Insert.character c.in-Insert.is text size c.in_ok-note.ensures.noted ops held accepted),
+      (ops ++ c.args.op.now ∷ [], inserted_held _ _ _ _ c.args.op.now c.in-Insert.id c.in-Insert.parent c.in-Insert.character c.in-Insert.is text size c.in_ok-put.ensures.noted ops held accepted),
     )
 
 pub returns-clause-held : goal.returns-clause-held
@@ -50,9 +50,9 @@ returns-clause-held c =
     let same = c.reserve.ensures.same in
     let r = c.in_ok-room.ensures.room in
     let within = room_within _ _ _ _ same r.1.3 in
-    let new = c.put.ensures r.1.0 r.1.3 in
+    let new = c.in_ok-put.ensures.ok r.1.0 r.1.3 in
     let text = placed_text _ _ _ c.in-Insert.id c.in-Insert.parent c.in-Insert.character r.0 r.1.0 r.1.1 r.1.2 within same new in
-    inserted_held _ _ _ _ c.args.op.now c.in-Insert.id c.in-Insert.parent c.in-Insert.character c.in-Insert.is text (put_size _ _ _ _ _ same new within) c.in_ok-note.ensures.noted ops (subst (λ v. Holds v ops) (sym c.self.view_is) h) (c.requires.accepted ops h)
+    inserted_held _ _ _ _ c.args.op.now c.in-Insert.id c.in-Insert.parent c.in-Insert.character c.in-Insert.is text (put_size _ _ _ _ _ same new within) c.in_ok-put.ensures.noted ops (subst (λ v. Holds v ops) (sym c.self.view_is) h) (c.requires.accepted ops h)
 
 pub returns-clause-shows : goal.returns-clause-shows
 returns-clause-shows c =
@@ -60,6 +60,6 @@ returns-clause-shows c =
     let same = c.reserve.ensures.same in
     let r = c.in_ok-room.ensures.room in
     let within = room_within _ _ _ _ same r.1.3 in
-    let new = c.put.ensures r.1.0 r.1.3 in
+    let new = c.in_ok-put.ensures.ok r.1.0 r.1.3 in
     let text = placed_text _ _ _ c.in-Insert.id c.in-Insert.parent c.in-Insert.character r.0 r.1.0 r.1.1 r.1.2 within same new in
     inserted_shows _ _ c.args.op.now c.in-Insert.id c.in-Insert.parent c.in-Insert.character c.in-Insert.is text ops (subst (λ v. Shows v.elements ops) (sym c.self.view_is) h) a
