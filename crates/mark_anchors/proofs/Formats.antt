@@ -15,7 +15,7 @@ options_Decides E decides None (Some y) = (λ e. absurd (true≢false (sym e)), 
 options_Decides E decides (Some x) None = (λ e. absurd (true≢false (sym e)), λ e. absurd (none-some x (sym e)))
 options_Decides E decides (Some x) (Some y) = (λ e. ap Some ((decides x y).0 e), λ e. (decides x y).1 (ap (λ o. unwrap_or o x) e))
 
-lists_Decides : (xs ys : List ℕ) → Decides (pointwise nat_eq xs ys) (xs ≡ ys)
+pub lists_Decides : (xs ys : List ℕ) → Decides (pointwise nat_eq xs ys) (xs ≡ ys)
 lists_Decides = pointwise_decides unsigned_Decides
 
 pub same_fields : (a b : Formatting) → a.strong ≡ b.strong → a.em ≡ b.em → a.code ≡ b.code → a.link ≡ b.link → a.color ≡ b.color → a.comments ≡ b.comments → a ≡ b

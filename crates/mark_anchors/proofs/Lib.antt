@@ -17,3 +17,6 @@ pub mod Cuts
 pub mod FormatLaws
 pub mod Painting
 pub mod Stretching
+pub mod Running
+pub mod Counting
+pub mod Borne

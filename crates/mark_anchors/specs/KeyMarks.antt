@@ -30,6 +30,12 @@ IsEndOf marks place = (m : PlacedMark) × Contains marks m × ((m.start ≡ plac
 abbrev pub AreStill : List PlacedMark → ℕ → ℕ → Type 0
 AreStill marks place until = (m : PlacedMark) → Contains marks m → ((m.start ≤ place) ⊎ (until ≤ m.start)) × ((m.end ≤ place) ⊎ (until ≤ m.end))
 
+-- the marks begin and end at places among these, which rise
+pub record AreEnds (marks : List PlacedMark) (places : List ℕ) : Type 0 where
+  pub rising : IsStrictlyIncreasing places
+  pub begins : (m : PlacedMark) → Contains marks m → Contains places m.start
+  pub ends : (m : PlacedMark) → Contains marks m → Contains places m.end
+
 -- at each place the mark of this number is the greatest, among the first so many, of those that cover it
 pub record ArePainted (places : List ℕ) (marks : List PlacedMark) (count : ℕ) (numbers : List (Option ℕ)) : Type 0 where
   pub sized : length numbers ≡ length places

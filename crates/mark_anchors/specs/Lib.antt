@@ -8,7 +8,8 @@ pub mod Anchored
 pub mod Places
 pub mod Placed
 pub mod Commented
-pub mod Stretches
+pub mod CommentRuns
+pub mod CommentLists
 pub mod KeyMarks
 pub mod Resolution
 pub mod Ranges

@@ -1,29 +1,21 @@
 //! The marks of each comment.
-ghost use Rattle.std.specs.Prelude.{◌≡◌, ◌<◌, ◌↔◌, ℕ, List, Some, Contains, IfOk, length, slice_get};
+ghost use Rattle.std.specs.Prelude.{◌≡◌, ℕ, List, Some, Contains, IfOk, length, slice_get};
 ghost use Rattle.std.specs.List.Sorted.{IsStrictlyIncreasing};
-ghost use Rattle.change_ops.specs.declared.attribute.Attribute.{Attribute};
 ghost use Rattle.char_sequence.specs.declared.sequence.Element.{Element};
-ghost use Rattle.char_sequence.specs.Order.{Shows, IsAt};
-ghost use Rattle.mark_anchors.specs.Format.{Bears};
-ghost use Rattle.mark_anchors.specs.Marks.{AreMarks};
 ghost use Rattle.mark_anchors.specs.Placed.{AreAllPlaced};
-ghost use Rattle.mark_anchors.specs.Stretches.{AreStretches};
 ghost use Rattle.mark_anchors.specs.Commented.{AreCommented, AreEmpty, AreGrouped, AreNumbered};
 
 use crate::key_marks::KeyMarks;
 use crate::placed::PlacedMark;
-use crate::stretch::{Stretch, holds_along};
 use change_ops::attribute::{CommentNumber, Key};
-use change_ops::id::OpId;
 use change_ops::operation::Op;
-use smallvec::SmallVec;
 use std::alloc::{AllocError, Global};
 
 /// The marks of one comment.
 #[derive(Drop)]
 pub(crate) struct CommentMarks {
-    number: CommentNumber,
-    marks: KeyMarks,
+    pub(crate) number: CommentNumber,
+    pub(crate) marks: KeyMarks,
 }
 
 /// The number of the comment that the mark adds or removes.
@@ -114,28 +106,4 @@ pub(crate) fn comment_marks(
         })?;
     }
     Ok(comments)
-}
-
-/// The numbers of the comments at the place, rising. Each is found by its stretch, if the place is in it.
-pub(crate) fn comments_at(
-    alloc: Global,
-    operations: &[Op],
-    comments: &[CommentMarks],
-    stretches: &mut Vec<Stretch>,
-    place: usize,
-) -> Result<SmallVec<CommentNumber, 4>, AllocError>
-    requires commented { (es : List Element) × AreCommented es operations.now comments.now }
-    requires sized { length stretches.old.items ≡ length comments.now }
-    ensures kept { (es : List Element) → AreCommented es operations.now comments.now → AreStretches es operations.now comments.now stretches.old.items → AreStretches es operations.now comments.now stretches.new.items }
-    ensures rising { IfOk result (λ numbers. IsStrictlyIncreasing numbers.items) }
-    ensures borne { (es : List Element) (ops : List Op) (e : OpId) → Shows es ops → AreMarks ops operations.now → AreCommented es operations.now comments.now → AreStretches es operations.now comments.now stretches.old.items → IsAt es e place → IfOk result (λ numbers. (n : ℕ) → Contains numbers.items n ↔ Bears ops e (Attribute.Comment n)) }
-{
-    let mut numbers = Vec::new(alloc);
-    for index in 0..comments.len() {
-        let comment = &comments[index];
-        if holds_along(operations, &comment.marks, &mut stretches[index], place) {
-            numbers.push(comment.number)?;
-        }
-    }
-    SmallVec::from_slice(alloc, &numbers)
 }

@@ -1,4 +1,4 @@
-ghost use Rattle.std.specs.Prelude.{◌≡◌, IsTrue, ◌↔◌, List};
+ghost use Rattle.std.specs.Prelude.{◌≡◌, IsTrue, ◌↔◌, List, length};
 ghost use Rattle.std.specs.Option.{option_copied};
 ghost use Rattle.std.specs.List.Sorted.{IsStrictlyIncreasing};
 ghost use Rattle.std.specs.Cmp.{partial_equiv_from_equiv};
@@ -8,8 +8,8 @@ ghost use Rattle.char_sequence.specs.Order.{SameSet};
 ghost use Rattle.mark_anchors.specs.Format.{IsFormat};
 ghost use Rattle.mark_anchors.specs.Formatting.{plain, formatting_eq, formatting_eq_equiv};
 
-use change_ops::attribute::{Color, CommentNumber, Link};
-use smallvec::SmallVec;
+use crate::comment_list::{CommentList, CommentNumbers};
+use change_ops::attribute::{Color, Link};
 use std::alloc::{AllocError, Global};
 use std::marker::Model;
 
@@ -20,7 +20,7 @@ pub struct Format {
     pub(crate) code: bool,
     pub(crate) link: Option<Link>,
     pub(crate) color: Option<Color>,
-    pub(crate) comments: SmallVec<CommentNumber, 4>,
+    pub(crate) comments: CommentList,
 }
 
 impl Drop for Format {
@@ -37,28 +37,24 @@ impl Drop for Format {
 }
 
 impl Model for Format {
-    ghost use Rattle.std.specs.List.Sorted.{IsStrictlyIncreasing};
     ghost use Rattle.mark_anchors.specs.Formatting.{Formatting};
 
     ghost Value = { Formatting };
 
-    ghost view = { λ f. record { strong = f.strong; em = f.em; code = f.code; link = f.link; color = f.color; comments = f.comments.items } };
-
-    ghost invariant = { λ f. IsStrictlyIncreasing f.comments.items };
+    ghost view = { λ f. record { strong = f.strong; em = f.em; code = f.code; link = f.link; color = f.color; comments = f.comments } };
 }
 
 impl Clone for Format {
     ghost is_clone = { λ old new. new ≡ old };
 
     fn clone(&self) -> Result<Format, AllocError> {
-        let comments = &self.comments;
         Ok(Format {
             strong: self.strong,
             em: self.em,
             code: self.code,
             link: self.link.clone()?,
             color: self.color,
-            comments: SmallVec::from_slice(*comments.allocator(), comments.as_slice())?,
+            comments: self.comments.clone()?,
         })
     }
 }
@@ -76,7 +72,7 @@ impl PartialEq for Format {
         flags
             && self.link == other.link
             && self.color == other.color
-            && self.comments == other.comments
+            && self.comments.is_same(&other.comments)
     }
 }
 
@@ -95,7 +91,7 @@ impl Format {
             code: false,
             link: None,
             color: None,
-            comments: SmallVec::new(alloc),
+            comments: CommentList::none(),
         }
     }
 
@@ -108,7 +104,7 @@ impl Format {
             && !self.code
             && self.link.is_none()
             && self.color.is_none()
-            && self.comments.is_empty()
+            && self.comments.count() == 0
     }
 
     /// Whether the character is strong.
@@ -146,12 +142,19 @@ impl Format {
         self.color
     }
 
-    /// The numbers of the comments on the character, rising.
-    pub fn comments(&self) -> &[CommentNumber]
-        ensures value { result.now ≡ self.now.comments }
-        ensures rising { IsStrictlyIncreasing result.now }
+    /// How many comments are on the character.
+    pub fn comment_count(&self) -> u32
+        ensures { result ≡ length self.now.comments }
     {
-        self.comments.as_slice()
+        self.comments.count()
+    }
+
+    /// The numbers of the comments on the character, rising.
+    pub fn comments(&self) -> CommentNumbers<'_>
+        ensures value { result ≡ self.now.comments }
+        ensures rising { IsStrictlyIncreasing result }
+    {
+        self.comments.numbers()
     }
 }
 

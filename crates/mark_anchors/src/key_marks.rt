@@ -3,7 +3,7 @@
 ghost use Rattle.std.specs.Prelude.{◌≡◌, ◌<◌, ◌≤◌, ◌+◌, ◌↔◌, ℕ, List, Some, Contains, IfOk, length, slice_get};
 ghost use Rattle.std.specs.List.Sorted.{IsStrictlyIncreasing, IsPermutation};
 ghost use Rattle.mark_anchors.specs.Placed.{IsBest};
-ghost use Rattle.mark_anchors.specs.KeyMarks.{AreById, AreStill, IsEndOf, IsCountBelow, IsCountUpTo, ArePainted};
+ghost use Rattle.mark_anchors.specs.KeyMarks.{AreById, AreEnds, IsEndOf, IsCountBelow, IsCountUpTo, ArePainted};
 ghost use Rattle.mark_anchors.specs.declared.placed.PlacedMark.{PlacedMark};
 
 use crate::placed::PlacedMark;
@@ -134,15 +134,11 @@ impl KeyMarks {
         })
     }
 
-    /// A place up to which no mark begins or ends behind this one.
-    pub(crate) fn next_place(&self, place: usize) -> usize
-        ensures { AreStill self.now place result }
+    /// The places at which the marks begin and end.
+    pub(crate) fn places(&self) -> &[usize]
+        ensures { AreEnds self.now result.now }
     {
-        let count = count_up_to(&self.places, place);
-        match self.places.get(count) {
-            Some(next) => *next,
-            None => usize::MAX,
-        }
+        &self.places
     }
 
     /// The mark with the greatest id among those that cover the place.

@@ -3,6 +3,9 @@
 
 mod anchored;
 pub mod anchors;
+pub mod comment_list;
+mod comment_runs;
+mod comment_table;
 mod comments;
 pub mod format;
 mod key_marks;
@@ -12,4 +15,3 @@ pub mod marks;
 mod placed;
 pub mod ranges;
 pub mod resolved;
-mod stretch;

@@ -23,21 +23,19 @@ pub struct FormattedRange {
 /// Adds the range up to the next cut, if there is a character in it.
 fn add_range(
     ranges: &mut Vec<FormattedRange>,
-    alloc: Global,
-    resolved: &mut ResolvedMarks<'_>,
+    resolved: &ResolvedMarks<'_>,
     from: usize,
     to: usize,
 ) -> Result<(), AllocError>
     requires order { from ≤ to }
-    requires within { to ≤ length resolved.old.elements }
-    requires uniform { IsUniform resolved.old.elements resolved.old.marks from to }
-    ensures same { resolved.new ≡ resolved.old }
-    ensures ranges { AreRanges resolved.old.elements resolved.old.marks from ranges.old.items → IfOk result (λ _. AreRanges resolved.old.elements resolved.old.marks to ranges.new.items) }
+    requires within { to ≤ length resolved.now.elements }
+    requires uniform { IsUniform resolved.now.elements resolved.now.marks from to }
+    ensures { AreRanges resolved.now.elements resolved.now.marks from ranges.old.items → IfOk result (λ _. AreRanges resolved.now.elements resolved.now.marks to ranges.new.items) }
 {
     if from == to {
         return Ok(());
     }
-    let format = resolved.format_along(alloc, from)?;
+    let format = resolved.format_at_place(from)?;
     ranges.push(FormattedRange { from, to, format })?;
     Ok(())
 }
@@ -54,12 +52,12 @@ impl Marks {
         requires { (ops : List Op) × Shows sequence.now.elements ops × AreMarks ops self.now }
         ensures { IfOk result (λ ranges. AreRanges sequence.now.elements self.now (length sequence.now.elements) ranges.items) }
     {
-        let mut resolved = self.resolve(alloc, sequence)?;
+        let resolved = self.resolve(alloc, sequence)?;
         let cuts = resolved.cuts(alloc)?;
         let mut ranges = Vec::new(alloc);
         let mut from = 0;
         for cut in &cuts {
-            add_range(&mut ranges, alloc, &mut resolved, from, *cut)?;
+            add_range(&mut ranges, &resolved, from, *cut)?;
             from = *cut;
         }
         Ok(ranges)

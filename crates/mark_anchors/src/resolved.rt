@@ -1,24 +1,22 @@
-ghost use Rattle.std.specs.Prelude.{◌≡◌, ◌<◌, ◌↔◌, ℕ, List, Some, Contains, IfOk, length, slice_get};
-ghost use Rattle.std.specs.List.Sorted.{IsStrictlyIncreasing};
-ghost use Rattle.change_ops.specs.declared.attribute.Attribute.{Attribute};
+ghost use Rattle.std.specs.Prelude.{◌≡◌, ◌<◌, List, Some, IfOk, length, slice_get};
 ghost use Rattle.char_sequence.specs.declared.sequence.Element.{Element};
 ghost use Rattle.char_sequence.specs.Tree.{Present};
 ghost use Rattle.char_sequence.specs.Order.{Shows};
-ghost use Rattle.mark_anchors.specs.Format.{Bears, IsFormat};
+ghost use Rattle.mark_anchors.specs.Format.{IsFormat};
 ghost use Rattle.mark_anchors.specs.Marks.{AreMarks};
 ghost use Rattle.mark_anchors.specs.Ranges.{AreCuts};
 
-use crate::comments::{CommentMarks, comment_marks, comments_at};
+use crate::comment_runs::comment_runs;
+use crate::comment_table::CommentTable;
+use crate::comments::comment_marks;
 use crate::format::Format;
 use crate::key_marks::{KeyMarks, in_order, places_of};
 use crate::marks::Marks;
 use crate::placed::{PlacedMark, color_at, holds_at, link_at, marks_in, marks_of};
-use crate::stretch::{Stretch, no_stretches};
-use change_ops::attribute::{CommentNumber, Key};
+use change_ops::attribute::Key;
 use change_ops::id::OpId;
 use change_ops::operation::Op;
 use char_sequence::sequence::Sequence;
-use smallvec::SmallVec;
 use std::alloc::{AllocError, Global};
 use std::marker::Model;
 
@@ -33,8 +31,7 @@ pub struct ResolvedMarks<'a> {
     code: KeyMarks,
     link: KeyMarks,
     color: KeyMarks,
-    comments: Vec<CommentMarks>,
-    stretches: Vec<Stretch>,
+    comments: CommentTable,
 }
 
 impl<'a> Model for ResolvedMarks<'a> {
@@ -44,7 +41,7 @@ impl<'a> Model for ResolvedMarks<'a> {
 
     ghost view = { λ r. record { elements = r.sequence.now.elements; marks = r.operations.now } };
 
-    ghost invariant = { λ r. AreResolved r.sequence.now.elements r.operations.now r.marks.items r.strong r.em r.code r.link r.color r.comments.items r.stretches.items };
+    ghost invariant = { λ r. AreResolved r.sequence.now.elements r.operations.now r.marks.items r.strong r.em r.code r.link r.color r.comments };
 }
 
 impl Marks {
@@ -62,7 +59,7 @@ impl Marks {
     {
         let operations = self.operations();
         let marks = marks_in(alloc, sequence, operations)?;
-        let comments = comment_marks(alloc, &marks)?;
+        let runs = comment_runs(alloc, operations, &comment_marks(alloc, &marks)?)?;
         Ok(ResolvedMarks {
             sequence,
             operations,
@@ -71,8 +68,7 @@ impl Marks {
             code: marks_of(alloc, &marks, &Key::Code)?,
             link: marks_of(alloc, &marks, &Key::Link)?,
             color: marks_of(alloc, &marks, &Key::Color)?,
-            stretches: no_stretches(alloc, comments.len())?,
-            comments,
+            comments: CommentTable::new(alloc, runs)?,
             marks,
         })
     }
@@ -89,7 +85,7 @@ impl Marks {
     {
         let resolved = self.resolve(alloc, sequence)?;
         let place = sequence.place_of(id).unwrap();
-        resolved.format_at_place(alloc, place)
+        resolved.format_at_place(place)
     }
 }
 
@@ -103,15 +99,10 @@ impl ResolvedMarks<'_> {
         Ok(in_order(cuts))
     }
 
-    /// The format at the place, with these comments.
-    fn format_with(
-        &self,
-        place: usize,
-        comments: SmallVec<CommentNumber, 4>,
-    ) -> Result<Format, AllocError>
-        requires within { place < length self.now.elements }
-        requires rising { IsStrictlyIncreasing comments.items }
-        ensures { (ops : List Op) (e : Element) → Shows self.now.elements ops → AreMarks ops self.now.marks → slice_get self.now.elements place ≡ Some e → ((n : ℕ) → Contains comments.items n ↔ Bears ops e.id (Attribute.Comment n)) → IfOk result (λ format. IsFormat ops e.id format) }
+    /// The format of the character at the place, which counts removed characters too.
+    pub fn format_at_place(&self, place: usize) -> Result<Format, AllocError>
+        requires { place < length self.now.elements }
+        ensures { (ops : List Op) (e : Element) → Shows self.now.elements ops → AreMarks ops self.now.marks → slice_get self.now.elements place ≡ Some e → IfOk result (λ format. IsFormat ops e.id format) }
     {
         let operations = self.operations;
         let link = match link_at(operations, &self.link, place) {
@@ -124,39 +115,7 @@ impl ResolvedMarks<'_> {
             code: holds_at(operations, &self.code, place),
             link,
             color: color_at(operations, &self.color, place),
-            comments,
+            comments: self.comments.at(place)?,
         })
-    }
-
-    /// The format of the character at the place, which counts removed characters too.
-    pub fn format_at_place(&self, alloc: Global, place: usize) -> Result<Format, AllocError>
-        requires { place < length self.now.elements }
-        ensures { (ops : List Op) (e : Element) → Shows self.now.elements ops → AreMarks ops self.now.marks → slice_get self.now.elements place ≡ Some e → IfOk result (λ format. IsFormat ops e.id format) }
-    {
-        let mut stretches = no_stretches(alloc, self.comments.len())?;
-        let comments = comments_at(
-            alloc,
-            self.operations,
-            &self.comments,
-            &mut stretches,
-            place,
-        )?;
-        self.format_with(place, comments)
-    }
-
-    /// The same, where what was found of the comments at an earlier place is used again.
-    pub(crate) fn format_along(&mut self, alloc: Global, place: usize) -> Result<Format, AllocError>
-        requires { place < length self.old.elements }
-        ensures same { self.new ≡ self.old }
-        ensures format { (ops : List Op) (e : Element) → Shows self.old.elements ops → AreMarks ops self.old.marks → slice_get self.old.elements place ≡ Some e → IfOk result (λ format. IsFormat ops e.id format) }
-    {
-        let comments = comments_at(
-            alloc,
-            self.operations,
-            &self.comments,
-            &mut self.stretches,
-            place,
-        )?;
-        self.format_with(place, comments)
     }
 }

@@ -4,7 +4,8 @@ ghost use Rattle.std.specs.Option.{option_copied};
 ghost use Rattle.span_flatten.specs.Version.{spans_of as spans_in};
 ghost use Rattle.span_lines.specs.SpanLines.{flag_keys, link_keys, color_keys, comment_key, keys_of, behind_commas, format_text, escaped, lent_line, some_lines, span_lines};
 
-use change_ops::attribute::{Color, CommentNumber, Link};
+use change_ops::attribute::{Color, Link};
+use mark_anchors::comment_list::CommentNumbers;
 use mark_anchors::format::Format;
 use span_flatten::version::Version;
 use span_view::view::{SpanView, spans as spans_of, view};
@@ -40,8 +41,8 @@ fn push_color(keys: &mut String, color: Option<Color>) -> Result<(), AllocError>
     }
 }
 
-fn push_comments(keys: &mut String, comments: &[CommentNumber]) -> Result<(), AllocError>
-    ensures { OnOk result (string_bytes keys.new ≡ string_bytes keys.old ++ behind_commas (map comment_key comments.now)) }
+fn push_comments(keys: &mut String, comments: CommentNumbers<'_>) -> Result<(), AllocError>
+    ensures { OnOk result (string_bytes keys.new ≡ string_bytes keys.old ++ behind_commas (map comment_key comments.entry)) }
 {
     for comment in comments {
         write!(keys, ",comment:{}", comment.number())?;

@@ -32,7 +32,7 @@ fn flags(format: &Format) -> u32
         + flag(format.em(), EM)
         + flag(format.link().is_some(), LINK)
         + flag(format.color().is_some(), COLOR)
-        + flag(!format.comments().is_empty(), COMMENT)
+        + flag(format.comment_count() > 0, COMMENT)
         + flag(format.code(), CODE)
 }
 
@@ -63,21 +63,6 @@ fn color_number(format: &Format) -> u32
     }
 }
 
-/// The numbers of comments rise, are not 0 and have 32 bits, so their count has no more.
-fn comment_count(format: &Format) -> u32
-    ensures { result ≡ length format.now.comments }
-{
-    let comments = format.comments();
-    let count = comments.len();
-    if count == 0 {
-        return 0;
-    }
-    let first = comments[0].number();
-    let last = comments[count - 1].number();
-    prove!(count - 1 <= (last - first) as usize);
-    count as u32
-}
-
 fn facts(span: &SpanView) -> Facts
     ensures value { result ≡ facts_of span.now }
     ensures short { result.text_len ≤ 131072 }
@@ -90,7 +75,7 @@ fn facts(span: &SpanView) -> Facts
         flags: flags(format),
         color: color_number(format),
         link_len: link(span).len() as u32,
-        comments: comment_count(format),
+        comments: format.comment_count(),
         index: span.index as u32,
         count: span.count as u32,
         version: span.version,

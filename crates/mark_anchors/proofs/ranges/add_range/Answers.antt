@@ -8,8 +8,8 @@ use Rattle.mark_anchors.specs.declared.ranges.FormattedRange.{FormattedRange}
 use Rattle.mark_anchors.proofs.Uniform.{one_format_between, ranges_more}
 use Rattle.mark_anchors.proofs.ranges.add_range.Goals as goal
 
-pub returns-clause-ranges : goal.returns-clause-ranges
-returns-clause-ranges c =
+pub returns : goal.returns
+returns c =
     λ are.
     let es : List Element = c.args.resolved.now.elements in
     let marks : List Op = c.args.resolved.now.marks in
@@ -22,4 +22,4 @@ returns-clause-ranges c =
     (λ ops place e shows held low high at.
     let first : Element = get_or es c.args.from e in
     let here : slice_get es c.args.from ≡ Some first = slice_get-get_or es c.args.from e (omega arith) in
-    one_format_between ops es marks c.args.from c.args.to place first e shows held c.requires.uniform here at low high c.in_ok-format.format (c.in_ok-format.ensures.format ops first shows held here)))
+    one_format_between ops es marks c.args.from c.args.to place first e shows held c.requires.uniform here at low high c.in_ok-format.format (c.in_ok-format.ensures ops first shows held here)))

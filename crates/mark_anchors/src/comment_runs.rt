@@ -1,0 +1,100 @@
+//! The places at which comments hold, as runs of places side by side.
+ghost use Rattle.std.specs.Prelude.{◌≡◌, ◌<◌, ◌≤◌, ◌↔◌, ℕ, List, Some, Contains, IfOk, IfSome, IsSome, length, slice_get};
+ghost use Rattle.change_ops.specs.declared.attribute.Attribute.{Attribute};
+ghost use Rattle.change_ops.specs.declared.attribute.Key.{Key};
+ghost use Rattle.char_sequence.specs.declared.sequence.Element.{Element};
+ghost use Rattle.char_sequence.specs.Order.{Shows, IsAt};
+ghost use Rattle.mark_anchors.specs.Format.{Bears};
+ghost use Rattle.mark_anchors.specs.Marks.{AreMarks};
+ghost use Rattle.mark_anchors.specs.KeyMarks.{AreStill};
+ghost use Rattle.mark_anchors.specs.Placed.{ArePlaced};
+ghost use Rattle.mark_anchors.specs.Commented.{AreCommented};
+ghost use Rattle.mark_anchors.specs.CommentRuns.{has_place, IsRun, AreOrderly, AreHeld, IsCovered, AreHolding};
+ghost use Rattle.mark_anchors.specs.declared.comment_runs.CommentRun.{CommentRun};
+ghost use Rattle.mark_anchors.specs.declared.placed.PlacedMark.{PlacedMark};
+
+use crate::comments::CommentMarks;
+use crate::placed::holds_at;
+use change_ops::attribute::CommentNumber;
+use change_ops::id::OpId;
+use change_ops::operation::Op;
+use std::alloc::{AllocError, Global};
+
+/// Places at which the comment of the number holds: from `from` up to `to`, which is not one of them.
+#[derive(Clone, Copy)]
+pub(crate) struct CommentRun {
+    pub(crate) number: CommentNumber,
+    pub(crate) from: usize,
+    pub(crate) to: usize,
+}
+
+impl CommentRun {
+    /// Whether the place is one of the run's.
+    pub(crate) fn has(&self, place: usize) -> bool
+        ensures { result ≡ has_place self.now place }
+    {
+        self.from <= place && place < self.to
+    }
+}
+
+/// The run from the one place to the other, between which no mark of the comment begins or ends, if the comment holds there.
+fn run_between(
+    operations: &[Op],
+    comment: &CommentMarks,
+    from: usize,
+    to: usize,
+) -> Option<CommentRun>
+    requires { (i : ℕ) (p : PlacedMark) → slice_get comment.now.marks i ≡ Some p → p.index < length operations.now }
+    ensures run { IfSome result (λ run. IsRun comment.now.number from to run) }
+    ensures along { (es : List Element) (ops : List Op) (p : ℕ) (e : OpId) → Shows es ops → AreMarks ops operations.now → ArePlaced es operations.now (Key.Comment comment.now.number) comment.now.marks → AreStill comment.now.marks from to → from ≤ p → p < to → IsAt es e p → IsSome result ↔ Bears ops e (Attribute.Comment comment.now.number) }
+{
+    if !holds_at(operations, &comment.marks, from) {
+        return None;
+    }
+    let number = comment.number;
+    // Its contract bounds the number, and so how many comments hold at a place.
+    let _least = number.number();
+    Some(CommentRun { number, from, to })
+}
+
+/// Adds the runs of the comment.
+fn push_runs(
+    runs: &mut Vec<CommentRun>,
+    operations: &[Op],
+    comment: &CommentMarks,
+) -> Result<(), AllocError>
+    requires placed { (i : ℕ) (p : PlacedMark) → slice_get comment.now.marks i ≡ Some p → p.index < length operations.now }
+    requires orderly { AreOrderly runs.old.items }
+    requires below { (run : CommentRun) → Contains runs.old.items run → run.number < comment.now.number }
+    ensures orderly { IfOk result (λ _. AreOrderly runs.new.items) }
+    ensures up_to { IfOk result (λ _. (run : CommentRun) → Contains runs.new.items run → run.number ≤ comment.now.number) }
+    ensures kept { IfOk result (λ _. (run : CommentRun) → Contains runs.old.items run → Contains runs.new.items run) }
+    ensures held { IfOk result (λ _. (es : List Element) → ArePlaced es operations.now (Key.Comment comment.now.number) comment.now.marks → AreHeld es operations.now runs.old.items → AreHeld es operations.now runs.new.items) }
+    ensures covered { IfOk result (λ _. (es : List Element) → ArePlaced es operations.now (Key.Comment comment.now.number) comment.now.marks → IsCovered es operations.now runs.new.items comment.now.number) }
+{
+    let places = comment.marks.places();
+    let gaps = places.len().saturating_sub(1);
+    for index in 0..gaps {
+        if let Some(run) = run_between(operations, comment, places[index], places[index + 1]) {
+            runs.push(run)?;
+        }
+    }
+    Ok(())
+}
+
+/// The runs of all comments, by rising numbers.
+pub(crate) fn comment_runs(
+    alloc: Global,
+    operations: &[Op],
+    comments: &[CommentMarks],
+) -> Result<Vec<CommentRun>, AllocError>
+    requires { (es : List Element) × AreCommented es operations.now comments.now }
+    ensures orderly { IfOk result (λ runs. AreOrderly runs.items) }
+    ensures holding { IfOk result (λ runs. (es : List Element) → AreCommented es operations.now comments.now → AreHolding es operations.now runs.items) }
+{
+    let mut runs = Vec::new(alloc);
+    for comment in comments {
+        push_runs(&mut runs, operations, comment)?;
+    }
+    Ok(runs)
+}
