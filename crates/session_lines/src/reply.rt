@@ -1,13 +1,15 @@
 //! What a session prints.
-ghost use Rattle.std.specs.Prelude.{◌≡◌, ◌++◌, ◌∷◌, [], OnOk, string_bytes};
-ghost use Rattle.std.specs.declared.option.Option.TheVariants.{Some};
+ghost use Rattle.std.specs.Prelude.{◌≡◌, ◌≤◌, ◌+◌, ◌++◌, ◌∷◌, [], OnOk, OnErr, length, string_bytes, string_len};
+ghost use Rattle.std.specs.String.{string_capacity};
+ghost use Rattle.std.specs.Fmt.{decimal};
+ghost use Rattle.refusals.specs.Reasons.{place_text};
 ghost use Rattle.session_lines.specs.Replies.{reply_text, reason_of};
+ghost use Rattle.session_lines.specs.declared.reply.Reply.TheVariants as told;
 
 use crate::fault::LineRefusal;
-use refusals::reason::Reason;
+use itoa::Buffer;
+use refusals::reason::{Place, Reason};
 use std::alloc::AllocError;
-use std::fmt;
-use std::fmt::Write;
 
 /// A line that answers a request.
 #[derive(Clone, Copy)]
@@ -43,36 +45,129 @@ pub enum Reply {
     Refused(Reason),
 }
 
-impl fmt::Display for Reply {
-    ghost output = { λ reply. Some (reply_text reply) };
+/// Room for a word, a number and a LF.
+const NUMBER_ROOM: usize = 33;
 
-    fn fmt<W: fmt::Write>(&self, f: &mut fmt::Formatter<W>) -> fmt::Result {
-        match *self {
-            Reply::Version(number) => write!(f, "ok version {number}"),
-            Reply::Subscribed(id) => write!(f, "ok sub {id}"),
-            Reply::Hit {
-                version,
-                span,
-                verdict,
-            } => write!(f, "hit {version} {span} {verdict}"),
-            Reply::End { version, spans } => write!(f, "end {version} {spans}"),
-            Reply::Items(count) => write!(f, "ok items {count}"),
-            Reply::Closed(id) => write!(f, "ok closed {id}"),
-            Reply::Latest(number) => write!(f, "ok latest {number}"),
-            Reply::Spans(count) => write!(f, "ok spans {count}"),
-            Reply::Changes(count) => write!(f, "ok changes {count}"),
-            Reply::Newest(counter) => write!(f, "ok newest {counter}"),
-            Reply::Refused(reason) => write!(f, "no {reason}"),
+/// Room for a line of a hit: `hit`, three numbers of at most 20 digits, each behind a space, and a LF.
+const HIT_ROOM: usize = 67;
+
+/// Room for `no `, ` line ` or ` slot `, a number of at most 40 digits, and a LF, beside a refusal's number and name.
+const REFUSAL_ROOM: usize = 50;
+
+/// Appends a text for which there is room.
+fn append(out: &mut String, text: &str)
+    requires { string_len out.old + length text.now ≤ string_capacity out.old }
+    ensures bytes { string_bytes out.new ≡ string_bytes out.old ++ text.now }
+    ensures len { string_len out.new ≡ string_len out.old + length text.now }
+    ensures capacity { string_capacity out.old ≤ string_capacity out.new }
+{
+    let _ = out.push_str(text);
+}
+
+/// Appends a word and a number, for which there is room.
+fn append_number(out: &mut String, word: &str, number: u64)
+    requires { string_len out.old + (length word.now + 20) ≤ string_capacity out.old }
+    ensures bytes { string_bytes out.new ≡ string_bytes out.old ++ (word.now ++ decimal number) }
+    ensures len { string_len out.new ≤ string_len out.old + (length word.now + 20) }
+    ensures capacity { string_capacity out.old ≤ string_capacity out.new }
+{
+    let mut digits = Buffer::new();
+    append(out, word);
+    append(out, digits.format(number));
+}
+
+/// Appends where a fault stands, for which there is room.
+fn append_place(out: &mut String, place: Place)
+    requires { string_len out.old + 46 ≤ string_capacity out.old }
+    ensures bytes { string_bytes out.new ≡ string_bytes out.old ++ place_text place }
+    ensures len { string_len out.new ≤ string_len out.old + 46 }
+    ensures capacity { string_capacity out.old ≤ string_capacity out.new }
+{
+    let mut digits = Buffer::new();
+    match place {
+        Place::Whole => {}
+        Place::Slot(slot) => append_number(out, " slot ", slot as u64),
+        Place::Line(line) => {
+            append(out, " line ");
+            append(out, digits.format(line));
         }
     }
 }
 
+/// Appends the line of a word and a number.
+fn push_number(out: &mut String, word: &str, number: u64) -> Result<(), AllocError>
+    requires { length word.now ≤ 12 }
+    ensures ok { OnOk result (string_bytes out.new ≡ string_bytes out.old ++ (word.now ++ decimal number ++ 10 ∷ [])) }
+    ensures err { OnErr result (string_bytes out.new ≡ string_bytes out.old) }
+{
+    out.reserve(NUMBER_ROOM)?;
+    append_number(out, word, number);
+    append(out, "\n");
+    Ok(())
+}
+
+/// Appends the line of a hit.
+fn push_hit(out: &mut String, version: u64, span: usize, verdict: u64) -> Result<(), AllocError>
+    ensures ok { OnOk result (string_bytes out.new ≡ string_bytes out.old ++ (reply_text (told.Hit version span verdict) ++ 10 ∷ [])) }
+    ensures err { OnErr result (string_bytes out.new ≡ string_bytes out.old) }
+{
+    out.reserve(HIT_ROOM)?;
+    append_number(out, "hit ", version);
+    append_number(out, " ", span as u64);
+    append_number(out, " ", verdict);
+    append(out, "\n");
+    Ok(())
+}
+
+/// Appends the line of a version's end.
+fn push_end(out: &mut String, version: u64, spans: usize) -> Result<(), AllocError>
+    ensures ok { OnOk result (string_bytes out.new ≡ string_bytes out.old ++ (reply_text (told.End version spans) ++ 10 ∷ [])) }
+    ensures err { OnErr result (string_bytes out.new ≡ string_bytes out.old) }
+{
+    out.reserve(HIT_ROOM)?;
+    append_number(out, "end ", version);
+    append_number(out, " ", spans as u64);
+    append(out, "\n");
+    Ok(())
+}
+
+/// Appends the line of a refusal.
+fn push_refusal(out: &mut String, reason: Reason) -> Result<(), AllocError>
+    ensures ok { OnOk result (string_bytes out.new ≡ string_bytes out.old ++ (reply_text (told.Refused reason) ++ 10 ∷ [])) }
+    ensures err { OnErr result (string_bytes out.new ≡ string_bytes out.old) }
+{
+    let title = reason.title();
+    out.reserve(title.len() + REFUSAL_ROOM)?;
+    append(out, "no ");
+    append(out, title);
+    append_place(out, reason.place());
+    append(out, "\n");
+    Ok(())
+}
+
 impl Reply {
-    /// Appends the line with its LF.
+    /// Appends the line with its LF, whole or not at all. The words and digits are put there one by one, since most lines are items', and
+    /// a pull has up to 1,024 of those.
     pub fn push_line(&self, out: &mut String) -> Result<(), AllocError>
         ensures { OnOk result (string_bytes out.new ≡ string_bytes out.old ++ (reply_text self.now ++ 10 ∷ [])) }
     {
-        write!(out, "{self}\n")
+        match *self {
+            Reply::Version(number) => push_number(out, "ok version ", number),
+            Reply::Subscribed(id) => push_number(out, "ok sub ", id as u64),
+            Reply::Hit {
+                version,
+                span,
+                verdict,
+            } => push_hit(out, version, span, verdict),
+            Reply::End { version, spans } => push_end(out, version, spans),
+            Reply::Items(count) => push_number(out, "ok items ", count as u64),
+            Reply::Closed(id) => push_number(out, "ok closed ", id as u64),
+            Reply::Latest(number) => push_number(out, "ok latest ", number),
+            Reply::Spans(count) => push_number(out, "ok spans ", count as u64),
+            Reply::Changes(count) => push_number(out, "ok changes ", count as u64),
+            Reply::Newest(counter) => push_number(out, "ok newest ", counter),
+            Reply::Refused(reason) => push_refusal(out, reason),
+        }
     }
 }
 
