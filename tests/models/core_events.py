@@ -333,10 +333,10 @@ class Machine:
             self.pump(job[0])
         return str(committed)
 
-    def catch_up(self, i):
+    def catch_up(self, i, last):
         s = self.open(i)
         version = self.due(i, s.cursor) if s else None
-        if version is None:
+        if version is None or last < version:
             return '0'
         self.commit((i, version, s.program, version))
         return '1'
@@ -449,7 +449,8 @@ class Player:
         if key in ('take', 'take-all'):
             return m.take(number(rest), 1 if key == 'take' else 1024)
         if key == 'catch-up':
-            return m.catch_up(number(rest))
+            i, _, last = rest.partition(' ')
+            return m.catch_up(number(i), number(last) if last else m.history.latest())
         if key == 'without-memory':
             return '45 OutOfMemory'
         if key in ('commit', 'offer'):

@@ -163,7 +163,7 @@ fn answer<N: Naming + Ledger + Send + Sync, R: Threads + Wait + Copy + Send + Sy
         "close" => machine.close(number(rest)),
         "take" => machine.take(number(rest), 1),
         "take-all" => machine.take(number(rest), 1024),
-        "catch-up" => machine.catch_up(number(rest)),
+        "catch-up" => machine.catch_up(rest),
         "without-memory" => Err(without_memory(rest)),
         _ => by_share_or_workers(machine, shares, key, rest),
     }

@@ -216,8 +216,16 @@ impl<'a, 'b, 'p, 'q, N: Naming + Ledger, R: Threads + Wait + Copy + Sync> Machin
         self.keep_batch(batch)
     }
 
-    pub fn catch_up(&self, id: usize) -> Result<Answer, Fault> {
-        let waited = catch_up(&self.rt, self.alloc, self.hub, self.published, id, 1)?;
+    /// Catches a subscriber up to the version of a number, or to the latest one where none is named.
+    pub fn catch_up(&self, rest: &str) -> Result<Answer, Fault> {
+        let (id, last) = parted(rest);
+        let id = number(id);
+        let last = if last.is_empty() {
+            self.hub.latest(&self.rt)
+        } else {
+            number(last) as u64
+        };
+        let waited = catch_up(&self.rt, self.alloc, self.hub, self.published, id, last, 1)?;
         Ok(Answer::Number(u64::from(waited)))
     }
 }

@@ -1,5 +1,5 @@
 -- What workers do to a hub.
-use Rattle.std.specs.Prelude.{◌≡◌, ◌≤◌, ℕ, Bool, true, false, Result, Ok, Err, Option, Some, None, List, All, length}
+use Rattle.std.specs.Prelude.{◌≡◌, ◌<◌, ◌≤◌, ℕ, Bool, true, false, Result, Ok, Err, Option, Some, None, List, All, length}
 use Rattle.batches.specs.Batches.{Slip}
 use Rattle.hub_core.specs.Machine.{TakesJob, Misses, Commits, Pumps}
 use Rattle.hub_core.specs.declared.error.CommitError.{CommitError}
@@ -24,12 +24,18 @@ abbrev pub Turns : Option TurnEnd → Type 0
 Turns (Some end) = (job : Slip) × InOneHolding (λ old new. TakesJob old (Some job) new) × Ends job end × IsPumped job.subscriber
 Turns None = InOneHolding (λ old new. TakesJob old None new)
 
--- the job of the first version that a subscriber waited for was found in one holding of the lock, and its batch committed or refused in another; or it
--- waited for none
-abbrev pub CatchesUp : ℕ → Bool → Type 0
-CatchesUp subscriber true =
-    (job : Slip) × InOneHolding (λ old new. (new ≡ old) × Misses old subscriber (Some job)) × (end : TurnEnd) × Ends job end
-CatchesUp subscriber false = InOneHolding (λ old new. (new ≡ old) × Misses old subscriber None)
+-- what a subscriber was found to wait for is no version, or one behind this
+abbrev pub IsBehind : ℕ → Option Slip → Type 0
+IsBehind last None = Unit {0}
+IsBehind last (Some job) = last < job.number
+
+-- the job of the first version that a subscriber waited for was found in one holding of the lock, is of one of the versions up to the last that is
+-- wanted, and its batch was committed or refused in another holding; or it waited for none of them
+abbrev pub CatchesUp : ℕ → ℕ → Bool → Type 0
+CatchesUp subscriber last true =
+    (job : Slip) × (job.number ≤ last) × InOneHolding (λ old new. (new ≡ old) × Misses old subscriber (Some job)) × (end : TurnEnd) × Ends job end
+CatchesUp subscriber last false =
+    (missed : Option Slip) × IsBehind last missed × InOneHolding (λ old new. (new ≡ old) × Misses old subscriber missed)
 
 -- how many batches a turn committed
 abbrev pub batches_of : TurnEnd → ℕ

@@ -147,22 +147,27 @@ pub fn work<N: Naming + Ledger + Send + Sync, R: Threads + Wait + Copy + Send + 
     total(counts.as_slice(), u64::from(turns))
 }
 
-/// Computes the batch of the first version that a subscriber waits for, whoever its job was handed out to, and commits it; where
-/// another committed it meanwhile that is as good. It answers whether the subscriber waited for one.
+/// Computes the batch of the first version that a subscriber waits for, whoever its job was handed out to, and commits it, if the
+/// version's number is at most this one; where another committed it meanwhile that is as good. It answers whether the subscriber
+/// waited for such a version.
 pub fn catch_up<N: Naming + Ledger, R: Threads + Wait + Copy + Sync>(
     rt: &R,
     alloc: Global,
     hub: &Hub<'_, N, R>,
     published: &Published<'_, N>,
     subscriber: usize,
+    last: u64,
     workers: usize,
 ) -> Result<bool, AllocError>
     requires { (1 ≤ workers) × (workers ≤ 16) }
-    ensures { IfOk result (CatchesUp subscriber) }
+    ensures { IfOk result (CatchesUp subscriber last) }
 {
     let Some(job) = hub.missing_job(rt, subscriber) else {
         return Ok(false);
     };
+    if job.number > last {
+        return Ok(false);
+    }
     let _end = answer(rt, alloc, hub, published, &job, workers)?;
     Ok(true)
 }

@@ -1,18 +1,25 @@
 -- How the exchanges of a session add up, and how it ends after them.
-use Rattle.std.proofs.Common.{◌≡◌, ℕ, List, [], ◌∷◌, ◌++◌, Option, Result, Ok, Err, refl, sym, ap, subst, ◌∙◌, append_assoc, append-nil, IsErrAnd, inr, arith}
+use Rattle.std.proofs.Common.{◌≡◌, ℕ, ◌+◌, ◌≤◌, if◌then◌else◌, true, false, List, [], ◌∷◌, ◌++◌, Option, Result, Ok, Err, refl, sym, ap, subst, ◌∙◌, append_assoc, append-nil, IsErrAnd, inl, inr, arith, length}
 use Rattle.std.specs.Prelude.{IfOk, IfErr, OnOk, All, suc, ⊤}
 use Rattle.std.specs.List.{flat_map}
 use Rattle.std.specs.Io.KnownBytes.{Appends}
 use Rattle.std.proofs.KnownBytes.{Appends-nil, Appends-trans}
 use Rattle.refusals.specs.declared.reason.Reason.{Reason}
 use Rattle.refusals.specs.declared.reason.Reason.TheVariants as reason
+use Rattle.session_lines.specs.declared.reply.Reply.{Reply}
 use Rattle.session_lines.specs.declared.reply.Reply.TheVariants as reply
-use Rattle.hub_sessions.specs.Sessions.{Standing, Exchange, IsExchange, Follow, Converses, TakesTurn, Ends, EndsAfter, EndsShort, printed, reply_line}
+use Rattle.session_lines.specs.declared.request.SessionRequest.{SessionRequest}
+use Rattle.session_lines.specs.declared.request.SessionRequest.TheVariants as asked
+use Rattle.subscriber_queues.specs.Queue.{Taking}
+use Rattle.session_subscribers.specs.Items.{TakesShort}
+use Rattle.session_subscribers.specs.Holding.{Pulls, PullsShort}
+use Rattle.hub_sessions.specs.Sessions.{Standing, Exchange, IsExchange, Answers, Follow, Converses, is_read, TakesTurn, BreaksTurn, FallsShort, Ends, EndsAfter, EndsShort, printed, reply_line}
 use Rattle.hub_sessions.specs.declared.conversation.SessionFault.{SessionFault}
 use Rattle.hub_sessions.specs.declared.conversation.SessionFault.TheVariants as fault
 use Rattle.hub_sessions.specs.declared.conversation.Turn.{Turn}
 use Rattle.hub_sessions.specs.declared.conversation.Turn.TheVariants.{More, Last}
 use Rattle.hub_sessions.specs.declared.conversation.TurnFault.{TurnFault}
+use Rattle.hub_sessions.specs.declared.conversation.TurnFault.TheVariants as broken
 
 printed_both : (one more : List Exchange) → flat_map printed (one ++ more) ≡ flat_map printed one ++ flat_map printed more
 printed_both [] more = refl
@@ -54,14 +61,16 @@ ended s left old s' left' mid text s'' left'' new c t a = record {
   counted = ap (λ z. z.count) t.1;
 }
 
-pub short : (s : Standing) (left old : Option (List ℕ)) (s' : Standing) (left' mid : Option (List ℕ)) (part : List ℕ) (middle new : Option (List ℕ))
-    → Converses s left old s' left' mid → Appends mid middle part → Appends middle new (reply_line (reply.Refused reason.OutOfMemory)) → EndsShort s left old new
-short s left old s' left' mid part middle new c a b = record {
+pub short : (s : Standing) (left old : Option (List ℕ)) (s' : Standing) (left' mid : Option (List ℕ)) (part : List ℕ) (s'' : Standing) (middle new : Option (List ℕ))
+    → Converses s left old s' left' mid → FallsShort s' part s'' → Appends mid middle part → Appends middle new (reply_line (reply.Refused reason.OutOfMemory)) → EndsShort s left old new
+short s left old s' left' mid part s'' middle new c f a b = record {
   stands = s';
   rest = left';
   before = mid;
   converses = c;
   part = part;
+  last = s'';
+  short = f;
   written = Appends-trans mid middle new _ _ a b;
 }
 
@@ -76,16 +85,16 @@ pub refused_line : (a b : List ℕ) (r r' : Reason) → b ≡ a ++ reply_line (r
 refused_line a b r r' is none same = is ∙ ap (λ l. l ++ reply_line (reply.Refused r)) none ∙ ap (λ z. reply_line (reply.Refused z)) same
 
 -- no memory was found after some exchanges, and a part of what answers the next was written
-pub unfinished : (r : Result ⊤ SessionFault) (s : Standing) (left old : Option (List ℕ)) (s' : Standing) (left' mid : Option (List ℕ)) (part : List ℕ) (middle new : Option (List ℕ)) (count : ℕ)
-    → Converses s left old s' left' mid → Appends mid middle part → OnOk r (Appends middle new (reply_line (reply.Refused reason.OutOfMemory))) → IfErr r (λ f. f ≡ fault.Write)
+pub unfinished : (r : Result ⊤ SessionFault) (s : Standing) (left old : Option (List ℕ)) (s' : Standing) (left' mid : Option (List ℕ)) (part : List ℕ) (s'' : Standing) (middle new : Option (List ℕ)) (count : ℕ)
+    → Converses s left old s' left' mid → FallsShort s' part s'' → Appends mid middle part → OnOk r (Appends middle new (reply_line (reply.Refused reason.OutOfMemory))) → IfErr r (λ f. f ≡ fault.Write)
     → Ends r s left old count new
-unfinished (Ok t) s left old s' left' mid part middle new count c a b f = inr (short s left old s' left' mid part middle new c a b)
-unfinished (Err e) s left old s' left' mid part middle new count c a b f = subst (λ z. Ends (Err z) s left old count new) (sym f) tt
+unfinished (Ok t) s left old s' left' mid part s'' middle new count c f a b e = inr (short s left old s' left' mid part s'' middle new c f a b)
+unfinished (Err y) s left old s' left' mid part s'' middle new count c f a b e = subst (λ z. Ends (Err z) s left old count new) (sym e) tt
 
 -- nor for the first
 pub not_begun : (r : Result ⊤ SessionFault) (s : Standing) (left old new : Option (List ℕ)) (count : ℕ)
     → OnOk r (Appends old new (reply_line (reply.Refused reason.OutOfMemory))) → IfErr r (λ f. f ≡ fault.Write) → Ends r s left old count new
-not_begun r s left old new count b f = unfinished r s left old s left old [] old new count (begun s left old) (Appends-nil old) b f
+not_begun r s left old new count b e = unfinished r s left old s left old [] s old new count (begun s left old) (inl refl) (Appends-nil old) b e
 
 -- a turn of which it is known that it was the last
 pub last_turn : (r : Result Turn TurnFault) (s : Standing) (left : Option (List ℕ)) (text : List ℕ) (s' : Standing) (left' : Option (List ℕ))
@@ -96,3 +105,55 @@ last_turn r s left text s' left' is p = subst (λ z. IfOk z (λ turn. TakesTurn 
 pub last_is_none : (others : List ℕ) (last : ℕ) → All (λ count. count ≡ 0) (others ++ last ∷ []) → last ≡ 0
 last_is_none [] last all = all 0 0 (omega arith)
 last_is_none (x ∷ others) last all = last_is_none others last (λ k d low. all (suc k) d (omega (arith, low)))
+
+-- a turn of which it is known that it met want of memory
+pub short_turn : (r : Result Turn TurnFault) (s : Standing) (text : List ℕ) (s' : Standing)
+    → r ≡ Err broken.Memory → IfErr r (λ f. BreaksTurn f s text s') → FallsShort s text s'
+short_turn r s text s' is p = subst (λ z. IfErr z (λ f. BreaksTurn f s text s')) is p
+
+-- a turn that changed and printed nothing, whatever broke it
+pub broke_still : (r : Result Turn TurnFault) (s : Standing) (text : List ℕ) → text ≡ [] → IfErr r (λ f. BreaksTurn f s text s)
+broke_still (Ok t) s text none = tt
+broke_still (Err broken.Read) s text none = (refl, none)
+broke_still (Err broken.Memory) s text none = inl none
+
+-- a turn that met want of memory
+pub broke_short : (r : Result Turn TurnFault) (s : Standing) (text : List ℕ) (s' : Standing) → IsErrAnd r (λ f. f ≡ broken.Memory) → FallsShort s text s' → IfErr r (λ f. BreaksTurn f s text s')
+broke_short (Ok t) s text s' is p = tt
+broke_short (Err f) s text s' is p = subst (λ z. BreaksTurn z s text s') (sym is) p
+
+-- all lines of items stand, and none more
+whole_lines : (count : ℕ) (end end' : Taking) (out out' : List ℕ) (answer : Reply) → Pulls count end end' out out' answer → TakesShort count end end' out out'
+whole_lines count end end' out out' answer p = record {
+  shown = p.takes.items;
+  unshown = [];
+  next = p.takes.next ∙ ap (λ l. record end { taken = end.taken ++ l }) (sym (append-nil p.takes.items));
+  printed = p.takes.printed;
+  few = omega (arith, p.takes.many, p.most);
+  last = omega arith;
+}
+
+-- a request was done and its last line not printed: what stands then
+pub unanswered : (request : SessionRequest) (s : Standing) (items : List ℕ) (answer : Reply) (s' : Standing) (text : List ℕ)
+    → Answers request s [] items answer s' → text ≡ (if is_read request then [] else items) → FallsShort s text s'
+unanswered (asked.Change change) s items answer s' text met is = inl (is ∙ met.2)
+unanswered (asked.Subscribe profile capacity program first) s items answer s' text met is = inl (is ∙ met.2)
+unanswered (asked.Pull id count) s items answer s' text met is = elim met.0 [
+  | inl held ↦ inr (
+    id,
+    count,
+    subst (PullsShort id count s.held s'.held []) (sym is) (record {
+      place = held.place;
+      there = held.there;
+      one = held.one;
+      is = held.is;
+      items = held.items;
+      others = held.others;
+      orderly = held.orderly;
+      takes = whole_lines count held.one.items held.items [] items answer held.pulls;
+    }),
+  )
+  | inr none ↦ inl (is ∙ none.printed)
+]
+unanswered (asked.Close id) s items answer s' text met is = inl (is ∙ met.2)
+unanswered (asked.Read query) s items answer s' text met is = inl is

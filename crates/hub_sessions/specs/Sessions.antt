@@ -1,5 +1,5 @@
 -- A session from its first line to its end: what came, and what was printed for it.
-use Rattle.std.specs.Prelude.{◌≡◌, ◌⊎◌, ℕ, ◌+◌, ◌≤◌, Bool, List, [], ◌∷◌, ◌++◌, Option, Result, Ok, Err, ⊤}
+use Rattle.std.specs.Prelude.{◌≡◌, ◌⊎◌, ℕ, ◌+◌, ◌≤◌, Bool, true, false, List, [], ◌∷◌, ◌++◌, Option, Result, Ok, Err, ⊤}
 use Rattle.std.specs.List.{flat_map}
 use Rattle.std.specs.Io.KnownBytes.{Appends, Keeps}
 use Rattle.change_ops.specs.Changes.{Edit}
@@ -13,7 +13,7 @@ use Rattle.session_lines.specs.declared.request.Next.{Next}
 use Rattle.session_lines.specs.declared.request.Next.TheVariants as next
 use Rattle.session_lines.specs.declared.request.SessionRequest.{SessionRequest}
 use Rattle.session_lines.specs.declared.request.SessionRequest.TheVariants as asked
-use Rattle.session_subscribers.specs.Holding.{Watched, Adds, Closes, PullsAny}
+use Rattle.session_subscribers.specs.Holding.{Watched, Adds, Closes, PullsAny, PullsShort}
 use Rattle.session_reads.specs.Reads.{Reads}
 use Rattle.hub_sessions.specs.declared.conversation.SessionFault.{SessionFault}
 use Rattle.hub_sessions.specs.declared.conversation.SessionFault.TheVariants as fault
@@ -93,10 +93,19 @@ abbrev pub TakesTurn : Turn → Standing → Option (List ℕ) → List ℕ → 
 TakesTurn More s left text s' left' = (e : Exchange) × IsExchange s left e × (text ≡ printed e) × (s' ≡ e.stands) × (left' ≡ e.left)
 TakesTurn Last s left text s' left' = IsLast left left' text × (s' ≡ s)
 
+-- a request that only reads
+abbrev pub is_read : SessionRequest → Bool
+is_read (asked.Read query) = true
+is_read request = false
+
+-- no memory was found for a whole reply: nothing of it is printed, or, of a pull, whole lines of items that it took
+abbrev pub FallsShort : Standing → List ℕ → Standing → Type 0
+FallsShort s text s' = (text ≡ []) ⊎ ((id : ℕ) × (count : ℕ) × PullsShort id count s.held s'.held [] text)
+
 -- a turn whose read failed changed and printed nothing
 abbrev pub BreaksTurn : TurnFault → Standing → List ℕ → Standing → Type 0
 BreaksTurn turn_fault.Read s text s' = (s' ≡ s) × (text ≡ [])
-BreaksTurn turn_fault.Memory s text s' = ⊤
+BreaksTurn turn_fault.Memory s text s' = FallsShort s text s'
 
 -- after its exchanges the session came to its end, by what came or for want of memory
 pub record EndsAfter (s : Standing) (left old : Option (List ℕ)) (count : ℕ) (new : Option (List ℕ)) : Type 0 where
@@ -116,6 +125,8 @@ pub record EndsShort (s : Standing) (left old new : Option (List ℕ)) : Type 0 
   pub before : Option (List ℕ)
   pub converses : Converses s left old stands rest before
   pub part : List ℕ
+  pub last : Standing
+  pub short : FallsShort stands part last
   pub written : Appends before new (part ++ reply_line (reply.Refused reason.OutOfMemory))
 
 -- or a read failed after them

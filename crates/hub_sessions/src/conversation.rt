@@ -1,9 +1,9 @@
-ghost use Rattle.std.specs.Prelude.{◌≡◌, ◌≤◌, ◌↔◌, [], IfOk, IfErr, OnOk, string_bytes};
+ghost use Rattle.std.specs.Prelude.{◌≡◌, ◌≤◌, ◌↔◌, ◌++◌, [], if◌then◌else◌, IfOk, IfErr, OnOk, OnErr, string_bytes};
 ghost use Rattle.std.specs.Io.KnownBytes.{Appends};
 ghost use Rattle.refusals.specs.declared.reason.Reason.TheVariants as why;
 ghost use Rattle.session_lines.specs.declared.fault.ReadFault.TheVariants as read_fault;
 ghost use Rattle.session_lines.specs.declared.reply.Reply.TheVariants as told;
-ghost use Rattle.hub_sessions.specs.Sessions.{Submits, Answers, TakesTurn, BreaksTurn, Ends, reply_line};
+ghost use Rattle.hub_sessions.specs.Sessions.{Submits, Answers, FallsShort, TakesTurn, BreaksTurn, Ends, is_read, reply_line};
 ghost use Rattle.hub_sessions.specs.declared.conversation.TurnFault.TheVariants as turn_fault;
 
 use change_ops::change::Change;
@@ -119,6 +119,8 @@ fn answer<N: Naming + Ledger + Send + Sync, R: Threads + Wait + Copy + Send + Sy
     requires { string_bytes out.old ≡ [] }
     ensures answers { IfOk result (λ answer. Answers request (record { count = share.old; held = held.old.items; reads = hub.now.reads }) (string_bytes out.old) (string_bytes out.new)
         answer (record { count = share.new; held = held.new.items; reads = hub.now.reads })) }
+    ensures short { OnErr result (FallsShort (record { count = share.old; held = held.old.items; reads = hub.now.reads }) (string_bytes out.new)
+        (record { count = share.new; held = held.new.items; reads = hub.now.reads })) }
     ensures share { share.old ≤ share.new }
 {
     match request {
@@ -140,6 +142,26 @@ fn answer<N: Naming + Ledger + Send + Sync, R: Threads + Wait + Copy + Send + Sy
             out,
         )),
     }
+}
+
+/// Whether a request only reads.
+fn only_reads(request: &SessionRequest) -> bool
+    ensures { result ≡ is_read request.now }
+{
+    matches!(request, SessionRequest::Read(_))
+}
+
+/// Appends the last line of a reply. Where no memory is found for it, what was read is taken back; the lines of items stay, since those
+/// were taken.
+fn push_last(reply: Reply, reads: bool, out: &mut String) -> Result<(), AllocError>
+    ensures ok { OnOk result (string_bytes out.new ≡ string_bytes out.old ++ reply_line reply) }
+    ensures err { OnErr result (string_bytes out.new ≡ (if reads then [] else string_bytes out.old)) }
+{
+    let pushed = reply.push_line(out);
+    if pushed.is_err() && reads {
+        out.clear();
+    }
+    pushed
 }
 
 /// Empties the lines of a reply, and gives back the room that they took beyond the one that is kept.
@@ -167,7 +189,8 @@ fn take_turn<N: Naming + Ledger + Send + Sync, R: Threads + Wait + Copy + Send +
     empty_reply(out);
     match next_request(hub.alloc, lines)? {
         Next::Request(request) => {
-            answer(hub, share, held, request, out)?.push_line(out)?;
+            let reads = only_reads(&request);
+            push_last(answer(hub, share, held, request, out)?, reads, out)?;
             Ok(Turn::More)
         }
         Next::Refused(refusal) => {

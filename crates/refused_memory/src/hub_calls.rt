@@ -227,7 +227,7 @@ fn catch_up_once<N: Naming + Ledger, R: Print + Threads + Wait + Copy + Sync>(
     let published = held.board.published.again();
     let before = state(stage, held)?;
     stage.begin()?;
-    let outcome = catch_up(stage.rt, stage.alloc, &held.hub, &published, 0, 1);
+    let outcome = catch_up(stage.rt, stage.alloc, &held.hub, &published, 0, u64::MAX, 1);
     stage.end()?;
     let answer = match outcome {
         Ok(waited) => Answer::of(format!(in stage.alloc; "waited {waited}")?),
@@ -245,7 +245,8 @@ fn rest<N: Naming + Ledger, R: Print + Threads + Wait + Copy + Sync>(
 ) -> Result<String, Fault> {
     let published = held.board.published.again();
     for _ in 0..8u8 {
-        if !catch_up(stage.rt, stage.alloc, &held.hub, &published, 0, 1)? {
+        let waited = catch_up(stage.rt, stage.alloc, &held.hub, &published, 0, u64::MAX, 1)?;
+        if !waited {
             break;
         }
     }

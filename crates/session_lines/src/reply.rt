@@ -149,7 +149,8 @@ impl Reply {
     /// Appends the line with its LF, whole or not at all. The words and digits are put there one by one, since most lines are items', and
     /// a pull has up to 1,024 of those.
     pub fn push_line(&self, out: &mut String) -> Result<(), AllocError>
-        ensures { OnOk result (string_bytes out.new ≡ string_bytes out.old ++ (reply_text self.now ++ 10 ∷ [])) }
+        ensures ok { OnOk result (string_bytes out.new ≡ string_bytes out.old ++ (reply_text self.now ++ 10 ∷ [])) }
+        ensures err { OnErr result (string_bytes out.new ≡ string_bytes out.old) }
     {
         match *self {
             Reply::Version(number) => push_number(out, "ok version ", number),

@@ -1,6 +1,6 @@
 -- Where a subscriber is, and what is taken of it.
 use Rattle.std.proofs.Common.{◌≡◌, ℕ, ◌<◌, ◌==◌, List, [], Result, Ok, Err, length, set, get_or, refl, subst, inl, inr, sym, IsErrAnd}
-use Rattle.std.specs.Prelude.{Some, None, IfErr, Bool, IsTrue, ◌↔◌}
+use Rattle.std.specs.Prelude.{Some, None, IfOk, IfErr, OnErr, Bool, IsTrue, ◌↔◌}
 use Rattle.std.proofs.lemmas.List.Quantifiers.{position-Some}
 use Rattle.std.proofs.lemmas.Option.{slice_get_read}
 use Rattle.bpf_words.specs.declared.profile.Profile.{Profile}
@@ -13,7 +13,8 @@ use Rattle.ingest_workers.specs.Holdings.{InOneHolding}
 use Rattle.refusals.specs.declared.reason.Reason.TheVariants as reason
 use Rattle.session_lines.specs.declared.reply.Reply.{Reply}
 use Rattle.session_lines.specs.declared.reply.Reply.TheVariants.{Refused}
-use Rattle.session_subscribers.specs.Holding.{Watched, place_in, AreSafe, Pulls, PullsAny}
+use Rattle.session_subscribers.specs.Items.{TakesShort}
+use Rattle.session_subscribers.specs.Holding.{Watched, place_in, AreSafe, Pulls, PullsAny, PullsShort}
 
 pub place_within : (held : List Watched) (some : Watched) (id place : ℕ) → place_in held id ≡ Some place → place < length held
 place_within held some id place there = (position-Some (λ one. one.id == id) held place some there).0
@@ -30,6 +31,30 @@ pulled id count place held one items out out' answer there read pulls orderly = 
   orderly = orderly;
   pulls = pulls;
 })
+
+pub pulled_short : (id count place : ℕ) (held : List Watched) (one : Watched) (items : Taking) (out out' : List ℕ) → place_in held id ≡ Some place → one ≡ get_or held place one
+    → TakesShort count one.items items out out' → IsOrderly items.taken → PullsShort id count held (set held place (record one { items = items })) out out'
+pulled_short id count place held one items out out' there read takes orderly = record {
+  place = place;
+  there = there;
+  one = one;
+  is = slice_get_read held (length held) place one refl (place_within held one id place there) read;
+  items = items;
+  others = refl;
+  orderly = orderly;
+  takes = takes;
+}
+
+-- what was answered to a pull of a subscriber that is held
+pub pulled_ok : {E : Type 0} (r : Result Reply E) (id count place : ℕ) (held : List Watched) (one : Watched) (items : Taking) (out out' : List ℕ) → place_in held id ≡ Some place → one ≡ get_or held place one
+    → IsOrderly items.taken → IfOk r (Pulls count one.items items out out') → IfOk r (PullsAny id count held (set held place (record one { items = items })) out out')
+pulled_ok (Ok answer) id count place held one items out out' there read orderly pulls = pulled id count place held one items out out' answer there read pulls orderly
+pulled_ok (Err e) id count place held one items out out' there read orderly pulls = tt
+
+pub pulled_err : {E : Type 0} (r : Result Reply E) (id count place : ℕ) (held : List Watched) (one : Watched) (items : Taking) (out out' : List ℕ) → place_in held id ≡ Some place → one ≡ get_or held place one
+    → IsOrderly items.taken → OnErr r (TakesShort count one.items items out out') → OnErr r (PullsShort id count held (set held place (record one { items = items })) out out')
+pulled_err (Ok answer) id count place held one items out out' there read orderly takes = tt
+pulled_err (Err e) id count place held one items out out' there read orderly takes = pulled_short id count place held one items out out' there read takes orderly
 
 pub none_pulled : (id count : ℕ) (held : List Watched) (out : List ℕ) → place_in held id ≡ None → PullsAny id count held held out out (Refused reason.NoSubscriber)
 none_pulled id count held out none = inr (record { none = none; same = refl; printed = refl; told = refl })

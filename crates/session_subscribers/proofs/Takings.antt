@@ -1,11 +1,12 @@
 -- How taken items add up.
-use Rattle.std.proofs.Common.{◌≡◌, ℕ, ◌+◌, List, [], ◌∷◌, ◌++◌, arith, refl, sym, ap, ◌∙◌, append_assoc, length-append}
+use Rattle.std.proofs.Common.{◌≡◌, ℕ, ◌+◌, ◌<◌, ◌≤◌, List, [], ◌∷◌, ◌++◌, arith, refl, sym, ap, ◌∙◌, append_assoc, length-append}
+use Rattle.std.specs.Prelude.{Result, Ok, Err, OnErr}
 use Rattle.std.specs.List.{flat_map}
 use Rattle.batches.specs.Batches.{Entry}
 use Rattle.subscriber_queues.specs.Queue.{Taking}
 use Rattle.session_lines.specs.Replies.{reply_text}
 use Rattle.session_lines.specs.declared.reply.Reply.{Reply}
-use Rattle.session_subscribers.specs.Items.{item_reply, item_line, Takes}
+use Rattle.session_subscribers.specs.Items.{item_reply, item_line, Takes, TakesShort}
 
 lines_of_both : (one more : List Entry) → flat_map item_line (one ++ more) ≡ flat_map item_line one ++ flat_map item_line more
 lines_of_both [] more = refl
@@ -32,3 +33,33 @@ one_taken item reply a b out out' next is printed = record {
   printed = printed ∙ ap (λ r. out ++ (reply_text r ++ 10 ∷ [])) is ∙ ap (λ l. out ++ l) (sym (append_none (item_line item)));
   many = refl;
 }
+
+-- after some items one is taken whose line isn't appended
+pub one_unshown : (n most : ℕ) (item : Entry) (a b c : Taking) (out out' out'' : List ℕ) → n < most → Takes n a b out out' → c ≡ record b { taken = b.taken ++ item ∷ [] } → out'' ≡ out'
+    → TakesShort most a c out out''
+one_unshown n most item a b c out out' out'' lt taken next same = record {
+  shown = taken.items;
+  unshown = item ∷ [];
+  next = next ∙ ap (λ (e : Taking). record e { taken = e.taken ++ item ∷ [] }) taken.next ∙ ap (λ l. record a { taken = l }) (append_assoc a.taken taken.items (item ∷ []));
+  printed = same ∙ taken.printed;
+  few = omega (arith, taken.many, lt);
+  last = omega arith;
+}
+
+-- items are taken before
+pub taken_short : (n m most : ℕ) (a b c : Taking) (out out' out'' : List ℕ) → n + m ≤ most → Takes n a b out out' → TakesShort m b c out' out'' → TakesShort most a c out out''
+taken_short n m most a b c out out' out'' le one two = record {
+  shown = one.items ++ two.shown;
+  unshown = two.unshown;
+  next = two.next ∙ ap (λ (e : Taking). record e { taken = e.taken ++ (two.shown ++ two.unshown) }) one.next
+      ∙ ap (λ l. record a { taken = l }) (append_assoc a.taken one.items (two.shown ++ two.unshown) ∙ ap (λ l. a.taken ++ l) (sym (append_assoc one.items two.shown two.unshown)));
+  printed = two.printed ∙ ap (λ l. l ++ flat_map item_line two.shown) one.printed ∙ append_assoc out (flat_map item_line one.items) (flat_map item_line two.shown)
+      ∙ ap (λ l. out ++ l) (sym (lines_of_both one.items two.shown));
+  few = omega (arith, length-append one.items two.shown, one.many, two.few, le);
+  last = two.last;
+}
+
+-- what is so where an error is answered, whichever it is
+pub where_err : {T E : Type 0} (r : Result T E) (P : Type 0) → P → OnErr r P
+where_err (Ok t) P p = tt
+where_err (Err e) P p = p

@@ -16,7 +16,7 @@ use Rattle.refusals.specs.declared.reason.Reason.{Reason}
 use Rattle.refusals.specs.declared.reason.Reason.TheVariants as reason
 use Rattle.session_lines.specs.declared.reply.Reply.{Reply}
 use Rattle.session_lines.specs.declared.reply.Reply.TheVariants as reply
-use Rattle.session_subscribers.specs.Items.{Takes}
+use Rattle.session_subscribers.specs.Items.{Takes, TakesShort}
 
 -- a subscriber that a session holds: its id, and its end of the queue
 pub record Watched : Type 0 where
@@ -101,3 +101,14 @@ pub record PullsNone (id : ℕ) (held held' : List Watched) (out out' : List ℕ
 
 abbrev pub PullsAny : ℕ → ℕ → List Watched → List Watched → List ℕ → List ℕ → Reply → Type 0
 PullsAny id count held held' out out' answer = PullsHeld id count held held' out out' answer ⊎ PullsNone id held held' out out' answer
+
+-- no memory was found for the lines of a pull: items of the subscriber with the id were taken, and of no other, and whole lines of them stand
+pub record PullsShort (id count : ℕ) (held held' : List Watched) (out out' : List ℕ) : Type 0 where
+  pub place : ℕ
+  pub there : place_in held id ≡ Some place
+  pub one : Watched
+  pub is : slice_get held place ≡ Some one
+  pub items : Taking
+  pub others : held' ≡ slice_set held place (record one { items = items })
+  pub orderly : IsOrderly items.taken
+  pub takes : TakesShort count one.items items out out'

@@ -1,5 +1,5 @@
 -- What a session prints of the items that it takes.
-use Rattle.std.specs.Prelude.{◌≡◌, ℕ, List, [], ◌∷◌, ◌++◌, length}
+use Rattle.std.specs.Prelude.{◌≡◌, ℕ, ◌+◌, ◌≤◌, List, [], ◌∷◌, ◌++◌, length}
 use Rattle.std.specs.List.{flat_map}
 use Rattle.batches.specs.declared.item.Finding.{Finding}
 use Rattle.batches.specs.declared.item.Finding.TheVariants as finding
@@ -24,3 +24,13 @@ pub record Takes (count : ℕ) (end end' : Taking) (out out' : List ℕ) : Type 
   pub next : end' ≡ record end { taken = end.taken ++ items }
   pub printed : out' ≡ out ++ flat_map item_line items
   pub many : length items ≡ count
+
+-- no memory was found for the line of an item, or for the one after it: at most so many items were taken of a queue after those that were taken before, and
+-- their lines appended in the same order, each whole, but for the last item, which may have none
+pub record TakesShort (most : ℕ) (end end' : Taking) (out out' : List ℕ) : Type 0 where
+  pub shown : List Entry
+  pub unshown : List Entry
+  pub next : end' ≡ record end { taken = end.taken ++ (shown ++ unshown) }
+  pub printed : out' ≡ out ++ flat_map item_line shown
+  pub few : length shown + length unshown ≤ most
+  pub last : length unshown ≤ 1

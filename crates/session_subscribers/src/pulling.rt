@@ -1,6 +1,6 @@
-ghost use Rattle.std.specs.Prelude.{◌≡◌, ◌≤◌, IfOk, string_bytes};
-ghost use Rattle.session_subscribers.specs.Holding.{Pulls, PullsAny};
-ghost use Rattle.session_subscribers.specs.Items.{item_reply, Takes};
+ghost use Rattle.std.specs.Prelude.{◌≡◌, ◌≤◌, IfOk, OnErr, string_bytes};
+ghost use Rattle.session_subscribers.specs.Holding.{Pulls, PullsAny, PullsShort};
+ghost use Rattle.session_subscribers.specs.Items.{item_reply, Takes, TakesShort};
 
 use crate::session_hub::{Held, SessionHub, place_of};
 use batches::item::Finding;
@@ -15,9 +15,9 @@ use std::thread::Threads;
 use subscriber_queues::ends::Subscription;
 use version_history::published::Naming;
 
-/// How many batches each worker computes in a round of a pull, for whichever subscribers they are due. A bound keeps a pull from
-/// working for others without end while they write.
-const ROUND_TURNS: u32 = 8;
+/// How many batches each worker computes after a round of a pull, for whichever subscribers they are due. A pull serves its own
+/// subscriber first; the bound keeps it from waiting for the programs of those that never pull.
+const TURNS_FOR_ALL: u32 = 1;
 
 /// What is printed of an item.
 fn reply_of(what: Finding) -> Reply
@@ -43,7 +43,8 @@ fn take_waiting<N: Naming, R: Wait + Copy>(
     most: usize,
     out: &mut String,
 ) -> Result<usize, AllocError>
-    ensures { IfOk result (λ taken. (taken ≤ most) × Takes taken items.old items.new (string_bytes out.old) (string_bytes out.new)) }
+    ensures ok { IfOk result (λ taken. (taken ≤ most) × Takes taken items.old items.new (string_bytes out.old) (string_bytes out.new)) }
+    ensures err { OnErr result (TakesShort most items.old items.new (string_bytes out.old) (string_bytes out.new)) }
 {
     for taken in 0..most {
         let Some(item) = items.take() else {
@@ -68,7 +69,8 @@ impl<N: Naming + Ledger + Send + Sync, R: Threads + Wait + Copy + Send + Sync> S
         most: usize,
         out: &mut String,
     ) -> Result<usize, AllocError>
-        ensures { IfOk result (λ taken. (taken ≤ most) × Takes taken items.old items.new (string_bytes out.old) (string_bytes out.new)) }
+        ensures ok { IfOk result (λ taken. (taken ≤ most) × Takes taken items.old items.new (string_bytes out.old) (string_bytes out.new)) }
+        ensures err { OnErr result (TakesShort most items.old items.new (string_bytes out.old) (string_bytes out.new)) }
     {
         let mut taken = 0;
         for _round in 0..most {
@@ -82,9 +84,23 @@ impl<N: Naming + Ledger + Send + Sync, R: Threads + Wait + Copy + Send + Sync> S
         Ok(taken)
     }
 
-    /// Computes some of the batches that no worker computes yet, of all subscribers, and then the first one that this subscriber
-    /// waits for, whoever else computes it. It answers whether the subscriber waited for one.
-    fn compute(&self, id: usize) -> Result<bool, AllocError> {
+    /// Computes the first batch that this subscriber waits for, whoever else computes it, if its version is one of those up to this
+    /// one. It answers whether the subscriber waited for one.
+    fn compute_own(&self, id: usize, last: u64) -> Result<bool, AllocError> {
+        catch_up(
+            &self.rt,
+            self.alloc,
+            self.hub,
+            self.published,
+            id,
+            last,
+            self.workers,
+        )
+    }
+
+    /// Computes a few of the batches that no worker computes yet, of all subscribers. It answers whether memory was found; where it
+    /// wasn't, what a subscriber is owed is handed out again.
+    fn compute_for_all(&self) -> bool {
         work(
             &self.rt,
             self.alloc,
@@ -92,22 +108,15 @@ impl<N: Naming + Ledger + Send + Sync, R: Threads + Wait + Copy + Send + Sync> S
             self.published,
             &Open,
             self.workers,
-            ROUND_TURNS,
-        )?;
-        catch_up(
-            &self.rt,
-            self.alloc,
-            self.hub,
-            self.published,
-            id,
-            self.workers,
+            TURNS_FOR_ALL,
         )
+        .is_ok()
     }
 
-    /// Computes and takes items, until so many are taken or none is due.
+    /// Computes and takes items of the versions up to the one that is the latest now, until so many are taken or none is due.
     ///
     /// In a round where the subscriber waited for a batch, at least one item is taken. Where it waited for none and no item came, all
-    /// items of the versions published before that round were taken.
+    /// items of those versions were taken. What is published meanwhile is left to the next pull.
     fn pull_from(
         &self,
         id: usize,
@@ -115,11 +124,13 @@ impl<N: Naming + Ledger + Send + Sync, R: Threads + Wait + Copy + Send + Sync> S
         count: usize,
         out: &mut String,
     ) -> Result<Reply, AllocError>
-        ensures { IfOk result (Pulls count items.old items.new (string_bytes out.old) (string_bytes out.new)) }
+        ensures ok { IfOk result (Pulls count items.old items.new (string_bytes out.old) (string_bytes out.new)) }
+        ensures err { OnErr result (TakesShort count items.old items.new (string_bytes out.old) (string_bytes out.new)) }
     {
+        let last = self.hub.latest(&self.rt);
         let mut taken = 0;
         for _round in 0..count {
-            let computed = self.compute(id);
+            let computed = self.compute_own(id, last);
             let more = self.drain(id, items, count - taken, out)?;
             taken += more;
             let Ok(waited) = computed else {
@@ -127,6 +138,9 @@ impl<N: Naming + Ledger + Send + Sync, R: Threads + Wait + Copy + Send + Sync> S
             };
             if taken == count || (more == 0 && !waited) {
                 break;
+            }
+            if waited && !self.compute_for_all() {
+                return Ok(Reply::Refused(Reason::OutOfMemory));
             }
         }
         Ok(Reply::Items(taken))
@@ -140,14 +154,15 @@ impl<N: Naming + Ledger + Send + Sync, R: Threads + Wait + Copy + Send + Sync> S
         count: usize,
         out: &mut String,
     ) -> Result<Reply, AllocError>
-        ensures { IfOk result (PullsAny id count held.old.items held.new.items (string_bytes out.old) (string_bytes out.new)) }
+        ensures ok { IfOk result (PullsAny id count held.old.items held.new.items (string_bytes out.old) (string_bytes out.new)) }
+        ensures err { OnErr result (PullsShort id count held.old.items held.new.items (string_bytes out.old) (string_bytes out.new)) }
     {
         let Some(place) = place_of(held.as_slice(), id) else {
             return Ok(Reply::Refused(Reason::NoSubscriber));
         };
         let one = &mut held[place];
-        let reply = self.pull_from(one.id, &mut one.items, count, out)?;
+        let reply = self.pull_from(one.id, &mut one.items, count, out);
         one.items.stays_orderly();
-        Ok(reply)
+        reply
     }
 }

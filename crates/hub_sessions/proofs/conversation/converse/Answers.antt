@@ -1,8 +1,9 @@
-use Rattle.std.proofs.Common.{rules, arith, string_bytes, inl, ◌≡◌, Ok}
+use Rattle.std.proofs.Common.{rules, arith, string_bytes, inl, ◌≡◌, Ok, Err}
 use Rattle.std.specs.Io.KnownBytes.{Appends}
-use Rattle.hub_sessions.specs.Sessions.{Standing, TakesTurn}
+use Rattle.hub_sessions.specs.Sessions.{Standing, TakesTurn, FallsShort}
 use Rattle.hub_sessions.specs.declared.conversation.Turn.TheVariants.{More, Last}
-use Rattle.hub_sessions.proofs.Conversing.{turned, ended, last_turn, unfinished, write_failed}
+use Rattle.hub_sessions.specs.declared.conversation.TurnFault.TheVariants.{Memory}
+use Rattle.hub_sessions.proofs.Conversing.{turned, ended, last_turn, short_turn, unfinished, write_failed}
 use Rattle.hub_sessions.proofs.conversation.converse.Goals as goal
 
 pub returns-in_err-write_reply-clause-ends : goal.returns-in_err-write_reply-clause-ends
@@ -28,5 +29,9 @@ returns-in-Ok-Last-clause-ends g c =
 
 pub returns-in-Err-Memory-clause-ends : goal.returns-in-Err-Memory-clause-ends
 returns-in-Err-Memory-clause-ends g c =
+    let before : Standing = record { count = c.loop.share; held = c.loop.held.items; reads = c.args.hub.now.reads } in
+    let after : Standing = record { count = c.take_turn-turn.new.share; held = c.take_turn-turn.new.held.items; reads = c.args.hub.now.reads } in
+    let is : c.take_turn-turn.result ≡ Err Memory = search rules in
+    let broke : FallsShort before (string_bytes c.take_turn-turn.new.out) after = short_turn c.take_turn-turn.result before (string_bytes c.take_turn-turn.new.out) after is c.take_turn-turn.ensures.err in
     let wrote : Appends (g.O.Write.contents c.loop.writer) (g.O.Write.contents c.write_reply.new.writer) (string_bytes c.take_turn-turn.new.out) = search rules in
-    unfinished _ _ _ _ _ _ _ _ _ _ _ c.loop.invariant.3 wrote c.write_no_memory.ensures.ok c.write_no_memory.ensures.err
+    unfinished _ _ _ _ before _ _ _ after _ _ _ c.loop.invariant.3 broke wrote c.write_no_memory.ensures.ok c.write_no_memory.ensures.err

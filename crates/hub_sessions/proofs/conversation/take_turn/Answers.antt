@@ -1,15 +1,15 @@
-use Rattle.std.proofs.Common.{[], refl, subst, string_bytes, inr}
+use Rattle.std.proofs.Common.{◌≡◌, [], refl, subst, ap, ◌∙◌, string_bytes, inr, if◌then◌else◌}
 use Rattle.refusals.specs.declared.reason.Reason.TheVariants as reason
 use Rattle.session_lines.specs.Replies.{reason_of}
 use Rattle.session_lines.specs.Requests.{IsNext}
 use Rattle.session_lines.specs.declared.reply.Reply.TheVariants as reply
 use Rattle.session_lines.specs.declared.request.Next.TheVariants as next
 use Rattle.hub_sessions.specs.Sessions.{Standing, Exchange, Answers}
-use Rattle.hub_sessions.proofs.Conversing.{refused_line}
+use Rattle.hub_sessions.proofs.Conversing.{refused_line, broke_still, broke_short, unanswered}
 use Rattle.hub_sessions.proofs.conversation.take_turn.Goals as goal
 
-pub returns-in_ok-push_line-in-Request-clause-ok : goal.returns-in_ok-push_line-in-Request-clause-ok
-returns-in_ok-push_line-in-Request-clause-ok g c =
+pub returns-in_ok-push_last-in-Request-clause-ok : goal.returns-in_ok-push_last-in-Request-clause-ok
+returns-in_ok-push_last-in-Request-clause-ok g c =
     let before : Standing = record { count = c.args.share.now; held = c.args.held.now.items; reads = c.args.hub.now.reads } in
     let now : Standing = record { count = c.answer.new.share; held = c.answer.new.held.items; reads = c.args.hub.now.reads } in
     let items = string_bytes c.answer.new.out in
@@ -20,7 +20,7 @@ returns-in_ok-push_line-in-Request-clause-ok g c =
         next = subst (λ n. IsNext c.args.lines.now.left n c.next_request.new.reader.left) c.in-Request.is c.in_ok-request.ensures;
         met = subst (λ out. Answers c.in-Request.request before out items answer now) c.empty_reply.ensures c.in_ok-answer-in-Request.ensures.answers;
       },
-      c.in_ok-push_line-in-Request.ensures,
+      c.in_ok-push_last-in-Request.ensures.ok,
       refl,
       refl,
     )
@@ -34,7 +34,7 @@ returns-in_ok-push_line-in-Refused-clause-ok g c =
         next = subst (λ n. IsNext c.args.lines.now.left n c.next_request.new.reader.left) c.in-Refused.is c.in_ok-request.ensures;
         met = (refl, refl, refl);
       },
-      refused_line _ _ c.from.result _ c.in_ok-push_line-in-Refused.ensures c.empty_reply.ensures c.from.ensures,
+      refused_line _ _ c.from.result _ c.in_ok-push_line-in-Refused.ensures.ok c.empty_reply.ensures c.from.ensures,
       refl,
       refl,
     )
@@ -43,7 +43,29 @@ pub returns-in_ok-push_line-in-TooLong-clause-ok : goal.returns-in_ok-push_line-
 returns-in_ok-push_line-in-TooLong-clause-ok g c = (
   inr (
     subst (λ n. IsNext c.args.lines.now.left n c.next_request.new.reader.left) c.in-TooLong.is c.in_ok-request.ensures,
-    refused_line _ _ reason.LineTooLong _ c.in_ok-push_line-in-TooLong.ensures c.empty_reply.ensures refl,
+    refused_line _ _ reason.LineTooLong _ c.in_ok-push_line-in-TooLong.ensures.ok c.empty_reply.ensures refl,
   ),
   refl,
 )
+
+pub returns-in_err-request-clause-err : goal.returns-in_err-request-clause-err
+returns-in_err-request-clause-err g c = broke_still c.from_residual.result _ _ c.empty_reply.ensures
+
+pub returns-in_err-answer-in-Request-clause-err : goal.returns-in_err-answer-in-Request-clause-err
+returns-in_err-answer-in-Request-clause-err g c = broke_short c.from_residual.result _ _ _ c.from_residual.ensures.1 c.in_err-answer-in-Request.ensures.short
+
+pub returns-in_err-push_last-in-Request-clause-err : goal.returns-in_err-push_last-in-Request-clause-err
+returns-in_err-push_last-in-Request-clause-err g c =
+    let before : Standing = record { count = c.args.share.now; held = c.args.held.now.items; reads = c.args.hub.now.reads } in
+    let now : Standing = record { count = c.answer.new.share; held = c.answer.new.held.items; reads = c.args.hub.now.reads } in
+    let items = string_bytes c.answer.new.out in
+    let answer = c.in_ok-answer-in-Request.field-0 in
+    let met : Answers c.in-Request.request before [] items answer now = subst (λ out. Answers c.in-Request.request before out items answer now) c.empty_reply.ensures c.in_ok-answer-in-Request.ensures.answers in
+    let stands = c.in_err-push_last-in-Request.ensures.err ∙ ap (λ b. if b then [] else items) c.only_reads-reads.ensures in
+    broke_short c.from_residual.result _ _ _ c.from_residual.ensures.1 (unanswered c.in-Request.request before items answer now _ met stands)
+
+pub returns-in_err-push_line-in-Refused-clause-err : goal.returns-in_err-push_line-in-Refused-clause-err
+returns-in_err-push_line-in-Refused-clause-err g c = broke_still c.from_residual.result _ _ (c.in_err-push_line-in-Refused.ensures.err ∙ c.empty_reply.ensures)
+
+pub returns-in_err-push_line-in-TooLong-clause-err : goal.returns-in_err-push_line-in-TooLong-clause-err
+returns-in_err-push_line-in-TooLong-clause-err g c = broke_still c.from_residual.result _ _ (c.in_err-push_line-in-TooLong.ensures.err ∙ c.empty_reply.ensures)
