@@ -11,4 +11,4 @@ returns g c =
     let held = c.args.held.now.items in
     let there = sym (c.in-Some.ensures ∙ ap (λ l. place_in l c.args.id) c.as_slice.ensures.value) in
     pulled c.args.id c.args.count c.in-Some.place held (record { id = c.one.inside.id; items = c.one.inside.items }) c.pull_from.new.items _ _ c.in_ok-reply.reply there
-    (subst (λ (z : Watched). z ≡ get_or held c.in-Some.place z) (sym c.one.view_is) c.index_mut-one.ensures.value) c.in_ok-reply.ensures c.stays_orderly.ensures
+    (subst (λ (z : Watched). z ≡ get_or held c.in-Some.place z) (sym c.one.view_is) c.index_mut-one.ensures.value) c.in_ok-reply.ensures c.stays_orderly.ensures.orderly c.stays_orderly.ensures.promised
