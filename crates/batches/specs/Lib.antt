@@ -1,4 +1,6 @@
 pub mod Verdicts
 pub mod Batches
 pub mod Orderly
+pub mod Stream
+pub mod Promise
 pub mod Feed

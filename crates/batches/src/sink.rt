@@ -18,9 +18,10 @@ impl<N: Naming> Entered for Item<N> {
 
 /// Where a subscriber's items go.
 pub trait Sink<I: Entered>: Drop {
-    ghost use Rattle.std.specs.Prelude.{◌≡◌, ◌++◌, ◌∷◌, [], List, IfErr, OnOk};
+    ghost use Rattle.std.specs.Prelude.{◌≡◌, ◌++◌, ◌∷◌, [], List, Option, IfErr, OnOk};
     ghost use Rattle.batches.specs.Batches.{Entry};
     ghost use Rattle.batches.specs.Orderly.{IsOrderly};
+    ghost use Rattle.batches.specs.Promise.{Promise, IsPromised};
 
     /// What was sent so far.
     ghost sent: { Self → List Entry };
@@ -28,14 +29,19 @@ pub trait Sink<I: Entered>: Drop {
     /// It may refuse an item.
     ghost full: { Self → Type 0 };
 
+    /// What is promised of all that it is sent, if anything is. It stays the same.
+    ghost promise: { Self → Option Promise };
+
     /// Sends an item. Where the sink is full it comes back.
     fn push(&mut self, item: I) -> Result<(), I>
-        requires { IsOrderly (sent self.old ++ I.entered item ∷ []) }
+        requires orderly { IsOrderly (sent self.old ++ I.entered item ∷ []) }
+        requires promised { IsPromised (promise self.old) (sent self.old ++ I.entered item ∷ []) }
         ensures ok { OnOk result (sent self.new ≡ sent self.old ++ I.entered item ∷ []) }
-        ensures err { IfErr result (λ back. (back ≡ item) × (sent self.new ≡ sent self.old) × full self.new) };
+        ensures err { IfErr result (λ back. (back ≡ item) × (sent self.new ≡ sent self.old) × full self.new) }
+        ensures kept { promise self.new ≡ promise self.old };
 }
 
-/// A sink that keeps a fixed number of items.
+/// A sink that keeps a fixed number of items. Nothing is promised of them.
 #[derive(Drop)]
 pub struct ListSink<N: Naming> {
     items: Vec<Item<N>>,
@@ -70,11 +76,13 @@ impl<N: Naming> ListSink<N> {
 }
 
 impl<N: Naming> Sink<Item<N>> for ListSink<N> {
-    ghost use Rattle.std.specs.Prelude.{◌≡◌, ◌++◌, ◌∷◌, [], length, IfErr, OnOk};
+    ghost use Rattle.std.specs.Prelude.{◌≡◌, ◌++◌, ◌∷◌, [], length, None, IfErr, OnOk};
 
     ghost sent = { λ s. s.sent };
 
     ghost full = { λ s. length s.sent ≡ s.capacity };
+
+    ghost promise = { λ s. None };
 
     fn push(&mut self, item: Item<N>) -> Result<(), Item<N>>
         ensures ok { OnOk result (self.new.sent ≡ self.old.sent ++ item ∷ []) }

@@ -1,7 +1,8 @@
 ghost use Rattle.std.specs.Prelude.{◌≡◌, ◌≤◌, ◌<◌, ◌-◌, ◌+◌, ◌++◌, ◌⊎◌, true, false, None, Some, [], length, take, drop, replicate, slice_get, MatchBool, MatchOption, IsTrue, ◌↔◌, IfOk};
 ghost use Rattle.meaning.specs.Safe.{Safe};
 ghost use Rattle.batches.specs.Batches.{items_of};
-ghost use Rattle.batches.specs.Orderly.{IsOrderly, RisesFrom};
+ghost use Rattle.batches.specs.Orderly.{IsOrderly};
+ghost use Rattle.batches.specs.Promise.{IsPromised, Suits, AreOfChanges};
 ghost use Rattle.batches.specs.Feed.{IsHeldAt, IsFed, IsWanted, Keeps, Moved, Stops, Finds, fresh, rewound, nothing_held};
 
 use crate::batch::Batch;
@@ -27,21 +28,26 @@ pub struct Subscriber<N: Naming, S: Sink<Item<N>>> {
 impl<N: Naming, S: Sink<Item<N>>> Model for Subscriber<N, S> {
     ghost use Rattle.std.specs.Coded.{codes};
     ghost use Rattle.batches.specs.Feed.{Sub};
+    ghost use Rattle.batches.specs.Promise.{Suits};
 
     ghost Value = { Sub S };
 
     ghost coded = { Prim.hlevel (codes, S.code) };
 
     ghost view = { λ s. record { program = s.program; first = s.first; cursor = s.cursor; handed = s.handed; held = s.held.items; count = s.count; closed = s.closed; sink = s.sink } };
+
+    ghost invariant = { λ s. Suits (S.promise s.sink) s.program.value s.first };
 }
 
 /// Sends the items of a batch from one on, until the sink is full. It answers how many items of the batch are sent then.
 fn send_batch<N: Naming, S: Sink<Item<N>>>(sink: &mut S, batch: &Batch<N>, from: usize) -> usize
     requires from { from ≤ length (items_of batch.now.program batch.now.version) }
     requires orderly { IsOrderly (S.sent sink.old ++ drop from (items_of batch.now.program batch.now.version)) }
+    requires promised { IsPromised (S.promise sink.old) (S.sent sink.old ++ drop from (items_of batch.now.program batch.now.version)) }
     ensures reached { (from ≤ result) × (result ≤ length (items_of batch.now.program batch.now.version)) }
     ensures sent { S.sent sink.new ≡ S.sent sink.old ++ take (result - from) (drop from (items_of batch.now.program batch.now.version)) }
     ensures stop { (result ≡ length (items_of batch.now.program batch.now.version)) ⊎ S.full sink.new }
+    ensures kept { S.promise sink.new ≡ S.promise sink.old }
 {
     let items = batch.items();
     let mut at = from;
@@ -108,7 +114,7 @@ fn let_go<N: Naming>(held: &mut [Option<Batch<N>>])
 impl<N: Naming, S: Sink<Item<N>>> Subscriber<N, S> {
     /// Sends what it can of the batch at the cursor. It answers how many items, and whether the batch is all sent.
     fn send_next(&mut self, versions: &[VersionToken<N>]) -> (usize, bool)
-        requires rises { RisesFrom 0 versions.now }
+        requires published { AreOfChanges versions.now }
         requires fed { IsFed S.sent S.full versions.now self.old }
         ensures fed { IsFed S.sent S.full versions.now self.new }
         ensures moved { Moved S.sent S.full self.old result.0 self.new }
@@ -135,7 +141,7 @@ impl<N: Naming, S: Sink<Item<N>>> Subscriber<N, S> {
 
     /// Sends what it can. It answers how many items.
     pub fn pump(&mut self, versions: &[VersionToken<N>]) -> usize
-        requires rises { RisesFrom 0 versions.now }
+        requires published { AreOfChanges versions.now }
         requires fed { IsFed S.sent S.full versions.now self.old }
         ensures fed { IsFed S.sent S.full versions.now self.new }
         ensures moved { Moved S.sent S.full self.old result self.new }
@@ -214,13 +220,14 @@ impl<N: Naming, S: Sink<Item<N>>> Subscriber<N, S> {
         self.held[place] = Some(batch);
         true
     }
-    /// A subscriber that is sent the versions from this one on, and was sent nothing yet.
+    /// A subscriber that is sent the versions from this one on, as was promised of its sink, and was sent nothing yet.
     pub fn new(
         alloc: Global,
         program: ProgramToken<N>,
         first: u64,
         sink: S,
     ) -> Result<Subscriber<N, S>, AllocError>
+        requires { Suits (S.promise sink) program.value first }
         ensures { IfOk result (λ subscriber. subscriber ≡ fresh program first sink) }
     {
         let held = no_batches(alloc)?;

@@ -109,7 +109,7 @@ fn subscribe<N: Naming>(
     programs: &[ProgramToken<N>],
     rest: &str,
 ) -> Result<Asked<N>, Fault>
-    ensures { IfOk result (IsFreshEvent (λ (s : Listed). s.sent)) }
+    ensures { IfOk result (IsFreshEvent (λ (s : Listed). s.sent) (λ (s : Listed). None)) }
 {
     let (capacity, place) = parted(rest);
     let program = programs.get(number(place)).ok_or(Fault::Nothing)?;
@@ -124,7 +124,7 @@ fn event<N: Naming>(
     key: &str,
     rest: &str,
 ) -> Result<Asked<N>, Fault>
-    ensures { IfOk result (IsFreshEvent (λ (s : Listed). s.sent)) }
+    ensures { IfOk result (IsFreshEvent (λ (s : Listed). s.sent) (λ (s : Listed). None)) }
 {
     match key {
         "submit" => Ok(Event::Submit(change(alloc, kept, rest)?)),
@@ -157,7 +157,7 @@ fn events<N: Naming>(
     programs: &[ProgramToken<N>],
     lines: &str,
 ) -> Result<Vec<Asked<N>>, AllocError>
-    ensures { IfOk result (λ events. All (IsFreshEvent (λ (s : Listed). s.sent)) events.items) }
+    ensures { IfOk result (λ events. All (IsFreshEvent (λ (s : Listed). s.sent) (λ (s : Listed). None)) events.items) }
 {
     let mut events = Vec::new(alloc);
     let mut kept = String::new(alloc);

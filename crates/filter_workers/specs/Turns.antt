@@ -14,12 +14,12 @@ abbrev pub Ends : Slip → TurnEnd → Type 0
 Ends job Committed = InOneHolding (λ old new. Commits old job (Ok tt) new)
 Ends job Refused = (e : CommitError) × InOneHolding (λ old new. Commits old job (Err e) new)
 
--- what could be sent to this subscriber was sent, in one holding of the lock
+-- what could be sent to this subscriber was sent, in one holding of the lock; it says nothing of the hub, since a refusal (Err) meets it for every id
 abbrev pub IsPumped : ℕ → Type 0
 IsPumped subscriber = (sent : Result ℕ NoSubscriber) × InOneHolding (λ old new. Pumps was_sent IsFull old subscriber sent new)
 
 -- a job was taken in one holding of the lock, its batch committed or refused in another, and its subscriber sent what could be in a third; or there
--- was none to take
+-- was none to take, which says nothing of the hub
 abbrev pub Turns : Option TurnEnd → Type 0
 Turns (Some end) = (job : Slip) × InOneHolding (λ old new. TakesJob old (Some job) new) × Ends job end × IsPumped job.subscriber
 Turns None = InOneHolding (λ old new. TakesJob old None new)
@@ -30,7 +30,8 @@ IsBehind last None = Unit {0}
 IsBehind last (Some job) = last < job.number
 
 -- the job of the first version that a subscriber waited for was found in one holding of the lock, is of one of the versions up to the last that is
--- wanted, and its batch was committed or refused in another holding; or it waited for none of them
+-- wanted, and its batch was committed or refused in another holding; or it waited for none of them,
+-- which says nothing of the hub
 abbrev pub CatchesUp : ℕ → ℕ → Bool → Type 0
 CatchesUp subscriber last true =
     (job : Slip) × (job.number ≤ last) × InOneHolding (λ old new. (new ≡ old) × Misses old subscriber (Some job)) × (end : TurnEnd) × Ends job end

@@ -1,7 +1,6 @@
 -- What the core keeps when something is added or changed.
 use Rattle.std.proofs.Common.{◌≡◌, ℕ, zero, suc, ◌+◌, ◌<◌, ◌≤◌, Bool, true, false, true≢false, Result, Ok, Err, List, [], ◌∷◌, ◌++◌, length, take, set, get_or, refl, sym, ap, ◌∙◌, subst, arith, rules, length-append, length-set, ⊎_elim}
 use Rattle.std.specs.Prelude.{slice_get, Option, Some, None, All}
-use Rattle.std.proofs.Math.Nat.{zero-add}
 use Rattle.std.proofs.lemmas.List.{take-append-le, take_all, get_or_default, set-get_or}
 use Rattle.std.proofs.lemmas.List.Elements.{All-set, All-push, All-weaker, All-get_or}
 use Rattle.std.proofs.lemmas.Option.{slice_get_within, slice_get_read, slice_get_past, same_Some, none-some}
@@ -11,10 +10,10 @@ use Rattle.meaning.specs.Safe.{Safe}
 use Rattle.span_flatten.specs.Version.{Snapshot, IsVersion}
 use Rattle.version_history.specs.Tokens.{Token}
 use Rattle.batches.specs.Batches.{Entry, Slip}
-use Rattle.batches.specs.Orderly.{RisesFrom}
+use Rattle.batches.specs.Promise.{AreOfChanges}
 use Rattle.batches.specs.Feed.{Sub, IsFed, IsWanted, Keeps, Moved, Stops, IsDue, IsNext, Finds, fresh, rewound, nothing_held}
-use Rattle.batches.proofs.Feeding.{get_push, rises_are, fed_more, fresh_fed, fed_handed, fed_closed}
-use Rattle.change_history.specs.Accepted.{operations_of}
+use Rattle.batches.proofs.Feeding.{get_push, fed_more, fresh_fed, fed_handed, fed_closed}
+use Rattle.change_history.specs.Accepted.{AreAccepted, operations_of}
 use Rattle.hub_core.specs.declared.error.CommitError.TheVariants.{Stale}
 use Rattle.change_history.specs.VersionAt.{IsVersionAt}
 use Rattle.change_history.specs.declared.refusal.SubmitError.{SubmitError}
@@ -31,8 +30,9 @@ pub version_along : (changes others : List Edit) (c : Edit) (v : Snapshot) → c
 version_along changes others c v same is = subst (λ (l : List Edit). IsVersion (operations_of (l ++ c ∷ [])) (length l + 1) v) same is
 
 module _ {S : Type 0} (sent : S → List Entry) (full : S → Type 0) where
-  pub rises : (s : State S) → IsSound sent full s → RisesFrom 0 s.versions
-  rises s sound = rises_are 0 s.versions (λ n t e. (sound.versions_are n t e).numbered ∙ sym (zero-add n))
+  -- the tokens are of all versions of the changes
+  pub of_changes : (s : State S) → IsSound sent full s → AreAccepted s.changes → AreOfChanges s.versions
+  of_changes s sound accepted = record { changes = s.changes; accepted = accepted; all = sound.named; are = sound.versions_are }
 
   pub sound_submit : (s : State S) (c : Edit) (t : Token Snapshot) → IsSound sent full s → length s.changes < 4096 → IsVersionAt (s.changes ++ c ∷ []) (length s.changes + 1) t.value
       → IsSound sent full (record s { changes = s.changes ++ c ∷ []; versions = s.versions ++ t ∷ [] })

@@ -3,7 +3,7 @@ use Rattle.std.specs.Prelude.{◌≡◌, ℕ, Some, List, length, map, slice_get
 use Rattle.batches.specs.Batches.{Entry}
 use Rattle.batches.specs.Feed.{Sub}
 use Rattle.change_history.specs.Accepted.{AreAccepted}
-use Rattle.hub_core.specs.Stream.{BeginsStream}
+use Rattle.batches.specs.Stream.{BeginsStream}
 use Rattle.hub_core.specs.Machine.{State, IsSound}
 
 -- what the core's type keeps; each change was accepted after those before it; what each subscriber's sink was sent is a beginning of its program's stream

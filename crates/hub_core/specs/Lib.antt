@@ -1,4 +1,3 @@
-pub mod Stream
 pub mod Accepting
 pub mod Machine
 pub mod Runs

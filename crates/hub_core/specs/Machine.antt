@@ -54,14 +54,16 @@ Subscribes s first p sink (Err subscribe.SubscribersFull) s' = (s' ≡ s) × (le
 Subscribes s first p sink (Err subscribe.NoVersion) s' = (s' ≡ s) × (length s.subs < 64) × (length s.changes < first)
 Subscribes s first p sink (Err subscribe.OutOfMemory) s' = (s' ≡ s) × (length s.subs < 64) × (first ≤ length s.changes)
 
--- a job of any open subscriber that has one is handed out, or none has one
+-- a job of any open subscriber that has one is handed out, or none has one; where the state isn't known, None says nothing of the hub, since it
+-- holds of each state with no subscriber
 abbrev pub TakesJob : {S : Type 0} → State S → Option Slip → State S → Type 0
 TakesJob {S} s (Some job) s' =
     (a : Sub S) × IsOpen s job.subscriber a × IsNext (length s.changes) a job.number × (job.program ≡ a.program)
     × (slice_get s.versions job.number ≡ Some job.version) × (s' ≡ with_sub s job.subscriber (record a { handed = job.number + 1 }))
 TakesJob {S} s None s' = (s' ≡ s) × ((id : ℕ) (a : Sub S) → IsOpen s id a → (n : ℕ) → ¬ IsDue (length s.changes) a n)
 
--- the job of the first version that this open subscriber waits for, as it would be handed out again; or it waits for none
+-- the job of the first version that this open subscriber waits for, as it would be handed out again; or it waits for none; where the state isn't
+-- known, None says nothing of the hub, since with no subscriber it holds for every id
 abbrev pub Misses : {S : Type 0} → State S → ℕ → Option Slip → Type 0
 Misses {S} s id (Some job) =
     (a : Sub S) × IsOpen s id a × IsNext (length s.changes) (rewound a) job.number × (job.subscriber ≡ id) × (job.program ≡ a.program)
@@ -85,19 +87,20 @@ Commits s b (Err commit.NoSubscriber) s' = (s' ≡ s) × HasNone s b.subscriber
 Commits s b (Err commit.OutOfMemory) s' = s' ≡ s
 Commits {S} s b (Err commit.Stale) s' = (s' ≡ s) × (a : Sub S) × IsOpen s b.subscriber a × (¬ IsWanted s.versions a b)
 
--- what is not held may be handed out again
+-- what is not held may be handed out again; where the state isn't known, Err says nothing of the hub, since with no subscriber it holds for every id
 abbrev pub Reissues : {S : Type 0} → State S → ℕ → Result (Unit {0}) NoSubscriber → State S → Type 0
 Reissues {S} s id (Ok _) s' = (a : Sub S) × IsOpen s id a × (s' ≡ with_sub s id (rewound a))
 Reissues s id (Err _) s' = (s' ≡ s) × HasNone s id
 
--- closed for good, with nothing held; what was sent stays
+-- closed for good, with nothing held; what was sent stays; where the state isn't known, Err says nothing of the hub, since with no subscriber it
+-- holds for every id
 abbrev pub Closes : {S : Type 0} → State S → ℕ → Result (Unit {0}) NoSubscriber → State S → Type 0
 Closes {S} s id (Ok _) s' = (a : Sub S) × IsOpen s id a × (s' ≡ with_sub s id (record a { held = nothing_held; closed = true }))
 Closes s id (Err _) s' = (s' ≡ s) × HasNone s id
 
 module _ {S : Type 0} (sent : S → List Entry) (full : S → Type 0) where
   -- that many items of held batches are sent, in order, until the next batch isn't held or the sink is full; all that was sent is then what
-  -- the subscriber's cursor and count say
+  -- the subscriber's cursor and count say; where the state isn't known, Err says nothing of the hub, since with no subscriber it holds for every id
   abbrev pub Pumps : State S → ℕ → Result ℕ NoSubscriber → State S → Type 0
   Pumps s id (Ok m) s' = (a : Sub S) × (b : Sub S) × IsOpen s id a × Moved sent full a m b × Stops sent full b × IsFed sent full s.versions b
       × (s' ≡ with_sub s id b)

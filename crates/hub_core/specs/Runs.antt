@@ -1,9 +1,10 @@
 -- Runs of the core: events one after another, with their replies.
-use Rattle.std.specs.Prelude.{◌≡◌, Option, None, Some, Result, Err, List, [], ◌∷◌, ◌++◌, length, slice_get}
+use Rattle.std.specs.Prelude.{◌≡◌, ℕ, Option, None, Some, Result, Err, List, [], ◌∷◌, ◌++◌, length, slice_get}
 use Rattle.meaning.specs.Step.{Program}
 use Rattle.span_flatten.specs.Version.{Snapshot}
 use Rattle.version_history.specs.Tokens.{Token}
 use Rattle.batches.specs.Batches.{Entry, Slip}
+use Rattle.batches.specs.Promise.{Promise, Suits}
 use Rattle.hub_core.specs.declared.error.CommitError.{CommitError}
 use Rattle.hub_core.specs.declared.error.CommitError.TheVariants as commit
 use Rattle.hub_core.specs.declared.run.Event.{Event}
@@ -49,8 +50,8 @@ module _ {S : Type 0} (sent : S → List Entry) (full : S → Type 0) where
     pub appended : after ≡ before ++ added
     pub run : IsRun old [] events added new
 
--- a sink that is subscribed was sent nothing
-abbrev pub IsFreshEvent : {S : Type 0} → (S → List Entry) → Event (Token Program) S → Type 0
-IsFreshEvent sent (event.Subscribe program sink) = sent sink ≡ []
-IsFreshEvent sent (event.SubscribeFrom program sink first) = sent sink ≡ []
-IsFreshEvent sent _ = Unit {0}
+-- a sink that is subscribed was sent nothing, and nothing is promised of it but this program's stream from the first version on
+abbrev pub IsFreshEvent : {S : Type 0} → (S → List Entry) → (S → Option Promise) → Event (Token Program) S → Type 0
+IsFreshEvent sent promise (event.Subscribe program sink) = (sent sink ≡ []) × ((first : ℕ) → Suits (promise sink) program.value first)
+IsFreshEvent sent promise (event.SubscribeFrom program sink first) = (sent sink ≡ []) × Suits (promise sink) program.value first
+IsFreshEvent sent promise _ = Unit {0}

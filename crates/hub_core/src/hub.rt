@@ -7,7 +7,8 @@ ghost use Rattle.batches.specs.Feed.{Sub};
 ghost use Rattle.change_history.specs.Accepted.{AreAccepted, operations_of};
 ghost use Rattle.change_history.specs.Kept.{IsDraft};
 ghost use Rattle.change_history.specs.VersionAt.{IsVersionAt};
-ghost use Rattle.hub_core.specs.Stream.{BeginsStream};
+ghost use Rattle.batches.specs.Stream.{BeginsStream};
+ghost use Rattle.batches.specs.Promise.{Suits};
 ghost use Rattle.hub_core.specs.Consistent.{IsConsistent};
 ghost use Rattle.hub_core.specs.Runs.{CommitsJob};
 ghost use Rattle.hub_core.specs.Accepting.{Accepts};
@@ -207,9 +208,11 @@ impl<'p, N: Naming, S: Sink<Item<N>>> Core<'p, N, S> {
         self.subs.len() == SUBSCRIBER_LIMIT
     }
 
-    /// Adds a subscriber, from the latest version on, to a sink that was sent nothing. Ids rise from 0.
+    /// Adds a subscriber, from the latest version on, to a sink that was sent nothing, and of which nothing is promised but this program's
+    /// stream. Ids rise from 0.
     pub fn subscribe(&mut self, program: ProgramToken<N>, sink: S) -> Result<usize, SubscribeError>
-        requires { S.sent sink ≡ [] }
+        requires none { S.sent sink ≡ [] }
+        requires suits { Suits (S.promise sink) program.value (length self.old.changes) }
         ensures { Subscribes self.old (length self.old.changes) program sink result self.new }
     {
         let first = latest(&self.history);
@@ -223,14 +226,16 @@ impl<'p, N: Naming, S: Sink<Item<N>>> Core<'p, N, S> {
         latest(&self.history) < number
     }
 
-    /// Adds a subscriber, from the latest version or an earlier one on, to a sink that was sent nothing. Ids rise from 0.
+    /// Adds a subscriber, from the latest version or an earlier one on, to a sink that was sent nothing, and of which nothing is promised but
+    /// this program's stream from there on. Ids rise from 0.
     pub fn subscribe_from(
         &mut self,
         program: ProgramToken<N>,
         sink: S,
         first: u64,
     ) -> Result<usize, SubscribeError>
-        requires { S.sent sink ≡ [] }
+        requires none { S.sent sink ≡ [] }
+        requires suits { Suits (S.promise sink) program.value first }
         ensures { Subscribes self.old first program sink result self.new }
     {
         let id = self.subs.len();
@@ -338,6 +343,8 @@ impl<'p, N: Naming, S: Sink<Item<N>>> Core<'p, N, S> {
         if id >= self.subs.len() || self.subs[id].is_closed() {
             return Err(NoSubscriber);
         }
+        // Tells the proof that the changes were accepted.
+        let _ = self.history.len();
         let sub = &mut self.subs[id];
         Ok(sub.pump(self.versions.as_slice()))
     }

@@ -12,7 +12,8 @@ use Rattle.subscriber_queues.specs.Queue.{Sending, was_sent, IsFull}
 abbrev pub AreConsistent : State Sending → State Sending → Type 0
 AreConsistent old new = IsConsistent was_sent IsFull old × IsConsistent was_sent IsFull new
 
--- a core whose sinks are queues was found under the lock, and this event made another of it; both are consistent
+-- a core whose sinks are queues was found under the lock, and this event made another of it; both are consistent. It says nothing of the hub where
+-- the event is one of a core with no subscriber, such as a pump, close or reissue that is refused, or that no job is taken or missed
 abbrev pub InOneHolding : (State Sending → State Sending → Type 0) → Type 0
 InOneHolding event = (old : State Sending) × (new : State Sending) × event old new × AreConsistent old new
 

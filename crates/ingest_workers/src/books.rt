@@ -3,9 +3,10 @@ ghost use Rattle.change_ops.specs.Spelling.{change_text};
 ghost use Rattle.char_sequence.specs.Newest.{IsLastCounter};
 ghost use Rattle.meaning.specs.Safe.{Safe};
 ghost use Rattle.batches.specs.Feed.{Sub};
+ghost use Rattle.batches.specs.Promise.{Suits};
+ghost use Rattle.batches.specs.Stream.{BeginsStream};
 ghost use Rattle.change_history.specs.Accepted.{AreAccepted, operations_of};
 ghost use Rattle.hub_core.specs.Machine.{Submits, Subscribes, TakesJob, Misses, Commits, Pumps, Reissues, Closes};
-ghost use Rattle.hub_core.specs.Stream.{BeginsStream};
 ghost use Rattle.hub_core.specs.Consistent.{IsConsistent};
 ghost use Rattle.subscriber_queues.specs.Queue.{Sending, was_sent, IsFull};
 ghost use Rattle.ingest_workers.specs.Holdings.{AreConsistent};
@@ -119,7 +120,8 @@ impl<'p, N: Naming + Ledger, R: Wait + Copy> Books<'p, N, R> {
         sink: QueueSink<N, R>,
         first: u64,
     ) -> Result<usize, SubscribeError>
-        requires { sink.sent ≡ [] }
+        requires none { sink.sent ≡ [] }
+        requires suits { Suits sink.promise program.value first }
         ensures event { Subscribes self.old first program sink result self.new }
         ensures consistent { AreConsistent self.old self.new }
     {
@@ -134,7 +136,8 @@ impl<'p, N: Naming + Ledger, R: Wait + Copy> Books<'p, N, R> {
         program: ProgramToken<N>,
         sink: QueueSink<N, R>,
     ) -> Result<usize, SubscribeError>
-        requires { sink.sent ≡ [] }
+        requires none { sink.sent ≡ [] }
+        requires suits { Suits sink.promise program.value (length self.old.changes) }
         ensures event { Subscribes self.old (length self.old.changes) program sink result self.new }
         ensures consistent { AreConsistent self.old self.new }
     {

@@ -1,6 +1,7 @@
-ghost use Rattle.std.specs.Prelude.{◌≡◌, ◌<◌, ◌≤◌, ◌↔◌, [], Err, length, map, take, drop, slice_get, All, IsTrue, IfOk, MatchOption, vec_len};
+ghost use Rattle.std.specs.Prelude.{◌≡◌, ℕ, ◌<◌, ◌≤◌, ◌↔◌, [], Err, length, map, take, drop, slice_get, All, IsTrue, IfOk, MatchOption, vec_len};
 ghost use Rattle.change_ops.specs.Spelling.{change_text};
 ghost use Rattle.char_sequence.specs.Newest.{IsLastCounter};
+ghost use Rattle.batches.specs.Promise.{Suits};
 ghost use Rattle.change_history.specs.Accepted.{operations_of};
 ghost use Rattle.hub_core.specs.Machine.{Subscribes, TakesJob, Misses, Commits, Pumps, Reissues, Closes};
 ghost use Rattle.subscriber_queues.specs.Queue.{was_sent, IsFull};
@@ -120,7 +121,8 @@ impl<'p, N: Naming + Ledger, R: Wait + Copy> Hub<'p, N, R> {
         sink: QueueSink<N, R>,
         first: u64,
     ) -> Result<usize, SubscribeError>
-        requires { sink.sent ≡ [] }
+        requires none { sink.sent ≡ [] }
+        requires suits { Suits sink.promise program.value first }
         ensures { InOneHolding (λ old new. Subscribes old first program sink result new) }
     {
         self.books.lock(rt).subscribe_from(program, sink, first)
@@ -133,7 +135,8 @@ impl<'p, N: Naming + Ledger, R: Wait + Copy> Hub<'p, N, R> {
         program: ProgramToken<N>,
         sink: QueueSink<N, R>,
     ) -> Result<usize, SubscribeError>
-        requires { sink.sent ≡ [] }
+        requires none { sink.sent ≡ [] }
+        requires suits { (first : ℕ) → Suits sink.promise program.value first }
         ensures { InOneHolding (λ old new. Subscribes old (length old.changes) program sink result new) }
     {
         self.books.lock(rt).subscribe(program, sink)

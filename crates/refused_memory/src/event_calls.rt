@@ -23,9 +23,9 @@ fn push_event<N: Naming>(
     is_left_out: bool,
     event: Asked<N>,
 ) -> Result<(), AllocError>
-    requires fresh { IsFreshEvent (λ (s : Listed). s.sent) event }
-    requires all { All (IsFreshEvent (λ (s : Listed). s.sent)) events.old.items }
-    ensures { IfOk result (λ _. All (IsFreshEvent (λ (s : Listed). s.sent)) events.new.items) }
+    requires fresh { IsFreshEvent (λ (s : Listed). s.sent) (λ (s : Listed). None) event }
+    requires all { All (IsFreshEvent (λ (s : Listed). s.sent) (λ (s : Listed). None)) events.old.items }
+    ensures { IfOk result (λ _. All (IsFreshEvent (λ (s : Listed). s.sent) (λ (s : Listed). None)) events.new.items) }
 {
     if is_left_out {
         return Ok(());
@@ -40,7 +40,7 @@ fn events<N: Naming>(
     call: &str,
     program: ProgramToken<N>,
 ) -> Result<Vec<Asked<N>>, Fault>
-    ensures { IfOk result (λ events. All (IsFreshEvent (λ (s : Listed). s.sent)) events.items) }
+    ensures { IfOk result (λ events. All (IsFreshEvent (λ (s : Listed). s.sent) (λ (s : Listed). None)) events.items) }
 {
     let mut events = Vec::new(alloc);
     let change = third(alloc)?;

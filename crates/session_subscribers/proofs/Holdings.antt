@@ -1,6 +1,6 @@
 -- Where a subscriber is, and what is taken of it.
-use Rattle.std.proofs.Common.{◌≡◌, ℕ, ◌<◌, ◌==◌, List, [], Result, Ok, Err, length, set, get_or, refl, subst, inl, inr, sym, IsErrAnd}
-use Rattle.std.specs.Prelude.{Some, None, IfOk, IfErr, OnErr, Bool, IsTrue, ◌↔◌}
+use Rattle.std.proofs.Common.{◌≡◌, ℕ, ◌<◌, ◌==◌, List, [], Result, Ok, Err, length, set, get_or, refl, ap, ◌∙◌, subst, inl, inr, sym, IsErrAnd}
+use Rattle.std.specs.Prelude.{Option, Some, None, IfOk, IfErr, OnErr, Bool, IsTrue, ◌↔◌}
 use Rattle.std.proofs.lemmas.List.Quantifiers.{position-Some}
 use Rattle.std.proofs.lemmas.Option.{slice_get_read}
 use Rattle.bpf_words.specs.declared.profile.Profile.{Profile}
@@ -8,6 +8,7 @@ use Rattle.bpf_words.specs.Words.{IsProgram, program_of}
 use Rattle.meaning.specs.Step.{Program}
 use Rattle.meaning.specs.Safe.{SafeIn}
 use Rattle.batches.specs.Orderly.{IsOrderly}
+use Rattle.batches.specs.Promise.{Promise, IsPromised, Suits}
 use Rattle.subscriber_queues.specs.Queue.{Taking}
 use Rattle.ingest_workers.specs.Holdings.{InOneHolding}
 use Rattle.refusals.specs.declared.reason.Reason.TheVariants as reason
@@ -20,8 +21,8 @@ pub place_within : (held : List Watched) (some : Watched) (id place : ℕ) → p
 place_within held some id place there = (position-Some (λ one. one.id == id) held place some there).0
 
 pub pulled : (id count place : ℕ) (held : List Watched) (one : Watched) (items : Taking) (out out' : List ℕ) (answer : Reply) → place_in held id ≡ Some place → one ≡ get_or held place one
-    → Pulls count one.items items out out' answer → IsOrderly items.taken → PullsAny id count held (set held place (record one { items = items })) out out' answer
-pulled id count place held one items out out' answer there read pulls orderly = inl (record {
+    → Pulls count one.items items out out' answer → IsOrderly items.taken → IsPromised items.promise items.taken → PullsAny id count held (set held place (record one { items = items })) out out' answer
+pulled id count place held one items out out' answer there read pulls orderly promised = inl (record {
   place = place;
   there = there;
   one = one;
@@ -29,12 +30,13 @@ pulled id count place held one items out out' answer there read pulls orderly = 
   items = items;
   others = refl;
   orderly = orderly;
+  promised = subst (λ p. IsPromised p items.taken) (ap (λ (e : Taking). e.promise) pulls.takes.next) promised;
   pulls = pulls;
 })
 
 pub pulled_short : (id count place : ℕ) (held : List Watched) (one : Watched) (items : Taking) (out out' : List ℕ) → place_in held id ≡ Some place → one ≡ get_or held place one
-    → TakesShort count one.items items out out' → IsOrderly items.taken → PullsShort id count held (set held place (record one { items = items })) out out'
-pulled_short id count place held one items out out' there read takes orderly = record {
+    → TakesShort count one.items items out out' → IsOrderly items.taken → IsPromised items.promise items.taken → PullsShort id count held (set held place (record one { items = items })) out out'
+pulled_short id count place held one items out out' there read takes orderly promised = record {
   place = place;
   there = there;
   one = one;
@@ -42,22 +44,35 @@ pulled_short id count place held one items out out' there read takes orderly = r
   items = items;
   others = refl;
   orderly = orderly;
+  promised = subst (λ p. IsPromised p items.taken) (ap (λ (e : Taking). e.promise) takes.next) promised;
   takes = takes;
 }
 
 -- what was answered to a pull of a subscriber that is held
 pub pulled_ok : {E : Type 0} (r : Result Reply E) (id count place : ℕ) (held : List Watched) (one : Watched) (items : Taking) (out out' : List ℕ) → place_in held id ≡ Some place → one ≡ get_or held place one
-    → IsOrderly items.taken → IfOk r (Pulls count one.items items out out') → IfOk r (PullsAny id count held (set held place (record one { items = items })) out out')
-pulled_ok (Ok answer) id count place held one items out out' there read orderly pulls = pulled id count place held one items out out' answer there read pulls orderly
-pulled_ok (Err e) id count place held one items out out' there read orderly pulls = tt
+    → IsOrderly items.taken → IsPromised items.promise items.taken → IfOk r (Pulls count one.items items out out') → IfOk r (PullsAny id count held (set held place (record one { items = items })) out out')
+pulled_ok (Ok answer) id count place held one items out out' there read orderly promised pulls = pulled id count place held one items out out' answer there read pulls orderly promised
+pulled_ok (Err e) id count place held one items out out' there read orderly promised pulls = tt
 
 pub pulled_err : {E : Type 0} (r : Result Reply E) (id count place : ℕ) (held : List Watched) (one : Watched) (items : Taking) (out out' : List ℕ) → place_in held id ≡ Some place → one ≡ get_or held place one
-    → IsOrderly items.taken → OnErr r (TakesShort count one.items items out out') → OnErr r (PullsShort id count held (set held place (record one { items = items })) out out')
-pulled_err (Ok answer) id count place held one items out out' there read orderly takes = tt
-pulled_err (Err e) id count place held one items out out' there read orderly takes = pulled_short id count place held one items out out' there read takes orderly
+    → IsOrderly items.taken → IsPromised items.promise items.taken → OnErr r (TakesShort count one.items items out out') → OnErr r (PullsShort id count held (set held place (record one { items = items })) out out')
+pulled_err (Ok answer) id count place held one items out out' there read orderly promised takes = tt
+pulled_err (Err e) id count place held one items out out' there read orderly promised takes = pulled_short id count place held one items out out' there read takes orderly promised
 
 pub none_pulled : (id count : ℕ) (held : List Watched) (out : List ℕ) → place_in held id ≡ None → PullsAny id count held held out out (Refused reason.NoSubscriber)
 none_pulled id count held out none = inr (record { none = none; same = refl; printed = refl; told = refl })
+
+-- the promise of a program's stream suits it from each version on, where none is named
+pub suits_any : (promise : Option Promise) (program : Program) (first : Option ℕ) → promise ≡ Some (record { program = program; first = first }) → first ≡ None
+    → (number : ℕ) → Suits promise program number
+suits_any promise program first is none number =
+    subst (λ q. Suits q program number) (sym (is ∙ ap (λ (f : Option ℕ). Some (record { program = program; first = f })) none)) (refl, tt)
+
+-- and else from the one that is
+pub suits_named : (promise : Option Promise) (program : Program) (first : Option ℕ) (number : ℕ) → promise ≡ Some (record { program = program; first = first }) → first ≡ Some number
+    → Suits promise program number
+suits_named promise program first number is named =
+    subst (λ q. Suits q program number) (sym (is ∙ ap (λ (f : Option ℕ). Some (record { program = program; first = f })) named)) (refl, refl)
 
 -- what a test of a full hub found
 pub full : (test : Bool) → IsTrue test → InOneHolding (λ old new. (new ≡ old) × (IsTrue test ↔ (length old.subs ≡ 64))) → InOneHolding (λ old new. (new ≡ old) × (length old.subs ≡ 64))

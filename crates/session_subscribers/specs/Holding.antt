@@ -8,6 +8,7 @@ use Rattle.meaning.specs.Safe.{SafeIn}
 use Rattle.verifier.specs.Judged.{Rejects}
 use Rattle.version_history.specs.Tokens.{Token}
 use Rattle.batches.specs.Orderly.{IsOrderly}
+use Rattle.batches.specs.Promise.{Promise, IsPromised}
 use Rattle.hub_core.specs.Machine.{State, Subscribes, Closes as ClosesAtHub}
 use Rattle.hub_core.specs.declared.error.NoSubscriber.{NoSubscriber}
 use Rattle.subscriber_queues.specs.Queue.{Line, Sending, Taking, IsCapacity}
@@ -32,14 +33,18 @@ abbrev pub first_of : Option ℕ → State Sending → ℕ
 first_of None s = length s.changes
 first_of (Some number) s = number
 
+-- what is promised of the queue of a subscription: the stream of its own program, from the version that is named on
+abbrev pub promise_of : List ℕ → Option ℕ → Promise
+promise_of bytes first = record { program = program_of bytes; first = first }
+
 -- the program of these bytes, each run of which on what the profile lends ends with a number, was subscribed under this id with the other end of
--- this queue, which is empty and of this capacity, from its first version on
+-- this queue, which is empty, of this capacity and with that promise, from its first version on
 pub record IsSubscribed (profile : Profile) (capacity : ℕ) (bytes : List ℕ) (first : Option ℕ) (id : ℕ) (line : Line) : Type 0 where
   pub program : IsProgram bytes
   pub safe : SafeIn profile (program_of bytes)
   pub token : Token Program
   pub same : token.value ≡ program_of bytes
-  pub holding : InOneHolding (λ old new. Subscribes old (first_of first old) token (record { line = line; sent = []; capacity = capacity }) (Ok id) new)
+  pub holding : InOneHolding (λ old new. Subscribes old (first_of first old) token (record { line = line; sent = []; capacity = capacity; promise = Some (promise_of bytes first) }) (Ok id) new)
 
 -- the bytes are a program, each run of which on what the profile lends ends with a number
 abbrev pub AreSafe : Profile → List ℕ → Type 0
@@ -55,15 +60,16 @@ IsNotSubscribed profile capacity bytes (Some number) reason.NoVersion = AreSafe 
 IsNotSubscribed profile capacity bytes first reason.OutOfMemory = AreSafe profile bytes
 IsNotSubscribed profile capacity bytes first _ = ⊥
 
--- one more is held, with the end of its queue that nothing was taken from; or the same as before
+-- one more is held, with the end of its queue, which has that promise and which nothing was taken from; or the same as before
 abbrev pub Adds : Profile → ℕ → List ℕ → Option ℕ → List Watched → Reply → List Watched → Type 0
 Adds profile capacity bytes first held (reply.Subscribed id) held' =
-    (line : Line) × (held' ≡ held ++ record { id = id; items = record { line = line; taken = []; shown = [] } } ∷ [])
+    (line : Line) × (held' ≡ held ++ record { id = id; items = record { line = line; promise = Some (promise_of bytes first); taken = []; shown = [] } } ∷ [])
     × IsSubscribed profile capacity bytes first id line
 Adds profile capacity bytes first held (reply.Refused why) held' = (held' ≡ held) × IsNotSubscribed profile capacity bytes first why
 Adds profile capacity bytes first held _ held' = ⊥
 
--- the hub was asked to close this one; where the hub has it as closed, it is refused and stays so
+-- the hub was asked to close this one; where the hub has it as closed, it is refused and stays so; it says nothing of the hub, since a refusal (Err)
+-- meets it for every id
 abbrev pub IsClosed : ℕ → Type 0
 IsClosed id = (found : Result ⊤ NoSubscriber) × InOneHolding (λ old new. ClosesAtHub old id found new)
 
@@ -81,7 +87,8 @@ pub record Pulls (count : ℕ) (items items' : Taking) (out out' : List ℕ) (an
   pub told : (answer ≡ reply.Items many) ⊎ (answer ≡ reply.Refused reason.OutOfMemory)
 
 -- items of the subscriber with the id were taken, and of no other. All that the session ever took of it are the batches of one program on
--- versions one after another, the last perhaps unfinished
+-- versions one after another, the last perhaps unfinished; and as was promised: they begin the stream of its own program over accepted changes,
+-- from its first version on
 pub record PullsHeld (id count : ℕ) (held held' : List Watched) (out out' : List ℕ) (answer : Reply) : Type 0 where
   pub place : ℕ
   pub there : place_in held id ≡ Some place
@@ -90,6 +97,7 @@ pub record PullsHeld (id count : ℕ) (held held' : List Watched) (out out' : Li
   pub items : Taking
   pub others : held' ≡ slice_set held place (record one { items = items })
   pub orderly : IsOrderly items.taken
+  pub promised : IsPromised one.items.promise items.taken
   pub pulls : Pulls count one.items items out out' answer
 
 -- or none had it, and nothing was done
@@ -111,4 +119,5 @@ pub record PullsShort (id count : ℕ) (held held' : List Watched) (out out' : L
   pub items : Taking
   pub others : held' ≡ slice_set held place (record one { items = items })
   pub orderly : IsOrderly items.taken
+  pub promised : IsPromised one.items.promise items.taken
   pub takes : TakesShort count one.items items out out'

@@ -1,4 +1,4 @@
-ghost use Rattle.std.specs.Prelude.{◌≡◌, ℕ, List, Option, [], Ok, IfOk, IfErr};
+ghost use Rattle.std.specs.Prelude.{◌≡◌, ℕ, List, Option, Some, [], Ok, IfOk, IfErr};
 ghost use Rattle.bpf_words.specs.Words.{IsProgram, program_of};
 ghost use Rattle.bpf_words.specs.declared.profile.Profile.{Profile as TheProfile};
 ghost use Rattle.meaning.specs.Safe.{SafeIn};
@@ -15,21 +15,23 @@ use session_lines::reply::Reply;
 use std::alloc::Global;
 use std::sync::Wait;
 use std::sync::ledger::Ledger;
-use subscriber_queues::ends::{QueueError, QueueSink, Subscription, queue};
+use subscriber_queues::ends::{QueueError, QueueSink, Subscription, queue_for};
 use verifier::verify::{Verified, verify};
 use version_history::published::{Naming, ProgramToken};
 
-/// The two ends of a queue.
+/// The two ends of a queue, with the promise of this program's stream.
 fn ends<N: Naming, R: Wait + Copy>(
     rt: R,
     alloc: Global,
     capacity: usize,
+    program: &Verified,
+    first: Option<u64>,
 ) -> Result<(QueueSink<N, R>, Subscription<N, R>), Reason>
-    ensures sink { IfOk result (λ q. (q.0.sent ≡ []) × (q.0.capacity ≡ capacity)) }
-    ensures end { IfOk result (λ q. q.1 ≡ record { line = q.0.line; taken = []; shown = [] }) }
-    ensures err { IfErr result (λ why. (profile : TheProfile) (bytes : List ℕ) (first : Option ℕ) → AreSafe profile bytes → IsNotSubscribed profile capacity bytes first why) }
+    ensures sink { IfOk result (λ q. (q.0.sent ≡ []) × (q.0.capacity ≡ capacity) × (q.0.promise ≡ Some (record { program = program.now; first = first }))) }
+    ensures end { IfOk result (λ q. q.1 ≡ record { line = q.0.line; promise = Some (record { program = program.now; first = first }); taken = []; shown = [] }) }
+    ensures err { IfErr result (λ why. (profile : TheProfile) (bytes : List ℕ) (from : Option ℕ) → AreSafe profile bytes → IsNotSubscribed profile capacity bytes from why) }
 {
-    match queue(rt, alloc, capacity) {
+    match queue_for(rt, alloc, capacity, program, first) {
         Ok(ends) => Ok(ends),
         Err(QueueError::BadCapacity) => Err(Reason::BadCapacity),
         Err(QueueError::OutOfMemory) => Err(Reason::OutOfMemory),
@@ -86,7 +88,8 @@ impl<N: Naming + Ledger, R: Wait + Copy> SessionHub<'_, '_, N, R> {
         sink: QueueSink<N, R>,
         first: Option<u64>,
     ) -> Result<usize, SubscribeError>
-        requires { sink.sent ≡ [] }
+        requires none { sink.sent ≡ [] }
+        requires promise { sink.promise ≡ Some (record { program = token.value; first = first }) }
         ensures { InOneHolding (λ old new. Subscribes old (first_of first old) token sink result new) }
     {
         match first {
@@ -102,7 +105,8 @@ impl<N: Naming + Ledger, R: Wait + Copy> SessionHub<'_, '_, N, R> {
         sink: QueueSink<N, R>,
         first: Option<u64>,
     ) -> Result<usize, Reason>
-        requires { sink.sent ≡ [] }
+        requires none { sink.sent ≡ [] }
+        requires promise { sink.promise ≡ Some (record { program = token.value; first = first }) }
         ensures ok { IfOk result (λ id. InOneHolding (λ old new. Subscribes old (first_of first old) token sink (Ok id) new)) }
         ensures err { IfErr result (λ why. (profile : TheProfile) (capacity : ℕ) (bytes : List ℕ) → AreSafe profile bytes → IsNotSubscribed profile capacity bytes first why) }
     {
@@ -135,7 +139,7 @@ impl<N: Naming + Ledger, R: Wait + Copy> SessionHub<'_, '_, N, R> {
         if held.reserve(1).is_err() {
             return Err(Reason::OutOfMemory);
         }
-        let (sink, items) = ends(self.rt, self.alloc, capacity)?;
+        let (sink, items) = ends(self.rt, self.alloc, capacity, &program, first)?;
         let token = self.publish(program)?;
         let id = self.id_at_hub(token, sink, first)?;
         held.push_reserved(Held { id, items });

@@ -1,5 +1,5 @@
 -- Each step keeps the rule of a subscriber's queue, whatever orderly means: only that a beginning of an orderly list is orderly.
-use Rattle.std.proofs.Common.{◌≡◌, ◌≢◌, ℕ, ◌≤◌, zero, suc, true, false, true≢false, List, [], ◌∷◌, ◌++◌, length, set, sym, refl, ap, ◌∙◌, ◌⊎◌, subst, ⊎_elim, append_assoc, append-nil, arith, length-append}
+use Rattle.std.proofs.Common.{None, Option, ◌≡◌, ◌≢◌, ℕ, ◌≤◌, zero, suc, true, false, true≢false, List, [], ◌∷◌, ◌++◌, length, set, sym, refl, ap, ◌∙◌, ◌⊎◌, subst, ⊎_elim, append_assoc, append-nil, arith, length-append}
 use mathlib.Core.Option.{some, some-ne-none}
 use lib.ListN.{get_elem?}
 use Rattle.crossbeam_queue.specs.Fifo.{Pushes, Pops, Forks, Merges, Learns}
@@ -7,7 +7,9 @@ use Rattle.crossbeam_queue.proofs.Lists.{at_set, at_snoc}
 use Rattle.batches.specs.Batches.{Entry}
 use Rattle.batches.specs.Orderly.{IsOrderly}
 use Rattle.batches.proofs.Orderly.{orderly_front}
-use Rattle.subscriber_queues.proofs.Empty.{orderly_none}
+use Rattle.batches.specs.Promise.{Promise, IsPromised}
+use Rattle.batches.proofs.Promises.{promised_front}
+use Rattle.subscriber_queues.proofs.Empty.{orderly_none, promised_none}
 use Rattle.subscriber_queues.specs.Queue.{Begins, AreBeginnings}
 use Rattle.subscriber_queues.specs.Rule.{Seat, seat, Facts, Fits, IsKept}
 
@@ -36,25 +38,26 @@ more_shown xs ys x b = (b.0 ++ x ∷ [], ap (λ l. l ++ x ∷ []) b.1 ∙ append
 all_shown : (ys zs : List Entry) → ys ≡ zs → Begins ys zs
 all_shown ys zs e = ([], sym e ∙ sym (append-nil ys))
 
-idle : (f : Facts) (number : ℕ) (shown : List Entry) → Begins shown f.sent → Fits f number (seat false false 0 [] [] shown)
+idle : (f : Facts) (number : ℕ) (shown : List Entry) → Begins shown f.sent → Fits f number (seat false false 0 None None [] [] shown)
 idle f number shown b = record { sends = λ p. absurd (true≢false (sym p)); takes = λ p. absurd (true≢false (sym p)); shown = b }
 
-pub begins : IsKept [] (seat true true 0 [] [] [] ∷ [])
+pub begins : IsKept [] (seat true true 0 None None [] [] [] ∷ [])
 begins =
-    let f : Facts = record { sender = 0; taker = 0; capacity = 0; sent = []; taken = [] } in
-    let first : Seat = seat true true 0 [] [] [] in
+    let f : Facts = record { sender = 0; taker = 0; capacity = 0; promise = None; sent = []; taken = [] } in
+    let first : Seat = seat true true 0 None None [] [] [] in
     record {
       facts = f;
       in_order = refl;
       few = omega arith;
       orderly = orderly_none;
-      fit = all_set (Fits f) (first ∷ []) 0 first (record { sends = λ _. (refl, refl, refl); takes = λ _. (refl, refl, refl); shown = none_shown [] }) (λ j u other e. absurd (other (at_end [] _ u j (λ x. some-ne-none u (sym x)) e)));
+      promised = tt;
+      fit = all_set (Fits f) (first ∷ []) 0 first (record { sends = λ _. (refl, refl, refl, refl); takes = λ _. (refl, refl, refl, refl); shown = none_shown [] }) (λ j u other e. absurd (other (at_end [] _ u j (λ x. some-ne-none u (sym x)) e)));
     }
 
-pub sends : (n port : ℕ) (v : Seat) (x : Entry) → v.sends ≡ true → v.capacity ≡ n → IsOrderly (v.sent ++ x ∷ [])
-    → Pushes IsKept n port v x (λ w. w ≡ seat v.sends v.takes v.capacity (v.sent ++ x ∷ []) v.taken v.shown)
-sends n port v x may roomy orderly items views room h at =
-    let w : Seat = seat v.sends v.takes v.capacity (v.sent ++ x ∷ []) v.taken v.shown in
+pub sends : (n port : ℕ) (v : Seat) (x : Entry) → v.sends ≡ true → v.capacity ≡ n → IsOrderly (v.sent ++ x ∷ []) → IsPromised v.gives (v.sent ++ x ∷ [])
+    → Pushes IsKept n port v x (λ w. w ≡ seat v.sends v.takes v.capacity v.gives v.gets (v.sent ++ x ∷ []) v.taken v.shown)
+sends n port v x may roomy orderly promised items views room h at =
+    let w : Seat = seat v.sends v.takes v.capacity v.gives v.gets (v.sent ++ x ∷ []) v.taken v.shown in
     let mine = h.fit port v at in
     let my = mine.sends may in
     let f : Facts = record h.facts { sent = h.facts.sent ++ x ∷ [] } in (
@@ -64,7 +67,8 @@ sends n port v x may roomy orderly items views room h at =
         in_order = ap (λ l. l ++ x ∷ []) h.in_order ∙ append_assoc h.facts.taken items (x ∷ []);
         few = omega (arith, length-append items (x ∷ []), my.1);
         orderly = subst IsOrderly (ap (λ l. l ++ x ∷ []) my.2) orderly;
-        fit = all_set (Fits f) views port w (record { sends = λ _. (my.0, my.1, ap (λ l. l ++ x ∷ []) my.2); takes = mine.takes; shown = more_shown v.shown h.facts.sent x mine.shown })
+        promised = subst (λ (z : Option Promise × List Entry). IsPromised z.0 z.1) (λ i. (my.3 i, my.2 i ++ x ∷ [])) promised;
+        fit = all_set (Fits f) views port w (record { sends = λ _. (my.0, my.1, ap (λ l. l ++ x ∷ []) my.2, my.3); takes = mine.takes; shown = more_shown v.shown h.facts.sent x mine.shown })
             (λ j u other e. record { sends = λ p. absurd (other (((h.fit j u e).sends p).0 ∙ sym my.0)); takes = (h.fit j u e).takes; shown = more_shown u.shown h.facts.sent x (h.fit j u e).shown });
       },
       refl,
@@ -76,9 +80,9 @@ sent_waits port v may items views h at =
     omega (arith, length-append h.facts.taken items, ap length h.in_order, ap length my.2)
 
 pub takes : (port : ℕ) (v : Seat) → v.takes ≡ true
-    → Pops IsKept port v (λ x w. (w ≡ seat v.sends v.takes v.capacity v.sent (v.taken ++ x ∷ []) v.shown) × IsOrderly (v.taken ++ x ∷ []) × AreBeginnings (v.taken ++ x ∷ []) v.shown)
+    → Pops IsKept port v (λ x w. (w ≡ seat v.sends v.takes v.capacity v.gives v.gets v.sent (v.taken ++ x ∷ []) v.shown) × IsOrderly (v.taken ++ x ∷ []) × IsPromised v.gets (v.taken ++ x ∷ []) × AreBeginnings (v.taken ++ x ∷ []) v.shown)
 takes port v may x items views h at =
-    let w : Seat = seat v.sends v.takes v.capacity v.sent (v.taken ++ x ∷ []) v.shown in
+    let w : Seat = seat v.sends v.takes v.capacity v.gives v.gets v.sent (v.taken ++ x ∷ []) v.shown in
     let mine = h.fit port v at in
     let my = mine.takes may in
     let f : Facts = record h.facts { taken = h.facts.taken ++ x ∷ [] } in
@@ -90,12 +94,15 @@ takes port v may x items views h at =
         in_order = all;
         few = omega (arith, h.few);
         orderly = h.orderly;
-        fit = all_set (Fits f) views port w (record { sends = mine.sends; takes = λ _. (my.0, my.1, ap (λ l. l ++ x ∷ []) my.2); shown = mine.shown })
+        promised = h.promised;
+        fit = all_set (Fits f) views port w (record { sends = mine.sends; takes = λ _. (my.0, my.1, ap (λ l. l ++ x ∷ []) my.2, my.3); shown = mine.shown })
             (λ j u other e. record { sends = (h.fit j u e).sends; takes = λ p. absurd (other (((h.fit j u e).takes p).0 ∙ sym my.0)); shown = (h.fit j u e).shown });
       },
       (
         refl,
         subst IsOrderly ours (orderly_front (h.facts.taken ++ x ∷ []) items (subst IsOrderly all h.orderly)),
+        subst (λ (z : Option Promise × List Entry). IsPromised z.0 z.1) (λ i. (sym my.3 i, ours i))
+            (promised_front h.facts.promise (h.facts.taken ++ x ∷ []) items (subst (IsPromised h.facts.promise) all h.promised)),
         (h.facts.sent, (items, all ∙ ap (λ l. l ++ items) ours), mine.shown),
       ),
     )
@@ -107,51 +114,59 @@ taken_waits port v may items views h at =
     let all : h.facts.sent ≡ v.taken ++ items = h.in_order ∙ ap (λ l. l ++ items) (sym my.2) in
     (subst IsOrderly all h.orderly, (mine.shown.0, sym all ∙ mine.shown.1))
 
-pub forks : (port : ℕ) (v : Seat) (room : ℕ) (shown : List Entry) → v.sends ≡ true → v.takes ≡ true → (v.capacity ≡ 0) ⊎ (v.capacity ≡ room) → (shown ≡ []) ⊎ (shown ≡ v.shown)
-    → Forks IsKept port v (seat true false room v.sent [] []) (seat false true room [] v.taken shown)
-forks port v room shown a b none what items views h at =
-    let l : Seat = seat true false room v.sent [] [] in
-    let r : Seat = seat false true room [] v.taken shown in
+-- the two ends part: with the promise that they had, or, where nothing was sent yet, with any
+pub forks : (port : ℕ) (v : Seat) (room : ℕ) (gives gets : Option Promise) (shown : List Entry) → v.sends ≡ true → v.takes ≡ true → (v.capacity ≡ 0) ⊎ (v.capacity ≡ room)
+    → ((v.sent ≡ []) × (gets ≡ gives)) ⊎ ((gives ≡ v.gives) × (gets ≡ v.gets)) → (shown ≡ []) ⊎ (shown ≡ v.shown)
+    → Forks IsKept port v (seat true false room gives None v.sent [] []) (seat false true room None gets [] v.taken shown)
+forks port v room gives gets shown a b none promise what items views h at =
+    let l : Seat = seat true false room gives None v.sent [] [] in
+    let r : Seat = seat false true room None gets [] v.taken shown in
     let mine = h.fit port v at in
     let s = mine.sends a in
     let t = mine.takes b in
     let vs : List Seat = set views port l in
-    let f : Facts = record { sender = h.facts.sender; taker = length vs; capacity = room; sent = h.facts.sent; taken = h.facts.taken } in
+    let f : Facts = record { sender = h.facts.sender; taker = length vs; capacity = room; promise = gives; sent = h.facts.sent; taken = h.facts.taken } in
+    let promised : IsPromised gives h.facts.sent =
+    ⊎_elim (λ (z : (v.sent ≡ []) × (gets ≡ gives)). subst (IsPromised gives) (sym z.0 ∙ s.2) (promised_none gives))
+    (λ (z : (gives ≡ v.gives) × (gets ≡ v.gets)). subst (λ q. IsPromised q h.facts.sent) (sym (z.0 ∙ s.3)) h.promised) promise in
+    let same : gets ≡ gives = ⊎_elim (λ (z : (v.sent ≡ []) × (gets ≡ gives)). z.1) (λ (z : (gives ≡ v.gives) × (gets ≡ v.gets)). z.1 ∙ t.3 ∙ sym (z.0 ∙ s.3)) promise in
     let few : h.facts.capacity ≤ room = ⊎_elim (λ (z : v.capacity ≡ 0). omega (arith, s.1, z)) (λ (z : v.capacity ≡ room). omega (arith, s.1, z)) none in
-    let Old : ℕ → Seat → Type 0 = λ j u. (u.sends ≡ true → (j ≡ f.sender) × (u.capacity ≡ f.capacity) × (u.sent ≡ f.sent)) × (u.takes ≢ true) × Begins u.shown f.sent in
-    let old : AllSeats Old vs = all_set Old views port l ((λ _. (s.0, refl, s.2)), (λ p. true≢false (sym p)), none_shown f.sent)
+    let Old : ℕ → Seat → Type 0 = λ j u. (u.sends ≡ true → (j ≡ f.sender) × (u.capacity ≡ f.capacity) × (u.sent ≡ f.sent) × (u.gives ≡ f.promise)) × (u.takes ≢ true) × Begins u.shown f.sent in
+    let old : AllSeats Old vs = all_set Old views port l ((λ _. (s.0, refl, s.2, refl)), (λ p. true≢false (sym p)), none_shown f.sent)
     (λ j u other e. ((λ p. absurd (other (((h.fit j u e).sends p).0 ∙ sym s.0))), (λ p. other (((h.fit j u e).takes p).0 ∙ sym t.0)), (h.fit j u e).shown)) in
     record {
       facts = f;
       in_order = h.in_order;
       few = omega (arith, h.few, few);
       orderly = h.orderly;
+      promised = promised;
       fit = λ j u e. ⊎_elim (λ x. record { sends = (old j u x).0; takes = λ p. absurd ((old j u x).1 p); shown = (old j u x).2 })
           (λ (is : r ≡ u). record {
             sends = λ p. absurd (true≢false (sym (ap (λ (y : Seat). y.sends) is ∙ p)));
-            takes = λ p. (at_end vs r u j (λ x. (old j u x).1 p) e, sym (ap (λ (y : Seat). y.capacity) is), sym (ap (λ (y : Seat). y.taken) is) ∙ t.2);
+            takes = λ p. (at_end vs r u j (λ x. (old j u x).1 p) e, sym (ap (λ (y : Seat). y.capacity) is), sym (ap (λ (y : Seat). y.taken) is) ∙ t.2, sym (ap (λ (y : Seat). y.gets) is) ∙ same);
             shown = subst (λ (y : Seat). Begins y.shown f.sent) is (⊎_elim (λ (z : shown ≡ []). subst (λ q. Begins q f.sent) (sym z) (none_shown f.sent)) (λ (z : shown ≡ v.shown). subst (λ q. Begins q f.sent) (sym z) mine.shown) what);
           }) (at_snoc vs r u j e);
     }
 
-pub merges : (port : ℕ) (v : Seat) (other : ℕ) (u : Seat) → v.sends ≡ true → u.takes ≡ true → Merges IsKept port v other u (seat true true v.capacity v.sent u.taken u.shown) (seat false false 0 [] [] [])
+pub merges : (port : ℕ) (v : Seat) (other : ℕ) (u : Seat) → v.sends ≡ true → u.takes ≡ true → Merges IsKept port v other u (seat true true v.capacity v.gives u.gets v.sent u.taken u.shown) (seat false false 0 None None [] [] [])
 merges port v other u a b items views h at two at' =
-    let both : Seat = seat true true v.capacity v.sent u.taken u.shown in
+    let both : Seat = seat true true v.capacity v.gives u.gets v.sent u.taken u.shown in
     let mine = h.fit port v at in
     let my = mine.sends a in
     let vs : List Seat = set views port both in
     let was : get_elem? views other ≡ some u = ⊎_elim (λ x. absurd (two x.0)) (λ x. x.1) (at_set views port other both u at') in
     let theirs = (h.fit other u was).takes b in
-    let f : Facts = record { sender = h.facts.sender; taker = port; capacity = h.facts.capacity; sent = h.facts.sent; taken = h.facts.taken } in
+    let f : Facts = record { sender = h.facts.sender; taker = port; capacity = h.facts.capacity; promise = h.facts.promise; sent = h.facts.sent; taken = h.facts.taken } in
     let Now : ℕ → Seat → Type 0 = λ j y. j ≢ other → Fits f j y in
-    let now : AllSeats Now vs = all_set Now views port both (λ _. record { sends = λ _. my; takes = λ _. (refl, my.1, theirs.2); shown = (h.fit other u was).shown })
+    let now : AllSeats Now vs = all_set Now views port both (λ _. record { sends = λ _. my; takes = λ _. (refl, my.1, theirs.2, theirs.3); shown = (h.fit other u was).shown })
     (λ j y _ e apart. record { sends = (h.fit j y e).sends; takes = λ p. absurd (apart (((h.fit j y e).takes p).0 ∙ sym theirs.0)); shown = (h.fit j y e).shown }) in
     record {
       facts = f;
       in_order = h.in_order;
       few = h.few;
       orderly = h.orderly;
-      fit = all_set (Fits f) vs other (seat false false 0 [] [] []) (idle f other [] (none_shown f.sent)) (λ j y apart e. now j y e apart);
+      promised = h.promised;
+      fit = all_set (Fits f) vs other (seat false false 0 None None [] [] []) (idle f other [] (none_shown f.sent)) (λ j y apart e. now j y e apart);
     }
 
 pub totals : (port : ℕ) (v : Seat) → v.sends ≡ true → v.takes ≡ true → Learns IsKept port v (λ items. (v.sent ≡ v.taken ++ items) × (length items ≤ v.capacity))
@@ -160,7 +175,7 @@ totals port v a b items views h at =
     let s = mine.sends a in
     ((s.2 ∙ h.in_order ∙ ap (λ l. l ++ items) (sym (mine.takes b).2)), subst (λ n. length items ≤ n) (sym s.1) h.few)
 
-pub shows : (port : ℕ) (v : Seat) → v.sends ≡ true → Forks IsKept port v v (seat false false 0 [] [] v.sent)
+pub shows : (port : ℕ) (v : Seat) → v.sends ≡ true → Forks IsKept port v v (seat false false 0 None None [] [] v.sent)
 shows port v a items views h at =
     let mine = h.fit port v at in
     let my = mine.sends a in
@@ -169,13 +184,14 @@ shows port v a items views h at =
       in_order = h.in_order;
       few = h.few;
       orderly = h.orderly;
-      fit = all_snoc (Fits h.facts) (set views port v) (seat false false 0 [] [] v.sent) (all_set (Fits h.facts) views port v mine (λ j u _ e. h.fit j u e))
+      promised = h.promised;
+      fit = all_snoc (Fits h.facts) (set views port v) (seat false false 0 None None [] [] v.sent) (all_set (Fits h.facts) views port v mine (λ j u _ e. h.fit j u e))
           (λ j. idle h.facts j v.sent (all_shown v.sent h.facts.sent my.2));
     }
 
-pub learns : (port : ℕ) (v : Seat) (other : ℕ) (u : Seat) → Merges IsKept port v other u (seat v.sends v.takes v.capacity v.sent v.taken u.shown) (seat false false 0 [] [] [])
+pub learns : (port : ℕ) (v : Seat) (other : ℕ) (u : Seat) → Merges IsKept port v other u (seat v.sends v.takes v.capacity v.gives v.gets v.sent v.taken u.shown) (seat false false 0 None None [] [] [])
 learns port v other u items views h at two at' =
-    let both : Seat = seat v.sends v.takes v.capacity v.sent v.taken u.shown in
+    let both : Seat = seat v.sends v.takes v.capacity v.gives v.gets v.sent v.taken u.shown in
     let mine = h.fit port v at in
     let vs : List Seat = set views port both in
     let was : get_elem? views other ≡ some u = ⊎_elim (λ x. absurd (two x.0)) (λ x. x.1) (at_set views port other both u at') in
@@ -185,5 +201,6 @@ learns port v other u items views h at two at' =
       in_order = h.in_order;
       few = h.few;
       orderly = h.orderly;
-      fit = all_set (Fits h.facts) vs other (seat false false 0 [] [] []) (idle h.facts other [] (none_shown h.facts.sent)) (λ j y _ e. now j y e);
+      promised = h.promised;
+      fit = all_set (Fits h.facts) vs other (seat false false 0 None None [] [] []) (idle h.facts other [] (none_shown h.facts.sent)) (λ j y _ e. now j y e);
     }

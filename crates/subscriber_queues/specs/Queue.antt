@@ -1,21 +1,24 @@
 -- What a clause sees of the ends of a subscriber's queue.
-use Rattle.std.specs.Prelude.{◌≡◌, ℕ, ◌≤◌, List, ◌++◌, length}
+use Rattle.std.specs.Prelude.{◌≡◌, ℕ, ◌≤◌, Option, List, ◌++◌, length}
 use Rattle.atomic_table.specs.Seated.{TableId}
 use Rattle.batches.specs.Batches.{Entry}
+use Rattle.batches.specs.Promise.{Promise}
 
 -- which queue an end is of
 abbrev pub Line : Type 0
 Line = TableId
 
--- the hub's end: of which queue, what was sent, and how many items may wait
+-- the hub's end: of which queue, what was sent, how many items may wait, and what is promised of all that is sent
 pub record Sending : Type 0 where
   pub line : Line
   pub sent : List Entry
   pub capacity : ℕ
+  pub promise : Option Promise
 
--- the subscriber's end: of which queue, what was taken, and what it knows to have been sent at least
+-- the subscriber's end: of which queue, what it was promised, what was taken, and what it knows to have been sent at least
 pub record Taking : Type 0 where
   pub line : Line
+  pub promise : Option Promise
   pub taken : List Entry
   pub shown : List Entry
 

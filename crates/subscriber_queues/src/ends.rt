@@ -1,7 +1,8 @@
 //! The two ends of a subscriber's queue.
-ghost use Rattle.std.specs.Prelude.{◌≡◌, ◌<◌, ◌↔◌, [], ◌∷◌, ◌++◌, IfOk, IfErr, OnOk, IfSome, IfNone};
+ghost use Rattle.std.specs.Prelude.{◌≡◌, ◌<◌, ◌↔◌, Some, None, [], ◌∷◌, ◌++◌, IfOk, IfErr, OnOk, IfSome, IfNone};
 ghost use Rattle.crossbeam_queue.specs.Passes.{view as view_of};
 ghost use Rattle.batches.specs.Orderly.{IsOrderly};
+ghost use Rattle.batches.specs.Promise.{IsPromised};
 ghost use Rattle.subscriber_queues.specs.Queue.{IsCapacity, Begins, AreBeginnings, AreEnds};
 
 use crate::rule::{Ends, Knows, Line, Room, Sends, Shows, Takes, Whole};
@@ -12,12 +13,14 @@ use std::alloc::{AllocError, Global};
 use std::marker::{Brand, Model};
 use std::sync::{Arc, Wait};
 use thiserror::Error;
+use verifier::verify::Verified;
 use version_history::published::Naming;
 
 /// The most items that may wait in a queue.
 pub const CAPACITY_LIMIT: usize = 1024;
 
-/// The hub's end of a subscriber's queue. Contracts see which queue it is of, what was sent, and the capacity.
+/// The hub's end of a subscriber's queue. Contracts see which queue it is of, what was sent, the capacity, and what is promised of all
+/// that is sent.
 pub struct QueueSink<N: Naming, R: Wait + Copy> {
     rt: R,
     line: Arc<Line<N>, Global>,
@@ -42,12 +45,13 @@ impl<N: Naming, R: Wait + Copy> Model for QueueSink<N, R> {
 
     ghost Value = { Sending };
 
-    ghost view = { λ s. record { line = s.pass.table_id; sent = (view_of s.pass).sent; capacity = ruled_capacity (arc_value s.line) } };
+    ghost view = { λ s. record { line = s.pass.table_id; sent = (view_of s.pass).sent; capacity = ruled_capacity (arc_value s.line); promise = (view_of s.pass).gives } };
 
     ghost invariant = { λ s. IsPassOf (arc_value s.line) s.pass × ((view_of s.pass).sends ≡ true) × ((view_of s.pass).capacity ≡ ruled_capacity (arc_value s.line)) };
 }
 
-/// The subscriber's end of its queue. Contracts see which queue it is of, what was taken, and what was shown to have been sent.
+/// The subscriber's end of its queue. Contracts see which queue it is of, what it was promised, what was taken, and what was shown to have
+/// been sent.
 pub struct Subscription<N: Naming, R: Wait + Copy> {
     rt: R,
     line: Arc<Line<N>, Global>,
@@ -69,13 +73,14 @@ impl<N: Naming, R: Wait + Copy> Model for Subscription<N, R> {
     ghost use Rattle.std.specs.Arc.{arc_value};
     ghost use Rattle.crossbeam_queue.specs.Passes.{view as view_of, IsPassOf};
     ghost use Rattle.batches.specs.Orderly.{IsOrderly};
+    ghost use Rattle.batches.specs.Promise.{IsPromised};
     ghost use Rattle.subscriber_queues.specs.Queue.{Taking};
 
     ghost Value = { Taking };
 
-    ghost view = { λ s. record { line = s.pass.table_id; taken = (view_of s.pass).taken; shown = (view_of s.pass).shown } };
+    ghost view = { λ s. record { line = s.pass.table_id; promise = (view_of s.pass).gets; taken = (view_of s.pass).taken; shown = (view_of s.pass).shown } };
 
-    ghost invariant = { λ s. IsPassOf (arc_value s.line) s.pass × ((view_of s.pass).takes ≡ true) × IsOrderly (view_of s.pass).taken };
+    ghost invariant = { λ s. IsPassOf (arc_value s.line) s.pass × ((view_of s.pass).takes ≡ true) × IsOrderly (view_of s.pass).taken × IsPromised (view_of s.pass).gets (view_of s.pass).taken };
 }
 
 /// What was sent to a queue up to a moment. It is known for good, and takes no memory.
@@ -119,10 +124,14 @@ impl<N: Naming, R: Wait + Copy> Sink<Item<N>> for QueueSink<N, R> {
 
     ghost full = { λ s. s.capacity ≤ length s.sent };
 
+    ghost promise = { λ s. s.promise };
+
     fn push(&mut self, item: Item<N>) -> Result<(), Item<N>>
-        requires { IsOrderly (self.old.sent ++ item ∷ []) }
+        requires orderly { IsOrderly (self.old.sent ++ item ∷ []) }
+        requires promised { IsPromised self.old.promise (self.old.sent ++ item ∷ []) }
         ensures ok { OnOk result (self.new.sent ≡ self.old.sent ++ item ∷ []) }
         ensures err { IfErr result (λ back. (back ≡ item) × (self.new.sent ≡ self.old.sent) × (self.new.capacity ≤ length self.new.sent)) }
+        ensures kept { self.new.promise ≡ self.old.promise }
         ensures capacity { self.new.capacity ≡ self.old.capacity }
         ensures line { self.new.line ≡ self.old.line }
     {
@@ -146,20 +155,23 @@ impl<N: Naming, R: Wait + Copy> QueueSink<N, R> {
 
 impl<N: Naming, R: Wait + Copy> Subscription<N, R> {
     /// Takes the item that waits longest; None where none waits, and then all that was shown has been taken. What was taken so far are
-    /// the batches of one program on versions in their order, the last perhaps unfinished, and of it and what was shown one begins the
-    /// other.
+    /// the batches of one program on versions in their order, the last perhaps unfinished, and as was promised; and of it and what was
+    /// shown one begins the other.
     pub fn take(&mut self) -> Option<Item<N>>
         ensures some { IfSome result (λ item. self.new ≡ record self.old { taken = self.old.taken ++ item ∷ [] }) }
         ensures none { IfNone result ((self.new ≡ self.old) × Begins self.old.shown self.old.taken) }
         ensures orderly { IsOrderly self.new.taken }
+        ensures promised { IsPromised self.new.promise self.new.taken }
         ensures begins { AreBeginnings self.new.taken self.new.shown }
     {
         self.line.pop_as::<Takes, R>(&self.rt, &mut self.pass)
     }
 
-    /// The law of what was taken so far: the batches of one program on versions in their order, the last perhaps unfinished.
+    /// The law of what was taken so far: the batches of one program on versions in their order, the last perhaps unfinished, and as was
+    /// promised.
     pub fn stays_orderly(&self)
-        ensures { IsOrderly self.now.taken }
+        ensures orderly { IsOrderly self.now.taken }
+        ensures promised { IsPromised self.now.promise self.now.taken }
     {
         let _line = &self.line;
     }
@@ -199,28 +211,81 @@ pub enum QueueError {
     OutOfMemory,
 }
 
-/// The two ends of a new queue, in which at most `capacity` items wait, 1 to 1,024. It has its room from the start.
+/// The two ends of a new queue, in which at most `capacity` items wait, 1 to 1,024. It has its room from the start, and nothing is promised
+/// of what is sent.
 pub fn queue<N: Naming, R: Wait + Copy>(
     rt: R,
     alloc: Global,
     capacity: usize,
 ) -> Result<(QueueSink<N, R>, Subscription<N, R>), QueueError>
-    ensures sink { IfOk result (λ q. (q.0.sent ≡ []) × (q.0.capacity ≡ capacity)) }
-    ensures end { IfOk result (λ q. q.1 ≡ record { line = q.0.line; taken = []; shown = [] }) }
+    ensures sink { IfOk result (λ q. (q.0.sent ≡ []) × (q.0.capacity ≡ capacity) × (q.0.promise ≡ None)) }
+    ensures end { IfOk result (λ q. q.1 ≡ record { line = q.0.line; promise = None; taken = []; shown = [] }) }
+    ensures range { OnOk result (IsCapacity capacity) }
+    ensures bad { IfErr result (λ e. (e ≡ QueueError.BadCapacity) ↔ ¬ IsCapacity capacity) }
+{
+    sized::<N, R, Brand>(rt, alloc, capacity)
+}
+
+/// The two ends of a new queue, as of [`queue`], with a promise: all that is sent begins the stream of this program, from this version on
+/// or, where none is named, from some version on.
+pub fn queue_for<N: Naming, R: Wait + Copy>(
+    rt: R,
+    alloc: Global,
+    capacity: usize,
+    program: &Verified,
+    first: Option<u64>,
+) -> Result<(QueueSink<N, R>, Subscription<N, R>), QueueError>
+    ensures sink { IfOk result (λ q. (q.0.sent ≡ []) × (q.0.capacity ≡ capacity) × (q.0.promise ≡ Some (record { program = program.now; first = first }))) }
+    ensures end { IfOk result (λ q. q.1 ≡ record { line = q.0.line; promise = Some (record { program = program.now; first = first }); taken = []; shown = [] }) }
+    ensures range { OnOk result (IsCapacity capacity) }
+    ensures bad { IfErr result (λ e. (e ≡ QueueError.BadCapacity) ↔ ¬ IsCapacity capacity) }
+{
+    pledged::<N, R, Brand>(rt, alloc, capacity, program, first)
+}
+
+/// A queue of this capacity, if it is one, and with the promise of this program's stream; `C` names both.
+fn pledged<N: Naming, R: Wait + Copy, C: Room>(
+    rt: R,
+    alloc: Global,
+    capacity: usize,
+    program: &Verified,
+    first: Option<u64>,
+) -> Result<(QueueSink<N, R>, Subscription<N, R>), QueueError>
+    requires room { capacity ≡ C.room }
+    requires promise { C.promise ≡ Some (record { program = program.now; first = first }) }
+    ensures sink { IfOk result (λ q. (q.0.sent ≡ []) × (q.0.capacity ≡ capacity) × (q.0.promise ≡ C.promise)) }
+    ensures end { IfOk result (λ q. q.1 ≡ record { line = q.0.line; promise = C.promise; taken = []; shown = [] }) }
+    ensures range { OnOk result (IsCapacity capacity) }
+    ensures bad { IfErr result (λ e. (e ≡ QueueError.BadCapacity) ↔ ¬ IsCapacity capacity) }
+{
+    let _ = program;
+    let _ = first;
+    sized::<N, R, C>(rt, alloc, capacity)
+}
+
+/// A queue of this capacity, if it is one, and with this promise; `C` names both.
+fn sized<N: Naming, R: Wait + Copy, C: Room>(
+    rt: R,
+    alloc: Global,
+    capacity: usize,
+) -> Result<(QueueSink<N, R>, Subscription<N, R>), QueueError>
+    requires { capacity ≡ C.room }
+    ensures sink { IfOk result (λ q. (q.0.sent ≡ []) × (q.0.capacity ≡ capacity) × (q.0.promise ≡ C.promise)) }
+    ensures end { IfOk result (λ q. q.1 ≡ record { line = q.0.line; promise = C.promise; taken = []; shown = [] }) }
     ensures range { OnOk result (IsCapacity capacity) }
     ensures bad { IfErr result (λ e. (e ≡ QueueError.BadCapacity) ↔ ¬ IsCapacity capacity) }
 {
     if capacity < 1 || CAPACITY_LIMIT < capacity {
         return Err(QueueError::BadCapacity);
     }
-    match made::<N, R, Brand>(rt, alloc, capacity) {
+    match made::<N, R, C>(rt, alloc, capacity) {
         Ok(ends) => Ok(ends),
         Err(_) => Err(QueueError::OutOfMemory),
     }
 }
 
-/// A queue of this capacity, which `C` names.
-#[tactic(auto, using(crate::proofs::Empty::orderly_none))]
+/// A queue of this capacity and with this promise, which `C` names.
+#[tactic(auto, using(crate::proofs::Empty::orderly_none, crate::proofs::Empty::promised_none))]
 fn made<N: Naming, R: Wait + Copy, C: Room>(
     rt: R,
     alloc: Global,
@@ -228,8 +293,8 @@ fn made<N: Naming, R: Wait + Copy, C: Room>(
 ) -> Result<(QueueSink<N, R>, Subscription<N, R>), AllocError>
     requires some { 0 < capacity }
     requires room { capacity ≡ C.room }
-    ensures sink { IfOk result (λ q. (q.0.sent ≡ []) × (q.0.capacity ≡ capacity)) }
-    ensures end { IfOk result (λ q. q.1 ≡ record { line = q.0.line; taken = []; shown = [] }) }
+    ensures sink { IfOk result (λ q. (q.0.sent ≡ []) × (q.0.capacity ≡ capacity) × (q.0.promise ≡ C.promise)) }
+    ensures end { IfOk result (λ q. q.1 ≡ record { line = q.0.line; promise = C.promise; taken = []; shown = [] }) }
 {
     let (line, mut sender) = Line::<N>::ruled(alloc, capacity)?;
     let taker = line.another::<Ends<C>>(&mut sender);

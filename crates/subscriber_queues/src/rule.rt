@@ -3,13 +3,30 @@ use crossbeam_queue::RuledArrayQueue;
 use crossbeam_queue::protocol::{Join, Lesson, Outcome, Protocol, Split};
 use std::collections::LinkedList;
 use std::marker::{Brand, Model, PhantomData};
+use verifier::verify::Verified;
 use version_history::published::Naming;
+
+/// What is promised of all that a queue is sent: the stream of a program, from this version on. No value of it is made.
+pub struct Pledge {
+    program: Verified,
+    first: Option<u64>,
+}
+
+impl Model for Pledge {
+    ghost use Rattle.batches.specs.Promise.{Promise};
+
+    ghost Value = { Promise };
+
+    ghost view = { λ p. record { program = p.program; first = p.first } };
+}
 
 /// What an end of a queue knows. No value of it is made.
 pub struct Knows<N: Naming> {
     sends: bool,
     takes: bool,
     capacity: usize,
+    gives: Option<Pledge>,
+    gets: Option<Pledge>,
     sent: LinkedList<Item<N>>,
     taken: LinkedList<Item<N>>,
     shown: LinkedList<Item<N>>,
@@ -20,30 +37,37 @@ impl<N: Naming> Model for Knows<N> {
 
     ghost Value = { Seat };
 
-    ghost view = { λ k. record { sends = k.sends; takes = k.takes; capacity = k.capacity; sent = k.sent; taken = k.taken; shown = k.shown } };
+    ghost view = { λ k. record { sends = k.sends; takes = k.takes; capacity = k.capacity; gives = k.gives; gets = k.gets; sent = k.sent; taken = k.taken; shown = k.shown } };
 }
 
 /// The rule of a queue: what was sent is what was taken and then what waits.
 pub struct InOrder;
 
 impl<N: Naming> Protocol<Item<N>, Knows<N>> for InOrder {
-    ghost use Rattle.std.specs.Prelude.{true, []};
+    ghost use Rattle.std.specs.Prelude.{true, None, []};
     ghost use Rattle.subscriber_queues.specs.Rule.{seat, IsKept};
 
     ghost holds = { IsKept };
 
-    ghost first = { seat true true 0 [] [] [] };
+    ghost first = { seat true true 0 None None [] [] [] };
 }
 
-/// How many items may wait. It is picked for each queue.
+/// How many items may wait, and what is promised of all that is sent. Both are picked for each queue.
 pub trait Room {
-    ghost use Rattle.std.specs.Prelude.{ℕ};
+    ghost use Rattle.std.specs.Prelude.{ℕ, Option};
+    ghost use Rattle.batches.specs.Promise.{Promise};
 
     ghost room: { ℕ };
+
+    ghost promise: { Option Promise };
 }
 
 impl Room for Brand {
+    ghost use Rattle.std.specs.Prelude.{None};
+
     ghost room = { 0 };
+
+    ghost promise = { None };
 }
 
 /// Of the two ends one sends and the other takes.
@@ -52,33 +76,33 @@ pub struct Ends<C: Room> {
 }
 
 impl<N: Naming, C: Room> Split<Knows<N>> for Ends<C> {
-    ghost use Rattle.std.specs.Prelude.{true, false, []};
+    ghost use Rattle.std.specs.Prelude.{true, false, None, []};
     ghost use Rattle.subscriber_queues.specs.Rule.{seat};
 
-    ghost left = { λ v. seat true false C.room v.sent [] [] };
+    ghost left = { λ v. seat true false C.room C.promise None v.sent [] [] };
 
-    ghost right = { λ v. seat false true C.room [] v.taken [] };
+    ghost right = { λ v. seat false true C.room None C.promise [] v.taken [] };
 }
 
 /// The two ends as one, and apart again.
 pub struct Whole;
 
 impl<N: Naming> Join<Knows<N>> for Whole {
-    ghost use Rattle.std.specs.Prelude.{true, false, []};
+    ghost use Rattle.std.specs.Prelude.{true, false, None, []};
     ghost use Rattle.subscriber_queues.specs.Rule.{seat};
 
-    ghost both = { λ v w. seat true true v.capacity v.sent w.taken w.shown };
+    ghost both = { λ v w. seat true true v.capacity v.gives w.gets v.sent w.taken w.shown };
 
-    ghost spent = { seat false false 0 [] [] [] };
+    ghost spent = { seat false false 0 None None [] [] [] };
 }
 
 impl<N: Naming> Split<Knows<N>> for Whole {
-    ghost use Rattle.std.specs.Prelude.{true, false, []};
+    ghost use Rattle.std.specs.Prelude.{true, false, None, []};
     ghost use Rattle.subscriber_queues.specs.Rule.{seat};
 
-    ghost left = { λ v. seat true false v.capacity v.sent [] [] };
+    ghost left = { λ v. seat true false v.capacity v.gives None v.sent [] [] };
 
-    ghost right = { λ v. seat false true v.capacity [] v.taken v.shown };
+    ghost right = { λ v. seat false true v.capacity None v.gets [] v.taken v.shown };
 }
 
 impl<N: Naming> Lesson<Item<N>, Knows<N>> for Whole {
@@ -91,21 +115,21 @@ impl<N: Naming> Lesson<Item<N>, Knows<N>> for Whole {
 pub struct Shows;
 
 impl<N: Naming> Split<Knows<N>> for Shows {
-    ghost use Rattle.std.specs.Prelude.{false, []};
+    ghost use Rattle.std.specs.Prelude.{false, None, []};
     ghost use Rattle.subscriber_queues.specs.Rule.{seat};
 
     ghost left = { λ v. v };
 
-    ghost right = { λ v. seat false false 0 [] [] v.sent };
+    ghost right = { λ v. seat false false 0 None None [] [] v.sent };
 }
 
 impl<N: Naming> Join<Knows<N>> for Shows {
-    ghost use Rattle.std.specs.Prelude.{false, []};
+    ghost use Rattle.std.specs.Prelude.{false, None, []};
     ghost use Rattle.subscriber_queues.specs.Rule.{seat};
 
-    ghost both = { λ v w. seat v.sends v.takes v.capacity v.sent v.taken w.shown };
+    ghost both = { λ v w. seat v.sends v.takes v.capacity v.gives v.gets v.sent v.taken w.shown };
 
-    ghost spent = { seat false false 0 [] [] [] };
+    ghost spent = { seat false false 0 None None [] [] [] };
 }
 
 /// A push: what was sent grows by the item. Where it is refused, no more can wait than were sent.
@@ -115,7 +139,7 @@ impl<N: Naming> Outcome<Item<N>, Knows<N>> for Sends {
     ghost use Rattle.std.specs.Prelude.{◌≡◌, ◌++◌, ◌∷◌, []};
     ghost use Rattle.subscriber_queues.specs.Rule.{seat};
 
-    ghost then = { λ v x w. w ≡ seat v.sends v.takes v.capacity (v.sent ++ x ∷ []) v.taken v.shown };
+    ghost then = { λ v x w. w ≡ seat v.sends v.takes v.capacity v.gives v.gets (v.sent ++ x ∷ []) v.taken v.shown };
 }
 
 impl<N: Naming> Lesson<Item<N>, Knows<N>> for Sends {
@@ -124,17 +148,18 @@ impl<N: Naming> Lesson<Item<N>, Knows<N>> for Sends {
     ghost fact = { λ v items. length items ≤ length v.sent };
 }
 
-/// A pop: what was taken grows by the item, is orderly, and was sent, as what was shown was. Where none waits, all that was shown was
+/// A pop: what was taken grows by the item, is orderly, is as promised, and was sent, as what was shown was. Where none waits, all that was shown was
 /// taken.
 pub struct Takes;
 
 impl<N: Naming> Outcome<Item<N>, Knows<N>> for Takes {
     ghost use Rattle.std.specs.Prelude.{◌≡◌, ◌++◌, ◌∷◌, []};
     ghost use Rattle.batches.specs.Orderly.{IsOrderly};
+    ghost use Rattle.batches.specs.Promise.{IsPromised};
     ghost use Rattle.subscriber_queues.specs.Queue.{AreBeginnings};
     ghost use Rattle.subscriber_queues.specs.Rule.{seat};
 
-    ghost then = { λ v x w. (w ≡ seat v.sends v.takes v.capacity v.sent (v.taken ++ x ∷ []) v.shown) × IsOrderly (v.taken ++ x ∷ []) × AreBeginnings (v.taken ++ x ∷ []) v.shown };
+    ghost then = { λ v x w. (w ≡ seat v.sends v.takes v.capacity v.gives v.gets v.sent (v.taken ++ x ∷ []) v.shown) × IsOrderly (v.taken ++ x ∷ []) × IsPromised v.gets (v.taken ++ x ∷ []) × AreBeginnings (v.taken ++ x ∷ []) v.shown };
 }
 
 impl<N: Naming> Lesson<Item<N>, Knows<N>> for Takes {

@@ -1,4 +1,4 @@
-use Rattle.std.proofs.Common.{◌≡◌, [], ◌∷◌, ◌++◌, All, sym, subst}
+use Rattle.std.proofs.Common.{◌≡◌, None, [], ◌∷◌, ◌++◌, All, sym, subst}
 use Rattle.std.proofs.lemmas.List.Elements.{All-push}
 use Rattle.batches.specs.Orderly.{Listed}
 use Rattle.hub_core.specs.Runs.{IsFreshEvent}
@@ -7,9 +7,9 @@ use Rattle.core_cases.proofs.core_case.events.Goals as goal
 pub loop-line-preserved-then-eq : goal.loop-line-preserved-then-eq
 loop-line-preserved-then-eq g c =
     let more : c.push_event.new.events.items ≡ c.loop-line.events.items ++ c.in-Ok.event ∷ [] = c.in_ok-push_event.ensures in
-    subst (All (IsFreshEvent (λ (s : Listed). s.sent))) (sym more) (All-push (IsFreshEvent (λ (s : Listed). s.sent)) c.loop-line.events.items c.in-Ok.event c.loop-line.invariant c.in-Ok.ensures)
+    subst (All (IsFreshEvent (λ (s : Listed). s.sent) (λ (s : Listed). None))) (sym more) (All-push (IsFreshEvent (λ (s : Listed). s.sent) (λ (s : Listed). None)) c.loop-line.events.items c.in-Ok.event c.loop-line.invariant c.in-Ok.ensures)
 
 pub loop-line-preserved : goal.loop-line-preserved
 loop-line-preserved g c =
     let more : c.push_event.new.events.items ≡ c.loop-line.events.items ++ c.in-Ok.event ∷ [] = c.in_ok-push_event.ensures in
-    subst (All (IsFreshEvent (λ (s : Listed). s.sent))) (sym more) (All-push (IsFreshEvent (λ (s : Listed). s.sent)) c.loop-line.events.items c.in-Ok.event c.loop-line.invariant c.in-Ok.ensures)
+    subst (All (IsFreshEvent (λ (s : Listed). s.sent) (λ (s : Listed). None))) (sym more) (All-push (IsFreshEvent (λ (s : Listed). s.sent) (λ (s : Listed). None)) c.loop-line.events.items c.in-Ok.event c.loop-line.invariant c.in-Ok.ensures)

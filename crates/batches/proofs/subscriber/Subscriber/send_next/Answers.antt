@@ -2,6 +2,7 @@ use Rattle.std.proofs.Common.{◌≡◌, ◌<◌, ◌≤◌, Some, List, length,
 use Rattle.std.specs.Prelude.{slice_get}
 use Rattle.batches.specs.Batches.{Entry}
 use Rattle.batches.specs.Feed.{Sub, Held, IsFed}
+use Rattle.batches.proofs.Promises.{changes_rise, may_promise}
 use Rattle.batches.proofs.Feeds.{may_send, count_fits, sent_part, sent_whole, moved_none}
 use Rattle.batches.proofs.subscriber.Subscriber.send_next.Goals as goal
 
@@ -16,7 +17,13 @@ send_batch-reached-requires-clause-from g c =
 pub send_batch-reached-requires-clause-orderly : goal.send_batch-reached-requires-clause-orderly
 send_batch-reached-requires-clause-orderly g c =
     let fed = subst (λ (s : Sub g.row.S.Denot). IsFed g.S.Sink.sent g.S.Sink.full c.args.versions.now s) (sym c.self.view_is) c.requires.fed in
-    may_send _ _ _ _ c.in-Some.batch.now c.requires.rises fed (subst (λ (h : Held). slice_get h 0 ≡ Some (Some c.in-Some.batch.now)) c.as_slice.ensures.value c.in-Some.ensures)
+    may_send _ _ _ _ c.in-Some.batch.now (changes_rise _ c.requires.published) fed (subst (λ (h : Held). slice_get h 0 ≡ Some (Some c.in-Some.batch.now)) c.as_slice.ensures.value c.in-Some.ensures)
+
+pub send_batch-reached-requires-clause-promised : goal.send_batch-reached-requires-clause-promised
+send_batch-reached-requires-clause-promised g c =
+    let fed = subst (λ (s : Sub g.row.S.Denot). IsFed g.S.Sink.sent g.S.Sink.full c.args.versions.now s) (sym c.self.view_is) c.requires.fed in
+    may_promise _ _ (g.S.Sink.promise c.self.inside.sink) c.args.versions.now _ c.in-Some.batch.now c.self.invariant c.requires.published fed
+    (subst (λ (h : Held). slice_get h 0 ≡ Some (Some c.in-Some.batch.now)) c.as_slice.ensures.value c.in-Some.ensures)
 
 pub returns-then-reached-items-clause-fed : goal.returns-then-reached-items-clause-fed
 returns-then-reached-items-clause-fed g c =

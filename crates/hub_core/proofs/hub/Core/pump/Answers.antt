@@ -1,13 +1,14 @@
 use Rattle.std.proofs.Common.{◌<◌, List, length, arith, subst, sym, ◌∙◌}
 use Rattle.span_flatten.specs.Version.{Snapshot}
 use Rattle.version_history.specs.Tokens.{Token}
-use Rattle.batches.specs.Orderly.{RisesFrom}
+use Rattle.batches.specs.Promise.{AreOfChanges}
 use Rattle.batches.specs.Feed.{IsFed}
-use Rattle.hub_core.proofs.Sound.{rises, fed_at, sound_set, pumped}
+use Rattle.hub_core.proofs.Sound.{of_changes, fed_at, sound_set, pumped}
 use Rattle.hub_core.proofs.hub.Core.pump.Goals as goal
 
-pub pump-requires-clause-rises : goal.pump-requires-clause-rises
-pump-requires-clause-rises g c = subst (RisesFrom 0) (sym c.as_slice.ensures.value) (rises g.S.Sink.sent g.S.Sink.full _ c.self.invariant)
+pub pump-requires-clause-published : goal.pump-requires-clause-published
+pump-requires-clause-published g c =
+    subst AreOfChanges (sym c.as_slice.ensures.value) (of_changes g.S.Sink.sent g.S.Sink.full _ c.self.invariant c.len-2.ensures.accepted)
 
 pub pump-requires-clause-fed : goal.pump-requires-clause-fed
 pump-requires-clause-fed g c =

@@ -1,8 +1,9 @@
-use Rattle.std.proofs.Common.{rules, ◌≡◌, [], ◌∷◌, ◌++◌, Ok, refl, sym, subst, ◌∙◌}
+use Rattle.std.proofs.Common.{rules, ◌≡◌, Some, [], ◌∷◌, ◌++◌, Ok, refl, sym, ap, subst, ◌∙◌}
+use Rattle.meaning.specs.Step.{Program}
 use Rattle.hub_core.specs.Machine.{Subscribes}
 use Rattle.subscriber_queues.specs.Queue.{Sending}
 use Rattle.ingest_workers.specs.Holdings.{InOneHolding}
-use Rattle.session_subscribers.specs.Holding.{first_of, IsNotSubscribed}
+use Rattle.session_subscribers.specs.Holding.{first_of, promise_of, IsNotSubscribed}
 use Rattle.session_subscribers.proofs.Holdings.{safe_bytes, passed_on}
 use Rattle.session_subscribers.proofs.session_hub.SessionHub.add.Goals as goal
 
@@ -36,10 +37,18 @@ returns-in_err-id-clause-err g c =
     passed_on c.from_residual-in_err-id.result c.in_err-id.field-0.0 _ c.from_residual-in_err-id.ensures.1
     (c.reserve.ensures.items, c.in_err-id.ensures.err c.args.profile c.args.capacity c.args.bytes.now safe)
 
+pub id_at_hub-requires-clause-promise : goal.id_at_hub-requires-clause-promise
+id_at_hub-requires-clause-promise g c =
+    c.in_ok-sink.ensures.sink.2 ∙ ap (λ (p : Program). Some (record { program = p; first = c.args.first })) (sym c.in_ok-token.ensures.ok)
+
 pub returns-clause-ok : goal.returns-clause-ok
 returns-clause-ok g c =
     let queue = c.in_ok-sink.sink in
-    let one : c.push_reserved.new.self.items ≡ c.args.held.now.items ++ record { id = c.in_ok-id.id; items = record { line = queue.line; taken = []; shown = [] } } ∷ [] = search rules in
+    let promise : queue.promise ≡ Some (promise_of c.args.bytes.now c.args.first) =
+    c.in_ok-sink.ensures.sink.2 ∙ ap (λ (p : Program). Some (record { program = p; first = c.args.first })) c.in_ok-program.ensures.ok.1 in
+    let held : c.push_reserved.new.self.items ≡ c.args.held.now.items ++ record { id = c.in_ok-id.id; items = record { line = queue.line; promise = Some (record { program = c.in_ok-program.program; first = c.args.first }); taken = []; shown = [] } } ∷ [] = search rules in
+    let one = held ∙ ap (λ (p : Program). c.args.held.now.items ++ record { id = c.in_ok-id.id; items = record { line = queue.line; promise = Some (record { program = p; first = c.args.first }); taken = []; shown = [] } } ∷ [])
+    c.in_ok-program.ensures.ok.1 in
     let safe = safe_bytes c.args.profile c.in_ok-program.program c.args.bytes.now c.in_ok-program.ensures.ok in (
       queue.line,
       one,
@@ -49,6 +58,6 @@ returns-clause-ok g c =
         token = c.in_ok-token.token;
         same = c.in_ok-token.ensures.ok ∙ c.in_ok-program.ensures.ok.1;
         holding = subst (λ (q : Sending). InOneHolding (λ old new. Subscribes old (first_of c.args.first old) c.in_ok-token.token q (Ok c.in_ok-id.id) new))
-            (λ i. record { line = queue.line; sent = c.in_ok-sink.ensures.sink.0 i; capacity = c.in_ok-sink.ensures.sink.1 i }) c.in_ok-id.ensures.ok;
+            (λ i. record { line = queue.line; sent = c.in_ok-sink.ensures.sink.0 i; capacity = c.in_ok-sink.ensures.sink.1 i; promise = promise i }) c.in_ok-id.ensures.ok;
       },
     )

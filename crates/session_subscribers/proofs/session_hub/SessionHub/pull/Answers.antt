@@ -11,11 +11,11 @@ returns-clause-ok g c =
     let held = c.args.held.now.items in
     let there = sym (c.in-Some.ensures ∙ ap (λ l. place_in l c.args.id) c.as_slice.ensures.value) in
     pulled_ok c.pull_from-reply.result c.args.id c.args.count c.in-Some.place held (record { id = c.one.inside.id; items = c.one.inside.items }) c.pull_from-reply.new.items _ _ there
-    (subst (λ (z : Watched). z ≡ get_or held c.in-Some.place z) (sym c.one.view_is) c.index_mut-one.ensures.value) c.stays_orderly.ensures c.pull_from-reply.ensures.ok
+    (subst (λ (z : Watched). z ≡ get_or held c.in-Some.place z) (sym c.one.view_is) c.index_mut-one.ensures.value) c.stays_orderly.ensures.orderly c.stays_orderly.ensures.promised c.pull_from-reply.ensures.ok
 
 pub returns-clause-err : goal.returns-clause-err
 returns-clause-err g c =
     let held = c.args.held.now.items in
     let there = sym (c.in-Some.ensures ∙ ap (λ l. place_in l c.args.id) c.as_slice.ensures.value) in
     pulled_err c.pull_from-reply.result c.args.id c.args.count c.in-Some.place held (record { id = c.one.inside.id; items = c.one.inside.items }) c.pull_from-reply.new.items _ _ there
-    (subst (λ (z : Watched). z ≡ get_or held c.in-Some.place z) (sym c.one.view_is) c.index_mut-one.ensures.value) c.stays_orderly.ensures c.pull_from-reply.ensures.err
+    (subst (λ (z : Watched). z ≡ get_or held c.in-Some.place z) (sym c.one.view_is) c.index_mut-one.ensures.value) c.stays_orderly.ensures.orderly c.stays_orderly.ensures.promised c.pull_from-reply.ensures.err
