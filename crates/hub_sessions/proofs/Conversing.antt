@@ -150,6 +150,7 @@ unanswered (asked.Pull id count) s items answer s' text met is = elim met.0 [
       items = held.items;
       others = held.others;
       orderly = held.orderly;
+      promised = held.promised;
       takes = whole_lines count held.one.items held.items [] items answer held.pulls;
     }),
   )
