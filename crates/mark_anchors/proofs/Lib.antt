@@ -18,5 +18,6 @@ pub mod FormatLaws
 pub mod Painting
 pub mod Stretching
 pub mod Running
+pub mod Passing
 pub mod Counting
 pub mod Borne

@@ -1,9 +1,9 @@
 //! The comments on a character.
-ghost use Rattle.std.specs.Prelude.{◌≡◌, ◌+◌, ◌<◌, ◌∷◌, ◌↔◌, [], IfSome, IsTrue, MatchOption, Some, drop, length, slice_get};
+ghost use Rattle.std.specs.Prelude.{◌≡◌, ◌+◌, ◌<◌, ◌≤◌, ◌∷◌, ◌↔◌, [], false, IfSome, IsTrue, MatchOption, Some, drop, length, slice_get};
 ghost use Rattle.std.specs.List.Sorted.{IsStrictlyIncreasing};
 ghost use Rattle.std.specs.Iterator.{UpTo, YieldsFirst, item_count};
 ghost use Rattle.std.specs.Iterator.SizeHint.{IsWithinCount};
-ghost use Rattle.mark_anchors.specs.CommentRuns.{numbers_at};
+ghost use Rattle.mark_anchors.specs.CommentRuns.{has_place, numbers_at, AreOrderly};
 ghost use Rattle.mark_anchors.specs.declared.comment_runs.CommentRun.{CommentRun};
 
 use crate::comment_runs::CommentRun;
@@ -39,7 +39,7 @@ impl Model for CommentList {
 
     ghost view = { λ c. numbers_in c.runs c.place };
 
-    ghost invariant = { λ c. IsList (numbers_in c.runs c.place) c.count };
+    ghost invariant = { λ c. IsList c.runs c.place c.count };
 }
 
 impl CommentList {
@@ -110,25 +110,48 @@ pub struct CommentNumbers<'a> {
 }
 
 impl<'a> Model for CommentNumbers<'a> {
-    ghost use Rattle.std.specs.Prelude.{◌≡◌, ℕ, List, length};
+    ghost use Rattle.std.specs.Prelude.{ℕ, List};
     ghost use Rattle.mark_anchors.specs.CommentRuns.{numbers_at};
+    ghost use Rattle.mark_anchors.specs.CommentLists.{AreCounted};
 
     ghost Value = { List ℕ };
 
     ghost view = { λ c. numbers_at c.runs.now c.place };
 
-    ghost invariant = { λ c. c.count ≡ length (numbers_at c.runs.now c.place) };
+    ghost invariant = { λ c. AreCounted c.runs.now c.place c.count };
 }
 
-/// The index of the first of the runs that has the place.
+/// How many runs, from one on that doesn't have the place, can be passed over because they don't have it either: up to the one
+/// of the comment's that can, or to the next comment.
+fn count_without(runs: &[CommentRun], first: CommentRun, place: usize) -> usize
+    requires orderly { AreOrderly runs.now }
+    requires first { slice_get runs.now 0 ≡ Some first }
+    requires without { has_place first place ≡ false }
+    ensures some { 0 < result }
+    ensures within { result ≤ length runs.now }
+    ensures without { numbers_at runs.now place ≡ numbers_at (drop result runs.now) place }
+{
+    let number = first.number.number();
+    if place < first.from {
+        runs.partition_point(|run| run.number.number() == number)
+    } else {
+        runs.partition_point(|run| run.number.number() == number && run.to <= place)
+    }
+}
+
+/// The index of the first of the runs that has the place: the search goes from comment to comment, as one can have many runs.
 fn first_at(runs: &[CommentRun], place: usize) -> Option<usize>
+    requires { AreOrderly runs.now }
     ensures within { IfSome result (λ first. first < length runs.now) }
     ensures first { MatchOption result (numbers_at runs.now place ≡ []) (λ first. (run : CommentRun) → slice_get runs.now first ≡ Some run → numbers_at runs.now place ≡ run.number ∷ numbers_at (drop (first + 1) runs.now) place) }
 {
-    for index in 0..runs.len() {
-        if runs[index].has(place) {
+    let mut index = 0;
+    while index < runs.len() {
+        let run = runs[index];
+        if run.has(place) {
             return Some(index);
         }
+        index += count_without(&runs[index..], run, place);
     }
     None
 }
