@@ -52,7 +52,7 @@ pub returns-in_err-request-clause-err : goal.returns-in_err-request-clause-err
 returns-in_err-request-clause-err g c = broke_still c.from_residual.result _ _ c.empty_reply.ensures
 
 pub returns-in_err-answer-in-Request-clause-err : goal.returns-in_err-answer-in-Request-clause-err
-returns-in_err-answer-in-Request-clause-err g c = broke_short c.from_residual.result _ _ _ c.from_residual.ensures.1 c.in_err-answer-in-Request.ensures.short
+returns-in_err-answer-in-Request-clause-err g c = broke_short c.from_residual-in_err-answer-in-Request.result _ _ _ c.from_residual-in_err-answer-in-Request.ensures.1 c.in_err-answer-in-Request.ensures.short
 
 pub returns-in_err-push_last-in-Request-clause-err : goal.returns-in_err-push_last-in-Request-clause-err
 returns-in_err-push_last-in-Request-clause-err g c =
@@ -62,10 +62,10 @@ returns-in_err-push_last-in-Request-clause-err g c =
     let answer = c.in_ok-answer-in-Request.field-0 in
     let met : Answers c.in-Request.request before [] items answer now = subst (λ out. Answers c.in-Request.request before out items answer now) c.empty_reply.ensures c.in_ok-answer-in-Request.ensures.answers in
     let stands = c.in_err-push_last-in-Request.ensures.err ∙ ap (λ b. if b then [] else items) c.only_reads-reads.ensures in
-    broke_short c.from_residual.result _ _ _ c.from_residual.ensures.1 (unanswered c.in-Request.request before items answer now _ met stands)
+    broke_short c.from_residual-in_err-push_last-in-Request.result _ _ _ c.from_residual-in_err-push_last-in-Request.ensures.1 (unanswered c.in-Request.request before items answer now _ met stands)
 
 pub returns-in_err-push_line-in-Refused-clause-err : goal.returns-in_err-push_line-in-Refused-clause-err
-returns-in_err-push_line-in-Refused-clause-err g c = broke_still c.from_residual.result _ _ (c.in_err-push_line-in-Refused.ensures.err ∙ c.empty_reply.ensures)
+returns-in_err-push_line-in-Refused-clause-err g c = broke_still c.from_residual-in_err-push_line-in-Refused.result _ _ (c.in_err-push_line-in-Refused.ensures.err ∙ c.empty_reply.ensures)
 
 pub returns-in_err-push_line-in-TooLong-clause-err : goal.returns-in_err-push_line-in-TooLong-clause-err
-returns-in_err-push_line-in-TooLong-clause-err g c = broke_still c.from_residual.result _ _ (c.in_err-push_line-in-TooLong.ensures.err ∙ c.empty_reply.ensures)
+returns-in_err-push_line-in-TooLong-clause-err g c = broke_still c.from_residual-in_err-push_line-in-TooLong.result _ _ (c.in_err-push_line-in-TooLong.ensures.err ∙ c.empty_reply.ensures)
