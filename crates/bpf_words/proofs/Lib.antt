@@ -1,5 +1,6 @@
 pub mod Bytes
 pub mod ContextFits
+pub mod FieldAt
 pub mod Numbers
 pub mod Paired
 pub mod ReadsBack

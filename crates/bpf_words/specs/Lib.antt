@@ -3,6 +3,7 @@ pub mod Slots
 pub mod Reading
 pub mod Words
 pub mod Context
+pub mod ContextField
 pub mod Encoding
 pub mod RoundTrip
 pub mod Table

@@ -16,6 +16,9 @@ pub const TEXT: u64 = 0x4_0000_0000;
 /// The address at which the text of a link begins.
 pub const LINK: u64 = 0x8_0000_0000;
 
+/// How many bytes the stack has.
+pub const STACK_BYTES: usize = 512;
+
 /// How many bytes a text may have.
 pub const TEXT_LIMIT: usize = 131_072;
 

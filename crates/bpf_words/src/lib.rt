@@ -2,6 +2,7 @@
 #![tactic(auto)]
 
 pub mod context;
+pub mod context_field;
 pub mod encoding;
 mod fields;
 pub mod flow;
