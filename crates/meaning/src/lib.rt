@@ -1,8 +1,10 @@
-//! What a program means: the types of its outcome. The meaning itself stands in specs/.
+//! What a program means: the types of its outcome, and the sizes of what it moves. The meaning itself stands in specs/.
 #![tactic(auto)]
 
 ghost use Rattle.meaning.specs.Safe.{Safe};
 ghost use Rattle.meaning.specs.Samples.{returns_one, exit_alone};
+
+pub mod sizes;
 
 /// Why a run stops at an instruction.
 #[derive(Clone, Copy)]
