@@ -1,6 +1,9 @@
-ghost use Rattle.std.specs.Prelude.{◌≡◌, ℕ, ◌≤◌, ◌+◌, List, length};
+ghost use Rattle.std.specs.Prelude.{◌≡◌, ℕ, ◌≤◌, ◌+◌, ◌<◌, ◌^◌, ◌++◌, List, length, take, drop};
+ghost use Rattle.byteorder.specs.Endian.{little_bytes};
 ghost use Rattle.bpf_words.specs.Context.{context_base, frame_end, text_base, text_limit, link_base, link_limit};
+ghost use Rattle.bpf_words.specs.ContextField.{offset_of, bytes_of};
 
+use crate::context_field::ContextField;
 use byteorder::{ByteOrder, LittleEndian};
 use std::marker::Model;
 
@@ -81,6 +84,24 @@ fn link_end(facts: &Facts) -> u64
     LINK + u64::from(facts.link_len)
 }
 
+/// Writes a field of 4 bytes.
+fn put_word(bytes: &mut [u8; 72], field: ContextField, value: u32)
+    requires { bytes_of field ≡ 4 }
+    ensures { bytes.new ≡ take (offset_of field) bytes.old ++ little_bytes 4 value ++ drop (offset_of field + 4) bytes.old }
+{
+    let start = field.offset() as usize;
+    LittleEndian::write_u32(&mut bytes[start..start + 4], value);
+}
+
+/// Writes a field of 8 bytes.
+fn put_double(bytes: &mut [u8; 72], field: ContextField, value: u64)
+    requires { bytes_of field ≡ 8 }
+    ensures { bytes.new ≡ take (offset_of field) bytes.old ++ little_bytes 8 value ++ drop (offset_of field + 8) bytes.old }
+{
+    let start = field.offset() as usize;
+    LittleEndian::write_u64(&mut bytes[start..start + 8], value);
+}
+
 impl Context {
     ghost use Rattle.bpf_words.specs.Context.{context_bytes, span_bytes, Fits};
 
@@ -94,19 +115,19 @@ impl Context {
             → Fits (span_bytes result text link) }
     {
         let mut bytes = [0; 72];
-        LittleEndian::write_u64(&mut bytes[0..8], TEXT);
-        LittleEndian::write_u64(&mut bytes[8..16], text_end(facts));
-        LittleEndian::write_u32(&mut bytes[16..20], facts.text_len);
-        LittleEndian::write_u32(&mut bytes[20..24], facts.characters);
-        LittleEndian::write_u32(&mut bytes[24..28], facts.flags);
-        LittleEndian::write_u32(&mut bytes[28..32], facts.color);
-        LittleEndian::write_u32(&mut bytes[32..36], facts.link_len);
-        LittleEndian::write_u32(&mut bytes[36..40], facts.comments);
-        LittleEndian::write_u32(&mut bytes[40..44], facts.index);
-        LittleEndian::write_u32(&mut bytes[44..48], facts.count);
-        LittleEndian::write_u64(&mut bytes[48..56], facts.version);
-        LittleEndian::write_u64(&mut bytes[56..64], LINK);
-        LittleEndian::write_u64(&mut bytes[64..72], link_end(facts));
+        put_double(&mut bytes, ContextField::Text, TEXT);
+        put_double(&mut bytes, ContextField::End, text_end(facts));
+        put_word(&mut bytes, ContextField::Length, facts.text_len);
+        put_word(&mut bytes, ContextField::Characters, facts.characters);
+        put_word(&mut bytes, ContextField::Flags, facts.flags);
+        put_word(&mut bytes, ContextField::Color, facts.color);
+        put_word(&mut bytes, ContextField::LinkLength, facts.link_len);
+        put_word(&mut bytes, ContextField::Comments, facts.comments);
+        put_word(&mut bytes, ContextField::Index, facts.index);
+        put_word(&mut bytes, ContextField::Count, facts.count);
+        put_double(&mut bytes, ContextField::Version, facts.version);
+        put_double(&mut bytes, ContextField::Link, LINK);
+        put_double(&mut bytes, ContextField::LinkEnd, link_end(facts));
         Context { bytes }
     }
 
