@@ -8,6 +8,7 @@ pub mod Registers
 pub mod Loads
 pub mod Slots
 pub mod Memories
+pub mod Fields
 pub mod Steps
 pub mod Lists
 pub mod Branches

@@ -13,6 +13,7 @@ use crate::quantity::Quantity;
 use crate::refusal::Refusal;
 use crate::region::Region;
 use crate::transfer::transfer;
+use bpf_words::context::STACK_BYTES;
 use bpf_words::instruction::{Arithmetic, Conversion, ConvertedBits, Extension, Width};
 use bpf_words::profile::Profile;
 
@@ -98,7 +99,7 @@ fn from_stack(
     ensures not_unset { IfErr result (λ e. e ≢ Refusal.UnsetRegister) }
 {
     match displaced(operation, width, place.place, by) {
-        Some(place) if place <= 512 => Ok(Known::Stack(StackPlace { place })),
+        Some(place) if place <= STACK_BYTES as u64 => Ok(Known::Stack(StackPlace { place })),
         _ => Err(Refusal::PointerArithmetic),
     }
 }

@@ -13,6 +13,7 @@ ghost use Rattle.abstract_state.specs.Exact.{IsLentIn};
 ghost use Rattle.abstract_state.specs.Frame.{IsStackByte, AreMarked, StoresSlots, SpillsSlot};
 ghost use Rattle.abstract_state.specs.declared.slot.Slot.{Slot};
 ghost use Rattle.abstract_state.specs.declared.state.AbsReg.TheVariants as TheRegs;
+ghost use Rattle.bpf_words.specs.ContextField.{offset_of, size_of};
 ghost use Rattle.bpf_words.specs.Profile.{context_length};
 ghost use Rattle.bpf_words.specs.declared.profile.Profile.TheVariants.{Two};
 ghost use Rattle.abstract_state.specs.State.{Span, lengths_of, IsLong, Contains, LoadsAs, LoadsIn, StoresAs, slot_at};
@@ -25,8 +26,11 @@ use crate::refusal::Refusal;
 use crate::region::Region;
 use crate::stack::{are_set, filled, overwrite, spill};
 use crate::state::AbsState;
+use bpf_words::context::STACK_BYTES;
+use bpf_words::context_field::ContextField;
 use bpf_words::instruction::{SignedSize, Size};
 use bpf_words::profile::Profile;
+use meaning::sizes::{count, count_signed};
 
 /// A place moved by an offset modulo 2^64, where it isn't before the start.
 fn moved(place: u64, offset: u64) -> Option<u64>
@@ -43,31 +47,6 @@ fn moved(place: u64, offset: u64) -> Option<u64>
     Some(sum)
 }
 
-/// How many bytes a load or a store moves.
-pub fn count(size: Size) -> usize
-    ensures value { result ≡ bytes_in size }
-    ensures few { result ≤ 8 }
-{
-    match size {
-        Size::Byte => 1,
-        Size::Half => 2,
-        Size::Word => 4,
-        Size::Double => 8,
-    }
-}
-
-/// How many bytes a sign-extending load moves.
-pub fn count_signed(size: SignedSize) -> usize
-    ensures value { result ≡ bytes_in_signed size }
-    ensures few { result ≤ 8 }
-{
-    match size {
-        SignedSize::SignedByte => 1,
-        SignedSize::SignedHalf => 2,
-        SignedSize::SignedWord => 4,
-    }
-}
-
 /// The numbers that so many bytes make.
 fn loaded(size: Size) -> Quantity
     ensures { (lengths : Lengths) (v : ℕ) → v < 256 ^ bytes_in size → ContainsNumber result lengths v }
@@ -80,66 +59,75 @@ fn loaded(size: Size) -> Quantity
     }
 }
 
-/// Whether four bytes of the context are a field of which nothing more is known.
-fn is_word_field(place: u64) -> bool
-    ensures { IsTrue result ↔ (20 ≤ place) × (place ≤ 44) × (place % 4 ≡ 0) }
-{
-    place >= 20 && place <= 44 && place % 4 == 0
-}
-
 /// What a field of the first 56 bytes of the context holds, where nothing is known of the link.
-fn text_field(place: u64, size: Size) -> Result<Option<Known>, Refusal>
-    ensures within { IfOk result (λ _. place + bytes_in size ≤ 56) }
-    ensures sound { IfOk result (λ o. (span : Span) → WithinKnown o (lengths_of span) (little_number (bytes_in size) (drop place span.bytes.context))) }
-    ensures begin { size ≡ Size.Double → place ≡ 0 → IsOk result × IfOk result (λ o. IfSome o (λ k. IsLentIn Text 0 0 (Some 0) k)) }
-    ensures end { size ≡ Size.Double → place ≡ 8 → IsOk result × IfOk result (λ o. IfSome o (λ k. IsLentIn Text 0 131072 (Some 0) k)) }
-    ensures floor { IsNumberField size place → IsOk result }
-    ensures numbers { IsNumberField size place → IfOk result (λ o. AreNumbers o) }
+fn text_field(field: ContextField) -> Result<Option<Known>, Refusal>
+    ensures within { IfOk result (λ _. offset_of field + bytes_in (size_of field) ≤ 56) }
+    ensures sound { IfOk result (λ o. (span : Span) → WithinKnown o (lengths_of span) (little_number (bytes_in (size_of field)) (drop (offset_of field) span.bytes.context))) }
+    ensures begin { offset_of field ≡ 0 → IsOk result × IfOk result (λ o. IfSome o (λ k. IsLentIn Text 0 0 (Some 0) k)) }
+    ensures end { offset_of field ≡ 8 → IsOk result × IfOk result (λ o. IfSome o (λ k. IsLentIn Text 0 131072 (Some 0) k)) }
+    ensures floor { IsNumberField (size_of field) (offset_of field) → IsOk result }
+    ensures numbers { IsNumberField (size_of field) (offset_of field) → IfOk result (λ o. AreNumbers o) }
     ensures not_unset { IfErr result (λ e. e ≢ Refusal.UnsetRegister) }
 {
-    match size {
-        Size::Double if place == 0 => Ok(Some(Known::Lent(LentPlace {
+    match field {
+        ContextField::Text => Ok(Some(Known::Lent(LentPlace {
             region: Region::Text,
             offset: Quantity::begin(Region::Text),
         }))),
-        Size::Double if place == 8 => lent(
-            Region::Text,
-            Quantity::up_to_end(Region::Text, u64::MAX),
-        ),
-        Size::Double if place == 48 => Ok(Some(Known::Number(loaded(size)))),
-        Size::Word if place == 16 => Ok(number(Quantity::up_to_end(Region::Text, 0xffff_ffff))),
-        Size::Word if is_word_field(place) => Ok(Some(Known::Number(loaded(size)))),
-        _ => Err(Refusal::ContextField),
+        ContextField::End => lent(Region::Text, Quantity::up_to_end(Region::Text, u64::MAX)),
+        ContextField::Length => Ok(number(Quantity::up_to_end(Region::Text, 0xffff_ffff))),
+        ContextField::Link | ContextField::LinkEnd => Err(Refusal::ContextField),
+        ContextField::Characters
+        | ContextField::Flags
+        | ContextField::Color
+        | ContextField::LinkLength
+        | ContextField::Comments
+        | ContextField::Index
+        | ContextField::Count
+        | ContextField::Version => Ok(Some(Known::Number(loaded(field.size())))),
     }
 }
 
 /// What a field of the whole context holds.
-fn link_field(place: u64, size: Size) -> Result<Option<Known>, Refusal>
-    ensures within { IfOk result (λ _. place + bytes_in size ≤ 72) }
-    ensures sound { IfOk result (λ o. (span : Span) → span.profile ≡ Two → WithinKnown o (lengths_of span) (little_number (bytes_in size) (drop place span.bytes.context))) }
-    ensures begin { size ≡ Size.Double → place ≡ 0 → IsOk result × IfOk result (λ o. IfSome o (λ k. IsLentIn Text 0 0 (Some 0) k)) }
-    ensures end { size ≡ Size.Double → place ≡ 8 → IsOk result × IfOk result (λ o. IfSome o (λ k. IsLentIn Text 0 131072 (Some 0) k)) }
-    ensures link_begin { size ≡ Size.Double → place ≡ 56 → IsOk result × IfOk result (λ o. IfSome o (λ k. IsLentIn Link 0 0 (Some 0) k)) }
-    ensures link_end { size ≡ Size.Double → place ≡ 64 → IsOk result × IfOk result (λ o. IfSome o (λ k. IsLentIn Link 0 1024 (Some 0) k)) }
-    ensures floor { IsNumberField size place → IsOk result }
-    ensures numbers { IsNumberField size place → IfOk result (λ o. AreNumbers o) }
+fn link_field(field: ContextField) -> Result<Option<Known>, Refusal>
+    ensures within { IfOk result (λ _. offset_of field + bytes_in (size_of field) ≤ 72) }
+    ensures sound { IfOk result (λ o. (span : Span) → span.profile ≡ Two → WithinKnown o (lengths_of span) (little_number (bytes_in (size_of field)) (drop (offset_of field) span.bytes.context))) }
+    ensures begin { offset_of field ≡ 0 → IsOk result × IfOk result (λ o. IfSome o (λ k. IsLentIn Text 0 0 (Some 0) k)) }
+    ensures end { offset_of field ≡ 8 → IsOk result × IfOk result (λ o. IfSome o (λ k. IsLentIn Text 0 131072 (Some 0) k)) }
+    ensures link_begin { offset_of field ≡ 56 → IsOk result × IfOk result (λ o. IfSome o (λ k. IsLentIn Link 0 0 (Some 0) k)) }
+    ensures link_end { offset_of field ≡ 64 → IsOk result × IfOk result (λ o. IfSome o (λ k. IsLentIn Link 0 1024 (Some 0) k)) }
+    ensures floor { IsNumberField (size_of field) (offset_of field) → IsOk result }
+    ensures numbers { IsNumberField (size_of field) (offset_of field) → IfOk result (λ o. AreNumbers o) }
     ensures not_unset { IfErr result (λ e. e ≢ Refusal.UnsetRegister) }
 {
-    match size {
-        Size::Double if place == 56 => Ok(Some(Known::Lent(LentPlace {
+    match field {
+        ContextField::Link => Ok(Some(Known::Lent(LentPlace {
             region: Region::Link,
             offset: Quantity::begin(Region::Link),
         }))),
-        Size::Double if place == 64 => lent(
-            Region::Link,
-            Quantity::up_to_end(Region::Link, u64::MAX),
-        ),
-        Size::Word if place == 32 => Ok(number(Quantity::up_to_end(Region::Link, 0xffff_ffff))),
-        _ => text_field(place, size),
+        ContextField::LinkEnd => lent(Region::Link, Quantity::up_to_end(Region::Link, u64::MAX)),
+        ContextField::LinkLength => Ok(number(Quantity::up_to_end(Region::Link, 0xffff_ffff))),
+        _ => text_field(field),
     }
 }
 
-/// What a field of the context holds that a program of the profile may read.
+/// What a field holds that a program of the profile may read.
+fn lent_field(profile: Profile, field: ContextField) -> Result<Option<Known>, Refusal>
+    ensures within { IfOk result (λ _. offset_of field + bytes_in (size_of field) ≤ context_length profile) }
+    ensures sound { IfOk result (λ o. (span : Span) → span.profile ≡ profile → WithinKnown o (lengths_of span) (little_number (bytes_in (size_of field)) (drop (offset_of field) span.bytes.context))) }
+    ensures begin { (at : TheRegion) → Lends at profile → offset_of field ≡ begin_field at → IsOk result × IfOk result (λ o. IfSome o (λ k. IsLentIn at 0 0 (Some 0) k)) }
+    ensures end { (at : TheRegion) → Lends at profile → offset_of field ≡ end_field at → IsOk result × IfOk result (λ o. IfSome o (λ k. IsLentIn at 0 (limit_of at) (Some 0) k)) }
+    ensures floor { IsNumberField (size_of field) (offset_of field) → IsOk result }
+    ensures numbers { IsNumberField (size_of field) (offset_of field) → IfOk result (λ o. AreNumbers o) }
+    ensures not_unset { IfErr result (λ e. e ≢ Refusal.UnsetRegister) }
+{
+    match profile {
+        Profile::One => text_field(field),
+        Profile::Two => link_field(field),
+    }
+}
+
+/// What so many bytes of the context hold, where they are a field that a program of the profile may read.
 fn field(profile: Profile, place: u64, size: Size) -> Result<Option<Known>, Refusal>
     ensures within { IfOk result (λ _. place + bytes_in size ≤ context_length profile) }
     ensures sound { IfOk result (λ o. (span : Span) → span.profile ≡ profile → WithinKnown o (lengths_of span) (little_number (bytes_in size) (drop place span.bytes.context))) }
@@ -149,9 +137,9 @@ fn field(profile: Profile, place: u64, size: Size) -> Result<Option<Known>, Refu
     ensures numbers { IsNumberField size place → IfOk result (λ o. AreNumbers o) }
     ensures not_unset { IfErr result (λ e. e ≢ Refusal.UnsetRegister) }
 {
-    match profile {
-        Profile::One => text_field(place, size),
-        Profile::Two => link_field(place, size),
+    match ContextField::at(place, size) {
+        Some(field) => lent_field(profile, field),
+        None => Err(Refusal::ContextField),
     }
 }
 
@@ -189,7 +177,7 @@ fn place_on_stack(place: StackPlace, offset: u64, count: usize) -> Result<usize,
     let Some(p) = moved(place.place, offset) else {
         return Err(Refusal::StackBounds);
     };
-    if p + count as u64 > 512 {
+    if p + count as u64 > STACK_BYTES as u64 {
         return Err(Refusal::StackBounds);
     }
     Ok(p as usize)

@@ -22,6 +22,7 @@ use crate::refusal::Refusal;
 use crate::region::Region;
 use crate::slot::Slot;
 use crate::step::Flow;
+use bpf_words::context::STACK_BYTES;
 use bpf_words::instruction::Operand;
 use bpf_words::register::Register;
 
@@ -170,7 +171,9 @@ fn first_registers() -> [AbsReg; 11]
 {
     let mut registers = [AbsReg::Unset; 11];
     registers[1] = AbsReg::Set(Known::Context(ContextPlace { place: 0 }));
-    registers[10] = AbsReg::Set(Known::Stack(StackPlace { place: 512 }));
+    registers[10] = AbsReg::Set(Known::Stack(StackPlace {
+        place: STACK_BYTES as u64,
+    }));
     registers
 }
 

@@ -3,33 +3,20 @@ ghost use Rattle.std.specs.Prelude.{◌≡◌, length};
 ghost use Rattle.bpf_words.specs.Words.{program_of};
 
 use abstract_state::known::Known;
-use abstract_state::memory::{count, count_signed};
 use abstract_state::place::{ContextPlace, LentPlace};
 use abstract_state::region::Region;
 use abstract_state::state::{AbsReg, AbsState};
 use bpf_words::context::{LINK_LIMIT, TEXT_LIMIT};
+use bpf_words::context_field::ContextField;
 use bpf_words::instruction::Insn;
 use bpf_words::profile::Profile;
 use bpf_words::register::Register;
 use bpf_words::words::Words;
+use meaning::sizes::{count, count_signed};
 use std::alloc::AllocError;
 
-/// The fields of the context, by rising offset: the first byte of each, how many it has, and its name.
-static FIELDS: [(u64, u64, &str); 13] = [
-    (0, 8, "text"),
-    (8, 8, "end"),
-    (16, 4, "len"),
-    (20, 4, "characters"),
-    (24, 4, "flags"),
-    (28, 4, "color"),
-    (32, 4, "link_len"),
-    (36, 4, "comments"),
-    (40, 4, "index"),
-    (44, 4, "count"),
-    (48, 8, "version"),
-    (56, 8, "link"),
-    (64, 8, "link_end"),
-];
+/// How many fields the context has.
+const FIELDS: usize = ContextField::ALL.len();
 
 /// Where a load reads: so many bytes, at an offset from the address in a register.
 #[derive(Clone, Copy)]
@@ -42,7 +29,8 @@ struct Load {
 /// What loads can read of the span.
 #[derive(Drop)]
 struct Reads {
-    fields: [bool; 13],
+    /// Which of `ContextField::ALL`.
+    fields: [bool; FIELDS],
     /// How many bytes of the text there are up to the last one that can be read.
     text: u64,
     /// The same of the link's text.
@@ -76,7 +64,7 @@ fn load_of(insn: &Insn) -> Option<Load> {
 impl Reads {
     /// Adds all that a span has.
     fn add_all(&mut self) {
-        self.fields = [true; 13];
+        self.fields = [true; FIELDS];
         self.text = TEXT_LIMIT as u64;
         self.link = LINK_LIMIT as u64;
     }
@@ -86,14 +74,15 @@ impl Reads {
         let place = base.place.wrapping_add_signed(load.offset);
         let end = place.saturating_add(load.bytes);
         let mut some = false;
-        for (index, (first, bytes, _)) in FIELDS.iter().enumerate() {
-            if *first < end && place < first.saturating_add(*bytes) {
-                self.fields[index] = true;
+        for (read, field) in self.fields.iter_mut().zip(ContextField::ALL) {
+            let first = field.offset();
+            if first < end && place < first + count(field.size()) as u64 {
+                *read = true;
                 some = true;
             }
         }
         if !some {
-            self.fields = [true; 13];
+            self.fields = [true; FIELDS];
         }
     }
 
@@ -124,7 +113,7 @@ impl Reads {
         requires { length states.now ≡ length (program_of words.now) }
     {
         let mut reads = Reads {
-            fields: [false; 13],
+            fields: [false; FIELDS],
             text: 0,
             link: 0,
         };
@@ -141,15 +130,15 @@ impl Reads {
 }
 
 /// Appends the names of the fields.
-fn push_fields(text: &mut String, fields: &[bool; 13]) -> Result<(), AllocError> {
+fn push_fields(text: &mut String, fields: &[bool; FIELDS]) -> Result<(), AllocError> {
     text.push_str("context: ")?;
     let mut some = false;
-    for (read, (_, _, name)) in fields.iter().zip(&FIELDS) {
+    for (read, field) in fields.iter().zip(ContextField::ALL) {
         if *read {
             if some {
                 text.push_str(", ")?;
             }
-            text.push_str(name)?;
+            text.push_str(field.name())?;
             some = true;
         }
     }

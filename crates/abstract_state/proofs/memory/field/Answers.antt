@@ -1,42 +1,29 @@
-use Rattle.std.proofs.Common.{◌≡◌, Some, subst, ◌∙◌}
-use Rattle.std.specs.Result.{IsOk, IfOk}
-use Rattle.std.specs.Option.{IfSome}
+use Rattle.std.proofs.Common.{ℕ, sym, subst, ◌∙◌}
+use Rattle.std.proofs.lemmas.Option.{none-some}
 use Rattle.std.proofs.lemmas.Result.{IfOk-weaker}
-use Rattle.bpf_words.specs.declared.profile.Profile.{Profile}
-use Rattle.bpf_words.specs.declared.instruction.Size.TheVariants.{Double}
-use Rattle.abstract_state.specs.declared.region.Region.{Region}
-use Rattle.abstract_state.specs.declared.region.Region.TheVariants.{Link}
-use Rattle.abstract_state.specs.Lent.{Lends, begin_field, end_field, limit_of}
-use Rattle.abstract_state.specs.Exact.{IsLentIn}
-use Rattle.abstract_state.proofs.Regions.{each}
+use Rattle.bpf_words.specs.ContextField.{offset_of, size_of}
+use Rattle.abstract_state.specs.Known.{WithinKnown}
+use Rattle.abstract_state.specs.State.{lengths_of}
+use Rattle.abstract_state.proofs.Memories.{read_as}
+use Rattle.abstract_state.proofs.Fields.{begin_is_field, end_is_field, number_is_field}
 use Rattle.abstract_state.proofs.memory.field.Goals as goal
 
-pub returns-in-One-clause-sound : goal.returns-in-One-clause-sound
-returns-in-One-clause-sound c = IfOk-weaker c.text_field.result _ _ (λ o h span same. h span) c.text_field.ensures.sound
+pub returns-in-Some-clause-sound : goal.returns-in-Some-clause-sound
+returns-in-Some-clause-sound c = IfOk-weaker c.lent_field.result _ _
+    (λ o h span same.
+    subst (λ (n : ℕ). WithinKnown o (lengths_of span) n)
+    (read_as (size_of c.in-Some.field) c.args.size (offset_of c.in-Some.field) c.args.place span.bytes.context c.in-Some.ensures.begins.1 c.in-Some.ensures.begins.0)
+    (h span same))
+    c.lent_field.ensures.sound
 
-pub returns-in-Two-clause-sound : goal.returns-in-Two-clause-sound
-returns-in-Two-clause-sound c = IfOk-weaker c.link_field.result _ _ (λ o h span same. h span (same ∙ c.in-Two.is)) c.link_field.ensures.sound
+pub returns-in-None-clause-begin : goal.returns-in-None-clause-begin
+returns-in-None-clause-begin c = λ at lends size place.
+    let some = begin_is_field at in absurd (none-some some.0 (c.in-None.ensures.found some.0 (some.1 ∙ sym place) (some.2 ∙ sym size)))
 
-pub returns-in-One-clause-begin : goal.returns-in-One-clause-begin
-returns-in-One-clause-begin c = each
-    (λ (r : Region). Lends r c.args.profile → c.args.size ≡ Double → c.args.place ≡ begin_field r → IsOk c.text_field.result × IfOk c.text_field.result (λ o. IfSome o (λ k. IsLentIn r 0 0 (Some 0) k)))
-    (λ lends size at. c.text_field.ensures.begin size at)
-    (λ lends size at. absurd (subst (λ (profile : Profile). Lends Link profile) c.in-One.is lends))
+pub returns-in-None-clause-end : goal.returns-in-None-clause-end
+returns-in-None-clause-end c = λ at lends size place.
+    let some = end_is_field at in absurd (none-some some.0 (c.in-None.ensures.found some.0 (some.1 ∙ sym place) (some.2 ∙ sym size)))
 
-pub returns-in-One-clause-end : goal.returns-in-One-clause-end
-returns-in-One-clause-end c = each
-    (λ (r : Region). Lends r c.args.profile → c.args.size ≡ Double → c.args.place ≡ end_field r → IsOk c.text_field.result × IfOk c.text_field.result (λ o. IfSome o (λ k. IsLentIn r 0 (limit_of r) (Some 0) k)))
-    (λ lends size at. c.text_field.ensures.end size at)
-    (λ lends size at. absurd (subst (λ (profile : Profile). Lends Link profile) c.in-One.is lends))
-
-pub returns-in-Two-clause-begin : goal.returns-in-Two-clause-begin
-returns-in-Two-clause-begin c = each
-    (λ (r : Region). Lends r c.args.profile → c.args.size ≡ Double → c.args.place ≡ begin_field r → IsOk c.link_field.result × IfOk c.link_field.result (λ o. IfSome o (λ k. IsLentIn r 0 0 (Some 0) k)))
-    (λ lends size at. c.link_field.ensures.begin size at)
-    (λ lends size at. c.link_field.ensures.link_begin size at)
-
-pub returns-in-Two-clause-end : goal.returns-in-Two-clause-end
-returns-in-Two-clause-end c = each
-    (λ (r : Region). Lends r c.args.profile → c.args.size ≡ Double → c.args.place ≡ end_field r → IsOk c.link_field.result × IfOk c.link_field.result (λ o. IfSome o (λ k. IsLentIn r 0 (limit_of r) (Some 0) k)))
-    (λ lends size at. c.link_field.ensures.end size at)
-    (λ lends size at. c.link_field.ensures.link_end size at)
+pub returns-in-None-clause-floor : goal.returns-in-None-clause-floor
+returns-in-None-clause-floor c = λ number.
+    let some = number_is_field c.args.size c.args.place number in absurd (none-some some.0 (c.in-None.ensures.found some.0 some.1 some.2))
