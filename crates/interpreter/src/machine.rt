@@ -16,9 +16,9 @@ use bpf_words::instruction::{
 use bpf_words::register::Register;
 use bpf_words::words::Words;
 use meaning::FaultKind;
+use meaning::sizes::size_read;
 use std::marker::Model;
 use word_values::arithmetic::{convert, extend, holds, negate, sign, value};
-use word_values::bytes::size_read;
 
 /// The machine between two steps.
 #[derive(Drop)]

@@ -4,11 +4,12 @@ ghost use Rattle.bpf_words.specs.Context.{span_bytes};
 ghost use Rattle.interpreter.specs.Running.{Regions};
 ghost use Rattle.meaning.specs.Memory.{load as load_of, store as store_of, bytes_in, lies_in, stack_number, stored};
 
-use bpf_words::context::{CONTEXT, LINK, TEXT};
+use bpf_words::context::{CONTEXT, LINK, STACK_BYTES, TEXT};
 use bpf_words::instruction::Size;
 use meaning::FaultKind;
+use meaning::sizes::count;
 use std::marker::Model;
-use word_values::bytes::{STACK, count, number};
+use word_values::bytes::{STACK, number};
 
 pub fn is_in(base: u64, long: usize, address: u64, count: usize) -> bool
     requires few { base + long < 2 ^ 63 }
@@ -20,7 +21,7 @@ pub fn is_in(base: u64, long: usize, address: u64, count: usize) -> bool
 }
 
 #[tactic(auto, using(crate::proofs::Joined::joins))]
-fn number_on_stack(stack: &[Option<u8>; 512], place: usize, count: usize) -> Option<u64>
+fn number_on_stack(stack: &[Option<u8>; STACK_BYTES], place: usize, count: usize) -> Option<u64>
     requires short { count ≤ 8 }
     requires within { place + count ≤ 512 }
     ensures value { result ≡ stack_number stack.now place count }
@@ -54,7 +55,7 @@ fn set_bytes(value: u64) -> [Option<u8>; 8]
 }
 
 /// Writes as many of a number's low bytes as the size says, the lowest first.
-fn store_on_stack(stack: &mut [Option<u8>; 512], place: usize, size: Size, value: u64)
+fn store_on_stack(stack: &mut [Option<u8>; STACK_BYTES], place: usize, size: Size, value: u64)
     requires { place + bytes_in size ≤ 512 }
     ensures { stack.new ≡ stored stack.old place (bytes_in size) value }
 {
@@ -69,7 +70,7 @@ pub struct Memory<'a> {
     context: &'a [u8],
     text: &'a [u8],
     link: &'a [u8],
-    stack: [Option<u8>; 512],
+    stack: [Option<u8>; STACK_BYTES],
 }
 
 impl<'a> Model for Memory<'a> {
@@ -93,7 +94,7 @@ impl<'a> Memory<'a> {
             context,
             text,
             link,
-            stack: [None; 512],
+            stack: [None; STACK_BYTES],
         }
     }
 
@@ -109,7 +110,7 @@ impl<'a> Memory<'a> {
             Ok(number(self.text, (address - TEXT) as usize, size))
         } else if is_in(LINK, self.link.len(), address, count) {
             Ok(number(self.link, (address - LINK) as usize, size))
-        } else if is_in(STACK, 512, address, count) {
+        } else if is_in(STACK, STACK_BYTES, address, count) {
             number_on_stack(&self.stack, (address - STACK) as usize, count).ok_or(
                 FaultKind::UnsetStack,
             )
@@ -125,7 +126,7 @@ impl<'a> Memory<'a> {
         ensures bytes { self.new.bytes ≡ self.old.bytes }
     {
         let count = count(size);
-        if is_in(STACK, 512, address, count) {
+        if is_in(STACK, STACK_BYTES, address, count) {
             store_on_stack(&mut self.stack, (address - STACK) as usize, size, value);
             Ok(())
         } else if is_in(CONTEXT, self.context.len(), address, count)

@@ -1,36 +1,13 @@
 ghost use Rattle.std.specs.Prelude.{◌≡◌, ℕ, ◌+◌, ◌<◌, ◌≤◌, ◌^◌, ◌++◌, length, take, drop};
 ghost use Rattle.byteorder.specs.Endian.{little_bytes, little_number};
-ghost use Rattle.meaning.specs.Memory.{bytes_in, bytes_in_signed};
+ghost use Rattle.meaning.specs.Memory.{bytes_in};
 
-use bpf_words::context::FRAME;
-use bpf_words::instruction::{SignedSize, Size};
+use bpf_words::context::{FRAME, STACK_BYTES};
+use bpf_words::instruction::Size;
 use byteorder::{ByteOrder, LittleEndian};
 
 /// The address at which the stack begins.
-pub const STACK: u64 = FRAME - 512;
-
-/// How many bytes a size is.
-pub fn count(size: Size) -> usize
-    ensures { result ≡ bytes_in size }
-{
-    match size {
-        Size::Byte => 1,
-        Size::Half => 2,
-        Size::Word => 4,
-        Size::Double => 8,
-    }
-}
-
-/// How much a sign-extending load reads.
-pub fn size_read(size: SignedSize) -> Size
-    ensures { bytes_in result ≡ bytes_in_signed size }
-{
-    match size {
-        SignedSize::SignedByte => Size::Byte,
-        SignedSize::SignedHalf => Size::Half,
-        SignedSize::SignedWord => Size::Word,
-    }
-}
+pub const STACK: u64 = FRAME - STACK_BYTES as u64;
 
 /// The number in the bytes at a place, the lowest first.
 pub fn number(bytes: &[u8], place: usize, size: Size) -> u64
@@ -47,7 +24,7 @@ pub fn number(bytes: &[u8], place: usize, size: Size) -> u64
 }
 
 /// Writes as many of a number's low bytes as the size says, the lowest first.
-pub fn put_number(bytes: &mut [u8; 512], place: usize, size: Size, value: u64)
+pub fn put_number(bytes: &mut [u8; STACK_BYTES], place: usize, size: Size, value: u64)
     requires { place + bytes_in size ≤ 512 }
     ensures { bytes.new ≡ take place bytes.old ++ little_bytes (bytes_in size) value ++ drop (place + bytes_in size) bytes.old }
 {
