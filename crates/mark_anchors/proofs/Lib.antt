@@ -18,6 +18,7 @@ pub mod FormatLaws
 pub mod Painting
 pub mod Stretching
 pub mod Running
+pub mod Lengthening
 pub mod Passing
 pub mod Counting
 pub mod Borne

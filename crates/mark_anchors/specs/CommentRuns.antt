@@ -21,6 +21,10 @@ abbrev pub numbers_at : List CommentRun → ℕ → List ℕ
 numbers_at [] place = []
 numbers_at (run ∷ runs) place = cond (has_place run place) (run.number ∷ numbers_at runs place) (numbers_at runs place)
 
+-- one of the runs is of the number and has the place
+abbrev pub HasRun : List CommentRun → ℕ → ℕ → Type 0
+HasRun runs n place = (run : CommentRun) × Contains runs run × (run.number ≡ n) × HasPlace run place
+
 -- the run is of the comment's number, from the one place to the other
 pub record IsRun (n from to : ℕ) (run : CommentRun) : Type 0 where
   pub number : run.number ≡ n
@@ -48,7 +52,7 @@ AreHeld es operations runs =
 -- each place at which the comment holds is in a run of its number
 abbrev pub IsCovered : List Element → List Op → List CommentRun → ℕ → Type 0
 IsCovered es operations runs n =
-    (ops : List Op) (place : ℕ) (e : OpId) → Shows es ops → AreMarks ops operations → IsAt es e place → Bears ops e (Comment n) → (run : CommentRun) × Contains runs run × (run.number ≡ n) × HasPlace run place
+    (ops : List Op) (place : ℕ) (e : OpId) → Shows es ops → AreMarks ops operations → IsAt es e place → Bears ops e (Comment n) → HasRun runs n place
 
 -- the runs have the places at which comments hold, and no other
 pub record AreHolding (es : List Element) (operations : List Op) (runs : List CommentRun) : Type 0 where

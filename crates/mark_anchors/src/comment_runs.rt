@@ -1,5 +1,5 @@
 //! The places at which comments hold, as runs of places side by side.
-ghost use Rattle.std.specs.Prelude.{◌≡◌, ◌<◌, ◌≤◌, ◌↔◌, ℕ, List, Some, Contains, IfOk, IfSome, IsSome, length, slice_get};
+ghost use Rattle.std.specs.Prelude.{◌≡◌, ◌<◌, ◌≤◌, ◌^◌, ◌⊎◌, ◌↔◌, ℕ, List, Some, Contains, IfOk, IfSome, IsSome, length, slice_get};
 ghost use Rattle.change_ops.specs.declared.attribute.Attribute.{Attribute};
 ghost use Rattle.change_ops.specs.declared.attribute.Key.{Key};
 ghost use Rattle.char_sequence.specs.declared.sequence.Element.{Element};
@@ -9,7 +9,7 @@ ghost use Rattle.mark_anchors.specs.Marks.{AreMarks};
 ghost use Rattle.mark_anchors.specs.KeyMarks.{AreStill};
 ghost use Rattle.mark_anchors.specs.Placed.{ArePlaced};
 ghost use Rattle.mark_anchors.specs.Commented.{AreCommented};
-ghost use Rattle.mark_anchors.specs.CommentRuns.{has_place, IsRun, AreOrderly, AreHeld, IsCovered, AreHolding};
+ghost use Rattle.mark_anchors.specs.CommentRuns.{HasPlace, has_place, HasRun, IsRun, Precedes, AreOrderly, AreHeld, IsCovered, AreHolding};
 ghost use Rattle.mark_anchors.specs.declared.comment_runs.CommentRun.{CommentRun};
 ghost use Rattle.mark_anchors.specs.declared.placed.PlacedMark.{PlacedMark};
 
@@ -57,6 +57,29 @@ fn run_between(
     Some(CommentRun { number, from, to })
 }
 
+/// Adds the run, or lengthens the last one where that is of the same comment and ends where the run begins.
+fn push_run(runs: &mut Vec<CommentRun>, run: CommentRun) -> Result<(), AllocError>
+    requires orderly { AreOrderly runs.old.items }
+    requires behind { (other : CommentRun) → Contains runs.old.items other → Precedes other run }
+    requires along { run.from ≤ run.to }
+    requires some { 1 ≤ run.number }
+    requires short { run.number < 2 ^ 32 }
+    ensures orderly { IfOk result (λ _. AreOrderly runs.new.items) }
+    ensures places { IfOk result (λ _. (n place : ℕ) → HasRun runs.new.items n place ↔ (HasRun runs.old.items n place ⊎ ((run.number ≡ n) × HasPlace run place))) }
+    ensures ends { IfOk result (λ _. (other : CommentRun) → Contains runs.new.items other → Contains runs.old.items other ⊎ ((other.number ≡ run.number) × (other.to ≡ run.to))) }
+{
+    let count = runs.len();
+    if count > 0 {
+        let last = runs[count - 1];
+        if last.number == run.number && last.to == run.from {
+            runs[count - 1].to = run.to;
+            return Ok(());
+        }
+    }
+    runs.push(run)?;
+    Ok(())
+}
+
 /// Adds the runs of the comment.
 fn push_runs(
     runs: &mut Vec<CommentRun>,
@@ -68,7 +91,7 @@ fn push_runs(
     requires below { (run : CommentRun) → Contains runs.old.items run → run.number < comment.now.number }
     ensures orderly { IfOk result (λ _. AreOrderly runs.new.items) }
     ensures up_to { IfOk result (λ _. (run : CommentRun) → Contains runs.new.items run → run.number ≤ comment.now.number) }
-    ensures kept { IfOk result (λ _. (run : CommentRun) → Contains runs.old.items run → Contains runs.new.items run) }
+    ensures kept { IfOk result (λ _. (n place : ℕ) → HasRun runs.old.items n place → HasRun runs.new.items n place) }
     ensures held { IfOk result (λ _. (es : List Element) → ArePlaced es operations.now (Key.Comment comment.now.number) comment.now.marks → AreHeld es operations.now runs.old.items → AreHeld es operations.now runs.new.items) }
     ensures covered { IfOk result (λ _. (es : List Element) → ArePlaced es operations.now (Key.Comment comment.now.number) comment.now.marks → IsCovered es operations.now runs.new.items comment.now.number) }
 {
@@ -76,7 +99,7 @@ fn push_runs(
     let gaps = places.len().saturating_sub(1);
     for index in 0..gaps {
         if let Some(run) = run_between(operations, comment, places[index], places[index + 1]) {
-            runs.push(run)?;
+            push_run(runs, run)?;
         }
     }
     Ok(())

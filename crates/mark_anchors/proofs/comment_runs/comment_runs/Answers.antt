@@ -52,8 +52,7 @@ loop-comment-preserved c =
           ⊎_elim
           (λ (old : j < k).
           λ ops place e h are at bears.
-          let r = inv.covered es j other commented old g ops place e h are at bears in
-          (r.0, pushed.kept r.0 r.1, r.2, r.3))
+          pushed.kept other.number place (inv.covered es j other commented old g ops place e h are at bears))
           (λ (last : (j ≡ k) × (comment ≡ other)). subst (λ (z : CommentMarks). IsCovered es operations new z.number) last.1 (pushed.covered es (commented.each k comment read)))
           (first_or_last comments k j comment other less read g);
     }
