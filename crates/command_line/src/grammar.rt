@@ -152,7 +152,11 @@ fn run<'a>(alloc: Global) -> Result<Command<'a>, AllocError> {
             "Runs a program on one span. Standard input is the span's text, to the last byte:
 UTF-8, at most 131,072 bytes; a line feed at the end belongs to it. Printed is
 `verdict <number>`, `fault <slot> F<k> <Name>` or `out of steps`. All numbers are
-decimal.",
+decimal.
+
+With --trace lines for each step stand before that: its slot and instruction, then
+the register or the bytes of the stack that it wrote, and the number that they hold
+(docs/PROGRAMS.md). The last step is the one that ends the run.",
         )
         .after_help(AFTER_RUN)
         .arg(program)?;
@@ -186,7 +190,11 @@ decimal.",
         .value_parser(value_parser!(u64).range(0..))
         .default_value("0")
         .help("The version's number, of 64 bits; the numbers above have 32");
-    run.arg(link)?.arg(link_text)?.arg(version)
+    let trace = Arg::new(alloc, "trace")
+        .long("trace")
+        .action(ArgAction::SetTrue)
+        .help("Also prints each step first, and what it wrote (docs/PROGRAMS.md)");
+    run.arg(link)?.arg(link_text)?.arg(version)?.arg(trace)
 }
 
 fn asm<'a>(alloc: Global) -> Command<'a> {

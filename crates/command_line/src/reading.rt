@@ -3,7 +3,7 @@ use bpf_words::profile::Profile;
 use change_ops::attribute::Link;
 use clap::error::ErrorKind;
 use clap::{ArgMatches, Error};
-use hub_requests::{Command, Detail, Request, Sessions, SpanOptions, Workers};
+use hub_requests::{Command, Detail, Request, Sessions, Shown, SpanOptions, Workers};
 use std::alloc::{AllocError, Global};
 use std::convert::AsStr;
 
@@ -97,6 +97,15 @@ fn detail(matches: &ArgMatches<'_>) -> Detail {
     }
 }
 
+/// How much is said of the program that is run.
+fn shown(matches: &ArgMatches<'_>) -> Shown {
+    if matches.get_flag("trace") {
+        Shown::Steps
+    } else {
+        Shown::Outcome
+    }
+}
+
 /// The number of workers, which is one where none is given.
 fn workers(matches: &ArgMatches<'_>) -> Workers {
     let count = matches.get_one::<u32>("workers").unwrap_or(1);
@@ -126,6 +135,7 @@ fn request_of(alloc: Global, matches: &ArgMatches<'_>) -> Result<Request, Unread
             reads: replay.get_flag("read"),
         }),
         Some(("run", run)) => Some(Request::Perform(Command::Run {
+            shown: shown(run),
             digits: String::from_str(alloc, run.get_str("HEX").unwrap_or(""))?,
             options: span_options(alloc, run)?,
         })),

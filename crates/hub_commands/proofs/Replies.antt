@@ -23,10 +23,10 @@ use Rattle.assembler.specs.declared.fault.AsmError.{AsmError}
 use Rattle.assembler.specs.Text.{AsmText, AsmFault}
 use Rattle.hub_requests.specs.declared.SpanOptions.{SpanOptions}
 use Rattle.refusals.specs.declared.reason.Reason.TheVariants.{BadHex, Words, Source}
-use Rattle.hub_commands.specs.Answers.{Reply, done}
+use Rattle.hub_commands.specs.Answers.{Reply, done, behind}
 use Rattle.hub_commands.specs.Hexadecimal.{slot_lines}
 use Rattle.hub_commands.specs.Reasons.{refusal}
-use Rattle.hub_commands.specs.Programs.{IsAsmReply, no_source, assembled, IsProgramReply, no_hex, no_program, program, facts_of, link_of, bytes_of, outcome_reply, IsSpanReply, no_text, ran}
+use Rattle.hub_commands.specs.Programs.{IsAsmReply, no_source, assembled, IsProgramReply, no_hex, no_program, program, facts_of, link_of, bytes_of, outcome_reply, IsSpanReply, no_text, ran, IsTracedReply, not_run, traced}
 
 -- what holds of an answer, by what it was said to be
 pub mapped : {A E : Type 0} (P Q : A → Type 0) (result : Result A E) → IfOk result P → ((x : A) → P x → Q x) → IfOk result Q
@@ -77,17 +77,33 @@ pub judged : (profile : Profile) (code : Program) (given : Result Program Verify
 judged profile code (Ok same) left e is seen structured rejects = subst (IsJudged profile code) (sym e) (structured, subst (SafeIn profile) is seen)
 judged profile code (Err error) left e is seen structured rejects = subst (IsJudged profile code) (sym e) rejects
 
+-- the outcome of a run on what was made of the options and the text
+run_as_defined : (options : SpanOptions) (bytes input text lent link context : List ℕ) (facts : Facts) (given : Outcome) → text ≡ input → facts ≡ facts_of options text
+    → context ≡ context_bytes facts → lent ≡ text → link ≡ link_of options → given ≡ outcome (program_of bytes) (span_bytes context lent link)
+    → given ≡ outcome (program_of bytes) (bytes_of options input)
+run_as_defined options bytes input text lent link context facts given same told made lends linked is =
+    let by_context = ap (λ (c : List ℕ). outcome (program_of bytes) (span_bytes c lent link)) (made ∙ ap context_bytes told) in
+    let by_text = ap (λ (t : List ℕ). outcome (program_of bytes) (span_bytes (context_bytes (facts_of options text)) t link)) lends in
+    let by_link = ap (λ (l : List ℕ). outcome (program_of bytes) (span_bytes (context_bytes (facts_of options text)) text l)) linked in
+    let by_input = ap (λ (t : List ℕ). outcome (program_of bytes) (bytes_of options t)) same in
+    is ∙ by_context ∙ by_text ∙ by_link ∙ by_input
+
 pub span_ran : {E : Type 0} (options : SpanOptions) (bytes input text lent link context : List ℕ) (facts : Facts) (given : Outcome) (result : Result Reply E)
     → text ≡ input → IsUtf8 input → length text ≤ 131072 → facts ≡ facts_of options text → context ≡ context_bytes facts → lent ≡ text → link ≡ link_of options
     → given ≡ outcome (program_of bytes) (span_bytes context lent link) → IfOk result (λ reply. reply ≡ outcome_reply given) → IfOk result (IsSpanReply options input bytes)
 span_ran options bytes input text lent link context facts given (Ok reply) same utf8 short told made lends linked is e =
     let few : length input ≤ 131072 = omega (arith, ap length same) in
-    let by_context = ap (λ (c : List ℕ). outcome (program_of bytes) (span_bytes c lent link)) (made ∙ ap context_bytes told) in
-    let by_text = ap (λ (t : List ℕ). outcome (program_of bytes) (span_bytes (context_bytes (facts_of options text)) t link)) lends in
-    let by_link = ap (λ (l : List ℕ). outcome (program_of bytes) (span_bytes (context_bytes (facts_of options text)) text l)) linked in
-    let by_input = ap (λ (t : List ℕ). outcome (program_of bytes) (bytes_of options t)) same in
-    ran (record { characters = utf8; short = few }) (e ∙ ap outcome_reply (is ∙ by_context ∙ by_text ∙ by_link ∙ by_input))
+    ran (record { characters = utf8; short = few }) (e ∙ ap outcome_reply (run_as_defined options bytes input text lent link context facts given same told made lends linked is))
 span_ran options bytes input text lent link context facts given (Err e) same utf8 short told made lends linked is h = tt
+
+pub span_traced : {E : Type 0} (options : SpanOptions) (bytes input text lent link context : List ℕ) (facts : Facts) (given : Outcome) (steps : List ℕ) (result : Result Reply E)
+    → text ≡ input → IsUtf8 input → length text ≤ 131072 → facts ≡ facts_of options text → context ≡ context_bytes facts → lent ≡ text → link ≡ link_of options
+    → given ≡ outcome (program_of bytes) (span_bytes context lent link) → IfOk result (λ reply. reply ≡ behind steps (outcome_reply given)) → IfOk result (IsTracedReply options input bytes)
+span_traced options bytes input text lent link context facts given steps (Ok reply) same utf8 short told made lends linked is e =
+    let few : length input ≤ 131072 = omega (arith, ap length same) in
+    let ended = run_as_defined options bytes input text lent link context facts given same told made lends linked is in
+    traced steps (record { characters = utf8; short = few }) (e ∙ ap (λ (o : Outcome). behind steps (outcome_reply o)) ended)
+span_traced options bytes input text lent link context facts given steps (Err e) same utf8 short told made lends linked is h = tt
 
 too_long : (options : SpanOptions) (text bytes : List ℕ) (reply : Reply) → 131072 < length text → IsSpanReply options (take 131073 text) bytes reply → IsSpanReply options text bytes reply
 too_long options text bytes reply long (no_text wrong e) = no_text (λ right. absurd (omega (arith, right.short))) e
@@ -100,6 +116,20 @@ past_limit options text bytes reply given =
       | inl long ↦ too_long options text bytes reply long given
       | inr short ↦
           let P : List ℕ → Type 0 = λ t. IsSpanReply options t bytes reply in
+          let whole : take 131073 text ≡ text = take_all 131073 text (omega arith) in
+          subst P whole given
+    ]
+
+too_long_traced : (options : SpanOptions) (text bytes : List ℕ) (reply : Reply) → 131072 < length text → IsTracedReply options (take 131073 text) bytes reply → IsTracedReply options text bytes reply
+too_long_traced options text bytes reply long (not_run wrong e) = not_run (λ right. absurd (omega (arith, right.short))) e
+too_long_traced options text bytes reply long (traced steps right e) = absurd (omega (arith, right.short, length-take 131073 text))
+
+pub past_limit_traced : (options : SpanOptions) (text bytes : List ℕ) (reply : Reply) → IsTracedReply options (take 131073 text) bytes reply → IsTracedReply options text bytes reply
+past_limit_traced options text bytes reply given =
+    elim (cases_lt 131072 (length text)) [
+      | inl long ↦ too_long_traced options text bytes reply long given
+      | inr short ↦
+          let P : List ℕ → Type 0 = λ t. IsTracedReply options t bytes reply in
           let whole : take 131073 text ≡ text = take_all 131073 text (omega arith) in
           subst P whole given
     ]

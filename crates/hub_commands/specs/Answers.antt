@@ -29,6 +29,10 @@ failed reason = record { ending = Failed; text = line reason }
 abbrev pub refused : List ℕ → Reply
 refused reason = failed (codes "refused " ++ reason)
 
+-- a reply with further text before its own
+abbrev pub behind : List ℕ → Reply → Reply
+behind text reply = record reply { text = text ++ reply.text }
+
 -- a writer that had these bytes has these, and this is the status, where a reply was written
 pub record IsWritten (reply : Reply) (old new : Option (List ℕ)) (status : ℕ) : Type 0 where
   pub printed : Appends old new reply.text

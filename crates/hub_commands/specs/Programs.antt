@@ -24,7 +24,7 @@ use Rattle.assembler.specs.Text.{AsmText, AsmFault}
 use Rattle.disassembler.specs.Canonical.{canonical}
 use Rattle.hub_requests.specs.declared.SpanOptions.{SpanOptions}
 use Rattle.refusals.specs.declared.reason.Reason.TheVariants.{TextRefused, BadHex, Words, Unverified, Source}
-use Rattle.hub_commands.specs.Answers.{Reply, line, done, failed}
+use Rattle.hub_commands.specs.Answers.{Reply, line, done, failed, behind}
 use Rattle.hub_commands.specs.Hexadecimal.{without_blanks, slot_lines}
 use Rattle.hub_commands.specs.Reasons.{refusal}
 
@@ -118,3 +118,13 @@ pub data IsSpanReply (options : SpanOptions) (text : List ℕ) (bytes : List ℕ
 -- `run`: what the program does on the span; its bytes are looked at before the text
 unfoldable pub IsRunReply : List ℕ → SpanOptions → List ℕ → Reply → Type 0
 IsRunReply digits options text reply = IsProgramReply (IsSpanReply options text) digits reply
+
+-- of a program on a span with a text: what `run` answers, behind further text where the program is run
+pub data IsTracedReply (options : SpanOptions) (text : List ℕ) (bytes : List ℕ) (reply : Reply) : Type 0 where
+  not_run : ¬ (IsSpanText text) → reply ≡ refusal TextRefused → IsTracedReply options text bytes reply
+  traced : (steps : List ℕ) → IsSpanText text → reply ≡ behind steps (outcome_reply (outcome (program_of bytes) (bytes_of options text)))
+      → IsTracedReply options text bytes reply
+
+-- `run --trace`: what `run` answers, behind the lines of the steps where the program is run
+unfoldable pub IsTraceReply : List ℕ → SpanOptions → List ℕ → Reply → Type 0
+IsTraceReply digits options text reply = IsProgramReply (IsTracedReply options text) digits reply

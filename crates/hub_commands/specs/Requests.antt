@@ -3,8 +3,9 @@ use Rattle.std.specs.Prelude.{ℕ, List, string_bytes}
 use Rattle.hub_requests.specs.declared.Command.{Command}
 use Rattle.hub_requests.specs.declared.Command.TheVariants.{Asm, Check, Dis, Run, Spans}
 use Rattle.hub_requests.specs.declared.Detail.TheVariants.{Verdict, Reason, Listing}
+use Rattle.hub_requests.specs.declared.Shown.TheVariants.{Outcome, Steps}
 use Rattle.hub_commands.specs.Answers.{Reply}
-use Rattle.hub_commands.specs.Programs.{IsAsmReply, IsCheckReply, IsExplainReply, IsDisReply, IsRunReply}
+use Rattle.hub_commands.specs.Programs.{IsAsmReply, IsCheckReply, IsExplainReply, IsDisReply, IsRunReply, IsTraceReply}
 use Rattle.hub_commands.specs.SpansReply.{IsSpansReply}
 
 -- the reply that the command gives to an input
@@ -14,5 +15,6 @@ IsReplyTo (Check Verdict profile) = IsCheckReply profile
 IsReplyTo (Check Reason profile) = IsExplainReply profile
 IsReplyTo (Check Listing profile) = IsExplainReply profile
 IsReplyTo Dis = IsDisReply
-IsReplyTo (Run digits options) = IsRunReply (string_bytes digits) options
+IsReplyTo (Run Outcome digits options) = IsRunReply (string_bytes digits) options
+IsReplyTo (Run Steps digits options) = IsTraceReply (string_bytes digits) options
 IsReplyTo Spans = IsSpansReply

@@ -1,5 +1,5 @@
 ghost use Rattle.std.specs.Prelude.{◌≡◌, IfOk, IfSome, string_bytes};
-ghost use Rattle.hub_commands.specs.Answers.{status_of, done, failed, refused};
+ghost use Rattle.hub_commands.specs.Answers.{status_of, done, failed, refused, behind};
 
 use std::alloc::{AllocError, Global};
 use std::fmt::Display;
@@ -69,6 +69,18 @@ impl Answer {
         let text = format!(in alloc; "refused {reason}\n")?;
         Ok(Answer {
             ending: Ending::Failed,
+            text,
+        })
+    }
+
+    /// The same answer with further text before its own.
+    pub fn behind(self, text: String) -> Result<Answer, AllocError>
+        ensures { IfOk result (λ answer. answer ≡ behind (string_bytes text) self) }
+    {
+        let mut text = text;
+        text.push_str(self.text.as_str())?;
+        Ok(Answer {
+            ending: self.ending,
             text,
         })
     }

@@ -16,3 +16,4 @@ pub mod perform;
 mod reads;
 mod run;
 mod spans;
+mod trace;

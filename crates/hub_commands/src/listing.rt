@@ -13,7 +13,7 @@ use verifier::before::state_before;
 use verifier::refusal::VerifyError;
 
 /// Appends the instruction of a slot.
-fn push_instruction(text: &mut String, slot: usize, insn: Insn) -> Result<(), AllocError> {
+pub fn push_instruction(text: &mut String, slot: usize, insn: Insn) -> Result<(), AllocError> {
     writeln!(text, "slot {slot}: {}", Line(insn))
 }
 

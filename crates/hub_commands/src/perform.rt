@@ -9,7 +9,8 @@ use crate::explain::explain;
 use crate::failure::Failure;
 use crate::run::run;
 use crate::spans::spans;
-use hub_requests::{Command, Detail};
+use crate::trace::trace;
+use hub_requests::{Command, Detail, Shown};
 use std::alloc::Global;
 use std::io::{Read, Write};
 
@@ -31,9 +32,14 @@ pub fn perform<R: Read, W: Write>(
             Detail::Listing => explain(alloc, *profile, true, reader, writer),
         },
         Command::Dis => dis(alloc, reader, writer),
-        Command::Run { digits, options } => {
-            run(alloc, digits.as_bytes(), options, reader, writer)
-        }
+        Command::Run {
+            shown,
+            digits,
+            options,
+        } => match shown {
+            Shown::Outcome => run(alloc, digits.as_bytes(), options, reader, writer),
+            Shown::Steps => trace(alloc, digits.as_bytes(), options, reader, writer),
+        },
         Command::Spans => spans(alloc, reader, writer),
     }
 }

@@ -31,7 +31,7 @@ fn fault_name(kind: FaultKind) -> &'static str
 }
 
 /// The text of the link that the options name; it has no byte where they name none.
-fn link(options: &SpanOptions) -> &[u8]
+pub fn link(options: &SpanOptions) -> &[u8]
     ensures value { result.now ≡ link_of options.now }
     ensures short { length result.now ≤ 1024 }
 {
@@ -42,7 +42,7 @@ fn link(options: &SpanOptions) -> &[u8]
 }
 
 /// What the options and the text say of the span.
-fn facts(options: &SpanOptions, text: &str) -> Facts
+pub fn facts(options: &SpanOptions, text: &str) -> Facts
     requires { length text.now ≤ 131072 }
     ensures value { result ≡ facts_of options.now text.now }
     ensures link_short { result.link_len ≤ 1024 }
@@ -61,7 +61,7 @@ fn facts(options: &SpanOptions, text: &str) -> Facts
 }
 
 /// What is answered to the outcome of a run.
-fn outcome_answer(alloc: Global, outcome: Outcome) -> Result<Answer, AllocError>
+pub fn outcome_answer(alloc: Global, outcome: Outcome) -> Result<Answer, AllocError>
     ensures { IfOk result (λ answer. answer ≡ outcome_reply outcome) }
 {
     match outcome {

@@ -34,6 +34,15 @@ pub enum Detail {
     Listing,
 }
 
+/// What `run` says of a run.
+#[derive(Clone, Copy)]
+pub enum Shown {
+    /// How it ends.
+    Outcome,
+    /// First also its steps.
+    Steps,
+}
+
 /// What the program is asked to do with its whole input.
 #[derive(Drop)]
 pub enum Command {
@@ -48,6 +57,7 @@ pub enum Command {
     Dis,
     /// To run a program, in hexadecimal, on the span whose text it is.
     Run {
+        shown: Shown,
         digits: String,
         options: SpanOptions,
     },

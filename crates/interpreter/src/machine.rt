@@ -2,7 +2,7 @@ ghost use Rattle.std.specs.Prelude.{◌≡◌, ℕ, ◌+◌, ◌<◌, ◌≤◌,
 ghost use Rattle.bpf_words.specs.Context.{span_bytes};
 ghost use Rattle.bpf_words.specs.Words.{program_of};
 ghost use Rattle.meaning.specs.State.{start, register_of, operand_in, written};
-ghost use Rattle.meaning.specs.Memory.{address_of};
+ghost use Rattle.meaning.specs.Memory.{address_of, bytes_in, load as load_of};
 ghost use Rattle.meaning.specs.Step.{Next, go_by, write_and_go, first_of, perform, step};
 ghost use Rattle.interpreter.specs.Progress.{move_of, result_of};
 ghost use Rattle.interpreter.specs.Running.{Run, Reads, Stays, state_of};
@@ -58,8 +58,9 @@ impl<'a> Machine<'a> {
         self.slot
     }
 
+    /// The number in a register, if one is set.
     #[tactic(auto, using(crate::proofs::Registers::reads))]
-    fn register(&self, register: Register) -> Result<u64, FaultKind>
+    pub fn register(&self, register: Register) -> Result<u64, FaultKind>
         ensures { result ≡ register_of (state_of self.now) register }
     {
         self.registers[register.index()].ok_or(FaultKind::UnsetRegister)
@@ -72,6 +73,13 @@ impl<'a> Machine<'a> {
             Operand::Immediate(value) => Ok(i64::from(value).cast_unsigned()),
             Operand::Source(register) => self.register(register),
         }
+    }
+
+    /// The number in the bytes at an address, if a program may read them.
+    pub fn number_at(&self, address: u64, size: Size) -> Result<u64, FaultKind>
+        ensures { result ≡ load_of self.now.bytes self.now.stack address (bytes_in size) }
+    {
+        self.memory.load(address, size)
     }
 
     fn write(&mut self, register: Register, value: u64) -> Result<(), FaultKind>
@@ -326,7 +334,7 @@ impl<'a> Machine<'a> {
 }
 
 /// The address that a base register's number and an offset give.
-fn address(base: u64, offset: i16) -> u64
+pub fn address(base: u64, offset: i16) -> u64
     ensures { result ≡ address_of base offset }
 {
     base.wrapping_add_signed(i64::from(offset))
