@@ -1,6 +1,7 @@
 //! The program: its command, on the words that it was called with and the standard streams.
 #![tactic(auto)]
 
+use hub_program::fault::Fault;
 use hub_program::{command, complain};
 use std::alloc::AllocError;
 use std::process::ExitCode;
@@ -15,18 +16,28 @@ fn words(rt: &HostRuntime) -> io::Result<Vec<String>> {
 fn main(rt: HostRuntime) -> ExitCode {
     let mut reader = rt.reader();
     let mut writer = io::writer(&rt);
+    let stderr = rt.stderr();
+    let mut errors = io::writer(&stderr);
     let status = match words(&rt) {
-        Ok(words) => command(&rt, rt.alloc(), &words, &mut reader, &mut writer),
+        Ok(words) => command(
+            &rt,
+            rt.alloc(),
+            &words,
+            &mut reader,
+            &mut writer,
+            &mut errors,
+        ),
         Err(error) if error.kind() == io::ErrorKind::OutOfMemory => {
-            if rt.println("refused 45 OutOfMemory").is_ok() {
-                1
-            } else {
-                complain(&rt, "standard output can't be written");
-                3
+            match rt.println("refused 45 OutOfMemory") {
+                Ok(()) => 1,
+                Err(error) => {
+                    complain(&mut errors, &Fault::Output(error));
+                    3
+                }
             }
         }
         Err(_) => {
-            complain(&rt, "an argument isn't UTF-8");
+            complain(&mut errors, &Fault::Argument);
             2
         }
     };

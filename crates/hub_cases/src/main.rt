@@ -17,15 +17,15 @@
 //! | `count M N TEXT` | further input: a line for each number n from M to N, with n for `{n}` and n - 1 for `{n-1}` |
 //!
 //! In input `\hh` stands for the byte of these two hexadecimal digits, as `\5c` for a backslash and `\0a` for a line
-//! feed. What the command printed is given line by line behind `> `, but where the exit status is 2: the words of a
-//! usage error are the parser's.
+//! feed. What the command printed is given line by line behind `> `, and what it said on standard error behind `! `, but where
+//! the exit status is 2: the words of a usage error are the parser's.
 #![tactic(auto)]
 
 use anyhow::{Context, Result, bail};
 use hub_program::command;
 use std::alloc::Global;
 use std::io;
-use std::io::{Eprint, Read, Write};
+use std::io::{Read, Write};
 use std::net::{Net, TcpListener, TcpStream};
 use std::sync::Wait;
 use std::thread::Threads;
@@ -133,18 +133,13 @@ impl<'a> Case<'a> {
 
     /// Runs the command, and prints what it answers.
     fn answer<
-        H: Threads
-            + Wait
-            + Net<Listener = TcpListener, Stream = TcpStream>
-            + Eprint
-            + Copy
-            + Send
-            + Sync,
+        H: Threads + Wait + Net<Listener = TcpListener, Stream = TcpStream> + Copy + Send + Sync,
         W: Write,
     >(&self, rt: &H, alloc: Global, writer: &mut W) -> Result<()> {
         let mut reader = self.input.as_slice();
         let mut printed = Vec::new(alloc);
-        let status = command(rt, alloc, &self.words, &mut reader, &mut printed);
+        let mut said = Vec::new(alloc);
+        let status = command(rt, alloc, &self.words, &mut reader, &mut printed, &mut said);
         writeln!(writer, "{}: {status}", self.name)?;
         if status == 2 {
             return Ok(());
@@ -154,6 +149,9 @@ impl<'a> Case<'a> {
         }
         if !printed.is_empty() && !printed.ends_with(b"\n") {
             writeln!(writer, "\n\\ no line feed at the end")?;
+        }
+        for line in std::str::from_utf8(&said)?.lines() {
+            writeln!(writer, "! {line}")?;
         }
         Ok(())
     }

@@ -2,7 +2,7 @@ ghost use Rattle.std.specs.Prelude.{◌≡◌};
 
 use crate::client::{answered, expect_session};
 use crate::fault::Fault;
-use hub_sessions::server::serve_shares;
+use hub_sessions::server::{ConnectionFault, serve_shares};
 use ingest_workers::hub::Hub;
 use span_flatten::version::Version;
 use std::alloc::Global;
@@ -77,7 +77,7 @@ fn failed_accept_on<
     };
     let hub = &hub;
     let published = &published;
-    let (is_well, told) = join(
+    let (served, told) = join(
         rt,
         move || {
             // The listener is closed once the sessions have ended, so that no client waits to be accepted.
@@ -87,14 +87,15 @@ fn failed_accept_on<
         move || one_is_served(rt, alloc, port),
     );
     told?;
-    if is_well {
-        Err(Fault::Sessions)
-    } else {
-        Ok(())
+    match served {
+        Err(ConnectionFault::Accept(error)) if error.kind() == io::ErrorKind::ConnectionAborted => {
+            Ok(())
+        }
+        _ => Err(Fault::Sessions),
     }
 }
 
-/// Serves two sessions where the first accept fails: the other is served, and the server tells that an accept failed.
+/// Serves two sessions where the first accept fails: the other is served, and the server tells that an accept failed, and how.
 pub fn failed_accept<
     H: Threads + Wait + Net<Listener = TcpListener, Stream = TcpStream> + Copy + Send + Sync,
 >(rt: &H, alloc: Global) -> Result<(), Fault> {

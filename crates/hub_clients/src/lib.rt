@@ -17,20 +17,14 @@ use crate::failed_accept::failed_accept;
 use crate::trial::Trial;
 use std::alloc::Global;
 use std::io;
-use std::io::{Eprint, Write};
+use std::io::Write;
 use std::net::{Net, TcpListener, TcpStream};
 use std::sync::Wait;
 use std::thread::Threads;
 
 /// Runs all trials, and prints a line for each.
 pub fn trials<
-    H: Threads
-        + Wait
-        + Net<Listener = TcpListener, Stream = TcpStream>
-        + Eprint
-        + Copy
-        + Send
-        + Sync,
+    H: Threads + Wait + Net<Listener = TcpListener, Stream = TcpStream> + Copy + Send + Sync,
     W: Write,
 >(rt: &H, alloc: Global, writer: &mut W) -> io::Result<()> {
     for trial in [Trial::Three, Trial::SilentAndVanishing, Trial::Many] {

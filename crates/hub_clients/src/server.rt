@@ -2,7 +2,6 @@ use crate::client::number_behind;
 use hub_program::command;
 use std::alloc::Global;
 use std::io;
-use std::io::Eprint;
 use std::net::{Net, TcpListener, TcpStream};
 use std::sync::{OnceLock, Wait};
 use std::thread::Threads;
@@ -39,13 +38,7 @@ impl io::Write for Printed<'_> {
 
 /// Serves so many sessions. Answers the exit status, and whether the line of the port was all that was printed.
 pub fn serve<
-    H: Threads
-        + Wait
-        + Net<Listener = TcpListener, Stream = TcpStream>
-        + Eprint
-        + Copy
-        + Send
-        + Sync,
+    H: Threads + Wait + Net<Listener = TcpListener, Stream = TcpStream> + Copy + Send + Sync,
 >(rt: &H, alloc: Global, sessions: &str, port: &Port) -> (u8, bool) {
     let words = [
         "hub",
@@ -61,7 +54,14 @@ pub fn serve<
         bytes: Vec::new(alloc),
         port,
     };
-    let status = command(rt, alloc, &words, &mut io::empty(), &mut printed);
+    let status = command(
+        rt,
+        alloc,
+        &words,
+        &mut io::empty(),
+        &mut printed,
+        &mut io::sink(),
+    );
     let _ = port.try_set(None);
     (status, printed.port().is_some())
 }

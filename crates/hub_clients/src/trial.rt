@@ -4,7 +4,6 @@ use crate::few_clients::{silent_and_vanishing, three};
 use crate::many_clients::many;
 use crate::server::{Port, serve};
 use std::alloc::Global;
-use std::io::Eprint;
 use std::net::{Net, TcpListener, TcpStream};
 use std::sync::{OnceLock, Wait};
 use std::thread::{Threads, join};
@@ -69,13 +68,7 @@ impl Trial {
 
     /// Runs the server and its clients. Answers the server's exit status, and what went wrong with the clients.
     pub fn run<
-        H: Threads
-            + Wait
-            + Net<Listener = TcpListener, Stream = TcpStream>
-            + Eprint
-            + Copy
-            + Send
-            + Sync,
+        H: Threads + Wait + Net<Listener = TcpListener, Stream = TcpStream> + Copy + Send + Sync,
     >(self, rt: &H, alloc: Global) -> (u8, Result<(), Fault>) {
         let port = OnceLock::new();
         let ((status, is_port_alone), told) = join(

@@ -1,5 +1,6 @@
 pub mod Answers
 pub mod Hexadecimal
+pub mod Hints
 pub mod Reasons
 pub mod Programs
 pub mod SpansReply

@@ -1,13 +1,16 @@
-ghost use Rattle.std.specs.Prelude.{IfOk};
+ghost use Rattle.std.specs.Prelude.{◌≡◌, IfOk, IfSome};
 ghost use Rattle.bpf_words.specs.Words.{program_of};
 ghost use Rattle.hub_commands.specs.Answers.{IsAnswered};
 ghost use Rattle.bpf_words.specs.declared.profile.Profile.{Profile as TheProfile};
 ghost use Rattle.verifier.specs.Judged.{IsJudged};
+ghost use Rattle.hub_commands.specs.Hints.{digits_hint};
 ghost use Rattle.hub_commands.specs.Programs.{IsAcceptanceReply, IsCheckReply};
 
 use crate::answer::Answer;
+use crate::ended::Ended;
 use crate::failure::Failure;
 use crate::hexadecimal::{decode_hex, without_blanks};
+use crate::hint::digits_hint;
 use crate::input::read_input;
 use crate::output::write_answer;
 use bpf_words::profile::Profile;
@@ -62,11 +65,16 @@ pub fn check<R: Read, W: Write>(
     profile: Profile,
     reader: &mut R,
     writer: &mut W,
-) -> Result<u8, Failure>
-    ensures { IfOk result (λ status. IsAnswered (IsCheckReply profile) (R.remaining reader.old)
-        (W.contents writer.old) (W.contents writer.new) status) }
+) -> Result<Ended, Failure>
+    ensures answered { IfOk result (λ ended. IsAnswered (IsCheckReply profile) (R.remaining reader.old)
+        (W.contents writer.old) (W.contents writer.new) ended.status) }
+    ensures hinted { IfOk result (λ ended. IfSome (R.remaining reader.old) (λ input. ended.hint ≡ digits_hint input)) }
 {
     let input = read_input(alloc, reader)?;
     let answer = check_answer(alloc, profile, &input)?;
-    write_answer(writer, &answer)
+    let status = write_answer(writer, &answer)?;
+    Ok(Ended {
+        status,
+        hint: digits_hint(&input),
+    })
 }

@@ -1,5 +1,5 @@
 //! What the verifier knows of a program, printed behind what `check` answers.
-ghost use Rattle.std.specs.Prelude.{◌≡◌, ℕ, pos, ◌+◌, ◌<◌, ◌≤◌, ◌++◌, List, Some, true, IfOk, slice_index};
+ghost use Rattle.std.specs.Prelude.{◌≡◌, ℕ, pos, ◌+◌, ◌<◌, ◌≤◌, ◌++◌, List, Some, true, IfOk, IfSome, slice_index};
 ghost use Rattle.bpf_words.specs.Flow.{jump_of, falls_through, slots_of};
 ghost use Rattle.bpf_words.specs.Context.{SpanBytes};
 ghost use Rattle.bpf_words.specs.Words.{program_of};
@@ -9,12 +9,15 @@ ghost use Rattle.meaning.specs.Safe.{IsSpan, Safe, SafeIn};
 ghost use Rattle.verifier.specs.Structure.{IsStructured};
 ghost use Rattle.hub_commands.specs.Answers.{IsAnswered};
 ghost use Rattle.verifier.specs.Judged.{IsJudged};
+ghost use Rattle.hub_commands.specs.Hints.{digits_hint};
 ghost use Rattle.hub_commands.specs.Programs.{IsExplainedReply, IsExplainReply};
 
 use crate::answer::Answer;
 use crate::check::{acceptance_answer, rejection};
+use crate::ended::Ended;
 use crate::failure::Failure;
 use crate::hexadecimal::{decode_hex, without_blanks};
+use crate::hint::digits_hint;
 use crate::input::read_input;
 use crate::listing::{push_instructions, push_listing, push_listing_until};
 use crate::output::write_answer;
@@ -206,11 +209,16 @@ pub fn explain<R: Read, W: Write>(
     is_whole: bool,
     reader: &mut R,
     writer: &mut W,
-) -> Result<u8, Failure>
-    ensures { IfOk result (λ status. IsAnswered (IsExplainReply profile) (R.remaining reader.old)
-        (W.contents writer.old) (W.contents writer.new) status) }
+) -> Result<Ended, Failure>
+    ensures answered { IfOk result (λ ended. IsAnswered (IsExplainReply profile) (R.remaining reader.old)
+        (W.contents writer.old) (W.contents writer.new) ended.status) }
+    ensures hinted { IfOk result (λ ended. IfSome (R.remaining reader.old) (λ input. ended.hint ≡ digits_hint input)) }
 {
     let input = read_input(alloc, reader)?;
     let answer = explain_answer(alloc, profile, is_whole, &input)?;
-    write_answer(writer, &answer)
+    let status = write_answer(writer, &answer)?;
+    Ok(Ended {
+        status,
+        hint: digits_hint(&input),
+    })
 }

@@ -19,7 +19,7 @@ pub fn decode_hex(alloc: Global, digits: &[u8]) -> Result<Option<Vec<u8>>, Alloc
     }
 }
 
-fn is_blank(byte: u8) -> bool
+pub fn is_blank(byte: u8) -> bool
     ensures { result ≡ is_blank byte }
 {
     matches!(byte, b' ' | b'\t' | b'\r' | b'\n')

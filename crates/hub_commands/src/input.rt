@@ -9,7 +9,7 @@ pub fn read_input<R: Read>(alloc: Global, reader: &mut R) -> Result<Vec<u8>, Fai
     ensures { IfOk result (λ input. IfSome (R.remaining reader.old) (λ bytes. input.items ≡ bytes)) }
 {
     let mut input = Vec::new(alloc);
-    reader.read_to_end(&mut input)?;
+    reader.read_to_end(&mut input).map_err(Failure::of_read)?;
     Ok(input)
 }
 
@@ -19,6 +19,9 @@ pub fn read_past<R: Read>(alloc: Global, reader: &mut R, limit: u64) -> Result<V
     ensures { IfOk result (λ input. IfSome (R.remaining reader.old) (λ bytes. input.items ≡ take (limit + 1) bytes)) }
 {
     let mut input = Vec::new(alloc);
-    reader.take(limit + 1).read_to_end(&mut input)?;
+    reader
+        .take(limit + 1)
+        .read_to_end(&mut input)
+        .map_err(Failure::of_read)?;
     Ok(input)
 }

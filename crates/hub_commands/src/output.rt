@@ -9,6 +9,8 @@ use std::io::Write;
 pub fn write_answer<W: Write>(writer: &mut W, answer: &Answer) -> Result<u8, Failure>
     ensures { IfOk result (λ status. IsWritten answer.now (W.contents writer.old) (W.contents writer.new) status) }
 {
-    writer.write_all(answer.text.as_bytes())?;
+    writer
+        .write_all(answer.text.as_bytes())
+        .map_err(Failure::of_write)?;
     Ok(answer.ending.status())
 }

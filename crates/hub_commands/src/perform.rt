@@ -1,10 +1,12 @@
-ghost use Rattle.std.specs.Prelude.{IfOk};
+ghost use Rattle.std.specs.Prelude.{◌≡◌, IfOk, IfSome};
 ghost use Rattle.hub_commands.specs.Answers.{IsAnswered};
+ghost use Rattle.hub_commands.specs.Hints.{hint_to};
 ghost use Rattle.hub_commands.specs.Requests.{IsReplyTo};
 
 use crate::asm::asm;
 use crate::check::check;
 use crate::dis::dis;
+use crate::ended::Ended;
 use crate::explain::explain;
 use crate::failure::Failure;
 use crate::run::run;
@@ -14,15 +16,16 @@ use hub_requests::{Command, Detail, Shown};
 use std::alloc::Global;
 use std::io::{Read, Write};
 
-/// Does what is asked for with the input, prints the answer, and gives the exit status.
+/// Does what is asked for with the input, prints the answer, and gives the exit status and the hint to the input.
 pub fn perform<R: Read, W: Write>(
     alloc: Global,
     command: &Command,
     reader: &mut R,
     writer: &mut W,
-) -> Result<u8, Failure>
-    ensures { IfOk result (λ status. IsAnswered (IsReplyTo command.now) (R.remaining reader.old)
-        (W.contents writer.old) (W.contents writer.new) status) }
+) -> Result<Ended, Failure>
+    ensures answered { IfOk result (λ ended. IsAnswered (IsReplyTo command.now) (R.remaining reader.old)
+        (W.contents writer.old) (W.contents writer.new) ended.status) }
+    ensures hinted { IfOk result (λ ended. IfSome (R.remaining reader.old) (λ input. ended.hint ≡ hint_to command.now input)) }
 {
     match command {
         Command::Asm => asm(alloc, reader, writer),
@@ -37,8 +40,14 @@ pub fn perform<R: Read, W: Write>(
             digits,
             options,
         } => match shown {
-            Shown::Outcome => run(alloc, digits.as_bytes(), options, reader, writer),
-            Shown::Steps => trace(alloc, digits.as_bytes(), options, reader, writer),
+            Shown::Outcome => Ok(Ended {
+                status: run(alloc, digits.as_bytes(), options, reader, writer)?,
+                hint: None,
+            }),
+            Shown::Steps => Ok(Ended {
+                status: trace(alloc, digits.as_bytes(), options, reader, writer)?,
+                hint: None,
+            }),
         },
         Command::Spans => spans(alloc, reader, writer),
     }

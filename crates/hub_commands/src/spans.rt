@@ -1,5 +1,5 @@
 //! The command `spans`: the spans of the version that the changes of its input make.
-ghost use Rattle.std.specs.Prelude.{◌≡◌, ◌≢◌, ◌<◌, List, [], length, IfOk, MatchResult};
+ghost use Rattle.std.specs.Prelude.{◌≡◌, ◌≢◌, ◌<◌, List, [], length, IfOk, IfSome, MatchResult};
 ghost use Rattle.std.specs.Str.{IsUtf8};
 ghost use Rattle.change_ops.specs.declared.refusal.ChangeError.TheVariants.{OutOfMemory as NoMemory};
 ghost use Rattle.span_flatten.specs.Spans.{Span, AreSpans};
@@ -7,13 +7,16 @@ ghost use Rattle.change_history.specs.Accepted.{operations_of};
 ghost use Rattle.change_history.specs.declared.refusal.SubmitError.TheVariants.{OutOfMemory};
 ghost use Rattle.refusals.specs.declared.reason.Reason.TheVariants.{Unread, Unaccepted};
 ghost use Rattle.hub_commands.specs.Answers.{done, IsAnswered};
+ghost use Rattle.hub_commands.specs.Hints.{text_hint};
 ghost use Rattle.hub_commands.specs.Reasons.{in_change};
 ghost use Rattle.span_lines.specs.SpanLines.{span_lines};
 ghost use Rattle.hub_commands.specs.SpansReply.{Begins, IsSpansReply};
 ghost use Rattle.hub_commands.specs.Stopping.{MatchStop, StopsAt, StopsWithin, Takes};
 
 use crate::answer::Answer;
+use crate::ended::Ended;
 use crate::failure::Failure;
+use crate::hint::text_hint;
 use crate::input::read_input;
 use crate::output::write_answer;
 use change_history::history::History;
@@ -117,11 +120,16 @@ pub fn spans<R: Read, W: Write>(
     alloc: Global,
     reader: &mut R,
     writer: &mut W,
-) -> Result<u8, Failure>
-    ensures { IfOk result (λ status. IsAnswered IsSpansReply (R.remaining reader.old)
-        (W.contents writer.old) (W.contents writer.new) status) }
+) -> Result<Ended, Failure>
+    ensures answered { IfOk result (λ ended. IsAnswered IsSpansReply (R.remaining reader.old)
+        (W.contents writer.old) (W.contents writer.new) ended.status) }
+    ensures hinted { IfOk result (λ ended. IfSome (R.remaining reader.old) (λ input. ended.hint ≡ text_hint input)) }
 {
     let input = read_input(alloc, reader)?;
     let answer = spans_answer(alloc, &input)?;
-    write_answer(writer, &answer)
+    let status = write_answer(writer, &answer)?;
+    Ok(Ended {
+        status,
+        hint: text_hint(&input),
+    })
 }

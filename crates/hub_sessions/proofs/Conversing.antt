@@ -13,7 +13,7 @@ use Rattle.session_lines.specs.declared.request.SessionRequest.TheVariants as as
 use Rattle.subscriber_queues.specs.Queue.{Taking}
 use Rattle.session_subscribers.specs.Items.{TakesShort}
 use Rattle.session_subscribers.specs.Holding.{Pulls, PullsShort}
-use Rattle.hub_sessions.specs.Sessions.{Standing, Exchange, IsExchange, Answers, Follow, Converses, is_read, TakesTurn, BreaksTurn, FallsShort, Ends, EndsAfter, EndsShort, printed, reply_line}
+use Rattle.hub_sessions.specs.Sessions.{Standing, Exchange, IsExchange, Answers, Follow, Converses, is_read, TakesTurn, BreaksTurn, IsUnwritten, FallsShort, Ends, EndsAfter, EndsShort, printed, reply_line}
 use Rattle.hub_sessions.specs.declared.conversation.SessionFault.{SessionFault}
 use Rattle.hub_sessions.specs.declared.conversation.SessionFault.TheVariants as fault
 use Rattle.hub_sessions.specs.declared.conversation.Turn.{Turn}
@@ -76,9 +76,10 @@ short s left old s' left' mid part s'' middle new c f a b = record {
 
 -- a write that failed
 pub write_failed : (r : Result ⊤ SessionFault) (e : SessionFault) (s : Standing) (left old : Option (List ℕ)) (count : ℕ) (new : Option (List ℕ))
-    → IsErrAnd r (λ y. y ≡ e) → e ≡ fault.Write → Ends r s left old count new
+    → IsErrAnd r (λ y. y ≡ e) → IsUnwritten e → Ends r s left old count new
 write_failed (Ok t) e s left old count new is p = absurd is
-write_failed (Err y) e s left old count new is p = subst (λ z. Ends (Err z) s left old count new) (sym (is ∙ p)) tt
+write_failed (Err y) (fault.Read error) s left old count new is p = absurd p
+write_failed (Err y) (fault.Write error) s left old count new is p = subst (λ z. Ends (Err z) s left old count new) (sym is) tt
 
 -- the line of a refusal, in place of what was there
 pub refused_line : (a b : List ℕ) (r r' : Reason) → b ≡ a ++ reply_line (reply.Refused r) → a ≡ [] → r ≡ r' → b ≡ reply_line (reply.Refused r')
@@ -86,14 +87,15 @@ refused_line a b r r' is none same = is ∙ ap (λ l. l ++ reply_line (reply.Ref
 
 -- no memory was found after some exchanges, and a part of what answers the next was written
 pub unfinished : (r : Result ⊤ SessionFault) (s : Standing) (left old : Option (List ℕ)) (s' : Standing) (left' mid : Option (List ℕ)) (part : List ℕ) (s'' : Standing) (middle new : Option (List ℕ)) (count : ℕ)
-    → Converses s left old s' left' mid → FallsShort s' part s'' → Appends mid middle part → OnOk r (Appends middle new (reply_line (reply.Refused reason.OutOfMemory))) → IfErr r (λ f. f ≡ fault.Write)
+    → Converses s left old s' left' mid → FallsShort s' part s'' → Appends mid middle part → OnOk r (Appends middle new (reply_line (reply.Refused reason.OutOfMemory))) → IfErr r IsUnwritten
     → Ends r s left old count new
 unfinished (Ok t) s left old s' left' mid part s'' middle new count c f a b e = inr (short s left old s' left' mid part s'' middle new c f a b)
-unfinished (Err y) s left old s' left' mid part s'' middle new count c f a b e = subst (λ z. Ends (Err z) s left old count new) (sym e) tt
+unfinished (Err (fault.Read error)) s left old s' left' mid part s'' middle new count c f a b e = absurd e
+unfinished (Err (fault.Write error)) s left old s' left' mid part s'' middle new count c f a b e = tt
 
 -- nor for the first
 pub not_begun : (r : Result ⊤ SessionFault) (s : Standing) (left old new : Option (List ℕ)) (count : ℕ)
-    → OnOk r (Appends old new (reply_line (reply.Refused reason.OutOfMemory))) → IfErr r (λ f. f ≡ fault.Write) → Ends r s left old count new
+    → OnOk r (Appends old new (reply_line (reply.Refused reason.OutOfMemory))) → IfErr r IsUnwritten → Ends r s left old count new
 not_begun r s left old new count b e = unfinished r s left old s left old [] s old new count (begun s left old) (inl refl) (Appends-nil old) b e
 
 -- a turn of which it is known that it was the last
@@ -114,7 +116,7 @@ short_turn r s text s' is p = subst (λ z. IfErr z (λ f. BreaksTurn f s text s'
 -- a turn that changed and printed nothing, whatever broke it
 pub broke_still : (r : Result Turn TurnFault) (s : Standing) (text : List ℕ) → text ≡ [] → IfErr r (λ f. BreaksTurn f s text s)
 broke_still (Ok t) s text none = tt
-broke_still (Err broken.Read) s text none = (refl, none)
+broke_still (Err (broken.Read error)) s text none = (refl, none)
 broke_still (Err broken.Memory) s text none = inl none
 
 -- a turn that met want of memory

@@ -104,7 +104,7 @@ FallsShort s text s' = (text ≡ []) ⊎ ((id : ℕ) × (count : ℕ) × PullsSh
 
 -- a turn whose read failed changed and printed nothing
 abbrev pub BreaksTurn : TurnFault → Standing → List ℕ → Standing → Type 0
-BreaksTurn turn_fault.Read s text s' = (s' ≡ s) × (text ≡ [])
+BreaksTurn (turn_fault.Read error) s text s' = (s' ≡ s) × (text ≡ [])
 BreaksTurn turn_fault.Memory s text s' = FallsShort s text s'
 
 -- after its exchanges the session came to its end, by what came or for want of memory
@@ -136,11 +136,16 @@ pub record BreaksAfter (s : Standing) (left old : Option (List ℕ)) (count : �
   pub converses : Converses s left old stands rest new
   pub counted : count ≡ stands.count
 
+-- a write failed
+abbrev pub IsUnwritten : SessionFault → Type 0
+IsUnwritten (fault.Read error) = ⊥
+IsUnwritten (fault.Write error) = ⊤
+
 -- how a session ended; nothing is said of what was written before a write failed
 abbrev pub Ends : Result ⊤ SessionFault → Standing → Option (List ℕ) → Option (List ℕ) → ℕ → Option (List ℕ) → Type 0
 Ends (Ok done) s left old count new = EndsAfter s left old count new ⊎ EndsShort s left old new
-Ends (Err fault.Read) s left old count new = BreaksAfter s left old count new
-Ends (Err fault.Write) s left old count new = ⊤
+Ends (Err (fault.Read error)) s left old count new = BreaksAfter s left old count new
+Ends (Err (fault.Write error)) s left old count new = ⊤
 
 -- a session on a hub of its own, which has no change yet; or no memory was found for the hub, and nothing was printed
 abbrev pub Replays : Bool → Result ⊤ ReplayError → Option (List ℕ) → Option (List ℕ) → Option (List ℕ) → Type 0

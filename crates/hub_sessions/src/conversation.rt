@@ -3,7 +3,7 @@ ghost use Rattle.std.specs.Io.KnownBytes.{Appends};
 ghost use Rattle.refusals.specs.declared.reason.Reason.TheVariants as why;
 ghost use Rattle.session_lines.specs.declared.fault.ReadFault.TheVariants as read_fault;
 ghost use Rattle.session_lines.specs.declared.reply.Reply.TheVariants as told;
-ghost use Rattle.hub_sessions.specs.Sessions.{Submits, Answers, FallsShort, TakesTurn, BreaksTurn, Ends, is_read, reply_line};
+ghost use Rattle.hub_sessions.specs.Sessions.{Submits, Answers, FallsShort, TakesTurn, BreaksTurn, Ends, IsUnwritten, is_read, reply_line};
 ghost use Rattle.hub_sessions.specs.declared.conversation.TurnFault.TheVariants as turn_fault;
 
 use change_ops::change::Change;
@@ -18,6 +18,7 @@ use session_lines::request::{Next, SessionRequest, next_request};
 use session_reads::reading::read;
 use session_subscribers::session_hub::{Held, SessionHub};
 use std::alloc::{AllocError, Global};
+use std::io;
 use std::io::{Read, Write};
 use std::sync::Wait;
 use std::sync::ledger::Ledger;
@@ -32,9 +33,9 @@ const REPLY_ROOM: usize = 37_000;
 #[derive(Clone, Copy)]
 pub enum SessionFault {
     /// A read failed.
-    Read,
+    Read(io::Error),
     /// A write failed.
-    Write,
+    Write(io::Error),
 }
 
 /// Whether a session goes on.
@@ -47,7 +48,7 @@ enum Turn {
 /// Why a turn came to no reply, or to no whole one.
 #[derive(Clone, Copy)]
 enum TurnFault {
-    Read,
+    Read(io::Error),
     Memory,
 }
 
@@ -64,7 +65,7 @@ impl From<ReadFault> for TurnFault {
 
     fn from(fault: ReadFault) -> TurnFault {
         match fault {
-            ReadFault::Device => TurnFault::Read,
+            ReadFault::Device(error) => TurnFault::Read(error),
             ReadFault::Memory => TurnFault::Memory,
         }
     }
@@ -73,21 +74,21 @@ impl From<ReadFault> for TurnFault {
 /// Writes what answers one request, whole.
 fn write_reply<W: Write>(writer: &mut W, out: &str) -> Result<(), SessionFault>
     ensures ok { OnOk result (Appends (W.contents writer.old) (W.contents writer.new) out.now) }
-    ensures err { IfErr result (λ fault. fault ≡ SessionFault.Write) }
+    ensures err { IfErr result IsUnwritten }
 {
     if out.is_empty() {
         return Ok(());
     }
-    if writer.write_all(out.as_bytes()).is_err() || writer.flush().is_err() {
-        return Err(SessionFault::Write);
-    }
-    Ok(())
+    writer
+        .write_all(out.as_bytes())
+        .map_err(SessionFault::Write)?;
+    writer.flush().map_err(SessionFault::Write)
 }
 
 /// Writes that no memory was found. The session ends.
 fn write_no_memory<W: Write>(writer: &mut W) -> Result<(), SessionFault>
     ensures ok { OnOk result (Appends (W.contents writer.old) (W.contents writer.new) (reply_line (told.Refused why.OutOfMemory))) }
-    ensures err { IfErr result (λ fault. fault ≡ SessionFault.Write) }
+    ensures err { IfErr result IsUnwritten }
 {
     write_reply(writer, "no 45 OutOfMemory\n")
 }
@@ -228,7 +229,7 @@ fn converse<
         match turn {
             Ok(Turn::More) => {}
             Ok(Turn::Last) => return Ok(()),
-            Err(TurnFault::Read) => return Err(SessionFault::Read),
+            Err(TurnFault::Read(error)) => return Err(SessionFault::Read(error)),
             Err(TurnFault::Memory) => return write_no_memory(writer),
         }
     }

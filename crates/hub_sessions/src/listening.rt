@@ -9,16 +9,9 @@ pub fn listen<R: Net, W: Write>(
     port: u16,
     writer: &mut W,
 ) -> Result<R::Listener, ServeError> {
-    let listener = match TcpListener::bind(rt, (Ipv4Addr::LOCALHOST, port)) {
-        Ok(listener) => listener,
-        Err(error) => return Err(ServeError::Port(error)),
-    };
-    let port = match listener.local_addr() {
-        Ok(address) => address.port(),
-        Err(error) => return Err(ServeError::Port(error)),
-    };
-    if writeln!(writer, "port {port}").is_err() || writer.flush().is_err() {
-        return Err(ServeError::Output);
-    }
+    let listener = TcpListener::bind(rt, (Ipv4Addr::LOCALHOST, port)).map_err(ServeError::Port)?;
+    let port = listener.local_addr().map_err(ServeError::Port)?.port();
+    writeln!(writer, "port {port}").map_err(ServeError::Output)?;
+    writer.flush().map_err(ServeError::Output)?;
     Ok(listener)
 }

@@ -1,7 +1,7 @@
 ghost use Rattle.std.specs.Prelude.{◌≡◌, ◌≤◌};
 ghost use Rattle.hub_sessions.specs.declared.server.ServeError.TheVariants as serve_error;
 
-use crate::conversation::session;
+use crate::conversation::{SessionFault, session};
 use crate::listening::listen;
 use ingest_workers::hub::Hub;
 use ingest_workers::share::Share;
@@ -10,9 +10,8 @@ use std::alloc::{AllocError, Global};
 use std::io::{Read, Write};
 use std::marker::Brand;
 use std::net::{Net, OpenListener, Shutdown, TcpListener, TcpStream};
-use std::sync::Wait;
-use std::sync::atomic::{AtomicBool, Ordering};
 use std::sync::ledger::{Blank, Ledger};
+use std::sync::{OnceLock, Wait};
 use std::thread::Threads;
 use std::time::Duration;
 use std::{io, thread};
@@ -26,15 +25,24 @@ const DRAIN_SECONDS: u64 = 1;
 /// How many times to read from it, 4,096 bytes at most each time.
 const DRAIN_READS: u32 = 4096;
 
+/// Why a session was not served to its end.
+#[derive(Clone, Copy)]
+pub enum ConnectionFault {
+    /// Its connection can't be accepted.
+    Accept(io::Error),
+    /// A read or a write of it failed.
+    Session(SessionFault),
+}
+
 /// Why not all sessions were served to their ends.
 #[derive(Drop)]
 pub enum ServeError {
     /// The port can't be bound, or its number can't be asked for.
     Port(io::Error),
     /// The line of the port can't be written.
-    Output,
-    /// An accept failed, or a session's read or write.
-    Connection,
+    Output(io::Error),
+    /// An accept failed, or a session's read or write: the first that was noted.
+    Connection(ConnectionFault),
     /// No memory was found for the hub.
     OutOfMemory,
 }
@@ -74,7 +82,7 @@ fn serve_one<'p, N: Naming + Ledger + Send + Sync, R: Threads + Wait + Copy + Se
     stream: TcpStream,
     workers: usize,
     reads: bool,
-    failed: &AtomicBool,
+    failed: &OnceLock<ConnectionFault>,
 )
     requires { (1 ≤ workers) × (workers ≤ 16) }
 {
@@ -92,14 +100,14 @@ fn serve_one<'p, N: Naming + Ledger + Send + Sync, R: Threads + Wait + Copy + Se
         workers,
         reads,
     );
-    if ended.is_err() {
-        failed.store(true, Ordering::SeqCst);
+    if let Err(fault) = ended {
+        let _ = failed.try_set(ConnectionFault::Session(fault));
     }
     read_rest(&stream);
 }
 
 /// Accepts a connection for each share, and runs a session over it in a thread of its own; answers once all have ended
-/// whether each accept, and each session's reads and writes, went well.
+/// whether each accept, and each session's reads and writes, went well: else the first failure that was noted.
 ///
 /// An accept that fails uses up its session. Where no thread can be made the session runs in the caller's thread, and
 /// the next connection is accepted after it.
@@ -117,10 +125,10 @@ pub fn serve_shares<
     listener: &L,
     workers: usize,
     reads: bool,
-) -> bool
+) -> Result<(), ConnectionFault>
     requires { (1 ≤ workers) × (workers ≤ 16) }
 {
-    let failed = AtomicBool::new(false);
+    let failed = OnceLock::new();
     let told = &failed;
     thread::scope(
         thread::scope_env(),
@@ -129,9 +137,12 @@ pub fn serve_shares<
             requires { (1 ≤ workers) × (workers ≤ 16) }
         {
             for share in shares {
-                let Ok((stream, _)) = listener.accept() else {
-                    told.store(true, Ordering::SeqCst);
-                    continue;
+                let stream = match listener.accept() {
+                    Ok((stream, _)) => stream,
+                    Err(error) => {
+                        let _ = told.try_set(ConnectionFault::Accept(error));
+                        continue;
+                    }
                 };
                 let serving = move ||
                     requires { (1 ≤ workers) × (workers ≤ 16) }
@@ -146,7 +157,10 @@ pub fn serve_shares<
             }
         },
     );
-    !failed.load(Ordering::SeqCst)
+    match failed.into_inner() {
+        Some(fault) => Err(fault),
+        None => Ok(()),
+    }
 }
 
 /// Serves sessions on the hub `N`, which is made before the port is bound.
@@ -174,13 +188,10 @@ fn serve_on<
     let published = Published::<N>::new(versions, programs);
     let (hub, shares) = Hub::new(&rt, alloc, blank, &published, sessions)?;
     let listener = listen(&rt, port, writer)?;
-    if serve_shares(
+    serve_shares(
         &rt, alloc, &hub, &published, shares, &listener, workers, reads,
-    ) {
-        Ok(())
-    } else {
-        Err(ServeError::Connection)
-    }
+    )
+    .map_err(ServeError::Connection)
 }
 
 /// Serves so many sessions over TCP on a port of 127.0.0.1, all on one hub and each in a thread of its own, and returns when

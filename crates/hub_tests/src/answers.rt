@@ -1,5 +1,5 @@
 use hub_program::command;
-use std::io::Eprint;
+use std::io;
 use std::net::{Net, TcpListener, TcpStream};
 use std::sync::Wait;
 use std::test::Fail;
@@ -11,7 +11,6 @@ pub fn answer<
         + Threads
         + Wait
         + Net<Listener = TcpListener, Stream = TcpStream>
-        + Eprint
         + Copy
         + Send
         + Sync,
@@ -20,7 +19,14 @@ pub fn answer<
     let words: Vec<&str> = line.split(' ').collect(alloc)?;
     let mut reader = input.as_bytes();
     let mut output = Vec::new(alloc);
-    let status = command(rt, rt.alloc(), &words, &mut reader, &mut output);
+    let status = command(
+        rt,
+        rt.alloc(),
+        &words,
+        &mut reader,
+        &mut output,
+        &mut io::sink(),
+    );
     Ok((status, String::from_utf8(output)?))
 }
 
@@ -30,7 +36,6 @@ pub fn is_answered<
         + Threads
         + Wait
         + Net<Listener = TcpListener, Stream = TcpStream>
-        + Eprint
         + Copy
         + Send
         + Sync,

@@ -1,5 +1,4 @@
 use hub_program::command;
-use std::io::Eprint;
 use std::net::{Net, TcpListener, TcpStream};
 use std::sync::Wait;
 use std::test::Fail;
@@ -27,17 +26,26 @@ static LINES: [(&str, &str, u8); 9] = [
     ),
 ];
 
-/// The status where the reader fails after so many reads and the writer after so many writes, and whether it came to either.
-fn status_where_fails<
+/// How a command ended over devices that fail.
+#[derive(Drop)]
+struct Outcome {
+    status: u8,
+    /// Whether it came to a read or a write that failed.
+    failed: bool,
+    /// What it said on standard error.
+    told: String,
+}
+
+/// How a command ends where the reader fails after so many reads and the writer after so many writes.
+fn outcome_where_fails<
     H: AllocGlobal
         + Threads
         + Wait
         + Net<Listener = TcpListener, Stream = TcpStream>
-        + Eprint
         + Copy
         + Send
         + Sync,
->(rt: &H, line: &str, input: &str, reads: usize, writes: usize) -> Result<(u8, bool), Fail> {
+>(rt: &H, line: &str, input: &str, reads: usize, writes: usize) -> Result<Outcome, Fail> {
     let alloc = rt.alloc();
     let words: Vec<&str> = line.split(' ').collect(alloc)?;
     let mut reader = FailingReader {
@@ -50,8 +58,20 @@ fn status_where_fails<
         good: writes,
         failed: false,
     };
-    let status = command(rt, rt.alloc(), &words, &mut reader, &mut writer);
-    Ok((status, reader.failed || writer.failed))
+    let mut errors = Vec::new(alloc);
+    let status = command(
+        rt,
+        rt.alloc(),
+        &words,
+        &mut reader,
+        &mut writer,
+        &mut errors,
+    );
+    Ok(Outcome {
+        status,
+        failed: reader.failed || writer.failed,
+        told: String::from_utf8(errors)?,
+    })
 }
 
 #[derive(Clone, Copy)]
@@ -60,13 +80,24 @@ enum Device {
     Writer,
 }
 
-/// Whether each failure of the device gives the status 3, and the answer is the ample one where it doesn't fail.
+impl Device {
+    /// What is said of its failure, with the system's words.
+    fn fault(self) -> &'static str {
+        match self {
+            Device::Reader =>
+                "hub: standard input could not be read: Input/output error (os error 5)\n",
+            Device::Writer =>
+                "hub: standard output could not be written: No space left on device (os error 28)\n",
+        }
+    }
+}
+
+/// Whether each failure of the device is told and gives the status 3, and the answer is the ample one where it doesn't fail.
 fn tells_failures<
     H: AllocGlobal
         + Threads
         + Wait
         + Net<Listener = TcpListener, Stream = TcpStream>
-        + Eprint
         + Copy
         + Send
         + Sync,
@@ -76,11 +107,11 @@ fn tells_failures<
             Device::Reader => (good, usize::MAX),
             Device::Writer => (usize::MAX, good),
         };
-        let (status, failed) = status_where_fails(rt, line, input, reads, writes)?;
-        if !failed {
-            return Ok(good > 0 && status == ample);
+        let outcome = outcome_where_fails(rt, line, input, reads, writes)?;
+        if !outcome.failed {
+            return Ok(good > 0 && outcome.status == ample && outcome.told.is_empty());
         }
-        if status != 3 {
+        if outcome.status != 3 || outcome.told.as_str() != device.fault() {
             return Ok(false);
         }
     }
@@ -94,7 +125,6 @@ fn first_untold<
         + Threads
         + Wait
         + Net<Listener = TcpListener, Stream = TcpStream>
-        + Eprint
         + Copy
         + Send
         + Sync,
@@ -120,9 +150,9 @@ fn a_failed_read_or_write_is_told(rt: HostRuntime) -> Result<(), Fail> {
 fn run_reads_no_more_than_it_needs(rt: HostRuntime) -> Result<(), Fail> {
     let input = "a".repeat(rt.alloc(), 131_080)?;
     let line = "hub run b7000000010000009500000000000000";
-    let long = status_where_fails(&rt, line, input.as_str(), 131_073, usize::MAX)?;
-    assert_eq!(rt; long, (1, false));
-    let refused = status_where_fails(&rt, "hub run 9", "text", 0, usize::MAX)?;
-    assert_eq!(rt; refused, (1, false));
+    let long = outcome_where_fails(&rt, line, input.as_str(), 131_073, usize::MAX)?;
+    assert_eq!(rt; (long.status, long.failed), (1, false));
+    let refused = outcome_where_fails(&rt, "hub run 9", "text", 0, usize::MAX)?;
+    assert_eq!(rt; (refused.status, refused.failed), (1, false));
     Ok(())
 }

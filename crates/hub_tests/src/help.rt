@@ -1,5 +1,4 @@
 use crate::answers::answer;
-use std::io::Eprint;
 use std::net::{Net, TcpListener, TcpStream};
 use std::sync::Wait;
 use std::test::Fail;
@@ -22,7 +21,6 @@ fn first_silent<
         + Threads
         + Wait
         + Net<Listener = TcpListener, Stream = TcpStream>
-        + Eprint
         + Copy
         + Send
         + Sync,

@@ -2,7 +2,6 @@ use crate::answers::is_answered;
 use std::alloc::{AllocError, Global};
 use std::fmt;
 use std::fmt::Write;
-use std::io::Eprint;
 use std::net::{Net, TcpListener, TcpStream};
 use std::sync::Wait;
 use std::test::Fail;
@@ -464,7 +463,6 @@ fn first_wrong<
         + Threads
         + Wait
         + Net<Listener = TcpListener, Stream = TcpStream>
-        + Eprint
         + Copy
         + Send
         + Sync,

@@ -4,7 +4,6 @@ use crate::answers::{answer, is_answered};
 use crate::refused_requests::{LAST, REFUSED};
 use std::alloc::{AllocError, Global};
 use std::fmt::Write;
-use std::io::Eprint;
 use std::net::{Net, TcpListener, TcpStream};
 use std::sync::Wait;
 use std::test::Fail;
@@ -214,7 +213,6 @@ fn is_unchanged<
         + Threads
         + Wait
         + Net<Listener = TcpListener, Stream = TcpStream>
-        + Eprint
         + Copy
         + Send
         + Sync,
@@ -233,7 +231,6 @@ fn first_spoiled<
         + Threads
         + Wait
         + Net<Listener = TcpListener, Stream = TcpStream>
-        + Eprint
         + Copy
         + Send
         + Sync,

@@ -21,7 +21,7 @@ pub enum LineRefusal {
 #[derive(Clone, Copy)]
 pub enum ReadFault {
     /// A read failed.
-    Device,
+    Device(io::Error),
     /// No memory was found for the lines.
     Memory,
 }
@@ -60,7 +60,7 @@ impl From<io::Error> for ReadFault {
         if error.kind() == io::ErrorKind::OutOfMemory {
             ReadFault::Memory
         } else {
-            ReadFault::Device
+            ReadFault::Device(error)
         }
     }
 }

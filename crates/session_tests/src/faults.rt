@@ -138,7 +138,7 @@ fn first_wrong_read<R: Threads + Wait + Copy + Send + Sync>(
     for reads in 0..1000usize {
         let outcome = tried(rt, alloc, reads, usize::MAX)?;
         let told = if outcome.unread {
-            matches!(outcome.ended, Err(SessionFault::Read))
+            matches!(outcome.ended, Err(SessionFault::Read(_)))
         } else {
             outcome.ended.is_ok() && outcome.printed.len() == QUEUE_OF_ONE_REPLIES.len()
         };
@@ -160,7 +160,7 @@ fn first_wrong_write<R: Threads + Wait + Copy + Send + Sync>(
     for writes in 0..1000usize {
         let outcome = tried(rt, alloc, usize::MAX, writes)?;
         let told = if outcome.unwritten {
-            matches!(outcome.ended, Err(SessionFault::Write))
+            matches!(outcome.ended, Err(SessionFault::Write(_)))
         } else {
             outcome.ended.is_ok() && outcome.printed.len() == QUEUE_OF_ONE_REPLIES.len()
         };

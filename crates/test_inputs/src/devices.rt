@@ -1,5 +1,11 @@
 use std::io;
 
+/// The error of a read that fails: of the device itself.
+const EIO: i32 = 5;
+
+/// The error of a write that fails: the device is full.
+const ENOSPC: i32 = 28;
+
 /// A reader over bytes that gives one at a time, and whose reads fail once `good` of them are done.
 #[derive(Drop)]
 pub struct FailingReader<'a> {
@@ -12,7 +18,7 @@ impl io::Read for FailingReader<'_> {
     fn read(&mut self, buf: &mut [u8]) -> io::Result<usize> {
         if self.good == 0 {
             self.failed = true;
-            return Err(io::Error::from(io::ErrorKind::Other));
+            return Err(io::Error::from_raw_os_error(EIO));
         }
         self.good -= 1;
         let rest = self.rest;
@@ -41,7 +47,7 @@ impl io::Write for FailingWriter {
     fn write(&mut self, buf: &[u8]) -> io::Result<usize> {
         if self.good == 0 {
             self.failed = true;
-            return Err(io::Error::from(io::ErrorKind::Other));
+            return Err(io::Error::from_raw_os_error(ENOSPC));
         }
         self.good -= 1;
         let Some(byte) = buf.first() else {

@@ -1,0 +1,32 @@
+-- What is said beside the refusal of an input whose form is wrong.
+use Rattle.std.specs.Prelude.{ℕ, nat_le, nat_eq, ◌||◌, ◌&&◌, if◌then◌else◌, Bool, List, [], ◌∷◌, Option, Some, None}
+use Rattle.std.specs.List.{list_all, starts_with}
+use Rattle.hub_requests.specs.declared.Command.{Command}
+use Rattle.hub_requests.specs.declared.Command.TheVariants.{Asm, Check, Dis, Run, Spans}
+use Rattle.hub_commands.specs.declared.hint.Hint.{Hint}
+use Rattle.hub_commands.specs.declared.hint.Hint.TheVariants.{ByteOrderMark, Binary}
+use Rattle.hub_commands.specs.Hexadecimal.{is_blank}
+
+-- it begins with the UTF-8 form of U+FEFF
+abbrev pub begins_with_mark : List ℕ → Bool
+begins_with_mark input = starts_with nat_eq input (0xef ∷ 0xbb ∷ 0xbf ∷ [])
+
+-- a blank, or a printable byte of ASCII
+abbrev pub is_printable : ℕ → Bool
+is_printable byte = is_blank byte || (nat_le 0x20 byte && nat_le byte 0x7e)
+
+-- to text
+unfoldable pub text_hint : List ℕ → Option Hint
+text_hint input = if begins_with_mark input then Some ByteOrderMark else None
+
+-- to hexadecimal digits
+unfoldable pub digits_hint : List ℕ → Option Hint
+digits_hint input = if begins_with_mark input then Some ByteOrderMark else (if list_all is_printable input then None else Some Binary)
+
+-- to the input of a command
+abbrev pub hint_to : Command → List ℕ → Option Hint
+hint_to Asm = text_hint
+hint_to (Check detail profile) = digits_hint
+hint_to Dis = digits_hint
+hint_to (Run shown digits options) = λ input. None
+hint_to Spans = text_hint
