@@ -1,8 +1,8 @@
 -- Between two cuts all characters have one format.
-use Rattle.std.proofs.Common.{◌≡◌, ◌↔◌, ℕ, ◌+◌, ◌<◌, ◌≤◌, List, [], ◌∷◌, ◌++◌, Some, inl, inr, ◌⊎◌, length, set, sym, ap, refl, ◌∙◌, subst, arith, ⊎_elim}
+use Rattle.std.proofs.Common.{◌≡◌, ◌↔◌, ℕ, ◌+◌, ◌<◌, ◌≤◌, List, [], ◌∷◌, ◌++◌, Some, inl, inr, ◌⊎◌, length, sym, ap, refl, ◌∙◌, subst, arith, ⊎_elim}
 use Rattle.std.specs.List.{slice_get, Contains}
 use Rattle.std.proofs.lemmas.Bool.{cases_lt}
-use Rattle.std.proofs.lemmas.List.{length_push, length-set}
+use Rattle.std.proofs.lemmas.List.{length_push}
 use Rattle.std.proofs.lemmas.Option.{same_Some, none-some, slice_get_within}
 use Rattle.change_ops.specs.Operations.{key_of, AnchorNames, Names}
 use Rattle.change_ops.specs.declared.id.OpId.{OpId}
@@ -15,7 +15,6 @@ use Rattle.change_ops.specs.declared.operation.Op.{Op}
 use Rattle.change_ops.specs.declared.operation.Op.TheVariants.{Insert, Remove, AddMark, RemoveMark}
 use Rattle.char_sequence.specs.declared.sequence.Element.{Element}
 use Rattle.char_sequence.specs.Order.{Shows}
-use Rattle.char_sequence.proofs.Lists.{slice_get_set_same, slice_get_set_other}
 use Rattle.mark_anchors.specs.Format.{Touches, Decides, Bears, IsFormat}
 use Rattle.mark_anchors.specs.Formatting.{Formatting}
 use Rattle.mark_anchors.specs.Marks.{AreMarks}
@@ -26,7 +25,7 @@ use Rattle.mark_anchors.specs.declared.mark_range.MarkRange.{MarkRange}
 use Rattle.mark_anchors.specs.declared.ranges.FormattedRange.{FormattedRange}
 use Rattle.mark_anchors.proofs.Commenting.{rises}
 use Rattle.mark_anchors.proofs.Deciding.{touches_from_place, place_from_touches, of_key_from_touches, mark_from_key}
-use Rattle.mark_anchors.proofs.Lists.{contains_at, contains_from, item_at, pushed_at}
+use Rattle.mark_anchors.proofs.Lists.{contains_at, contains_from, pushed_at}
 
 -- ---- two characters that the same marks touch
 module _ (ops : List Op) (e f : OpId) (alike : (key : Key) (o : Op) → Contains ops o → Touches ops key e o ↔ Touches ops key f o) where
@@ -226,89 +225,3 @@ ranges_more es marks from ranges r are begins some within formatted = record {
       (λ (new : (i ≡ length ranges) × (r ≡ s)). subst (IsOfFormat es marks) new.1 formatted)
       (pushed_at ranges r i s g);
 }
-
--- the last range goes on up to a later place
-module _ (es : List Element) (marks : List Op) (from to : ℕ) (ranges : List FormattedRange) (are : AreRanges es marks from ranges) (i : ℕ) (last long : FormattedRange)
-    (at : slice_get ranges i ≡ Some last) (end : i + 1 ≡ length ranges) (begins : long.from ≡ last.from) (ends : long.to ≡ to) (same : long.format ≡ last.format)
-    (order : from < to) (inside : to ≤ length es) (uniform : IsUniform es marks from to)
-    (formatted : (ops : List Op) (e : Element) → Shows es ops → AreMarks ops marks → slice_get es from ≡ Some e → IsFormat ops e.id last.format) where
-  until : last.to ≡ from
-  until = are.last i last end at
-
-  other_range : (k : ℕ) (r : FormattedRange) → slice_get (set ranges i long) k ≡ Some r → ((k < i) × (slice_get ranges k ≡ Some r)) ⊎ ((k ≡ i) × (long ≡ r))
-  other_range k r g =
-      ⊎_elim
-      (λ (before : k < i). inl (before, sym (slice_get_set_other ranges i k long (λ (e : k ≡ i). absurd (omega arith))) ∙ g))
-      (λ (from : i ≤ k).
-      ⊎_elim
-      (λ (behind : i < k).
-      let old : slice_get ranges k ≡ Some r = sym (slice_get_set_other ranges i k long (λ (e : k ≡ i). absurd (omega arith))) ∙ g in
-      let within : k < length ranges = slice_get_within ranges k r old in
-      absurd (omega arith))
-      (λ (upto : k ≤ i).
-      let is : k ≡ i = omega arith in
-      inr (is, same_Some long r (sym (slice_get_set_same ranges i long (omega arith)) ∙ ap (slice_get (set ranges i long)) (sym is) ∙ g)))
-      (cases_lt i k))
-      (cases_lt k i)
-
-  long_formatted : IsOfFormat es marks long
-  long_formatted ops place e shows held low high here =
-      subst (IsFormat ops e.id) (sym same)
-      (⊎_elim
-      (λ (early : place < from). are.formatted i last at ops place e shows held (omega (arith, begins)) (omega (arith, until)) here)
-      (λ (late : from ≤ place).
-      let first = item_at es from (omega arith) in
-      one_format_between ops es marks from to place first.0 e shows held uniform first.1 here late (omega arith) last.format (formatted ops first.0 shows held first.1))
-      (cases_lt place from))
-
-  pub ranges_longer : AreRanges es marks to (set ranges i long)
-  ranges_longer = record {
-    none = λ e. let size : length (set ranges i long) ≡ length ranges = length-set ranges i long in absurd (omega arith);
-    first =
-        λ r g.
-        ⊎_elim
-        (λ (old : (0 < i) × (slice_get ranges 0 ≡ Some r)). are.first r old.1)
-        (λ (new : (0 ≡ i) × (long ≡ r)). ap (λ (z : FormattedRange). z.from) (sym new.1) ∙ begins ∙ are.first last (ap (slice_get ranges) new.0 ∙ at))
-        (other_range 0 r g);
-    next =
-        λ k r s g h.
-        ⊎_elim
-        (λ (later : (k + 1 < i) × (slice_get ranges (k + 1) ≡ Some s)).
-        let less : k + 1 < i = later.0 in
-        ⊎_elim
-        (λ (old : (k < i) × (slice_get ranges k ≡ Some r)). are.next k r s old.1 later.1)
-        (λ (new : (k ≡ i) × (long ≡ r)). let is : k ≡ i = new.0 in absurd (omega arith))
-        (other_range k r g))
-        (λ (new : (k + 1 ≡ i) × (long ≡ s)).
-        let is : k + 1 ≡ i = new.0 in
-        ⊎_elim
-        (λ (old : (k < i) × (slice_get ranges k ≡ Some r)). ap (λ (z : FormattedRange). z.from) (sym new.1) ∙ begins ∙ are.next k r last old.1 (ap (slice_get ranges) is ∙ at))
-        (λ (also : (k ≡ i) × (long ≡ r)). let both : k ≡ i = also.0 in absurd (omega arith))
-        (other_range k r g))
-        (other_range (k + 1) s h);
-    last =
-        λ k r e g.
-        let size : length (set ranges i long) ≡ length ranges = length-set ranges i long in
-        ⊎_elim
-        (λ (old : (k < i) × (slice_get ranges k ≡ Some r)). let less : k < i = old.0 in absurd (omega arith))
-        (λ (new : (k ≡ i) × (long ≡ r)). ap (λ (z : FormattedRange). z.to) (sym new.1) ∙ ends)
-        (other_range k r g);
-    some =
-        λ k r g.
-        ⊎_elim
-        (λ (old : (k < i) × (slice_get ranges k ≡ Some r)). are.some k r old.1)
-        (λ (new : (k ≡ i) × (long ≡ r)). let was : last.from < last.to = are.some i last at in subst (λ (z : FormattedRange). z.from < z.to) new.1 (omega (arith, until)))
-        (other_range k r g);
-    within =
-        λ k r g.
-        ⊎_elim
-        (λ (old : (k < i) × (slice_get ranges k ≡ Some r)). are.within k r old.1)
-        (λ (new : (k ≡ i) × (long ≡ r)). subst (λ (z : FormattedRange). z.to ≤ length es) new.1 (omega arith))
-        (other_range k r g);
-    formatted =
-        λ k r g.
-        ⊎_elim
-        (λ (old : (k < i) × (slice_get ranges k ≡ Some r)). are.formatted k r old.1)
-        (λ (new : (k ≡ i) × (long ≡ r)). subst (IsOfFormat es marks) new.1 long_formatted)
-        (other_range k r g);
-  }

@@ -107,23 +107,6 @@ impl Format {
             && self.comments.count() == 0
     }
 
-    /// Whether these are the values of all keys but the comments.
-    pub(crate) fn has_values(
-        &self,
-        strong: bool,
-        em: bool,
-        code: bool,
-        link: Option<&Link>,
-        color: Option<Color>,
-    ) -> bool
-        ensures { IsTrue result → (self.now.strong ≡ strong) × (self.now.em ≡ em) × (self.now.code ≡ code) × (self.now.link ≡ option_copied link.entry) × (self.now.color ≡ color) }
-    {
-        if self.strong != strong || self.em != em || self.code != code || self.color != color {
-            return false;
-        }
-        is_same_link(self.link.as_ref(), link)
-    }
-
     /// Whether the character is strong.
     pub fn strong(&self) -> bool
         ensures { result ≡ self.now.strong }
@@ -172,19 +155,6 @@ impl Format {
         ensures rising { IsStrictlyIncreasing result }
     {
         self.comments.numbers()
-    }
-}
-
-/// Whether the links are the same, or neither is there.
-fn is_same_link(first: Option<&Link>, second: Option<&Link>) -> bool
-    ensures { IsTrue result → option_copied first.entry ≡ option_copied second.entry }
-{
-    match first {
-        Some(link) => match second {
-            Some(other) => *link == *other,
-            None => false,
-        },
-        None => second.is_none(),
     }
 }
 

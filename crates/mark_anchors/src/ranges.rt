@@ -1,12 +1,9 @@
 //! A text in ranges of places, each of one format.
-ghost use Rattle.std.specs.Prelude.{◌≡◌, ◌<◌, ◌≤◌, ◌-◌, List, Some, IfOk, IsTrue, length, slice_get};
+ghost use Rattle.std.specs.Prelude.{◌≡◌, ◌≤◌, List, IfOk, length};
 ghost use Rattle.change_ops.specs.declared.operation.Op.{Op};
-ghost use Rattle.char_sequence.specs.declared.sequence.Element.{Element};
 ghost use Rattle.char_sequence.specs.Order.{Shows};
-ghost use Rattle.mark_anchors.specs.Format.{IsFormat};
 ghost use Rattle.mark_anchors.specs.Marks.{AreMarks};
 ghost use Rattle.mark_anchors.specs.Ranges.{AreRanges, IsUniform};
-ghost use Rattle.mark_anchors.specs.declared.ranges.FormattedRange.{FormattedRange};
 
 use crate::format::Format;
 use crate::marks::Marks;
@@ -23,31 +20,7 @@ pub struct FormattedRange {
     pub format: Format,
 }
 
-/// Whether the last range has the format of the character at the place.
-fn goes_on(
-    ranges: &[FormattedRange],
-    resolved: &ResolvedMarks<'_>,
-    place: usize,
-) -> Result<bool, AllocError>
-    requires { place < length resolved.now.elements }
-    ensures some { IfOk result (λ same. IsTrue same → 0 < length ranges.now) }
-    ensures format { (ops : List Op) (e : Element) (r : FormattedRange) → Shows resolved.now.elements ops → AreMarks ops resolved.now.marks → slice_get resolved.now.elements place ≡ Some e → slice_get ranges.now (length ranges.now - 1) ≡ Some r → IfOk result (λ same. IsTrue same → IsFormat ops e.id r.format) }
-{
-    let count = ranges.len();
-    if count == 0 {
-        return Ok(false);
-    }
-    resolved.has_format(place, &ranges[count - 1].format)
-}
-
-/// Moves the range's end.
-fn lengthen(range: &mut FormattedRange, to: usize)
-    ensures { range.new ≡ record { from = range.old.from; to = to; format = range.old.format } }
-{
-    range.to = to;
-}
-
-/// Adds the range up to the next cut, if there is a character in it, or lengthens the last one where that has the same format.
+/// Adds the range up to the next cut, if there is a character in it.
 fn add_range(
     ranges: &mut Vec<FormattedRange>,
     resolved: &ResolvedMarks<'_>,
@@ -60,11 +33,6 @@ fn add_range(
     ensures { AreRanges resolved.now.elements resolved.now.marks from ranges.old.items → IfOk result (λ _. AreRanges resolved.now.elements resolved.now.marks to ranges.new.items) }
 {
     if from == to {
-        return Ok(());
-    }
-    if goes_on(ranges, resolved, from)? {
-        let last = ranges.len() - 1;
-        lengthen(&mut ranges[last], to);
         return Ok(());
     }
     let format = resolved.format_at_place(from)?;

@@ -1,4 +1,4 @@
-ghost use Rattle.std.specs.Prelude.{◌≡◌, ◌<◌, List, Some, IfOk, IsTrue, length, slice_get};
+ghost use Rattle.std.specs.Prelude.{◌≡◌, ◌<◌, List, Some, IfOk, length, slice_get};
 ghost use Rattle.char_sequence.specs.declared.sequence.Element.{Element};
 ghost use Rattle.char_sequence.specs.Tree.{Present};
 ghost use Rattle.char_sequence.specs.Order.{Shows};
@@ -117,23 +117,5 @@ impl ResolvedMarks<'_> {
             color: color_at(operations, &self.color, place),
             comments: self.comments.at(place)?,
         })
-    }
-
-    /// Whether the format is that of the character at the place, so that it needn't be built again.
-    pub(crate) fn has_format(&self, place: usize, format: &Format) -> Result<bool, AllocError>
-        requires { place < length self.now.elements }
-        ensures { (ops : List Op) (e : Element) → Shows self.now.elements ops → AreMarks ops self.now.marks → slice_get self.now.elements place ≡ Some e → IfOk result (λ same. IsTrue same → IsFormat ops e.id format.now) }
-    {
-        let operations = self.operations;
-        let strong = holds_at(operations, &self.strong, place);
-        let em = holds_at(operations, &self.em, place);
-        let code = holds_at(operations, &self.code, place);
-        let link = link_at(operations, &self.link, place);
-        let color = color_at(operations, &self.color, place);
-        if !format.has_values(strong, em, code, link, color) {
-            return Ok(false);
-        }
-        let comments = self.comments.at(place)?;
-        Ok(comments.is_same(&format.comments))
     }
 }
