@@ -23,7 +23,7 @@ use Rattle.assembler.specs.declared.fault.AsmError.{AsmError}
 use Rattle.assembler.specs.Text.{AsmText, AsmFault}
 use Rattle.hub_requests.specs.declared.SpanOptions.{SpanOptions}
 use Rattle.refusals.specs.declared.reason.Reason.TheVariants.{BadHex, Words, Source}
-use Rattle.hub_commands.specs.Answers.{Reply, done, behind}
+use Rattle.hub_commands.specs.Answers.{Reply, IsWritten, IsAnswered, done, behind}
 use Rattle.hub_commands.specs.Hexadecimal.{slot_lines}
 use Rattle.hub_commands.specs.Reasons.{refusal}
 use Rattle.hub_commands.specs.Programs.{IsAsmReply, no_source, assembled, IsProgramReply, no_hex, no_program, program, facts_of, link_of, bytes_of, outcome_reply, IsSpanReply, no_text, ran, IsTracedReply, not_run, traced}
@@ -32,6 +32,12 @@ use Rattle.hub_commands.specs.Programs.{IsAsmReply, no_source, assembled, IsProg
 pub mapped : {A E : Type 0} (P Q : A → Type 0) (result : Result A E) → IfOk result P → ((x : A) → P x → Q x) → IfOk result Q
 mapped P Q (Ok x) h f = f x h
 mapped P Q (Err e) h f = tt
+
+-- a reply to what was read of a known input, and written, answers the input
+pub answered : (IsReply : List ℕ → Reply → Type 0) (known old new : Option (List ℕ)) (input lent : List ℕ) (reply : Reply) (status : ℕ) → IfSome known (λ bytes. input ≡ bytes)
+    → lent ≡ input → IsReply lent reply → IsWritten reply old new status → IsAnswered IsReply known old new status
+answered IsReply None old new input lent reply status same lends is written = tt
+answered IsReply (Some bytes) old new input lent reply status same lends is written = (reply, subst (λ (l : List ℕ). IsReply l reply) (lends ∙ same) is, written)
 
 -- what holds of the bytes that a reader has left, where they are known
 pub where_known : (known : Option (List ℕ)) (P : List ℕ → Type 0) → ((bytes : List ℕ) → known ≡ Some bytes → P bytes) → IfSome known P
