@@ -1,5 +1,5 @@
 ghost use Rattle.std.specs.Prelude.{◌≡◌, ◌≤◌, ℕ, IsTrue, IfOk, OnOk, Ok, Some, IsSome, IfSome, ◌↔◌};
-ghost use Rattle.std.specs.String.{string_bytes};
+ghost use Rattle.std.specs.Arc.{arc_str_bytes};
 ghost use Rattle.std.specs.Option.{option_map};
 ghost use Rattle.std.specs.Prelude.{nat_eq};
 ghost use Rattle.std.specs.List.{list_all};
@@ -10,10 +10,11 @@ ghost use Rattle.change_ops.specs.Attributes.{is_color, is_comment_number, is_li
 
 use std::alloc::{AllocError, Global};
 use std::marker::Model;
+use std::sync::ArcStr;
 
-/// The target of a link: 1 to 1,024 bytes of 0x21 to 0x7e.
+/// The target of a link: 1 to 1,024 bytes of 0x21 to 0x7e, which its clones share.
 pub struct Link {
-    target: String,
+    target: ArcStr<Global>,
 }
 
 impl Drop for Link {
@@ -24,14 +25,14 @@ impl Drop for Link {
 
 impl Model for Link {
     ghost use Rattle.std.specs.Prelude.{ℕ, List, IsTrue};
-    ghost use Rattle.std.specs.String.{string_bytes};
+    ghost use Rattle.std.specs.Arc.{arc_str_bytes};
     ghost use Rattle.change_ops.specs.Attributes.{is_link};
 
     ghost Value = { List ℕ };
 
-    ghost view = { λ l. string_bytes l.target };
+    ghost view = { λ l. arc_str_bytes l.target };
 
-    ghost invariant = { λ l. IsTrue (is_link (string_bytes l.target)) };
+    ghost invariant = { λ l. IsTrue (is_link (arc_str_bytes l.target)) };
 }
 
 fn is_target_byte(byte: u8) -> bool
@@ -87,7 +88,7 @@ impl Link {
         if !is_target(target.as_bytes()) {
             return Ok(None);
         }
-        let target = String::from_str(alloc, target)?;
+        let target = ArcStr::from_str(alloc, target)?;
         Ok(Some(Link { target }))
     }
 
