@@ -15,6 +15,7 @@ pub mod Grouping
 pub mod Uniform
 pub mod Cuts
 pub mod FormatLaws
+pub mod Jumps
 pub mod Painting
 pub mod Stretching
 pub mod Running

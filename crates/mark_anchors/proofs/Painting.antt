@@ -1,5 +1,5 @@
 -- Marks painted over places, one after another.
-use Rattle.std.proofs.Common.{◌≡◌, ℕ, ◌+◌, ◌<◌, ◌≤◌, ◌↔◌, List, [], ◌∷◌, ◌++◌, Option, Some, None, inl, inr, length, get_or, sym, ap, refl, ◌∙◌, subst, ⊎_elim, arith, rules, Bor}
+use Rattle.std.proofs.Common.{◌≡◌, ◌≢◌, ℕ, ◌+◌, ◌<◌, ◌≤◌, ◌↔◌, List, [], ◌∷◌, ◌++◌, Option, Some, None, ◌⊎◌, inl, inr, length, get_or, sym, ap, refl, ◌∙◌, subst, ⊎_elim, arith, rules, Bor}
 use Rattle.std.specs.List.{slice_get, Contains}
 use Rattle.std.proofs.Math.ListN.{set}
 use Rattle.std.proofs.lemmas.List.{length-set}
@@ -10,20 +10,20 @@ use Rattle.std.specs.Ordering.{nat_cmp, ordering_index}
 use Rattle.std.specs.declared.result.Result.TheVariants.{Ok, Err}
 use Rattle.std.specs.Option.{option_copied}
 use Rattle.std.specs.Slice.{IsItemAt}
-use Rattle.std.proofs.lemmas.Bool.{cases_lt, false≢true, ltb-true, lt-ltb}
+use Rattle.std.proofs.lemmas.Bool.{cases_lt, cases_eq, false≢true, ltb-true, lt-ltb}
 use Rattle.std.proofs.lemmas.List.Elements.{Contains-append_left, Contains-push, Contains-push_cases}
 use Rattle.std.proofs.lemmas.List.Kept.{AllPairs-from_increasing}
 use Rattle.std.proofs.lemmas.List.Sorted.{searched, searchable_from_sorted}
-use Rattle.std.proofs.lemmas.Option.{same_Some, slice_get_within, slice_get_past, slice_get_read, get_or_from_slice_get}
+use Rattle.std.proofs.lemmas.Option.{same_Some, none-some, slice_get_within, slice_get_past, slice_get_read, get_or_from_slice_get}
 use Rattle.change_ops.specs.Ids.{Less, id_cmp}
 use Rattle.change_ops.specs.declared.id.OpId.{OpId}
 use Rattle.change_ops.proofs.IdLaws.{compares_ids}
+use Rattle.char_sequence.proofs.Ids.{less_irrefl}
 use Rattle.char_sequence.proofs.Lists.{slice_get_set_same, slice_get_set_other}
 use Rattle.mark_anchors.specs.Placed.{CoversPlace, IsBest}
-use Rattle.mark_anchors.specs.KeyMarks.{AreById, IsEndOf, IsCountBelow, IsCountUpTo, ArePainted, AreOver, numbered}
+use Rattle.mark_anchors.specs.KeyMarks.{AreById, IsEndOf, IsCountBelow, IsCountUpTo, ArePainted, AreOver, numbered, ArePaintedFrom, IsLast, IsFree, NoneFree, AreJumpsOver}
 use Rattle.mark_anchors.specs.declared.placed.PlacedMark.{PlacedMark}
-use Rattle.mark_anchors.proofs.Deciding.{best_new, more_skipped}
-use Rattle.mark_anchors.proofs.Lists.{contains_at, contains_from}
+use Rattle.mark_anchors.proofs.Lists.{contains_at, contains_from, item_at}
 
 -- ---- how many places are before one
 pub ascending : (xs : List ℕ) → IsStrictlyIncreasing xs → (i j : ℕ) → i ≤ j → j < length xs → get_or xs i 0 ≤ get_or xs j 0
@@ -90,77 +90,182 @@ by_id_from_sort marks sorted i j p q less at next below =
     let two : ordering_index (id_cmp p.id q.id) ≡ 2 = greater_index p.id q.id below in
     absurd (omega arith)
 
--- ---- one mark more
--- the numbers from one index up to another are this one, and the others are as they were
+-- ---- one mark more, below those that are painted
+-- where there was no number, from one index up to another, is this number, and the others are as they were
 pub record IsFilled (old new : List (Option ℕ)) (from upto to number : ℕ) : Type 0 where
   pub sized : length new ≡ length old
-  pub within : (j : ℕ) → from ≤ j → j < upto → j < to
-  pub inside : (j : ℕ) → from ≤ j → j < upto → slice_get new j ≡ Some (Some number)
+  pub within : (j : ℕ) → from ≤ j → j < upto → slice_get old j ≡ Some None → j < to
+  pub inside : (j : ℕ) → from ≤ j → j < upto → slice_get old j ≡ Some None → slice_get new j ≡ Some (Some number)
+  pub kept : (j n : ℕ) → slice_get old j ≡ Some (Some n) → slice_get new j ≡ Some (Some n)
   pub before : (j : ℕ) → j < from → slice_get new j ≡ slice_get old j
   pub behind : (j : ℕ) → upto ≤ j → slice_get new j ≡ slice_get old j
 
 pub filled_none : (old : List (Option ℕ)) (from to number : ℕ) → IsFilled old old from from to number
 filled_none old from to number = record {
   sized = refl;
-  within = λ j low high. absurd (omega arith);
-  inside = λ j low high. absurd (omega arith);
+  within = λ j low high none. absurd (omega arith);
+  inside = λ j low high none. absurd (omega arith);
+  kept = λ j n is. is;
   before = λ j less. refl;
   behind = λ j ge. refl;
 }
 
-pub filled_more : (old new : List (Option ℕ)) (from upto to number : ℕ) → upto < to → from ≤ upto → upto < length new → IsFilled old new from upto to number → IsFilled old (set new upto (Some number)) from (upto + 1) to number
-filled_more old new from upto to number next low within f = record {
-  sized = length-set new upto (Some number) ∙ f.sized;
-  within = λ j a b. omega arith;
-  inside =
-      λ j a b.
-      ⊎_elim
-      (λ (less : j < upto). slice_get_set_other new upto j (Some number) (λ same. absurd (omega arith)) ∙ f.inside j a less)
-      (λ (ge : upto ≤ j). let same : j ≡ upto = omega arith in ap (slice_get (set new upto (Some number))) same ∙ slice_get_set_same new upto (Some number) within)
-      (cases_lt j upto);
-  before = λ j less. slice_get_set_other new upto j (Some number) (λ same. absurd (omega arith)) ∙ f.before j less;
-  behind = λ j ge. slice_get_set_other new upto j (Some number) (λ same. absurd (omega arith)) ∙ f.behind j (omega arith);
+-- up to the next free place there is nothing to fill
+pub filled_on : (jumps : List ℕ) (old new : List (Option ℕ)) (from upto next to number : ℕ) → AreJumpsOver jumps new → NoneFree jumps upto next → upto ≤ next → IsFilled old new from upto to number → IsFilled old new from next to number
+filled_on jumps old new from upto next to number over none low f =
+    let taken = λ (j : ℕ) (ge : upto ≤ j) (less : j < next) (is : slice_get old j ≡ Some None).
+    none j ge less ((over.free j (slice_get_within new j None (f.behind j ge ∙ is))).1 (f.behind j ge ∙ is)) in
+    record {
+      sized = f.sized;
+      within =
+          λ j a b is.
+          ⊎_elim
+          (λ (less : j < upto). f.within j a less is)
+          (λ (ge : upto ≤ j). absurd (taken j ge b is))
+          (cases_lt j upto);
+      inside =
+          λ j a b is.
+          ⊎_elim
+          (λ (less : j < upto). f.inside j a less is)
+          (λ (ge : upto ≤ j). absurd (taken j ge b is))
+          (cases_lt j upto);
+      kept = f.kept;
+      before = f.before;
+      behind = λ j ge. f.behind j (omega arith);
+    }
+
+-- the place that is free gets the number
+pub filled_more : (jumps : List ℕ) (old new : List (Option ℕ)) (from upto to number : ℕ) → AreJumpsOver jumps new → IsFree jumps upto → upto < to → from ≤ upto → upto < length new → IsFilled old new from upto to number → IsFilled old (set new upto (Some number)) from (upto + 1) to number
+filled_more jumps old new from upto to number over free next low inside f =
+    let none : slice_get old upto ≡ Some None = sym (f.behind upto (omega arith)) ∙ (over.free upto inside).0 free in
+    let there : slice_get (set new upto (Some number)) upto ≡ Some (Some number) = slice_get_set_same new upto (Some number) inside in
+    record {
+      sized = length-set new upto (Some number) ∙ f.sized;
+      within =
+          λ j a b is.
+          ⊎_elim
+          (λ (less : j < upto). f.within j a less is)
+          (λ (ge : upto ≤ j). omega arith)
+          (cases_lt j upto);
+      inside =
+          λ j a b is.
+          ⊎_elim
+          (λ (less : j < upto). slice_get_set_other new upto j (Some number) (λ same. absurd (omega arith)) ∙ f.inside j a less is)
+          (λ (ge : upto ≤ j). let same : j ≡ upto = omega arith in ap (slice_get (set new upto (Some number))) same ∙ there)
+          (cases_lt j upto);
+      kept =
+          λ j n is.
+          slice_get_set_other new upto j (Some number) (λ same. none-some n (same_Some None (Some n) (sym none ∙ ap (slice_get old) (sym same) ∙ is))) ∙ f.kept j n is;
+      before = λ j less. slice_get_set_other new upto j (Some number) (λ same. absurd (omega arith)) ∙ f.before j less;
+      behind = λ j ge. slice_get_set_other new upto j (Some number) (λ same. absurd (omega arith)) ∙ f.behind j (omega arith);
+    }
+
+number_cases : (numbers : List (Option ℕ)) (j : ℕ) → j < length numbers → (slice_get numbers j ≡ Some None) ⊎ ((n : ℕ) × (slice_get numbers j ≡ Some (Some n)))
+number_cases numbers j less = let it = item_at numbers j less in cases it.0 it.1
+  where
+    cases : (x : Option ℕ) → slice_get numbers j ≡ Some x → (slice_get numbers j ≡ Some None) ⊎ ((n : ℕ) × (slice_get numbers j ≡ Some (Some n)))
+    cases None is = inl is
+    cases (Some n) is = inr (n, is)
+
+-- no mark has a number as great as their count
+pub painted_none : (places : List ℕ) (marks : List PlacedMark) (numbers : List (Option ℕ)) → length numbers ≡ length places → ((j : ℕ) → j < length numbers → slice_get numbers j ≡ Some None) → ArePaintedFrom places marks (length marks) numbers
+painted_none places marks numbers sized none = record {
+  sized = sized;
+  without = λ j place there is i m ge at covers. let less : i < length marks = slice_get_within marks i m at in absurd (omega arith);
+  last = λ j place number there is. absurd (none-some number (same_Some None (Some number) (sym (none j (slice_get_within numbers j (Some number) is)) ∙ is)));
 }
 
 module _ (places : List ℕ) (marks : List PlacedMark) (old new : List (Option ℕ)) (from upto to k : ℕ) (mark : PlacedMark)
-    (ids : AreById marks) (at : slice_get marks k ≡ Some mark) (starts : IsCountBelow places mark.start from) (ends : IsCountBelow places mark.end to)
-    (filled : IsFilled old new from upto to k) (whole : to ≤ upto) (painted : ArePainted places marks k old) where
-  on_top : (j place : ℕ) → slice_get places j ≡ Some place → from ≤ j → j < upto → IsBest marks place (k + 1) (Some mark)
-  on_top j place there low high =
-      let begun : mark.start ≤ place =
+    (at : slice_get marks k ≡ Some mark) (starts : IsCountBelow places mark.start from) (ends : IsCountBelow places mark.end to)
+    (filled : IsFilled old new from upto to k) (whole : to ≤ upto) (painted : ArePaintedFrom places marks (k + 1) old) where
+  -- a place without a number had none
+  none_old : (j : ℕ) → slice_get new j ≡ Some None → slice_get old j ≡ Some None
+  none_old j is =
+      let within : j < length new = slice_get_within new j None is in
+      let sized : length new ≡ length old = filled.sized in
       ⊎_elim
-      (λ (less : place < mark.start). let early : j < from = (starts j place there).1 less in absurd (omega arith))
-      (λ (ge : mark.start ≤ place). ge)
-      (cases_lt place mark.start) in
-      let ongoing : place < mark.end = (ends j place there).0 (filled.within j low high) in
-      best_new marks place k mark at (begun, ongoing) (λ i p less g covers. ids i k p mark less g at)
+      (λ (none : slice_get old j ≡ Some None). none)
+      (λ (some : (n : ℕ) × (slice_get old j ≡ Some (Some n))). absurd (none-some some.0 (same_Some None (Some some.0) (sym is ∙ filled.kept j some.0 some.1))))
+      (number_cases old j (omega arith))
 
-  under : (j place : ℕ) (number : Option ℕ) → slice_get places j ≡ Some place → (from ≤ j → j < upto → ⊥) → slice_get old j ≡ Some number → IsBest marks place (k + 1) (numbered marks number)
-  under j place number there not stood =
-      more_skipped marks place k mark (numbered marks number) at
-      (λ covers.
+  uncovered : (j place : ℕ) → slice_get places j ≡ Some place → slice_get new j ≡ Some None → CoversPlace mark place → ⊥
+  uncovered j place there is covers =
+      let late : j < to = (ends j place there).1 covers.1 in
       ⊎_elim
       (λ (less : j < from). let early : place < mark.start = (starts j place there).0 less in let begun : mark.start ≤ place = covers.0 in absurd (omega arith))
-      (λ (ge : from ≤ j). let late : j < to = (ends j place there).1 covers.1 in not ge (omega arith))
-      (cases_lt j from))
-      (painted.best j place number there stood)
+      (λ (ge : from ≤ j). none-some k (same_Some None (Some k) (sym is ∙ filled.inside j ge (omega arith) (none_old j is))))
+      (cases_lt j from)
 
-  pub painted_more : ArePainted places marks (k + 1) new
+  covered : (j place : ℕ) → slice_get places j ≡ Some place → from ≤ j → j < to → CoversPlace mark place
+  covered j place there low high = (
+    ⊎_elim
+        (λ (less : place < mark.start). let early : j < from = (starts j place there).1 less in absurd (omega arith))
+        (λ (ge : mark.start ≤ place). ge)
+        (cases_lt place mark.start),
+    (ends j place there).0 high,
+  )
+
+  -- a number where there was none
+  on_bottom : (j place number : ℕ) → slice_get places j ≡ Some place → slice_get new j ≡ Some (Some number) → slice_get old j ≡ Some None → IsLast marks place number
+  on_bottom j place number there is none =
+      let unchanged = λ (same : slice_get new j ≡ slice_get old j). none-some number (same_Some None (Some number) (sym none ∙ sym same ∙ is)) in
+      ⊎_elim
+      (λ (less : j < from). absurd (unchanged (filled.before j less)))
+      (λ (ge : from ≤ j).
+      ⊎_elim
+      (λ (less : j < upto).
+      let numbered : k ≡ number = same_Some k number (same_Some (Some k) (Some number) (sym (filled.inside j ge less none) ∙ is)) in
+      subst (λ n. IsLast marks place n) numbered (mark, at, covered j place there ge (filled.within j ge less none), painted.without j place there none))
+      (λ (past : upto ≤ j). absurd (unchanged (filled.behind j past)))
+      (cases_lt j upto))
+      (cases_lt j from)
+
+  pub painted_more : ArePaintedFrom places marks k new
   painted_more = record {
     sized = filled.sized ∙ painted.sized;
-    best =
-        λ j place number there stands.
+    without =
+        λ j place there is i m ge g covers.
         ⊎_elim
-        (λ (less : j < from). under j place number there (λ low high. absurd (omega arith)) (sym (filled.before j less) ∙ stands))
-        (λ (ge : from ≤ j).
+        (λ (same : i ≡ k).
+        let one : mark ≡ m = same_Some mark m (sym at ∙ ap (slice_get marks) (sym same) ∙ g) in
+        uncovered j place there is (subst (λ z. CoversPlace z place) (sym one) covers))
+        (λ (other : i ≢ k). painted.without j place there (none_old j is) i m (omega arith) g covers)
+        (cases_eq i k);
+    last =
+        λ j place number there is.
+        let within : j < length new = slice_get_within new j (Some number) is in
+        let sized : length new ≡ length old = filled.sized in
         ⊎_elim
-        (λ (less : j < upto).
-        let is : number ≡ Some k = same_Some number (Some k) (sym stands ∙ filled.inside j ge less) in
-        subst (λ n. IsBest marks place (k + 1) (numbered marks n)) (sym is) (subst (IsBest marks place (k + 1)) (sym at) (on_top j place there ge less)))
-        (λ (past : upto ≤ j). under j place number there (λ low high. absurd (omega arith)) (sym (filled.behind j past) ∙ stands))
-        (cases_lt j upto))
-        (cases_lt j from);
+        (λ (none : slice_get old j ≡ Some None). on_bottom j place number there is none)
+        (λ (some : (n : ℕ) × (slice_get old j ≡ Some (Some n))).
+        painted.last j place number there (some.1 ∙ sym (filled.kept j some.0 some.1) ∙ is))
+        (number_cases old j (omega arith));
   }
+
+-- the last of the marks by rising ids that cover a place is the one with the greatest id
+pub painted_all : (places : List ℕ) (marks : List PlacedMark) (numbers : List (Option ℕ)) → AreById marks → ArePaintedFrom places marks 0 numbers → ArePainted places marks (length marks) numbers
+painted_all places marks numbers ids painted = record { sized = painted.sized; best = best }
+  where
+    best : (j place : ℕ) (number : Option ℕ) → slice_get places j ≡ Some place → slice_get numbers j ≡ Some number → IsBest marks place (length marks) (numbered marks number)
+    best j place None there is = λ i m less at covers. painted.without j place there is i m (omega arith) at covers
+    best j place (Some number) there is =
+        let last = painted.last j place number there is in
+        let b : PlacedMark = last.0 in
+        subst (IsBest marks place (length marks)) (sym last.1)
+        (record {
+          at = (number, last.1);
+          covers = last.2;
+          greatest =
+              λ i m less at covers.
+              ⊎_elim
+              (λ (low : i < number). ids i number m b low at last.1)
+              (λ (ge : number ≤ i).
+              ⊎_elim
+              (λ (same : i ≡ number). let one : b ≡ m = same_Some b m (sym last.1 ∙ ap (slice_get marks) (sym same) ∙ at) in subst (λ z. Less b.id z.id → ⊥) one (less_irrefl b.id))
+              (λ (other : i ≢ number). absurd (last.3 i m (omega arith) at covers))
+              (cases_eq i number))
+              (cases_lt i number);
+        })
 
 -- ---- reading
 pub copied_from_get : {X : Type 0} (xs : List X) (i : ℕ) (r : Option (Bor X)) → IsItemAt xs i r → option_copied r ≡ slice_get xs i

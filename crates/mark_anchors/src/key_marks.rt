@@ -1,9 +1,10 @@
-//! The marks of one key, painted in the order of their ids over the places at which they begin and end, so that the one with the
-//! greatest id is on top.
+//! The marks of one key, painted over the places at which they begin and end, from the greatest id down: the first that
+//! comes to a place is the one that decides there, so each place is painted once.
 ghost use Rattle.std.specs.Prelude.{◌≡◌, ◌<◌, ◌≤◌, ◌+◌, ◌↔◌, ℕ, List, Some, Contains, IfOk, length, slice_get};
 ghost use Rattle.std.specs.List.Sorted.{IsStrictlyIncreasing, IsPermutation};
 ghost use Rattle.mark_anchors.specs.Placed.{IsBest};
-ghost use Rattle.mark_anchors.specs.KeyMarks.{AreById, AreEnds, IsEndOf, IsCountBelow, IsCountUpTo, ArePainted};
+ghost use Rattle.mark_anchors.specs.KeyMarks.{AreById, AreEnds, IsEndOf, IsCountBelow, IsCountUpTo, ArePainted, ArePaintedFrom};
+ghost use Rattle.mark_anchors.specs.KeyMarks.{IsFree, AreJumps, AreJumpsOver, IsNextFree};
 ghost use Rattle.mark_anchors.specs.declared.placed.PlacedMark.{PlacedMark};
 
 use crate::placed::PlacedMark;
@@ -52,17 +53,55 @@ fn count_below(places: &[usize], place: usize) -> usize
     }
 }
 
-/// Puts the mark of this number over the places that it covers.
-fn paint(places: &[usize], numbers: &mut Vec<Option<usize>>, mark: &PlacedMark, number: usize)
+/// The jumps over places none of which is painted: each to itself, and one behind all.
+fn jumps_over(alloc: Global, places: &[usize]) -> Result<Vec<usize>, AllocError>
+    ensures sized { IfOk result (λ jumps. length jumps.items ≡ length places.now + 1) }
+    ensures free { IfOk result (λ jumps. (j : ℕ) → j < length jumps.items → IsFree jumps.items j) }
+{
+    (0..places.len() + 1).collect(alloc)
+}
+
+/// The next place at or after this one that isn't painted yet, or the one behind all. The path there is halved (Tarjan and
+/// van Leeuwen, 1984: path halving), so that a call takes at most a logarithmic number of steps, amortized.
+fn next_free(jumps: &mut Vec<usize>, from: usize) -> usize
+    requires jumps { AreJumps jumps.old.items }
+    requires within { from < length jumps.old.items }
+    ensures jumps { AreJumps jumps.new.items }
+    ensures sized { length jumps.new.items ≡ length jumps.old.items }
+    ensures same { (j : ℕ) → IsFree jumps.old.items j ↔ IsFree jumps.new.items j }
+    ensures free { IsNextFree jumps.old.items from result }
+{
+    let mut index = from;
+    while jumps[index] != index {
+        let next = jumps[jumps[index]];
+        jumps[index] = next;
+        index = next;
+    }
+    index
+}
+
+/// Puts the mark of this number at those of the places that it covers at which no mark is yet.
+fn paint(
+    places: &[usize],
+    jumps: &mut Vec<usize>,
+    numbers: &mut Vec<Option<usize>>,
+    mark: &PlacedMark,
+    number: usize,
+)
     requires rising { IsStrictlyIncreasing places.now }
     requires sized { length numbers.old.items ≡ length places.now }
+    requires over { AreJumpsOver jumps.old.items numbers.old.items }
     ensures sized { length numbers.new.items ≡ length places.now }
-    ensures painted { (marks : List PlacedMark) → AreById marks → slice_get marks number ≡ Some mark.now → ArePainted places.now marks number numbers.old.items → ArePainted places.now marks (number + 1) numbers.new.items }
+    ensures over { AreJumpsOver jumps.new.items numbers.new.items }
+    ensures painted { (marks : List PlacedMark) → slice_get marks number ≡ Some mark.now → ArePaintedFrom places.now marks (number + 1) numbers.old.items → ArePaintedFrom places.now marks number numbers.new.items }
 {
     let from = count_below(places, mark.start);
     let to = count_below(places, mark.end);
-    for index in from..to {
+    let mut index = next_free(jumps, from);
+    while index < to {
         numbers[index] = Some(number);
+        jumps[index] = index + 1;
+        index = next_free(jumps, index + 1);
     }
 }
 
@@ -113,8 +152,9 @@ fn painted(
     ensures { IfOk result (λ numbers. ArePainted places.now marks.now (length marks.now) numbers.items) }
 {
     let mut numbers = vec![in alloc; None; places.len()]?;
-    for number in 0..marks.len() {
-        paint(places, &mut numbers, &marks[number], number);
+    let mut jumps = jumps_over(alloc, places)?;
+    for number in (0..marks.len()).rev() {
+        paint(places, &mut jumps, &mut numbers, &marks[number], number);
     }
     Ok(numbers)
 }
