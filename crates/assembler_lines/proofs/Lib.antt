@@ -1,5 +1,6 @@
 pub mod Laws
 pub mod Naming
+pub mod Looking
 pub mod Digits
 pub mod Listing
 pub mod Lengths

@@ -1,5 +1,5 @@
 -- The mnemonics: one table, read both ways.
-use Rattle.std.specs.Prelude.{ℕ, List, [], ◌∷◌, ◌++◌, map, flat_map, Option, codes}
+use Rattle.std.specs.Prelude.{ℕ, ◌==◌, List, [], ◌∷◌, ◌++◌, map, filter, flat_map, slice_index, Option, codes}
 use Rattle.std.specs.List.{find}
 use Rattle.std.specs.Str.{bytes_eq}
 use Rattle.bpf_words.specs.declared.instruction.Width.{Width}
@@ -134,3 +134,7 @@ all_forms =
 -- the form that a mnemonic names: the table, read the other way
 unfoldable pub form_named : List ℕ → Option Form
 form_named word = find (λ form. bytes_eq (name_of form) word) all_forms
+
+-- the forms whose mnemonics have a byte at their second place
+unfoldable pub forms_on : ℕ → List Form
+forms_on byte = filter (λ form. slice_index (name_of form) 1 == byte) all_forms

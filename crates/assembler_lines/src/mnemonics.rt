@@ -1,82 +1,22 @@
 ghost use Rattle.std.specs.Prelude.{◌≡◌, Some};
+ghost use Rattle.std.specs.List.{find};
+ghost use Rattle.std.specs.Str.{bytes_eq};
 ghost use Rattle.assembler_lines.specs.declared.form.Form.TheVariants as Form;
-ghost use Rattle.assembler_lines.specs.Mnemonics.{name_of, form_named};
+ghost use Rattle.assembler_lines.specs.Mnemonics.{name_of, form_named, forms_on};
 
 use crate::form::Form;
 use bpf_words::instruction::{
     Arithmetic, Comparison, Conversion, ConvertedBits, Extension, SignedSize, Size, Width,
 };
 
-/// Every form, once.
-const FORMS: [Form; 85] = [
+// The forms by the second byte of their mnemonics, in the order of `all_forms`.
+static ON_A: [Form; 2] = [Form::Jump, Form::JumpLong];
+
+static ON_D: [Form; 12] = [
     Form::Compute(Width::Full, Arithmetic::Add),
-    Form::Compute(Width::Full, Arithmetic::Sub),
-    Form::Compute(Width::Full, Arithmetic::Mul),
-    Form::Compute(Width::Full, Arithmetic::Div),
-    Form::Compute(Width::Full, Arithmetic::Or),
-    Form::Compute(Width::Full, Arithmetic::And),
-    Form::Compute(Width::Full, Arithmetic::Lsh),
-    Form::Compute(Width::Full, Arithmetic::Rsh),
-    Form::Compute(Width::Full, Arithmetic::Mod),
-    Form::Compute(Width::Full, Arithmetic::Xor),
-    Form::Compute(Width::Full, Arithmetic::Mov),
-    Form::Compute(Width::Full, Arithmetic::Arsh),
     Form::Compute(Width::Full, Arithmetic::SignedDiv),
-    Form::Compute(Width::Full, Arithmetic::SignedMod),
     Form::Compute(Width::Narrow, Arithmetic::Add),
-    Form::Compute(Width::Narrow, Arithmetic::Sub),
-    Form::Compute(Width::Narrow, Arithmetic::Mul),
-    Form::Compute(Width::Narrow, Arithmetic::Div),
-    Form::Compute(Width::Narrow, Arithmetic::Or),
-    Form::Compute(Width::Narrow, Arithmetic::And),
-    Form::Compute(Width::Narrow, Arithmetic::Lsh),
-    Form::Compute(Width::Narrow, Arithmetic::Rsh),
-    Form::Compute(Width::Narrow, Arithmetic::Mod),
-    Form::Compute(Width::Narrow, Arithmetic::Xor),
-    Form::Compute(Width::Narrow, Arithmetic::Mov),
-    Form::Compute(Width::Narrow, Arithmetic::Arsh),
     Form::Compute(Width::Narrow, Arithmetic::SignedDiv),
-    Form::Compute(Width::Narrow, Arithmetic::SignedMod),
-    Form::Negate(Width::Full),
-    Form::Negate(Width::Narrow),
-    Form::Extend(Extension::FromByte),
-    Form::Extend(Extension::FromHalf),
-    Form::Extend(Extension::FromWord),
-    Form::Extend(Extension::NarrowFromByte),
-    Form::Extend(Extension::NarrowFromHalf),
-    Form::Convert(Conversion::ToLittleEndian, ConvertedBits::Bits16),
-    Form::Convert(Conversion::ToLittleEndian, ConvertedBits::Bits32),
-    Form::Convert(Conversion::ToLittleEndian, ConvertedBits::Bits64),
-    Form::Convert(Conversion::ToBigEndian, ConvertedBits::Bits16),
-    Form::Convert(Conversion::ToBigEndian, ConvertedBits::Bits32),
-    Form::Convert(Conversion::ToBigEndian, ConvertedBits::Bits64),
-    Form::Convert(Conversion::Swap, ConvertedBits::Bits16),
-    Form::Convert(Conversion::Swap, ConvertedBits::Bits32),
-    Form::Convert(Conversion::Swap, ConvertedBits::Bits64),
-    Form::Jump,
-    Form::JumpLong,
-    Form::Branch(Width::Full, Comparison::Equal),
-    Form::Branch(Width::Full, Comparison::Greater),
-    Form::Branch(Width::Full, Comparison::GreaterOrEqual),
-    Form::Branch(Width::Full, Comparison::AnyBit),
-    Form::Branch(Width::Full, Comparison::NotEqual),
-    Form::Branch(Width::Full, Comparison::SignedGreater),
-    Form::Branch(Width::Full, Comparison::SignedGreaterOrEqual),
-    Form::Branch(Width::Full, Comparison::Less),
-    Form::Branch(Width::Full, Comparison::LessOrEqual),
-    Form::Branch(Width::Full, Comparison::SignedLess),
-    Form::Branch(Width::Full, Comparison::SignedLessOrEqual),
-    Form::Branch(Width::Narrow, Comparison::Equal),
-    Form::Branch(Width::Narrow, Comparison::Greater),
-    Form::Branch(Width::Narrow, Comparison::GreaterOrEqual),
-    Form::Branch(Width::Narrow, Comparison::AnyBit),
-    Form::Branch(Width::Narrow, Comparison::NotEqual),
-    Form::Branch(Width::Narrow, Comparison::SignedGreater),
-    Form::Branch(Width::Narrow, Comparison::SignedGreaterOrEqual),
-    Form::Branch(Width::Narrow, Comparison::Less),
-    Form::Branch(Width::Narrow, Comparison::LessOrEqual),
-    Form::Branch(Width::Narrow, Comparison::SignedLess),
-    Form::Branch(Width::Narrow, Comparison::SignedLessOrEqual),
     Form::Load(Size::Byte),
     Form::Load(Size::Half),
     Form::Load(Size::Word),
@@ -84,6 +24,92 @@ const FORMS: [Form; 85] = [
     Form::LoadSigned(SignedSize::SignedByte),
     Form::LoadSigned(SignedSize::SignedHalf),
     Form::LoadSigned(SignedSize::SignedWord),
+    Form::LoadWide,
+];
+
+static ON_E: [Form; 10] = [
+    Form::Negate(Width::Full),
+    Form::Negate(Width::Narrow),
+    Form::Convert(Conversion::ToLittleEndian, ConvertedBits::Bits16),
+    Form::Convert(Conversion::ToLittleEndian, ConvertedBits::Bits32),
+    Form::Convert(Conversion::ToLittleEndian, ConvertedBits::Bits64),
+    Form::Convert(Conversion::ToBigEndian, ConvertedBits::Bits16),
+    Form::Convert(Conversion::ToBigEndian, ConvertedBits::Bits32),
+    Form::Convert(Conversion::ToBigEndian, ConvertedBits::Bits64),
+    Form::Branch(Width::Full, Comparison::Equal),
+    Form::Branch(Width::Narrow, Comparison::Equal),
+];
+
+static ON_G: [Form; 4] = [
+    Form::Branch(Width::Full, Comparison::Greater),
+    Form::Branch(Width::Full, Comparison::GreaterOrEqual),
+    Form::Branch(Width::Narrow, Comparison::Greater),
+    Form::Branch(Width::Narrow, Comparison::GreaterOrEqual),
+];
+
+static ON_I: [Form; 2] = [
+    Form::Compute(Width::Full, Arithmetic::Div),
+    Form::Compute(Width::Narrow, Arithmetic::Div),
+];
+
+static ON_L: [Form; 4] = [
+    Form::Branch(Width::Full, Comparison::Less),
+    Form::Branch(Width::Full, Comparison::LessOrEqual),
+    Form::Branch(Width::Narrow, Comparison::Less),
+    Form::Branch(Width::Narrow, Comparison::LessOrEqual),
+];
+
+static ON_M: [Form; 2] = [
+    Form::Compute(Width::Full, Arithmetic::SignedMod),
+    Form::Compute(Width::Narrow, Arithmetic::SignedMod),
+];
+
+static ON_N: [Form; 4] = [
+    Form::Compute(Width::Full, Arithmetic::And),
+    Form::Compute(Width::Narrow, Arithmetic::And),
+    Form::Branch(Width::Full, Comparison::NotEqual),
+    Form::Branch(Width::Narrow, Comparison::NotEqual),
+];
+
+static ON_O: [Form; 11] = [
+    Form::Compute(Width::Full, Arithmetic::Mod),
+    Form::Compute(Width::Full, Arithmetic::Xor),
+    Form::Compute(Width::Full, Arithmetic::Mov),
+    Form::Compute(Width::Narrow, Arithmetic::Mod),
+    Form::Compute(Width::Narrow, Arithmetic::Xor),
+    Form::Compute(Width::Narrow, Arithmetic::Mov),
+    Form::Extend(Extension::FromByte),
+    Form::Extend(Extension::FromHalf),
+    Form::Extend(Extension::FromWord),
+    Form::Extend(Extension::NarrowFromByte),
+    Form::Extend(Extension::NarrowFromHalf),
+];
+
+static ON_R: [Form; 4] = [
+    Form::Compute(Width::Full, Arithmetic::Or),
+    Form::Compute(Width::Full, Arithmetic::Arsh),
+    Form::Compute(Width::Narrow, Arithmetic::Or),
+    Form::Compute(Width::Narrow, Arithmetic::Arsh),
+];
+
+static ON_S: [Form; 14] = [
+    Form::Compute(Width::Full, Arithmetic::Lsh),
+    Form::Compute(Width::Full, Arithmetic::Rsh),
+    Form::Compute(Width::Narrow, Arithmetic::Lsh),
+    Form::Compute(Width::Narrow, Arithmetic::Rsh),
+    Form::Branch(Width::Full, Comparison::AnyBit),
+    Form::Branch(Width::Full, Comparison::SignedGreater),
+    Form::Branch(Width::Full, Comparison::SignedGreaterOrEqual),
+    Form::Branch(Width::Full, Comparison::SignedLess),
+    Form::Branch(Width::Full, Comparison::SignedLessOrEqual),
+    Form::Branch(Width::Narrow, Comparison::AnyBit),
+    Form::Branch(Width::Narrow, Comparison::SignedGreater),
+    Form::Branch(Width::Narrow, Comparison::SignedGreaterOrEqual),
+    Form::Branch(Width::Narrow, Comparison::SignedLess),
+    Form::Branch(Width::Narrow, Comparison::SignedLessOrEqual),
+];
+
+static ON_T: [Form; 8] = [
     Form::StoreImmediate(Size::Byte),
     Form::StoreImmediate(Size::Half),
     Form::StoreImmediate(Size::Word),
@@ -92,9 +118,22 @@ const FORMS: [Form; 85] = [
     Form::StoreRegister(Size::Half),
     Form::StoreRegister(Size::Word),
     Form::StoreRegister(Size::Double),
-    Form::LoadWide,
-    Form::Exit,
 ];
+
+static ON_U: [Form; 4] = [
+    Form::Compute(Width::Full, Arithmetic::Sub),
+    Form::Compute(Width::Full, Arithmetic::Mul),
+    Form::Compute(Width::Narrow, Arithmetic::Sub),
+    Form::Compute(Width::Narrow, Arithmetic::Mul),
+];
+
+static ON_W: [Form; 3] = [
+    Form::Convert(Conversion::Swap, ConvertedBits::Bits16),
+    Form::Convert(Conversion::Swap, ConvertedBits::Bits32),
+    Form::Convert(Conversion::Swap, ConvertedBits::Bits64),
+];
+
+static ON_X: [Form; 1] = [Form::Exit];
 
 /// The mnemonic of an operation.
 #[tactic(auto, unfolding(crate::specs::Mnemonics::name_of))]
@@ -278,13 +317,45 @@ pub fn mnemonic(form: Form) -> &'static str
     name(form)
 }
 
-/// The form that a mnemonic names.
-#[tactic(auto, unfolding(crate::specs::Mnemonics::form_named, crate::specs::Mnemonics::all_forms))]
-pub(crate) fn form_of(word: &[u8]) -> Option<Form>
-    ensures { result ≡ form_named word.now }
+/// The forms whose mnemonics have this byte behind their first: at most 14, so that a word is compared with few.
+#[tactic(auto, unfolding(crate::specs::Mnemonics::forms_on, crate::specs::Mnemonics::all_forms, crate::specs::Mnemonics::name_of))]
+fn forms_on(second: u8) -> &'static [Form]
+    ensures { result.now ≡ forms_on second }
 {
-    FORMS
+    match second {
+        b'a' => &ON_A,
+        b'd' => &ON_D,
+        b'e' => &ON_E,
+        b'g' => &ON_G,
+        b'i' => &ON_I,
+        b'l' => &ON_L,
+        b'm' => &ON_M,
+        b'n' => &ON_N,
+        b'o' => &ON_O,
+        b'r' => &ON_R,
+        b's' => &ON_S,
+        b't' => &ON_T,
+        b'u' => &ON_U,
+        b'w' => &ON_W,
+        b'x' => &ON_X,
+        _ => &[],
+    }
+}
+
+/// The first of some forms whose mnemonic a word is.
+fn form_among(forms: &[Form], word: &[u8]) -> Option<Form>
+    ensures { result ≡ find (λ form. bytes_eq (name_of form) word.now) forms.now }
+{
+    forms
         .iter()
         .copied()
         .find(|form| name(*form).as_bytes() == word)
+}
+
+/// The form that a mnemonic names.
+pub(crate) fn form_of(word: &[u8]) -> Option<Form>
+    ensures { result ≡ form_named word.now }
+{
+    let second = word.get(1).copied().unwrap_or(0);
+    form_among(forms_on(second), word)
 }
