@@ -13,7 +13,7 @@ import threading
 from concurrent.futures import ThreadPoolExecutor
 
 from peer import GREATEST, NoCounter, Peer, Session, word_of
-from try_peer import SEED, Hub, shown
+from try_peer import HUB, SEED, Hub, shown
 
 BRIDGE = pathlib.Path(__file__).resolve().parent.parent / "page" / "bridge.py"
 FIRST = ["change 9 1", f"i {GREATEST}@9 - 51"]
@@ -211,27 +211,36 @@ class Page:
         return answer
 
 
+def type_on(page, key, before):
+    """A page with this text types at its end, marks that, and is told what can't be done."""
+    ids = page.until(lambda text: text == before)
+    assert page.say(kind="edit", behind=ids[-1], text="abc", removed=[])[0] == 200
+    ids = page.until(lambda text: text == before + "abc")
+    assert page.say(kind="mark", first=ids[1], last=ids[-1], key=key, value="-")[0] == 200
+    status, why = page.say(kind="edit", behind="-", text="x", removed=[])
+    assert status == 400 and why == f"no counter is above that of {GREATEST}@9\n", why
+    assert page.say(kind="edit", behind=ids[-1], text="y", removed=[ids[0], ids[-1]])[0] == 400
+    page.until(lambda text: text == before + "aby")
+
+
 def try_page():
-    """A page that is open types on, and is told what can't be done; so is one that is opened later."""
-    with Hub(3, "--read") as hub, subprocess.Popen([sys.executable, BRIDGE, str(hub.port), "--port", "0"], stdout=subprocess.PIPE) as bridge:
-        port = int(bridge.stdout.readline().decode().strip().strip("/").rpartition(":")[2])
-        session, old = Session(hub.port), Page(port)
-        try:
-            old.until(lambda text: text == "")
-            session.ask(*FIRST)
-            for at, page in enumerate([old, Page(port)]):
-                ids = page.until(lambda text: text.startswith("Q"))
-                assert page.say(kind="edit", behind=ids[-1], text=f"ab{at}", removed=[])[0] == 200
-                ids = page.until(lambda text, at=at: text.endswith(f"ab{at}"))
-                assert page.say(kind="mark", first=ids[1], last=ids[-1], key=["em", "strong"][at], value="-")[0] == 200
-                status, why = page.say(kind="edit", behind="-", text="x", removed=[])
-                assert status == 400 and why == f"no counter is above that of {GREATEST}@9\n", why
-                assert page.say(kind="edit", behind=ids[-1], text="y", removed=[ids[0], ids[-1]])[0] == 400
-                page.until(lambda text, at=at: text == "Q" + "aby" * (at + 1))
-            assert shown(session, session.ask("latest")[1], 1024) == ["0 plain Q", "1 strong,em abyaby"]
-        finally:
-            bridge.terminate()
-            session.close()
+    """A page that is open types on; so does one that is opened later."""
+    words = [HUB, "serve", "--read", "--port", "0", "--sessions", "4"]
+    with subprocess.Popen(words, stdout=subprocess.PIPE, text=True) as hub:
+        hub_port = hub.stdout.readline().split(" ")[1].strip()
+        words = [sys.executable, BRIDGE, hub_port, "--port", "0"]
+        with subprocess.Popen(words, stdout=subprocess.PIPE, text=True) as bridge:
+            port = int(bridge.stdout.readline().strip("/\n").rpartition(":")[2])
+            session, page = Session(int(hub_port)), Page(port)
+            try:
+                page.until(lambda text: text == "")
+                session.ask(*FIRST)
+                type_on(page, "em", "Q")
+                type_on(Page(port), "strong", "Qaby")
+                assert shown(session, session.ask("latest")[1], 1024) == ["0 plain Q", "1 strong,em abyaby"]
+            finally:
+                bridge.terminate()
+                hub.terminate()
 
 
 def main():
