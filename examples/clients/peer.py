@@ -3,7 +3,8 @@
 
     peer.py PORT [--node N] < COMMANDS
 
-The node is that of the peer's own changes, 1 to 65,535; without --node one that has made none is taken. Commands are lines:
+The node is that of the peer's own changes, 1 to 65,535; without --node one that has made none is taken, and so it is where the counters
+of a node are used up. Commands are lines:
 
     text                            prints the text
     spans                           prints the spans, as `hub spans` does
@@ -15,7 +16,7 @@ The node is that of the peer's own changes, 1 to 65,535; without --node one that
 
 Places count visible characters. In a text \\n stands for a line feed and \\\\ for a backslash, as in what `text` and `spans` print. A
 command that changes the text, and `wait`, print `version N`, the version in which all of it is seen. One that is refused by the hub
-prints the hub's line, and one that can't be done `cannot: ` and why."""
+prints the hub's line, and one that can't be done, or not all of it, `cannot: ` and why."""
 import argparse
 import bisect
 import itertools
@@ -27,6 +28,7 @@ import time
 from typing import NamedTuple
 
 OPERATIONS, NODES, TRIES = 256, 65535, 50
+GREATEST = (1 << 48) - 1
 AT_ONCE = 64
 LONGEST_LINE = 1 << 22
 KEYS = ["strong", "em", "code", "link", "color", "comment"]
@@ -38,6 +40,10 @@ class Refused(Exception):
     def __init__(self, line):
         super().__init__(line)
         self.number = int(line.split(" ")[1])
+
+
+class NoCounter(ValueError):
+    """There is no counter above all that an operation must exceed."""
 
 
 class Session:
@@ -78,6 +84,27 @@ def id_in(word):
 
 def word_of(own):
     return "-" if own is None else f"{own[0]}@{own[1]}"
+
+
+def above(newest, ids, count=1):
+    """The first of so many counters in a row that are above a peer's newest one and above those of some ids (or None)."""
+    greatest = max((own for own in ids if own), default=(0, 0))
+    counter = max(newest, greatest[0]) + 1
+    if counter + count - 1 > GREATEST:
+        raise NoCounter(f"no counter is above that of {word_of(greatest)}" if count == 1 else
+                        f"there aren't {count} counters above that of {word_of(greatest)}")
+    return counter
+
+
+def position(place, anchor):
+    """Where an anchor stands among all of them: before and after the character at place P, 2 P and 2 P + 1."""
+    if anchor in ("^", "$"):
+        return -1 if anchor == "^" else 2 * len(place)
+    return 2 * place[id_in(anchor[1:])] + anchor.startswith(">")
+
+
+def can_be_named(anchor):
+    return anchor in ("^", "$") or id_in(anchor[1:])[0] < GREATEST
 
 
 def changes_in(lines):
@@ -127,8 +154,9 @@ class Replica:
 
     def __init__(self):
         self.version = 0
-        self.greatest = 0
+        self.newest = {}
         self.characters = {}
+        self.parents = {}
         self.children = {None: []}
         self.removed = set()
         self.marks = []
@@ -149,7 +177,7 @@ class Replica:
                 self.marks.append(Mark(own, *words))
             else:
                 self.marks.append(Mark(own, words[0], None, *words[1:]))
-            self.greatest = max(self.greatest, own[0])
+            self.newest[own[1]] = own[0]
         self.version += 1
         self.kept_layout = None
 
@@ -159,6 +187,7 @@ class Replica:
         for offset, code in enumerate(codes):
             own = counter + offset, node
             self.characters[own] = chr(int(code, 16))
+            self.parents[own] = parent
             self.children[own] = []
             bisect.insort(self.children[parent], own)
             parent = own
@@ -183,14 +212,9 @@ class Replica:
 
     def formats(self, place):
         """The format of each character, a dictionary from its keys to their values."""
-        def cut(anchor):
-            if anchor in ("^", "$"):
-                return 0 if anchor == "^" else len(place)
-            return place[id_in(anchor[1:])] + anchor.startswith(">")
-
         begins, ends = {}, {}
         for mark in self.marks:
-            start, end = cut(mark.start), cut(mark.end)
+            start, end = ((position(place, anchor) + 1) // 2 for anchor in (mark.start, mark.end))
             if start < end:
                 begins.setdefault(start, []).append(mark)
                 ends.setdefault(end, []).append(mark)
@@ -205,6 +229,55 @@ class Replica:
                 format = {mark.key: mark.value for mark in deciding if mark.value is not None}
             formats.append(format)
         return formats
+
+    def ways(self, left):
+        """How a character can come to stand directly behind another one, or at the start (None): triples of its parent, the sibling that
+        it must have a greater id than since it stands before that one, and the one that it must have a lesser id than."""
+        following = self.children[left][-1] if self.children[left] else None
+        yield left, following, None
+        while following is None and left is not None:
+            before, left = left, self.parents[left]
+            at = bisect.bisect_left(self.children[left], before)
+            following = self.children[left][at - 1] if at else None
+            yield left, following, before
+
+    def gaps(self, behind):
+        """The characters directly behind which a text can come to stand at one visible place. First, the last of the removed characters
+        there that a mark ends behind: what is typed behind a link stands outside it, also where the link's last characters were removed."""
+        layout, ends = self.layout(), {mark.end for mark in self.marks}
+        following = itertools.islice(layout.order, 0 if behind is None else layout.place[behind] + 1, None)
+        gaps = [behind, *itertools.takewhile(self.removed.__contains__, following)]
+        first = max((at for at, own in enumerate(gaps) if f">{word_of(own)}" in ends), default=0)
+        return gaps[first:] + gaps[:first][::-1]
+
+    def anchors_before(self, first):
+        """The anchors at which a mark can start that covers this character and no visible one before it."""
+        layout = self.layout()
+        yield f"<{word_of(first)}"
+        for own in reversed(layout.order[:layout.place[first]]):
+            yield f">{word_of(own)}"
+            if own not in self.removed:
+                return
+            yield f"<{word_of(own)}"
+        yield "^"
+
+    def anchors_behind(self, last):
+        """The anchors at which a mark can end that covers this character and no visible one behind it."""
+        layout = self.layout()
+        yield f">{word_of(last)}"
+        for own in layout.order[layout.place[last] + 1:]:
+            yield f"<{word_of(own)}"
+            if own not in self.removed:
+                return
+            yield f">{word_of(own)}"
+        yield "$"
+
+    def marks_within(self, key, start, end):
+        """The marks of a key that cover something between two anchors, or what may be typed there."""
+        place = self.layout().place
+        start, end = position(place, start), position(place, end)
+        ranges = [(mark, position(place, mark.start), position(place, mark.end)) for mark in self.marks if mark.key == key]
+        return [mark for mark, first, last in ranges if max(start, first) < min(end, last)]
 
     def text(self):
         return "".join(self.characters[own] for own in self.layout().visible)
@@ -247,8 +320,10 @@ class Peer:
     def __init__(self, port, node=None):
         self.session = Session(port)
         self.replica = Replica()
+        if node is not None:
+            self.session.ask(f"newest {node}")
         self.node = self.unused_node() if node is None else node
-        self.catch_up()
+        self.follow()
 
     def unused_node(self):
         while True:
@@ -265,25 +340,34 @@ class Peer:
                 self.replica.take(change)
         return self.replica.version > before
 
-    def catch_up(self):
-        """Follows, and learns the newest counter of its node, which another session may use too."""
-        self.follow()
-        self.newest = self.session.ask(f"newest {self.node}")[1]
-
     def submit(self, build):
-        """Submits the change whose lines `build` makes of its first counter. Where the hub has newer changes that make it wrong (46
-        StaleCounter, 47 UnknownRef), catches up and tries again with fresh ids. Returns the first counter."""
+        """Submits the change whose lines `build` makes of a node and its newest counter. Where the hub has newer changes that make it
+        wrong (46 StaleCounter, 47 UnknownRef), follows them and tries again with fresh ids. Returns the first operation's id."""
         for left in reversed(range(TRIES)):
-            counter = max(self.replica.greatest, self.newest) + 1
+            change = self.change_of(build)
             try:
-                self.session.ask(*build(counter))
+                self.session.ask(*change)
                 break
             except Refused as why:
                 if why.number not in (46, 47) or not left:
                     raise
-                self.catch_up()
+                self.follow()
         self.follow()
-        return counter
+        return id_in(change[1].split(" ")[1])
+
+    def change_of(self, build):
+        """The change that `build` makes for this peer's node, or for another one if only that one has no counters left for it: anyone
+        may have used them up."""
+        newest = self.replica.newest.get(self.node, 0)
+        try:
+            return build(self.node, newest)
+        except NoCounter:
+            if newest == 0:
+                raise
+        node = self.unused_node()
+        change = build(node, 0)
+        self.node = node
+        return change
 
     # By visible places.
 
@@ -314,63 +398,97 @@ class Peer:
 
     # By ids.
 
-    def insert_behind(self, parent, text):
+    def insert_behind(self, behind, text):
         """Inserts a text behind a character, or at the start (None). Returns the ids of its characters."""
         check_text(text)
-        parent, ids = self.behind_ends(parent), []
+        ids = []
         for start in range(0, len(text), OPERATIONS):
             codes = [f"{ord(character):x}" for character in text[start:start + OPERATIONS]]
-            counter = self.submit(lambda counter: self.typed(counter, parent, codes))
-            ids += [(counter + offset, self.node) for offset in range(len(codes))]
-            parent = ids[-1]
+            counter, node = self.submit(lambda node, newest: self.typed(node, newest, behind, codes))
+            ids += [(counter + offset, node) for offset in range(len(codes))]
+            behind = ids[-1]
         return ids
 
-    def typed(self, counter, parent, codes):
+    def typed(self, node, newest, behind, codes):
         """The change that inserts characters: a run is one line of the second form."""
+        counter, parent = self.way_behind(node, newest, behind, len(codes))
         if len(codes) == 1:
-            return [f"change {self.node} 1", f"i {counter}@{self.node} {word_of(parent)} {codes[0]}"]
-        return [f"change2 {self.node} 1", f"r {counter}@{self.node} {word_of(parent)} {len(codes)} {' '.join(codes)}"]
+            return [f"change {node} 1", f"i {counter}@{node} {word_of(parent)} {codes[0]}"]
+        return [f"change2 {node} 1", f"r {counter}@{node} {word_of(parent)} {len(codes)} {' '.join(codes)}"]
 
-    def behind_ends(self, parent):
-        """The last of the removed characters behind this one that a mark ends behind, else this one: what is typed behind a link
-        stands outside it, also where the link's last characters were removed."""
-        layout, ends = self.replica.layout(), {mark.end for mark in self.replica.marks}
-        following = itertools.islice(layout.order, 0 if parent is None else layout.place[parent] + 1, None)
-        for own in itertools.takewhile(self.replica.removed.__contains__, following):
-            if f">{word_of(own)}" in ends:
-                parent = own
-        return parent
+    def way_behind(self, node, newest, behind, count):
+        """The counter and the parent by which so many characters come to stand behind one. The parent is the character to their left;
+        where no counter is above it, or above the sibling that they must stand before, another one by which they stand there too."""
+        wrong = None
+        for left in self.replica.gaps(behind):
+            for parent, following, before in self.replica.ways(left):
+                try:
+                    counter = above(newest, [parent, following], count)
+                except NoCounter as why:
+                    wrong = wrong or why
+                    continue
+                if before is None or (counter, node) < before:
+                    return counter, parent
+        raise wrong
 
     def remove_all(self, ids):
-        """Removes those of these characters that are visible."""
-        ids = [own for own in ids if own not in self.replica.removed]
-        for start in range(0, len(ids), OPERATIONS):
-            some = ids[start:start + OPERATIONS]
-            self.submit(lambda counter: [f"change {self.node} {len(some)}"] + [
-                f"d {counter + offset}@{self.node} {word_of(own)}" for offset, own in enumerate(some)])
+        """Removes those of these characters that are visible, and at last says which can't be removed."""
+        ids = sorted(ids)
+        while ids := [own for own in ids if own not in self.replica.removed]:
+            self.submit(lambda node, newest: self.removals(node, newest, ids[:OPERATIONS]))
+
+    def removals(self, node, newest, ids):
+        """The change that removes as many of these characters as have a counter above them."""
+        lines = []
+        for own in ids:
+            try:
+                newest = above(newest, [own])
+            except NoCounter:
+                if not lines:
+                    raise
+                break
+            lines.append(f"d {newest}@{node} {word_of(own)}")
+        return [f"change {node} {len(lines)}", *lines]
 
     def mark_between(self, first, last, key, value):
-        """Adds a key from one character to another, both included; or takes it away where the value is None."""
+        """Adds a key from one character to another, both included; or takes it away where the value is None. It says at last where it
+        doesn't hold since another mark has the greatest counter."""
         check_key(key)
         if value is not None:
             check_value(key, value)
-        header = f"change2 {self.node} 1" if key == "code" else f"change {self.node} 1"
-        ends = f"<{word_of(first)} {self.end_of(last, key)}"
+        start, end = self.ends_of_mark(first, last, key)
+        over = self.replica.marks_within(key, start, end)
+        held = [mark for mark in over if mark.own[0] == GREATEST and mark.value != value]
+        below = [mark.own for mark in over if mark.own[0] < GREATEST]
+        anchors = [id_in(anchor[1:]) for anchor in (start, end) if anchor not in ("^", "$")]
 
-        def change(counter):
-            own = f"{counter}@{self.node}"
-            return [header, f"u {own} {key} {ends}" if value is None else f"m {own} {key} {value} {ends}"]
+        def change(node, newest):
+            own = f"{above(newest, anchors + below)}@{node}"
+            line = f"u {own} {key} {start} {end}" if value is None else f"m {own} {key} {value} {start} {end}"
+            return [f"change2 {node} 1" if key == "code" else f"change {node} 1", line]
 
-        self.submit(change)
+        if not (held and self.is_held(first, last, held)):
+            self.submit(change)
+        if held:
+            raise NoCounter(f"no counter is above that of {word_of(max(held).own)}, which decides {key} here")
 
-    def end_of(self, last, key):
-        """The anchor at which a mark ends. One that expands ends before the next character, and what is typed there is in it; links
-        and comments end behind their last character."""
-        if key == "link" or key.startswith("comment:"):
-            return f">{word_of(last)}"
-        layout = self.replica.layout()
-        following = layout.place[last] + 1
-        return f"<{word_of(layout.order[following])}" if following < len(layout.order) else "$"
+    def is_held(self, first, last, marks):
+        """Whether each visible character from one to another is covered by one of these marks."""
+        layout, place = self.replica.layout(), self.replica.layout().place
+        ranges = [(position(place, mark.start), position(place, mark.end)) for mark in marks]
+        covered = [2 * place[own] for own in layout.visible if place[first] <= place[own] <= place[last]]
+        return all(any(start <= at and at + 1 <= end for start, end in ranges) for at in covered)
+
+    def ends_of_mark(self, first, last, key):
+        """The anchors of a mark. One that expands ends before the next character, and what is typed there is in it; links and comments
+        end behind their last character. An anchor that has the greatest counter can't be named: then it is the next best."""
+        starts, ends = list(self.replica.anchors_before(first)), list(self.replica.anchors_behind(last))
+        if key != "link" and not key.startswith("comment:"):
+            ends[:2] = ends[1::-1]
+        found = [next(filter(can_be_named, anchors), None) for anchors in (starts, ends)]
+        if None in found:
+            raise NoCounter(f"no counter is above those of the characters where {key} would begin or end")
+        return found
 
     def wait(self, version):
         """Follows until the hub has a version."""
