@@ -1,6 +1,7 @@
 """What the inputs of hostile_inputs.py cost a hub, as far as it can be counted without a clock: instructions and bytes of the heap by valgrind, and
 what a server's process holds. Each figure stands beside its aim."""
 
+import pathlib
 import re
 import socket
 import subprocess
@@ -9,8 +10,9 @@ import time
 from typing import NamedTuple
 
 import hostile_inputs as inputs
-from sessions import NEVER
+from sessions import NEVER, Client
 
+PEER = pathlib.Path(__file__).resolve().parent.parent / "examples" / "clients" / "peer.py"
 MIB = 1 << 20
 MILLION = 1000000
 # Of each thing that is counted once more and divided by how often.
@@ -46,6 +48,19 @@ class Figure(NamedTuple):
         beside = f"{self.beside:12.2f}" if self.beside is not None else ""
         met = "met" if self.is_met() else "MISSED"
         return f"{self.row:<3} {self.what:<78} {self.value:12.2f} {beside:>12} {self.unit:<9} {ratio:>15}  {met:<7} {self.aim}"
+
+
+class Note(NamedTuple):
+    """A row of which nothing can be measured yet, and why."""
+
+    row: str
+    why: str
+
+    def is_met(self):
+        return True
+
+    def line(self):
+        return f"{self.row:<3} {self.why}"
 
 
 def heading():
@@ -109,6 +124,11 @@ def kept_a_version(hub, text):
     return of_each_more(most_held, hub, ["replay"], text.changes(), text.removals(VERSIONS)) / MIB
 
 
+def processor_time(process):
+    """How long all threads of a process have run, in seconds."""
+    return time.clock_gettime((~process << 3) | 2)
+
+
 # The rows.
 
 
@@ -139,7 +159,10 @@ def nested(hub):
         ("nested colors", inputs.nested, inputs.color),
     )
     least = FOUR_MILLISECONDS / MILLION
-    return [count_changes(hub, "2c", f"{what}, beside side by side", place(key), inputs.side_by_side(key, 2), least) for what, place, key in cases]
+    return [
+        count_changes(hub, "2c", f"{what}, beside marks of one character", place(key), inputs.of_one_character(key), least)
+        for what, place, key in cases
+    ]
 
 
 def links(hub):
@@ -196,21 +219,16 @@ class Server:
         with open(f"/proc/{self.child.pid}/status") as status:
             return next(int(line.split()[1]) / 1024 for line in status if line.startswith("VmHWM"))
 
-    def work(self):
-        """How long it ran on processors so far, in nanoseconds."""
-        with open(f"/proc/{self.child.pid}/schedstat") as alone:
-            return int(alone.read().split()[0])
-
-    def threads_work(self):
-        """The same of all threads that live."""
-        done = subprocess.run(["sh", "-c", f"cat /proc/{self.child.pid}/task/*/schedstat"], stdout=subprocess.PIPE, check=False)
-        return sum(int(line.split()[0]) for line in done.stdout.splitlines())
+    def is_idle(self):
+        """Whether all its threads wait for something."""
+        tasks = pathlib.Path(f"/proc/{self.child.pid}/task").glob("*/stat")
+        return all(task.read_text().rpartition(")")[2].split()[0] == "S" for task in tasks)
 
     def settle(self):
         """Waits until it does nothing more."""
         before = -1
-        while before != (before := self.threads_work()):
-            time.sleep(0.5)
+        while before != (before := processor_time(self.child.pid)) or not self.is_idle():
+            time.sleep(0.2)
 
 
 def send_all(connection, requests):
@@ -243,13 +261,14 @@ def held_by_readers(hub, text, request, count):
     return held
 
 
-def never_read(hub):
+def never_read(hub, count=4):
     nested_comments, linked = inputs.nested(inputs.comment), inputs.of_one_character(inputs.link)
     shown = f"show {len(nested_comments.changes())} {inputs.MARKS - 512} 1024\n"
     changed = f"changes {len(linked.changes()) - 16} 64\n"
+    cases = (("`show` of nested comments", nested_comments, shown), ("`changes` of 4,096 links", linked, changed))
     return [
-        alone("6", "4 clients that never read `show` of nested comments: held a session", held_by_readers(hub, nested_comments, shown, 4), "MiB", A_SESSION_HOLDS),
-        alone("6", "4 clients that never read `changes` of 4,096 links: held a session", held_by_readers(hub, linked, changed, 4), "MiB", A_SESSION_HOLDS),
+        alone("6", f"{count} clients that never read {what}: held a session", held_by_readers(hub, text, request, count), "MiB", A_SESSION_HOLDS)
+        for what, text, request in cases
     ]
 
 
@@ -274,6 +293,64 @@ def assembler_lines(hub):
     ]
 
 
+# Rows 9 and 10: what stays for others.
+
+
+def has_option(hub, option):
+    return option in subprocess.run([hub, "serve", "--help"], stdout=subprocess.PIPE, text=True, check=True).stdout
+
+
+def answer(client, request):
+    """The last line of a reply, a refusal too."""
+    client.connection.sendall(request.encode())
+    return client.replies.readline().decode().strip()
+
+
+def greatest_taken(hub, *options):
+    """What a hub answers to a change with the greatest counter, and how many of two peers, an older and a new one, can't type after it."""
+    server, failed = Server(hub, 3, "--read", *options), 0
+    words = [sys.executable, str(PEER), str(server.port)]
+    old = subprocess.Popen(words, stdin=subprocess.PIPE, stdout=subprocess.PIPE, text=True)
+    old.stdin.write("insert 0 abc\n")
+    old.stdin.flush()
+    old.stdout.readline()
+    hostile = Client(server.port)
+    said = answer(hostile, inputs.greatest_counter())
+    new = subprocess.Popen(words, stdin=subprocess.PIPE, stdout=subprocess.PIPE, text=True)
+    for peer in (old, new):
+        failed += not peer.communicate("insert 2 xyz\ntext\n")[0].startswith("version ")
+    hostile.end()
+    server.child.wait()
+    return said, failed
+
+
+def greatest_counter(hub):
+    said, failed = greatest_taken(hub)
+    yield alone("9", f"a change of 38 bytes with the greatest counter ({said}): peers that can't type on, of 2", failed, "peers", 0)
+    if has_option(hub, "--counter-jump"):
+        said, failed = greatest_taken(hub, "--counter-jump", "1000000")
+        yield alone("9", f"  with --counter-jump 1000000 ({said})", failed + (not said.startswith("no 42 ")), "", 0)
+    else:
+        yield Note("9", "not built: hub serve has no --counter-jump")
+
+
+def shares(hub):
+    if not has_option(hub, "--per-session"):
+        yield Note("10", "not built: hub serve has no --per-session")
+        return
+    server, program = Server(hub, 2, "--per-session", "changes=8,subscribers=2,bytes=100000"), f"sub 64 {NEVER}\n"
+    greedy, other = Client(server.port), Client(server.port)
+    said = [answer(greedy, f"change 1 1\ni {at}@1 - 61\n") for at in range(1, 10)] + [answer(greedy, program) for _ in range(3)]
+    wanted = ["ok version"] * 8 + ["no 50"] + ["ok sub"] * 2 + ["no 51"]
+    wrong = sum(not line.startswith(want) for line, want in zip(said, wanted, strict=True))
+    wrong += not answer(other, "change 2 1\ni 1@2 - 61\n").startswith("ok ")
+    wrong += not answer(other, program).startswith("ok ")
+    for client in (greedy, other):
+        client.end()
+    server.child.wait()
+    yield alone("10", "one session past its share of changes and subscribers, and another: wrong replies", wrong, "replies", 0)
+
+
 ROWS = {
     "side_by_side": side_by_side,
     "under_review": under_review,
@@ -285,4 +362,6 @@ ROWS = {
     "never_read": never_read,
     "large_inputs": large_inputs,
     "assembler_lines": assembler_lines,
+    "greatest_counter": greatest_counter,
+    "shares": shares,
 }
