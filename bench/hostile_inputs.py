@@ -106,9 +106,9 @@ def nested(key, characters=8400):
     return Text(characters, [mark(key(number), number + 1, characters - number) for number in range(MARKS)])
 
 
-def windows(key):
-    """Marks of which each begins and ends one character behind the one before it, so that most characters have as many."""
-    return Text(2 * MARKS, [mark(key(number), number + 1, number + MARKS // 2) for number in range(MARKS)])
+def windows(key, length=512):
+    """Marks of which each begins and ends one character behind the one before it, so that all but the first and the last places have as many."""
+    return Text(MARKS + length, [mark(key(number), number + 1, number + length) for number in range(MARKS)])
 
 
 def of_two_runs(key):

@@ -83,7 +83,7 @@ def measure_comments(hub):
 
 def measure_nested(hub):
     cases = (
-        ("2c", "windows of 2,048 characters, comments", inputs.windows, inputs.comment),
+        ("2c", "comments in windows of 512 characters", inputs.windows, inputs.comment),
         ("2c", "strong marks and comments nested", inputs.nested, inputs.strong_or_comment),
         ("2c", "five kinds nested", inputs.nested, inputs.one_of_five),
         ("2c", "nested colors", inputs.nested, inputs.color),
