@@ -25,8 +25,11 @@ SPANS = 8000
 PULLS = 5
 # About what 20 million instructions take on the machine of docs/BENCHMARKS.md.
 REVIEWED = 3
-# Of the client beside a writer that never pauses.
-REQUESTS = 12
+# Of the client beside a writer that never pauses: so many of each kind, or as many as there are in so many seconds.
+REQUESTS, SECONDS = 200, 40
+# First come, first served: the change that has the lock, the one whose turn was before, and one that was answered but not yet read. A pull takes
+# the lock some six times.
+BEFORE_A_CHANGE, BEFORE_A_PULL = 3, 12
 
 
 # Rows 1 to 4: texts.
@@ -195,10 +198,12 @@ def measure_writer(hub):
         other.ask(change)
     other.ask(f"sub 64 {NEVER}\n")
     other.ask("pull 0 64\n")
-    writer = Writer(server.port, text.removals(600))
+    writer = Writer(server.port, text.removals(3000))
     writer.start()
-    passed, pulled, waits, version = [], [], [], len(text.changes())
+    passed, pulled, waits, version, start = [], [], [], len(text.changes()), time.monotonic()
     for at in range(REQUESTS):
+        if time.monotonic() > start + SECONDS:
+            break
         before = writer.answered
         reply, wait = other.ask(f"change2 2 1\ni {2 * text.newest() + at}@2 - 61\n")
         passed.append(int(reply[-1].split()[2]) - version - at - 1 - before)
@@ -211,9 +216,9 @@ def measure_writer(hub):
     server.child.wait()
     if not is_writing:
         yield Note("8", "the writer had ended before the other client's requests were answered")
-    yield alone("8", "one writes without pause: its changes that come before another's, the most", max(passed), "changes", 3)
-    yield alone("8", "  and before a pull's reply, the most", max(pulled), "changes", 12)
-    yield Note("", f"  the longest wait of either: {max(waits):.1f} ms")
+    yield alone("8", "one writes without pause: its changes that come before another's, the most", max(passed), "changes", BEFORE_A_CHANGE)
+    yield alone("8", "  and before a pull's reply, the most", max(pulled), "changes", BEFORE_A_PULL)
+    yield Note("", f"  {len(waits)} waits: median {statistics.median(waits):.1f} ms, longest {max(waits):.1f} ms")
 
 
 # Row 7: commands.
