@@ -1,0 +1,224 @@
+"""Inputs that could make a hub slow or fat, the same in every run: texts with marks and the same texts without the pattern, programs, assembler
+text. hostile_texts.py and tests/hostile/count.py measure what a hub does with them."""
+
+import random
+from typing import NamedTuple
+
+from sessions import long_program, slot
+
+MARKS = 4096
+OPERATIONS = 256
+GREATEST = (1 << 48) - 1
+
+
+class Text(NamedTuple):
+    """A text of so many characters by node 1, with marks: pairs of a line's first word and its words behind the mark's own id."""
+
+    characters: int
+    marks: list
+
+    def changes(self):
+        return typed_on(1, self.characters) + self.mark_changes()
+
+    def mark_changes(self):
+        """The marks in as few changes as can be."""
+        changes = []
+        for start in range(0, len(self.marks), OPERATIONS):
+            part = self.marks[start : start + OPERATIONS]
+            first = self.characters + 1 + start
+            lines = [f"{word} {first + at}@1 {rest}\n" for at, (word, rest) in enumerate(part)]
+            changes.append(f"change2 1 {len(part)}\n" + "".join(lines))
+        return changes
+
+    def newest(self):
+        return self.characters + len(self.marks)
+
+    def removals(self, count):
+        """Changes that remove a character each, in the midst of the text, side by side."""
+        first = self.characters // 2
+        return [f"change 1 1\nd {self.newest() + 1 + at}@1 {first + at}@1\n" for at in range(count)]
+
+
+def typed_on(first, end):
+    """Changes of a run each that type the characters from one number up to another."""
+    changes = []
+    for start in range(first, end + 1, OPERATIONS):
+        parent = f"{start - 1}@1" if start > 1 else "-"
+        length = min(OPERATIONS, end + 1 - start)
+        if length == 1:
+            changes.append(f"change 1 1\ni {start}@1 {parent} 61\n")
+        else:
+            changes.append(f"change2 1 1\nr {start}@1 {parent} {length}" + " 61" * length + "\n")
+    return changes
+
+
+def mark(key, first, last):
+    """A mark from one character to another, both in it."""
+    return "m", f"{key} <{first}@1 >{last}@1"
+
+
+# The key and the value of the mark with a number, for each kind of text.
+
+
+def comment(number):
+    return f"comment:{number + 1} -"
+
+
+def strong(_number):
+    return "strong -"
+
+
+def color(number):
+    return f"color {number:06x}"
+
+
+def link(number):
+    """A target of 1,024 bytes, of its own."""
+    return "link " + f"{number:x}".rjust(1024, "x")
+
+
+def strong_or_comment(number):
+    return comment(number) if number % 2 else strong(number)
+
+
+def one_of_five(number):
+    kinds = (strong, lambda _: "em -", lambda at: f"link https://example.org/{at}", color, comment)
+    return kinds[number % 5](number)
+
+
+def any_kind(turn):
+    """In turn of all kinds, as bench/texts.c has them."""
+    kinds = ("strong -", "em -", "link https://example.org/a", "color 3366cc", f"comment:{1 + turn // 5 % 8} -")
+    return kinds[turn % 5]
+
+
+# Where marks stand.
+
+
+def side_by_side(key, length):
+    """Marks of which each begins where the one before it ends."""
+    marks = [mark(key(number), length * number + 1, length * number + length) for number in range(MARKS)]
+    return Text(length * MARKS, marks)
+
+
+def nested(key, characters=8400):
+    """Marks of which each is within the one before it."""
+    return Text(characters, [mark(key(number), number + 1, characters - number) for number in range(MARKS)])
+
+
+def windows(key, length=512):
+    """Marks of which each begins and ends one character behind the one before it, so that all but the first and the last places have as many."""
+    return Text(MARKS + length, [mark(key(number), number + 1, number + length) for number in range(MARKS)])
+
+
+def of_two_runs(key):
+    """1,024 keys at two places each, side by side, within a text that is strong, and 2,048 strong marks that change nothing to see."""
+    runs, length = MARKS // 2, 7
+    marks = [mark(key(run % (runs // 2)), length * run + 1, length * run + length) for run in range(runs)]
+    marks.append(mark("strong -", 1, length * runs))
+    marks += [mark("strong -", length * run + 3, length * run + 4) for run in range(runs - 1)]
+    return Text(length * runs, marks)
+
+
+def cut(covering):
+    """A text of 32,768 characters with strong marks that cut it, perhaps below one mark that covers all of it."""
+    characters = 8 * MARKS
+    marks = [mark(covering, 1, characters)] if covering else []
+    marks += [mark("strong -", 8 * turn - 3, 8 * turn) for turn in range(1, MARKS)]
+    return Text(characters, marks)
+
+
+def of_one_character(key):
+    """Marks of one character each, with one between them."""
+    return Text(2 * MARKS, [mark(key(number), 2 * number + 1, 2 * number + 1) for number in range(MARKS)])
+
+
+def all_kinds(longest):
+    """Marks of all kinds over random ranges of up to so many characters, where bench/texts.c has them."""
+    characters, state, marks = 8 * MARKS, 7, []
+
+    def chosen(below):
+        nonlocal state
+        state = (state * 1664525 + 1013904223) % (1 << 32)
+        return (state >> 8) % below
+
+    for turn in range(MARKS):
+        first = chosen(characters - longest - 1) + 1
+        marks.append(mark(any_kind(turn), first, first + chosen(longest)))
+    return Text(characters, marks)
+
+
+def under_review(threads=300, others=3796, characters=32768):
+    """A document under review: comments of up to some sentences, each with a number of its own, among marks of single words and phrases, some
+    of which are taken away again."""
+    rng = random.Random(2)
+    marks = []
+    for at in range(threads):
+        first = rng.randint(1, characters - 400)
+        marks.append(mark(comment(at), first, first + rng.randint(5, 400)))
+    for at in range(others):
+        first = rng.randint(1, characters - 60)
+        last = first + rng.randint(2, 60)
+        key = rng.choice(["strong -", "em -", "code -", f"link https://example.org/{at}", color(rng.choice([0x3366CC, 0xAA0000]))])
+        taken = key in ("strong -", "em -") and rng.random() < 0.3
+        marks.append(("u", f"{key[:-2]} <{first}@1 >{last}@1") if taken else mark(key, first, last))
+    rng.shuffle(marks)
+    return Text(characters, marks)
+
+
+# What sessions send.
+
+
+def spans_of_one_character(spans):
+    """A text of so many spans: every other character is strong."""
+    return Text(spans, [mark("strong -", place, place) for place in range(1, spans, 2)])
+
+
+def adding_program():
+    """4,096 slots that add."""
+    return long_program(4096)
+
+
+def stack_program():
+    """4,096 slots that store to the stack and load from it: `mov r2, 1`, then `stxdw [r10-8], r2` and `ldxdw r0, [r10-8]` in turn, `exit`."""
+    program = [slot(0xB7, 2, 0, 1), slot(0x7B, 0x2A, -8, 0)]
+    while len(program) < 4095:
+        program.append(slot(0x79, 0xA0, -8, 0) if len(program) % 2 == 0 else slot(0x7B, 0x2A, -8, 0))
+    program[-1] = slot(0x79, 0xA0, -8, 0)
+    program.append(slot(0x95, 0, 0, 0))
+    return b"".join(program).hex()
+
+
+def greatest_counter():
+    """A change of 38 bytes whose counter no other one exceeds."""
+    return f"change 9 1\ni {GREATEST}@9 - 51\n"
+
+
+# What commands read.
+
+
+def too_long_program(size):
+    """So many bytes of hexadecimal digits, more than a program has."""
+    return b"b700000001000000" * (size // 16)
+
+
+def program_before_blanks(size):
+    """A program of two slots, and then line feeds up to so many bytes."""
+    program = b"b7000000010000009500000000000000"
+    return program + b"\n" * (size - len(program))
+
+
+def exits(count):
+    """Assembler text of so many `exit` lines."""
+    return b"exit\n" * count
+
+
+def fault_before(size):
+    """Assembler text with a fault in its first line, and then so many bytes of right lines."""
+    return b"nothing\n" + b"exit\n" * (size // 5)
+
+
+def refused_change_before(size):
+    """A change that is refused at its first line, and then so many bytes of lines of changes."""
+    line = b"i 1@1 - 61\n"
+    return b"change 0 1\n" + line * (size // len(line))
