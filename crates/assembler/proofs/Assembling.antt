@@ -1,14 +1,13 @@
 -- The bytes of lines, one line after the other.
-use Rattle.std.proofs.Common.{◌≡◌, ℕ, zero, suc, ◌≤◌, ◌<◌, ◌+◌, ◌^◌, Bool, true, false, cond, eqb, List, [], ◌∷◌, ◌++◌, length, Option, Ok, inl, inr, refl, sym, ap, ◌∙◌, arith}
-use Rattle.std.specs.Prelude.{sum_by, flat_map}
+use Rattle.std.proofs.Common.{◌≡◌, ℕ, zero, suc, ◌≤◌, ◌<◌, ◌+◌, ◌^◌, Bool, true, false, cond, eqb, List, [], ◌∷◌, ◌++◌, length, inl, inr, refl, sym, ap, subst, ◌∙◌, arith}
+use Rattle.std.specs.Prelude.{IsOk, sum_by, flat_map}
 use Rattle.std.specs.List.{range_with_len, slice_split, onto_first}
 use Rattle.std.proofs.lemmas.Grind.{flat_map-append}
 use Rattle.std.proofs.lemmas.List.{append-nil}
 use Rattle.std.proofs.lemmas.Bool.{cases_lt}
 use Rattle.std.proofs.lemmas.List.Sums.{sum_by-cons}
-use Rattle.bpf_words.specs.declared.instruction.Insn.{Insn}
 use Rattle.assembler_lines.specs.Places.{insn_at, lines_of}
-use Rattle.assembler.specs.Text.{bytes_of, bytes_before, AreRight}
+use Rattle.assembler.specs.Text.{bytes_of, bytes_before, AreRight, AreTextOf}
 
 range_more : (a n : ℕ) → range_with_len a (suc n) ≡ range_with_len a n ++ (a + n) ∷ []
 range_more a zero = let e : a ≡ a + 0 = omega arith in ap (λ (k : ℕ). k ∷ []) e
@@ -25,22 +24,25 @@ bytes_suc lines k =
     ∙ rw (e, append-nil) refl
 
 -- one line more
-pub bytes_more : (lines : List (List ℕ)) (k : ℕ) (o : Option Insn) (old new : List ℕ) → Ok o ≡ insn_at lines k → old ≡ bytes_before lines k
-    → new ≡ old ++ bytes_of (Ok o) → new ≡ bytes_before lines (k + 1)
-bytes_more lines k o old new is so_far more =
+pub bytes_more : (lines : List (List ℕ)) (k : ℕ) (old new : List ℕ) → old ≡ bytes_before lines k → new ≡ old ++ bytes_of (insn_at lines k) → new ≡ bytes_before lines (k + 1)
+bytes_more lines k old new so_far more =
     let e : k + 1 ≡ suc k = omega arith in
-    more ∙ ap (λ (bs : List ℕ). bs ++ bytes_of (Ok o)) so_far ∙ sym (rw e (bytes_suc lines k ∙ rw (← is) refl))
+    more ∙ ap (λ (bs : List ℕ). bs ++ bytes_of (insn_at lines k)) so_far ∙ sym (rw e (bytes_suc lines k))
 
 pub right_none : (lines : List (List ℕ)) → AreRight lines 0
 right_none lines k lt = absurd (omega arith)
 
 -- one right line more
-pub right_more : (lines : List (List ℕ)) (count : ℕ) (o : Option Insn) → Ok o ≡ insn_at lines count → AreRight lines count → AreRight lines (count + 1)
-right_more lines count o is h k lt =
+pub right_more : (lines : List (List ℕ)) (count : ℕ) → IsOk (insn_at lines count) → AreRight lines count → AreRight lines (count + 1)
+right_more lines count is h k lt =
     elim (cases_lt k count) [
       | inl less ↦ h k less
-      | inr le ↦ let same : k ≡ count = omega arith in rw (same, ← is) refl
+      | inr le ↦ let same : k ≡ count = omega arith in rw same is
     ]
+
+-- no line is left
+pub text_whole : (lines : List (List ℕ)) (count : ℕ) (bytes : List ℕ) → length lines ≡ count → AreRight lines count → bytes ≡ bytes_before lines count → AreTextOf lines bytes
+text_whole lines count bytes all right whole = record { right = subst (AreRight lines) (sym all) right; whole = whole ∙ ap (bytes_before lines) (sym all) }
 
 onto_sum : (x : ℕ) (parts : List (List ℕ)) → sum_by length (onto_first x parts) ≤ suc (sum_by length parts)
 onto_sum x [] = omega (arith, sum_by-cons length (x ∷ []) [])

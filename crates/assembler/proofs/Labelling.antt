@@ -3,16 +3,14 @@ use Rattle.std.proofs.Common.{◌≡◌, ℕ, suc, ◌≤◌, ◌<◌, ◌+◌, 
 use Rattle.std.specs.Option.{option_map, is_some}
 use Rattle.std.specs.Str.{bytes_eq}
 use Rattle.std.specs.Map.{update}
-use Rattle.std.specs.Borrow.{Bor}
 use Rattle.std.specs.Prelude.{sum_by}
 use Rattle.std.proofs.lemmas.List.Sums.{sum_by_more, sum_by_more_le}
-use Rattle.std.proofs.lemmas.List.{take_all, take_more, length-take-le, get_or-map, length-map}
+use Rattle.std.proofs.lemmas.List.{take_more, length-take-le}
 use Rattle.std.proofs.lemmas.Slice.Eq.{bytes_eq-Decides}
 use Rattle.assembler.specs.declared.labels.Definition.{Definition}
 use Rattle.assembler_lines.specs.Shapes.{either}
 use Rattle.assembler_lines.specs.Places.{definition, has_label, label_of, place, slots}
-use Rattle.assembler_lines.specs.Lending.{bytes_seen, lines_seen}
-use Rattle.assembler.specs.Labels.{Table, held, defined_at, HoldsLabels, HoldsAll, Defines}
+use Rattle.assembler.specs.Labels.{Table, held, defined_at, HoldsLabels, Defines, DefinesLabel}
 
 either_none : {A : Type 0} (o : Option A) → either o None ≡ o
 either_none None = refl
@@ -74,13 +72,6 @@ defines_set old new word d none updates other =
     updates other ∙ set_on (bytes_eq word other) (held old other) d
     (λ same. subst (λ (w : List ℕ). is_some (held old w) ≡ false) ((bytes_eq-Decides word other).0 same) none)
 
--- a line as it is lent
-pub line_seen : (lines : List (Bor (List ℕ))) (i : ℕ) (d : Bor (List ℕ)) → i < length lines → get_or (lines_seen lines) i [] ≡ (get_or lines i d).now
-line_seen lines i d lt = get_or-map bytes_seen lines i d [] lt
-
-pub seen_within : (lines : List (Bor (List ℕ))) (i : ℕ) → i < length lines → i < length (lines_seen lines)
-seen_within lines i lt = omega (arith, length-map lines bytes_seen)
-
 pub place_more : (lines : List (List ℕ)) (i : ℕ) → i < length lines → place lines (i + 1) ≡ place lines i + slots (get_or lines i [])
 unfolding place
 place_more lines i lt = sum_by_more slots lines i [] lt
@@ -98,8 +89,10 @@ pub labels_more_at : (lines : List (List ℕ)) (i slot : ℕ) (old new : Table) 
 labels_more_at lines i slot old new word lt placed some h defines =
     labels_more lines i old new word lt some h (subst (λ (s : ℕ). Defines old new word (record { index = i; slot = s })) placed defines)
 
-pub labels_all : (lines : List (List ℕ)) (i : ℕ) (labels : Table) → length lines ≤ i → HoldsLabels lines i labels → HoldsAll lines labels
-labels_all lines i labels le h name = h name ∙ ap (λ (ls : List (List ℕ)). option_map (defined_at lines) (definition ls name)) (take_all i lines le)
-
-pub seen_all : (lines : List (Bor (List ℕ))) (i : ℕ) → length lines ≤ i → length (lines_seen lines) ≤ i
-seen_all lines i le = omega (arith, length-map lines bytes_seen)
+-- one line more, by what its label is
+pub labels_step : (lines : List (List ℕ)) (i slot : ℕ) (old new : Table) (line : List ℕ) → i < length lines → get_or lines i [] ≡ line → slot ≡ place lines i
+    → HoldsLabels lines i old → DefinesLabel old new (label_of line) (record { index = i; slot = slot }) → HoldsLabels lines (i + 1) new
+labels_step lines i slot old new line lt here placed h step = go (label_of line) refl step where
+  go : (o : Option (List ℕ)) → label_of line ≡ o → DefinesLabel old new o (record { index = i; slot = slot }) → HoldsLabels lines (i + 1) new
+  go (Some word) is defines = labels_more_at lines i slot old new word lt placed (ap label_of here ∙ is) h defines
+  go None is same = λ name. same name ∙ labels_same lines i old lt (ap label_of here ∙ is) h name

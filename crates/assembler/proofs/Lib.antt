@@ -1,3 +1,4 @@
 pub mod Labelling
 pub mod Resolving
 pub mod Assembling
+pub mod Reading

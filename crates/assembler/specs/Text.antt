@@ -13,6 +13,11 @@ abbrev pub bytes_of : Judged (Option Insn) → List ℕ
 bytes_of (Ok (Some insn)) = encoded insn
 bytes_of line = []
 
+-- why no bytes come of the line at an index: its fault, by its number from 1, or that memory was wanting
+abbrev pub IsFault : ℕ → Judged (Option Insn) → AsmError → Type 0
+IsFault k judged (Line line fault) = (line ≡ k + 1) × (Err fault ≡ judged)
+IsFault k judged OutOfMemory = Unit {0}
+
 -- the bytes of the first lines
 unfoldable pub bytes_before : List (List ℕ) → ℕ → List ℕ
 bytes_before lines count = flat_map (λ k. bytes_of (insn_at lines k)) (range_with_len 0 count)

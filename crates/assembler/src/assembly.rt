@@ -1,27 +1,19 @@
-ghost use Rattle.std.specs.Prelude.{◌≡◌, ℕ, ◌++◌, ◌<◌, ◌^◌, length, IfOk, IfErr, Ok, OnOk, sum_by};
-ghost use Rattle.assembler.specs.Labels.{held, HoldsAll, label_held, onto_held};
-ghost use Rattle.assembler_lines.specs.Lending.{lines_seen};
-ghost use Rattle.assembler_lines.specs.Places.{insn_at, jump_between, lines_of, place};
-ghost use Rattle.assembler.specs.Text.{bytes_of, AreRefused, AreTextOf, AsmFault, AsmText};
+ghost use Rattle.std.specs.Prelude.{◌≡◌, ◌+◌, ◌++◌, ◌<◌, ◌^◌, IfOk, IfErr, IsOk, Ok, OnOk};
+ghost use Rattle.assembler_lines.specs.Places.{insn_at, jump_between, line_at, lines_of, place, resolved};
+ghost use Rattle.assembler_lines.specs.Statements.{Label, Onto};
+ghost use Rattle.assembler.specs.declared.fault.AsmError.TheVariants.{Line};
+ghost use Rattle.assembler.specs.Labels.{onto_held};
+ghost use Rattle.assembler.specs.Text.{bytes_of, AsmFault, AsmText, IsFault};
 
 use crate::fault::AsmError;
-use crate::labels::{Labels, labels, slots};
+use crate::labels::{Definition, Labels, slots};
+use crate::lines::first_line;
 use assembler_lines::fault::LineFault;
 use assembler_lines::reading::{jump_by, reach, reading};
 use assembler_lines::statement::{Jump, Statement};
 use bpf_words::encoding::encode;
 use bpf_words::instruction::Insn;
 use std::alloc::{AllocError, Global};
-
-/// The lines of a text.
-fn lines(alloc: Global, source: &str) -> Result<Vec<&[u8]>, AllocError>
-    ensures { IfOk result (λ v. lines_seen v.items ≡ lines_of source.now) }
-{
-    source
-        .as_bytes()
-        .split(|byte| *byte == b'\n')
-        .collect(alloc)
-}
 
 /// The jump at a slot to another.
 #[tactic(auto, unfolding(assembler_lines::specs::Places::jump_between))]
@@ -43,52 +35,83 @@ fn jump_between(jump: Jump, here: usize, target: usize) -> Result<Insn, LineFaul
     Err(LineFault::JumpRange)
 }
 
+/// The jump at a slot to a label, by its definition.
+fn onto(jump: Jump, slot: usize, definition: Option<Definition>) -> Result<Option<Insn>, LineFault>
+    ensures { result ≡ onto_held jump slot definition }
+{
+    let definition = definition.ok_or(LineFault::UnknownLabel)?;
+    let insn = jump_between(jump, slot, definition.slot)?;
+    Ok(Some(insn))
+}
+
+/// A line's fault. Lines count from 1, their indexes from 0.
+fn fault_at(index: usize, fault: LineFault) -> AsmError
+    requires { index + 1 < 2 ^ 64 }
+    ensures { result ≡ Line (index + 1) fault }
+{
+    let line = index + 1;
+    AsmError::Line { line, fault }
+}
+
 /// A label's line has no instruction, and no earlier line may have the label.
 fn at_label<'a>(
-    labels: &Labels<'a>,
+    labels: &mut Labels<'a>,
     index: usize,
     name: &'a [u8],
-) -> Result<Option<Insn>, LineFault>
-    ensures { result ≡ label_held index (held labels.now name.now) }
+) -> Result<Option<Insn>, AsmError>
+    requires { index + 1 < 2 ^ 64 }
+    ensures same { OnOk result (labels.new.source ≡ labels.old.source) }
+    ensures insn { IfOk result (λ insn. Ok insn ≡ resolved (lines_of labels.old.source.now) index (Ok (Label name.now))) }
+    ensures fault { IfErr result (IsFault index (resolved (lines_of labels.old.source.now) index (Ok (Label name.now)))) }
 {
-    match labels.get(&name) {
-        Some(definition) if definition.index < index => Err(LineFault::LabelTwice),
-        _ => Ok(None),
+    if labels.is_taken(name, index)? {
+        Err(fault_at(index, LineFault::LabelTwice))
+    } else {
+        Ok(None)
     }
 }
 
 /// The jump at a slot to a label.
 fn at_jump<'a>(
-    labels: &Labels<'a>,
+    labels: &mut Labels<'a>,
+    index: usize,
     slot: usize,
     jump: Jump,
     name: &'a [u8],
-) -> Result<Option<Insn>, LineFault>
-    ensures { result ≡ onto_held jump slot (held labels.now name.now) }
+) -> Result<Option<Insn>, AsmError>
+    requires slot { slot ≡ place (lines_of labels.old.source.now) index }
+    requires room { index + 1 < 2 ^ 64 }
+    ensures same { OnOk result (labels.new.source ≡ labels.old.source) }
+    ensures insn { IfOk result (λ insn. Ok insn ≡ resolved (lines_of labels.old.source.now) index (Ok (Onto jump name.now))) }
+    ensures fault { IfErr result (IsFault index (resolved (lines_of labels.old.source.now) index (Ok (Onto jump name.now)))) }
 {
-    let definition = labels.get(&name).ok_or(LineFault::UnknownLabel)?;
-    let insn = jump_between(jump, slot, definition.slot)?;
-    Ok(Some(insn))
+    let definition = labels.find(name)?;
+    match onto(jump, slot, definition) {
+        Ok(insn) => Ok(insn),
+        Err(fault) => Err(fault_at(index, fault)),
+    }
 }
 
-/// The instruction of the line at an index, where it has one. The line begins at that slot.
+/// The instruction of the line of an index, where it has one. The line begins at that slot.
 fn instruction_at<'a>(
-    lines: &[&'a [u8]],
-    labels: &Labels<'a>,
+    labels: &mut Labels<'a>,
+    line: &'a [u8],
     index: usize,
     slot: usize,
-) -> Result<Option<Insn>, LineFault>
-    requires within { index < length lines.now }
-    requires held { HoldsAll (lines_seen lines.now) labels.now }
-    requires placed { slot ≡ place (lines_seen lines.now) index }
-    ensures { result ≡ insn_at (lines_seen lines.now) index }
+) -> Result<Option<Insn>, AsmError>
+    requires line { line.now ≡ line_at (lines_of labels.old.source.now) index }
+    requires slot { slot ≡ place (lines_of labels.old.source.now) index }
+    requires room { index + 1 < 2 ^ 64 }
+    ensures same { OnOk result (labels.new.source ≡ labels.old.source) }
+    ensures insn { IfOk result (λ insn. Ok insn ≡ insn_at (lines_of labels.old.source.now) index) }
+    ensures fault { IfErr result (IsFault index (insn_at (lines_of labels.old.source.now) index)) }
 {
-    match reading(lines[index]) {
+    match reading(line) {
         Ok(Statement::Blank) => Ok(None),
         Ok(Statement::Label(name)) => at_label(labels, index, name),
         Ok(Statement::Plain(insn)) => Ok(Some(insn)),
-        Ok(Statement::Onto(jump, name)) => at_jump(labels, slot, jump, name),
-        Err(fault) => Err(fault),
+        Ok(Statement::Onto(jump, name)) => at_jump(labels, index, slot, jump, name),
+        Err(fault) => Err(fault_at(index, fault)),
     }
 }
 
@@ -102,38 +125,45 @@ fn append(bytes: &mut Vec<u8>, insn: Option<Insn>) -> Result<(), AllocError>
     }
 }
 
-/// The bytes of lines, by their labels; or the first line at fault.
-fn assembled<'a>(
-    alloc: Global,
-    lines: &[&'a [u8]],
-    labels: &Labels<'a>,
-) -> Result<Vec<u8>, AsmError>
-    requires held { HoldsAll (lines_seen lines.now) labels.now }
-    requires room { sum_by length (lines_seen lines.now) < 2 ^ 64 }
-    ensures text { IfOk result (λ bytes. AreTextOf (lines_seen lines.now) bytes.items) }
-    ensures fault { IfErr result (AreRefused (lines_seen lines.now)) }
+/// Appends the bytes of the line of an index, which begins at that slot.
+fn append_line<'a>(
+    bytes: &mut Vec<u8>,
+    labels: &mut Labels<'a>,
+    line: &'a [u8],
+    index: usize,
+    slot: usize,
+) -> Result<(), AsmError>
+    requires line { line.now ≡ line_at (lines_of labels.old.source.now) index }
+    requires slot { slot ≡ place (lines_of labels.old.source.now) index }
+    requires room { index + 1 < 2 ^ 64 }
+    ensures same { OnOk result (labels.new.source ≡ labels.old.source) }
+    ensures right { OnOk result (IsOk (insn_at (lines_of labels.old.source.now) index)) }
+    ensures appended { OnOk result (bytes.new.items ≡ bytes.old.items ++ bytes_of (insn_at (lines_of labels.old.source.now) index)) }
+    ensures fault { IfErr result (IsFault index (insn_at (lines_of labels.old.source.now) index)) }
 {
-    let mut bytes = Vec::new(alloc);
-    let mut slot = 0;
-    for index in 0..lines.len() {
-        let line = index + 1;
-        let insn = match instruction_at(lines, labels, index, slot) {
-            Ok(insn) => insn,
-            Err(fault) => return Err(AsmError::Line { line, fault }),
-        };
-        append(&mut bytes, insn)?;
-        slot += slots(lines[index]);
+    match instruction_at(labels, line, index, slot) {
+        Ok(insn) => append(bytes, insn).map_err(AsmError::from),
+        Err(error) => Err(error),
     }
-    Ok(bytes)
 }
 
 /// The bytes of a program's text: 8 for each instruction, 16 for a wide load (RFC 9669, section 3).
-/// Refused, it names the first line at fault.
+/// Refused, it names the first line at fault. Behind that line are read only lines up to a label that a jump before it names.
 pub fn assemble(alloc: Global, source: &str) -> Result<Vec<u8>, AsmError>
     ensures text { IfOk result (λ bytes. AsmText source.now bytes.items) }
     ensures fault { IfErr result (AsmFault source.now) }
 {
-    let lines = lines(alloc, source)?;
-    let labels = labels(alloc, &lines)?;
-    assembled(alloc, &lines, &labels)
+    let mut labels = Labels::new(alloc, source);
+    let mut bytes = Vec::new(alloc);
+    let mut rest = Some(source.as_bytes());
+    let mut index = 0;
+    let mut slot = 0;
+    while let Some(text) = rest {
+        let (line, behind) = first_line(text);
+        append_line(&mut bytes, &mut labels, line, index, slot)?;
+        index += 1;
+        slot += slots(line);
+        rest = behind;
+    }
+    Ok(bytes)
 }

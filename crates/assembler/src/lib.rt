@@ -5,3 +5,4 @@
 pub mod assembly;
 pub mod fault;
 mod labels;
+mod lines;

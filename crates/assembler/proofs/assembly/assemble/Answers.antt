@@ -1,12 +1,74 @@
-use Rattle.std.proofs.Common.{arith, ap, ◌∙◌}
-use Rattle.assembler_lines.specs.Lending.{lines_seen}
-use Rattle.assembler.proofs.Assembling.{room_of}
+use Rattle.std.proofs.Common.{◌≡◌, ◌<◌, ◌^◌, length, refl, ap, sym, arith, ◌∙◌}
+use Rattle.std.specs.Prelude.{sum_by}
+use Rattle.assembler_lines.specs.Places.{lines_of, place}
+use Rattle.assembler.specs.Lines.{lines_left}
+use Rattle.assembler.specs.Text.{bytes_before}
+use Rattle.assembler.proofs.Labelling.{place_more, room_for, fits_more}
+use Rattle.assembler.proofs.Reading.{left_within, left_here, left_more, lines_few, none_left}
+use Rattle.assembler.proofs.Assembling.{room_of, bytes_more, right_more, right_none, text_whole}
 use Rattle.assembler.proofs.assembly.assemble.Goals as goal
 
-pub labels-requires : goal.labels-requires
-labels-requires c =
-    room_of c.args.source.now (lines_seen c.deref.result.now) (ap lines_seen c.deref.ensures.value ∙ c.in_ok-lines.ensures) (omega arith)
+pub loop-rest-init : goal.loop-rest-init
+unfolding place bytes_before
+loop-rest-init c = record {
+  same = c.new-labels.ensures.same;
+  left = ap lines_of c.as_bytes.ensures.value;
+  within = omega arith;
+  right = right_none (lines_of c.args.source.now);
+  whole = c.new-bytes.ensures.items;
+  placed = refl;
+  fits = omega arith;
+}
 
-pub assembled-requires-clause-room : goal.assembled-requires-clause-room
-assembled-requires-clause-room c =
-    room_of c.args.source.now (lines_seen c.deref-2.result.now) (ap lines_seen c.deref-2.ensures.value ∙ c.in_ok-lines.ensures) (omega arith)
+pub append_line-requires-clause-room : goal.append_line-requires-clause-room
+append_line-requires-clause-room c =
+    let source = c.args.source.now in
+    let left = sym c.first_line.ensures ∙ ap lines_left (sym c.in-Some.is) ∙ c.loop-rest.invariant.left in
+    let within = left_within (lines_of source) c.loop-rest.index c.first_line.result.0.now (lines_left c.first_line.result.1) left in
+    omega (arith, within, lines_few source)
+
+pub overflow_add-index : goal.overflow_add-index
+overflow_add-index c =
+    let source = c.args.source.now in
+    let left = sym c.first_line.ensures ∙ ap lines_left (sym c.in-Some.is) ∙ c.loop-rest.invariant.left in
+    let within = left_within (lines_of source) c.loop-rest.index c.first_line.result.0.now (lines_left c.first_line.result.1) left in
+    omega (arith, within, lines_few source)
+
+pub overflow_add-slot : goal.overflow_add-slot
+overflow_add-slot c =
+    let source = c.args.source.now in
+    let lines = lines_of source in
+    let index = c.loop-rest.index in
+    let line = c.first_line.result.0.now in
+    let left = sym c.first_line.ensures ∙ ap lines_left (sym c.in-Some.is) ∙ c.loop-rest.invariant.left in
+    let within = left_within lines index line (lines_left c.first_line.result.1) left in
+    let here = left_here lines index line (lines_left c.first_line.result.1) left in
+    let room = room_for lines index c.loop-rest.slot line within here c.loop-rest.invariant.fits in
+    let all : sum_by length lines < 2 ^ 64 = room_of source lines refl (omega arith) in
+    omega (arith, c.slots-slot.ensures.bound, room, all)
+
+pub loop-rest-preserved : goal.loop-rest-preserved
+loop-rest-preserved c =
+    let source = c.args.source.now in
+    let lines = lines_of source in
+    let index = c.loop-rest.index in
+    let line = c.first_line.result.0.now in
+    let left = sym c.first_line.ensures ∙ ap lines_left (sym c.in-Some.is) ∙ c.loop-rest.invariant.left in
+    let within = left_within lines index line (lines_left c.first_line.result.1) left in
+    let here = left_here lines index line (lines_left c.first_line.result.1) left in
+    let same : c.loop-rest.labels.source.now ≡ source = c.loop-rest.invariant.same in
+    record {
+      same = ap (λ text. text.now) c.in_ok-append_line.ensures.same ∙ same;
+      left = left_more lines index line (lines_left c.first_line.result.1) left;
+      within = omega (arith, within);
+      right = right_more lines index (rw same at c.in_ok-append_line.ensures.right) c.loop-rest.invariant.right;
+      whole = bytes_more lines index c.loop-rest.bytes.items c.append_line.new.bytes.items c.loop-rest.invariant.whole (rw same at c.in_ok-append_line.ensures.appended);
+      placed = rw c.slots-slot.ensures.value (sym (place_more lines index within ∙ rw (here, ← c.loop-rest.invariant.placed) refl));
+      fits = fits_more lines index c.loop-rest.slot c.slots-slot.result line within here c.loop-rest.invariant.fits c.slots-slot.ensures.bound;
+    }
+
+pub returns-clause-text : goal.returns-clause-text
+returns-clause-text c =
+    let lines = lines_of c.args.source.now in
+    let all = none_left lines c.loop-rest.index (sym (ap lines_left c.in_default.is) ∙ c.loop-rest.invariant.left) in
+    text_whole lines c.loop-rest.index c.loop-rest.bytes.items (omega (arith, all, c.loop-rest.invariant.within)) c.loop-rest.invariant.right c.loop-rest.invariant.whole

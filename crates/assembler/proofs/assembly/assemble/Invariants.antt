@@ -1,0 +1,22 @@
+use Rattle.std.proofs.Common.{◌≡◌, ◌≤◌, take, drop, length}
+use Rattle.std.specs.Prelude.{sum_by}
+use Rattle.assembler_lines.specs.Places.{lines_of, place}
+use Rattle.assembler.specs.Lines.{lines_left}
+use Rattle.assembler.specs.Text.{AreRight, bytes_before}
+use Rattle.assembler.proofs.assembly.assemble.Given as goal
+
+abbrev pub invariant-loop-rest : goal.invariant-loop-rest
+invariant-loop-rest l =
+    let lines = lines_of l.source in
+    record {
+      same : l.labels.source.now ≡ l.source;
+      left : lines_left l.rest ≡ drop l.index lines;
+      within : l.index ≤ length lines;
+      right : AreRight lines l.index;
+      whole : l.bytes.items ≡ bytes_before lines l.index;
+      placed : l.slot ≡ place lines l.index;
+      fits : l.slot ≤ sum_by length (take l.index lines);
+    }
+
+abbrev pub decreases-loop-rest : goal.decreases-loop-rest
+decreases-loop-rest l = length (lines_left l.rest)

@@ -1,0 +1,12 @@
+use Rattle.std.proofs.Common.{◌≡◌, ◌≤◌, length}
+use Rattle.assembler.specs.Lines.{lines_left}
+use Rattle.assembler.proofs.labels.Labels.read_label.Given as goal
+
+abbrev pub invariant-loop-self : goal.invariant-loop-self
+invariant-loop-self l = record {
+  same : l.self.source ≡ l.fn.self.source;
+  fewer : length (lines_left l.self.rest) ≤ length (lines_left l.fn.self.rest);
+}
+
+abbrev pub decreases-loop-self : goal.decreases-loop-self
+decreases-loop-self l = length (lines_left l.self.rest)
