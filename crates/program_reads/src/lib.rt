@@ -9,6 +9,7 @@ ghost use Rattle.program_reads.specs.Reads.{Determines};
 ghost use Rattle.program_reads.specs.Loads.{CoversRuns};
 
 mod fields;
+pub mod lines;
 pub mod reads;
 
 /// What no load of a program can read, its outcome doesn't depend on.
