@@ -1,14 +1,14 @@
 -- How many comments hold at a place.
-use Rattle.std.proofs.Common.{◌≡◌, ℕ, Bool, zero, suc, ◌+◌, ◌-◌, ◌<◌, ◌≤◌, true, false, cond, map, List, [], ◌∷◌, Some, length, get_or, sym, ap, refl, ◌∙◌, arith, ⊎_elim}
+use Rattle.std.proofs.Common.{◌≡◌, ℕ, Bool, zero, suc, ◌+◌, ◌-◌, ◌<◌, ◌≤◌, true, false, cond, List, [], ◌∷◌, Some, length, get_or, sym, ap, refl, ◌∙◌, arith, ⊎_elim}
 use Rattle.std.specs.Prelude.{◌^◌, nat_le, count_by}
 use Rattle.std.specs.List.{slice_get}
 use Rattle.std.specs.List.Sorted.{IsStrictlyIncreasing}
-use Rattle.std.proofs.lemmas.Bool.{cases_lt, le-leb, lt-leb}
+use Rattle.std.proofs.lemmas.Bool.{cases_lt, false≢true, le-leb, leb-true, lt-leb}
 use Rattle.std.proofs.lemmas.List.Sorted.{sum_by-IsPermutation}
 use Rattle.std.proofs.lemmas.List.Sums.{sum_by-cons}
 use Rattle.std.proofs.lemmas.Option.{slice_get-get_or}
 use Rattle.mark_anchors.specs.CommentRuns.{HasPlace, has_place, numbers_at, AreOrderly}
-use Rattle.mark_anchors.specs.CommentLists.{IsTable, count_up_to}
+use Rattle.mark_anchors.specs.CommentLists.{IsTable, begin_of, end_of, count_up_to}
 use Rattle.mark_anchors.specs.declared.comment_runs.CommentRun.{CommentRun}
 use Rattle.mark_anchors.proofs.Commenting.{increasing}
 use Rattle.mark_anchors.proofs.Lists.{contains_from}
@@ -21,7 +21,7 @@ one_less n w rest f g h = omega arith
 one_more : (n w rest i : ℕ) → n ≡ w + rest → w ≡ 1 → i ≡ rest → suc i ≡ n
 one_more n w rest i f g h = omega arith
 
-pub count_from_point : (p : ℕ → Bool) (xs : List ℕ) (i : ℕ) → i ≤ length xs → ((k d : ℕ) → k < i → p (get_or xs k d) ≡ true) → ((k d : ℕ) → i ≤ k → k < length xs → p (get_or xs k d) ≡ false) → i ≡ count_by p xs
+pub count_from_point : {X : Type 0} (p : X → Bool) (xs : List X) (i : ℕ) → i ≤ length xs → ((k : ℕ) (d : X) → k < i → p (get_or xs k d) ≡ true) → ((k : ℕ) (d : X) → i ≤ k → k < length xs → p (get_or xs k d) ≡ false) → i ≡ count_by p xs
 count_from_point p [] i le passes fails = omega arith
 count_from_point p (x ∷ xs) zero le passes fails =
     let head : p x ≡ false = fails zero x (omega arith) (omega arith) in
@@ -35,6 +35,16 @@ count_from_point p (x ∷ xs) (suc i) le passes fails =
     let total : count_by p (x ∷ xs) ≡ cond (p x) 1 0 + count_by p xs = sum_by-cons (λ y. cond (p y) 1 0) x xs in
     let one : cond (p x) 1 0 ≡ 1 = ap (λ b. cond b 1 0) head in
     one_more (count_by p (x ∷ xs)) (cond (p x) 1 0) (count_by p xs) i total one rest
+
+pub up_to_point : {X : Type 0} (place_of : X → ℕ) (xs : List X) (k place : ℕ) (d : X) → nat_le (place_of (get_or xs k d)) place ≡ true → place_of (get_or xs k d) ≤ place
+up_to_point place_of xs k place d is = leb-true (place_of (get_or xs k d)) place is
+
+pub past_point : {X : Type 0} (place_of : X → ℕ) (xs : List X) (k place : ℕ) (d : X) → nat_le (place_of (get_or xs k d)) place ≡ false → place < place_of (get_or xs k d)
+past_point place_of xs k place d not =
+    ⊎_elim
+    (λ (past : place < place_of (get_or xs k d)). past)
+    (λ (le : place_of (get_or xs k d) ≤ place). absurd (false≢true (sym not ∙ le-leb (place_of (get_or xs k d)) place le)))
+    (cases_lt place (place_of (get_or xs k d)))
 
 -- ---- as many hold as have begun and not ended
 abbrev pub weight : ℕ → ℕ → ℕ
@@ -73,22 +83,19 @@ one_run run runs place order =
     (cases_lt place run.from))
     (place_cases run place)
 
-up_to_cons : (place x : ℕ) (xs : List ℕ) → count_up_to (x ∷ xs) place ≡ weight place x + count_up_to xs place
-up_to_cons place x xs = sum_by-cons (weight place) x xs
+up_to_cons : (place_of : CommentRun → ℕ) (place : ℕ) (run : CommentRun) (runs : List CommentRun) → count_up_to place_of (run ∷ runs) place ≡ weight place (place_of run) + count_up_to place_of runs place
+up_to_cons place_of place run runs = sum_by-cons (λ r. weight place (place_of r)) run runs
 
-pub held_and_ended : (runs : List CommentRun) (place : ℕ) → ((i : ℕ) (run : CommentRun) → slice_get runs i ≡ Some run → run.from ≤ run.to) → length (numbers_at runs place) + count_up_to (map (λ run. run.to) runs) place ≡ count_up_to (map (λ run. run.from) runs) place
+pub held_and_ended : (runs : List CommentRun) (place : ℕ) → ((i : ℕ) (run : CommentRun) → slice_get runs i ≡ Some run → run.from ≤ run.to) → length (numbers_at runs place) + count_up_to end_of runs place ≡ count_up_to begin_of runs place
 held_and_ended [] place along = refl
 held_and_ended (run ∷ runs) place along =
-    let froms : List ℕ = map (λ run. run.from) runs in
-    let tos : List ℕ = map (λ run. run.to) runs in
-    summed (length (numbers_at runs place)) (length (numbers_at (run ∷ runs) place)) (count_up_to tos place) (count_up_to (run.to ∷ tos) place) (count_up_to froms place) (count_up_to (run.from ∷ froms) place) (weight place run.to) (weight place run.from)
-    (held_and_ended runs place (λ i other g. along (suc i) other g)) (up_to_cons place run.to tos) (up_to_cons place run.from froms) (one_run run runs place (along zero run refl))
+    summed (length (numbers_at runs place)) (length (numbers_at (run ∷ runs) place)) (count_up_to end_of runs place) (count_up_to end_of (run ∷ runs) place) (count_up_to begin_of runs place) (count_up_to begin_of (run ∷ runs) place) (weight place run.to) (weight place run.from)
+    (held_and_ended runs place (λ i other g. along (suc i) other g)) (up_to_cons end_of place run runs) (up_to_cons begin_of place run runs) (one_run run runs place (along zero run refl))
 
-pub count_of_table : (runs : List CommentRun) (begins ends : List ℕ) (place : ℕ) → IsTable runs begins ends → length (numbers_at runs place) + count_up_to ends place ≡ count_up_to begins place
+pub count_of_table : (runs begins ends : List CommentRun) (place : ℕ) → IsTable runs begins ends → length (numbers_at runs place) + count_up_to end_of ends place ≡ count_up_to begin_of begins place
 count_of_table runs begins ends place is =
-    let f : ℕ → ℕ = λ p. cond (nat_le p place) 1 0 in
-    let begun : count_up_to begins place ≡ count_up_to (map (λ run. run.from) runs) place = sum_by-IsPermutation f (map (λ run. run.from) runs) begins is.beginning.same in
-    let ended : count_up_to ends place ≡ count_up_to (map (λ run. run.to) runs) place = sum_by-IsPermutation f (map (λ run. run.to) runs) ends is.ending.same in
+    let begun : count_up_to begin_of begins place ≡ count_up_to begin_of runs place = sum_by-IsPermutation (λ r. weight place (begin_of r)) runs begins is.beginning.same in
+    let ended : count_up_to end_of ends place ≡ count_up_to end_of runs place = sum_by-IsPermutation (λ r. weight place (end_of r)) runs ends is.ending.same in
     let held = held_and_ended runs place (λ i run g. is.orderly.along run (contains_from runs i run g)) in
     ap (λ n. length (numbers_at runs place) + n) ended ∙ held ∙ sym begun
 

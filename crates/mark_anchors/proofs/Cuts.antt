@@ -10,12 +10,11 @@ use Rattle.char_sequence.specs.declared.sequence.Element.{Element}
 use Rattle.mark_anchors.specs.KeyMarks.{IsEndOf}
 use Rattle.mark_anchors.specs.Places.{Lies}
 use Rattle.mark_anchors.specs.Placed.{AreAllPlaced}
-use Rattle.mark_anchors.specs.Ranges.{AreRanges, AreCuts, AreWithin, IsCut, IsUniform}
+use Rattle.mark_anchors.specs.Ranges.{AreCuts, AreWithin, IsCut, IsReached, IsUniform}
 use Rattle.mark_anchors.specs.declared.placed.PlacedMark.{PlacedMark}
-use Rattle.mark_anchors.specs.declared.ranges.FormattedRange.{FormattedRange}
 use Rattle.mark_anchors.proofs.Gathering.{mark_at}
 use Rattle.mark_anchors.proofs.Lists.{contains_at, contains_from}
-use Rattle.mark_anchors.proofs.Uniform.{IsReached, boundary_within, next_cut}
+use Rattle.mark_anchors.proofs.Uniform.{boundary_within, next_cut}
 
 lies_within : (es : List Element) (o : Op) (first last : ℕ) → Lies es o first last → (first ≤ length es) × (last ≤ length es)
 lies_within es (Insert id parent character) first last lies = absurd lies
@@ -73,6 +72,3 @@ next_read es marks cuts k from are reached within = next_cut es marks cuts are k
 
 pub reached_next : (cuts : List ℕ) (k : ℕ) → k < length cuts → IsReached cuts (k + 1) (get_or cuts k 0)
 reached_next cuts k within = inr (k, refl, slice_get-get_or cuts k 0 within)
-
-pub ranges_along : (es fs : List Element) (marks held : List Op) (n : ℕ) (ranges : List FormattedRange) → es ≡ fs → marks ≡ held → AreRanges es marks n ranges → AreRanges fs held n ranges
-ranges_along es fs marks held n ranges same also are = subst (λ (l : List Element). AreRanges l held n ranges) same (subst (λ (ms : List Op). AreRanges es ms n ranges) also are)

@@ -16,10 +16,14 @@ pub mod Uniform
 pub mod Cuts
 pub mod FormatLaws
 pub mod Jumps
+pub mod Alike
 pub mod Painting
 pub mod Stretching
 pub mod Running
 pub mod Lengthening
 pub mod Passing
 pub mod Counting
+pub mod Between
+pub mod Searching
+pub mod Steady
 pub mod Borne

@@ -1,9 +1,8 @@
 -- Between two cuts all characters have one format.
-use Rattle.std.proofs.Common.{◌≡◌, ◌↔◌, ℕ, ◌+◌, ◌<◌, ◌≤◌, List, [], ◌∷◌, ◌++◌, Some, inl, inr, ◌⊎◌, length, sym, ap, refl, ◌∙◌, subst, arith, ⊎_elim}
+use Rattle.std.proofs.Common.{◌≡◌, ◌↔◌, ℕ, ◌+◌, ◌<◌, ◌≤◌, List, Some, inl, inr, ◌⊎◌, length, sym, ap, refl, ◌∙◌, subst, arith, ⊎_elim}
 use Rattle.std.specs.List.{slice_get, Contains}
 use Rattle.std.proofs.lemmas.Bool.{cases_lt}
-use Rattle.std.proofs.lemmas.List.{length_push}
-use Rattle.std.proofs.lemmas.Option.{same_Some, none-some, slice_get_within}
+use Rattle.std.proofs.lemmas.Option.{same_Some, slice_get_within}
 use Rattle.change_ops.specs.Operations.{key_of, AnchorNames, Names}
 use Rattle.change_ops.specs.declared.id.OpId.{OpId}
 use Rattle.change_ops.specs.declared.attribute.Key.{Key}
@@ -20,12 +19,11 @@ use Rattle.mark_anchors.specs.Formatting.{Formatting}
 use Rattle.mark_anchors.specs.Marks.{AreMarks}
 use Rattle.mark_anchors.specs.MarkRange.{IsRangeOf}
 use Rattle.mark_anchors.specs.Places.{IsBoundary, Lies}
-use Rattle.mark_anchors.specs.Ranges.{IsOfFormat, AreRanges, AreCuts, IsUniform}
+use Rattle.mark_anchors.specs.Ranges.{IsReached, AreCuts, IsUniform}
 use Rattle.mark_anchors.specs.declared.mark_range.MarkRange.{MarkRange}
-use Rattle.mark_anchors.specs.declared.ranges.FormattedRange.{FormattedRange}
 use Rattle.mark_anchors.proofs.Commenting.{rises}
 use Rattle.mark_anchors.proofs.Deciding.{touches_from_place, place_from_touches, of_key_from_touches, mark_from_key}
-use Rattle.mark_anchors.proofs.Lists.{contains_at, contains_from, pushed_at}
+use Rattle.mark_anchors.proofs.Lists.{contains_at, contains_from}
 
 -- ---- two characters that the same marks touch
 module _ (ops : List Op) (e f : OpId) (alike : (key : Key) (o : Op) → Contains ops o → Touches ops key e o ↔ Touches ops key f o) where
@@ -115,10 +113,6 @@ boundary_within es (AfterCharacter x) n (k, (e, at, id), next) = let within : k 
 boundary_within es TextEnd n is = let at : n ≡ length es = is in omega arith
 
 -- ---- cuts
--- the last of the first so many cuts, or the start
-abbrev pub IsReached : List ℕ → ℕ → ℕ → Type 0
-IsReached cuts k from = ((k ≡ 0) × (from ≡ 0)) ⊎ ((j : ℕ) × (k ≡ j + 1) × (slice_get cuts j ≡ Some from))
-
 module _ (es : List Element) (marks : List Op) (cuts : List ℕ) (are : AreCuts es marks cuts) where
   upto : (i j x y : ℕ) → slice_get cuts i ≡ Some x → slice_get cuts j ≡ Some y → i ≤ j → x ≤ y
   upto i j x y g h le =
@@ -161,67 +155,3 @@ module _ (es : List Element) (marks : List Op) (cuts : List ℕ) (are : AreCuts 
       let high : from ≤ length es = are.within from (contains_from cuts r.0 from r.2) in
       omega arith)
       reached
-
--- ---- ranges
-pub ranges_none : (es : List Element) (marks : List Op) → AreRanges es marks 0 []
-ranges_none es marks = record {
-  none = λ e. refl;
-  first = λ r g. absurd (none-some r g);
-  next = λ i r s g h. absurd (none-some r g);
-  last = λ i r e g. absurd (none-some r g);
-  some = λ i r g. absurd (none-some r g);
-  within = λ i r g. absurd (none-some r g);
-  formatted = λ i r g. absurd (none-some r g);
-}
-
-pub ranges_more : (es : List Element) (marks : List Op) (from : ℕ) (ranges : List FormattedRange) (r : FormattedRange) → AreRanges es marks from ranges → r.from ≡ from → r.from < r.to → r.to ≤ length es → IsOfFormat es marks r → AreRanges es marks r.to (ranges ++ r ∷ [])
-ranges_more es marks from ranges r are begins some within formatted = record {
-  none = λ e. absurd (omega (arith, length_push ranges r));
-  first =
-      λ s g.
-      ⊎_elim
-      (λ (old : slice_get ranges 0 ≡ Some s). are.first s old)
-      (λ (new : (0 ≡ length ranges) × (r ≡ s)). ap (λ z. z.from) (sym new.1) ∙ begins ∙ are.none (sym new.0))
-      (pushed_at ranges r 0 s g);
-  next =
-      λ i s t g h.
-      ⊎_elim
-      (λ (old : slice_get ranges (i + 1) ≡ Some t).
-      let within : i + 1 < length ranges = slice_get_within ranges (i + 1) t old in
-      ⊎_elim
-      (λ (before : slice_get ranges i ≡ Some s). are.next i s t before old)
-      (λ (new : (i ≡ length ranges) × (r ≡ s)). let end : i ≡ length ranges = new.0 in absurd (omega arith))
-      (pushed_at ranges r i s g))
-      (λ (new : (i + 1 ≡ length ranges) × (r ≡ t)).
-      let end : i + 1 ≡ length ranges = new.0 in
-      ⊎_elim
-      (λ (before : slice_get ranges i ≡ Some s). ap (λ z. z.from) (sym new.1) ∙ begins ∙ sym (are.last i s end before))
-      (λ (too : (i ≡ length ranges) × (r ≡ s)). let also : i ≡ length ranges = too.0 in absurd (omega arith))
-      (pushed_at ranges r i s g))
-      (pushed_at ranges r (i + 1) t h);
-  last =
-      λ i s end g.
-      let size : i + 1 ≡ length ranges + 1 = end ∙ length_push ranges r in
-      ⊎_elim
-      (λ (old : slice_get ranges i ≡ Some s). let low : i < length ranges = slice_get_within ranges i s old in absurd (omega arith))
-      (λ (new : (i ≡ length ranges) × (r ≡ s)). ap (λ z. z.to) (sym new.1))
-      (pushed_at ranges r i s g);
-  some =
-      λ i s g.
-      ⊎_elim
-      (λ (old : slice_get ranges i ≡ Some s). are.some i s old)
-      (λ (new : (i ≡ length ranges) × (r ≡ s)). subst (λ z. z.from < z.to) new.1 some)
-      (pushed_at ranges r i s g);
-  within =
-      λ i s g.
-      ⊎_elim
-      (λ (old : slice_get ranges i ≡ Some s). are.within i s old)
-      (λ (new : (i ≡ length ranges) × (r ≡ s)). subst (λ z. z.to ≤ length es) new.1 within)
-      (pushed_at ranges r i s g);
-  formatted =
-      λ i s g.
-      ⊎_elim
-      (λ (old : slice_get ranges i ≡ Some s). are.formatted i s old)
-      (λ (new : (i ≡ length ranges) × (r ≡ s)). subst (IsOfFormat es marks) new.1 formatted)
-      (pushed_at ranges r i s g);
-}

@@ -1,9 +1,9 @@
 -- The comments on a character, by the runs of its version.
-use Rattle.std.specs.Prelude.{◌≡◌, ℕ, List, [], Option, Some, None, count_by, length, map, nat_le}
+use Rattle.std.specs.Prelude.{◌≡◌, ◌↔◌, ℕ, List, [], Option, Some, None, count_by, length, nat_le}
 use Rattle.std.specs.Arc.{arc_slice_items}
-use Rattle.std.specs.List.Sorted.{IsStrictlyIncreasing, IsNonDecreasing, IsPermutation}
+use Rattle.std.specs.List.Sorted.{IsStrictlyIncreasing, IsNonDecreasingBy, IsPermutation}
 use Rattle.std.specs.declared.sync.ArcSlice.{ArcSlice}
-use Rattle.mark_anchors.specs.CommentRuns.{AreOrderly, numbers_at}
+use Rattle.mark_anchors.specs.CommentRuns.{AreOrderly, HasRun, numbers_at}
 use Rattle.mark_anchors.specs.declared.comment_runs.CommentRun.{CommentRun}
 
 -- the shared runs, or none
@@ -27,17 +27,31 @@ pub record IsList {A : Type 0} (runs : Option (ArcSlice CommentRun A)) (place co
   pub counted : count ≡ length (numbers_in runs place)
   pub rising : IsStrictlyIncreasing (numbers_in runs place)
 
--- so many of the places are at this one or before it
-abbrev pub count_up_to : List ℕ → ℕ → ℕ
-count_up_to places place = count_by (λ p. nat_le p place) places
+abbrev pub begin_of : CommentRun → ℕ
+begin_of run = run.from
 
--- the places in order, each as often as before
-pub record AreSorted (places sorted : List ℕ) : Type 0 where
-  pub ascending : IsNonDecreasing sorted
-  pub same : IsPermutation places sorted
+abbrev pub end_of : CommentRun → ℕ
+end_of run = run.to
 
--- orderly runs with the places at which they begin, and at which they end, each in order
-pub record IsTable (runs : List CommentRun) (begins ends : List ℕ) : Type 0 where
+-- so many of the runs have this place of theirs at the place or before it
+abbrev pub count_up_to : (CommentRun → ℕ) → List CommentRun → ℕ → ℕ
+count_up_to place_of runs place = count_by (λ run. nat_le (place_of run) place) runs
+
+-- the runs in the order of these places of theirs
+pub record AreSorted (place_of : CommentRun → ℕ) (runs sorted : List CommentRun) : Type 0 where
+  pub ascending : IsNonDecreasingBy place_of sorted
+  pub same : IsPermutation runs sorted
+
+-- orderly runs, also in the order in which they begin, and in that in which they end
+pub record IsTable (runs begins ends : List CommentRun) : Type 0 where
   pub orderly : AreOrderly runs
-  pub beginning : AreSorted (map (λ run. run.from) runs) begins
-  pub ending : AreSorted (map (λ run. run.to) runs) ends
+  pub beginning : AreSorted begin_of runs begins
+  pub ending : AreSorted end_of runs ends
+
+-- the places have the same comments
+abbrev pub AreAlike : List CommentRun → ℕ → ℕ → Type 0
+AreAlike runs first second = numbers_at runs first ≡ numbers_at runs second
+
+-- the comment of the number holds at both places or at neither
+abbrev pub IsSteady : List CommentRun → ℕ → ℕ → ℕ → Type 0
+IsSteady runs n first second = HasRun runs n first ↔ HasRun runs n second

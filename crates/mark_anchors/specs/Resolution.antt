@@ -1,20 +1,31 @@
 -- What is seen of resolved marks, and what they keep.
-use Rattle.std.specs.Prelude.{List}
+use Rattle.std.specs.Prelude.{ℕ, List}
+use Rattle.std.specs.Option.{option_copied}
 use Rattle.change_ops.specs.declared.attribute.Key.TheVariants.{Strong, Em, Code, Link, Color}
 use Rattle.change_ops.specs.declared.operation.Op.{Op}
 use Rattle.char_sequence.specs.declared.sequence.Element.{Element}
+use Rattle.char_sequence.specs.Order.{Shows}
+use Rattle.mark_anchors.specs.Formatting.{Formatting}
+use Rattle.mark_anchors.specs.Marks.{AreMarks}
 use Rattle.mark_anchors.specs.Placed.{AreAllPlaced, ArePlaced}
-use Rattle.mark_anchors.specs.CommentRuns.{AreHolding}
+use Rattle.mark_anchors.specs.CommentRuns.{AreHolding, AreOrderly}
 use Rattle.mark_anchors.specs.declared.placed.PlacedMark.{PlacedMark}
 use Rattle.mark_anchors.specs.declared.comment_runs.CommentRun.{CommentRun}
+use Rattle.mark_anchors.specs.declared.resolved.Decided.{Decided}
 
--- the marks, and the elements against which they were resolved
+-- the marks, the elements against which they were resolved, and the places at which comments hold
 pub record Resolution : Type 0 where
   pub elements : List Element
   pub marks : List Op
+  pub runs : List CommentRun
 
--- all marks, those of each other key, and the runs of the comments
+-- the format of what was decided of the other keys, and of the comments' numbers
+abbrev pub formatting_of : Decided → List ℕ → Formatting
+formatting_of d numbers = record { strong = d.strong; em = d.em; code = d.code; link = option_copied d.link; color = d.color; comments = numbers }
+
+-- marks of a text that is shown: all of them, those of each other key, and the runs of the comments
 pub record AreResolved (es : List Element) (operations : List Op) (marks : List PlacedMark) (strongs ems codes links colors : List PlacedMark) (runs : List CommentRun) : Type 0 where
+  pub text : (ops : List Op) × Shows es ops × AreMarks ops operations
   pub all : AreAllPlaced es operations marks
   pub strong : ArePlaced es operations Strong strongs
   pub em : ArePlaced es operations Em ems
@@ -22,3 +33,4 @@ pub record AreResolved (es : List Element) (operations : List Op) (marks : List 
   pub link : ArePlaced es operations Link links
   pub color : ArePlaced es operations Color colors
   pub comments : AreHolding es operations runs
+  pub orderly : AreOrderly runs

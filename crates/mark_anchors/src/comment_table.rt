@@ -1,22 +1,25 @@
 //! The comments of a version, for the formats of its characters.
-ghost use Rattle.std.specs.Prelude.{◌≡◌, IfOk, length};
-ghost use Rattle.std.specs.List.Sorted.{IsNonDecreasing, IsStrictlyIncreasing};
-ghost use Rattle.mark_anchors.specs.CommentRuns.{AreOrderly, numbers_at};
-ghost use Rattle.mark_anchors.specs.CommentLists.{AreSorted, count_up_to};
+ghost use Rattle.std.specs.Prelude.{◌≡◌, ◌<◌, ◌≤◌, ◌↔◌, ℕ, All, Contains, IfOk, IsTrue, length, slice_index_or};
+ghost use Rattle.std.specs.List.{slice_range};
+ghost use Rattle.std.specs.List.Sorted.{IsNonDecreasingBy, IsStrictlyIncreasing};
+ghost use Rattle.mark_anchors.specs.CommentRuns.{AreOrderly, HasRun, numbers_at};
+ghost use Rattle.mark_anchors.specs.CommentLists.{AreAlike, AreSorted, IsSteady, begin_of, end_of, count_up_to};
+ghost use Rattle.mark_anchors.specs.declared.comment_runs.CommentRun.{CommentRun};
 
 use crate::comment_list::CommentList;
 use crate::comment_runs::CommentRun;
+use change_ops::attribute::CommentNumber;
 use std::alloc::{AllocError, Global};
 use std::marker::Model;
 use std::sync::ArcSlice;
 
-/// The runs of all comments, and the places at which they begin and end, each in order: as many comments hold at a place as
-/// have begun there without having ended.
+/// The runs of all comments, also in the order in which they begin and in that in which they end: as many comments hold at a place
+/// as have begun there without having ended, and between two places only those change that begin or end there.
 #[derive(Drop)]
 pub(crate) struct CommentTable {
     runs: ArcSlice<CommentRun, Global>,
-    begins: Vec<usize>,
-    ends: Vec<usize>,
+    begins: Vec<CommentRun>,
+    ends: Vec<CommentRun>,
 }
 
 impl Model for CommentTable {
@@ -32,20 +35,109 @@ impl Model for CommentTable {
     ghost invariant = { λ t. IsTable (arc_slice_items t.runs) t.begins.items t.ends.items };
 }
 
-/// The places in order, each as often as before.
-fn in_place(mut places: Vec<usize>) -> Vec<usize>
-    ensures { AreSorted places.items result.items }
+/// The runs in the order in which they begin.
+fn by_begin(mut runs: Vec<CommentRun>) -> Vec<CommentRun>
+    ensures { AreSorted begin_of runs.items result.items }
 {
-    places.sort_unstable();
-    places
+    runs.sort_unstable_by_key(|run| run.from);
+    runs
 }
 
-/// How many of the places are at this one or before it.
-fn places_up_to(places: &[usize], place: usize) -> usize
-    requires { IsNonDecreasing places.now }
-    ensures { result ≡ count_up_to places.now place }
+/// The runs in the order in which they end.
+fn by_end(mut runs: Vec<CommentRun>) -> Vec<CommentRun>
+    ensures { AreSorted end_of runs.items result.items }
 {
-    places.partition_point(|other| *other <= place)
+    runs.sort_unstable_by_key(|run| run.to);
+    runs
+}
+
+/// How many of the runs begin at the place or before it.
+fn begun_up_to(begins: &[CommentRun], place: usize) -> usize
+    requires { IsNonDecreasingBy begin_of begins.now }
+    ensures count { result ≡ count_up_to begin_of begins.now place }
+    ensures within { result ≤ length begins.now }
+    ensures first { (k : ℕ) (d : CommentRun) → k < result → (begin_of (slice_index_or begins.now k d)) ≤ place }
+    ensures rest { (k : ℕ) (d : CommentRun) → result ≤ k → k < length begins.now → place < begin_of (slice_index_or begins.now k d) }
+{
+    begins.partition_point(|run| run.from <= place)
+}
+
+/// How many of the runs end at the place or before it.
+fn ended_up_to(ends: &[CommentRun], place: usize) -> usize
+    requires { IsNonDecreasingBy end_of ends.now }
+    ensures count { result ≡ count_up_to end_of ends.now place }
+    ensures within { result ≤ length ends.now }
+    ensures first { (k : ℕ) (d : CommentRun) → k < result → (end_of (slice_index_or ends.now k d)) ≤ place }
+    ensures rest { (k : ℕ) (d : CommentRun) → result ≤ k → k < length ends.now → place < end_of (slice_index_or ends.now k d) }
+{
+    ends.partition_point(|run| run.to <= place)
+}
+
+/// The runs from one index up to another, which is not one of them.
+fn part(runs: &[CommentRun], from: usize, to: usize) -> &[CommentRun]
+    requires order { from ≤ to }
+    requires within { to ≤ length runs.now }
+    ensures { result.now ≡ slice_range runs.now from to }
+{
+    &runs[from..to]
+}
+
+/// The runs that begin behind the first place and not behind the second.
+fn begun_between(begins: &[CommentRun], first: usize, second: usize) -> &[CommentRun]
+    requires sorted { IsNonDecreasingBy begin_of begins.now }
+    requires order { first ≤ second }
+    ensures { (run : CommentRun) → Contains begins.now run → first < run.from → run.from ≤ second → Contains result.now run }
+{
+    let from = begun_up_to(begins, first);
+    let to = begun_up_to(begins, second);
+    part(begins, from, to)
+}
+
+/// The runs that end behind the first place and not behind the second.
+fn ended_between(ends: &[CommentRun], first: usize, second: usize) -> &[CommentRun]
+    requires sorted { IsNonDecreasingBy end_of ends.now }
+    requires order { first ≤ second }
+    ensures { (run : CommentRun) → Contains ends.now run → first < run.to → run.to ≤ second → Contains result.now run }
+{
+    let from = ended_up_to(ends, first);
+    let to = ended_up_to(ends, second);
+    part(ends, from, to)
+}
+
+/// Whether the comment of the number holds at the place.
+fn holds(runs: &[CommentRun], number: CommentNumber, place: usize) -> bool
+    requires { AreOrderly runs.now }
+    ensures { IsTrue result ↔ HasRun runs.now number place }
+{
+    let index = runs.partition_point(|run| {
+        run.number.number() < number.number()
+            || (run.number.number() == number.number() && run.to <= place)
+    });
+    match runs.get(index) {
+        Some(run) => run.number.number() == number.number() && run.from <= place,
+        None => false,
+    }
+}
+
+/// Whether the comment of the number holds at both places or at neither.
+fn is_steady(runs: &[CommentRun], number: CommentNumber, first: usize, second: usize) -> bool
+    requires { AreOrderly runs.now }
+    ensures { IsTrue result ↔ IsSteady runs.now number first second }
+{
+    holds(runs, number, first) == holds(runs, number, second)
+}
+
+/// Whether the comment of each of the changed runs holds at both places or at neither.
+fn are_steady(runs: &[CommentRun], changed: &[CommentRun], first: usize, second: usize) -> bool
+    requires { AreOrderly runs.now }
+    ensures { IsTrue result ↔ All (λ run. IsSteady runs.now run.number first second) changed.now }
+{
+    for run in changed {
+        if !is_steady(runs, run.number, first, second) {
+            return false;
+        }
+    }
+    true
 }
 
 impl CommentTable {
@@ -54,12 +146,12 @@ impl CommentTable {
         requires { AreOrderly runs.items }
         ensures { IfOk result (λ table. table ≡ runs.items) }
     {
-        let begins = runs.iter().map(|run| run.from).collect(alloc)?;
-        let ends = runs.iter().map(|run| run.to).collect(alloc)?;
+        let begins = by_begin(Vec::from_slice(alloc, &runs)?);
+        let ends = by_end(Vec::from_slice(alloc, &runs)?);
         Ok(CommentTable {
             runs: ArcSlice::from_vec(runs)?,
-            begins: in_place(begins),
-            ends: in_place(ends),
+            begins,
+            ends,
         })
     }
 
@@ -67,9 +159,19 @@ impl CommentTable {
     fn count_at(&self, place: usize) -> u32
         ensures { result ≡ length (numbers_at self.now place) }
     {
-        let begun = places_up_to(&self.begins, place);
-        let ended = places_up_to(&self.ends, place);
+        let begun = begun_up_to(&self.begins, place);
+        let ended = ended_up_to(&self.ends, place);
         (begun - ended) as u32
+    }
+
+    /// Whether the places have the same comments.
+    pub(crate) fn is_alike(&self, first: usize, second: usize) -> bool
+        requires { first ≤ second }
+        ensures { IsTrue result ↔ AreAlike self.now first second }
+    {
+        let begun = begun_between(&self.begins, first, second);
+        let ended = ended_between(&self.ends, first, second);
+        are_steady(&self.runs, begun, first, second) && are_steady(&self.runs, ended, first, second)
     }
 
     /// The comments that hold at the place.

@@ -13,5 +13,4 @@ mod mark_index;
 mod mark_range;
 pub mod marks;
 mod placed;
-pub mod ranges;
 pub mod resolved;

@@ -1,10 +1,14 @@
-ghost use Rattle.std.specs.Prelude.{◌≡◌, ◌<◌, List, Some, IfOk, length, slice_get};
-ghost use Rattle.char_sequence.specs.declared.sequence.Element.{Element};
+//! Marks with their places, for the formats of a text's characters.
+ghost use Rattle.std.specs.Prelude.{◌≡◌, ◌<◌, ◌≤◌, ◌↔◌, List, [], IfOk, IsTrue, length};
+ghost use Rattle.std.specs.Option.{option_copied};
 ghost use Rattle.char_sequence.specs.Tree.{Present};
 ghost use Rattle.char_sequence.specs.Order.{Shows};
 ghost use Rattle.mark_anchors.specs.Format.{IsFormat};
 ghost use Rattle.mark_anchors.specs.Marks.{AreMarks};
-ghost use Rattle.mark_anchors.specs.Ranges.{AreCuts};
+ghost use Rattle.mark_anchors.specs.CommentRuns.{numbers_at};
+ghost use Rattle.mark_anchors.specs.Formatting.{Formatting};
+ghost use Rattle.mark_anchors.specs.Resolution.{formatting_of};
+ghost use Rattle.mark_anchors.specs.Ranges.{AreCuts, IsFormatAt};
 
 use crate::comment_runs::comment_runs;
 use crate::comment_table::CommentTable;
@@ -13,7 +17,7 @@ use crate::format::Format;
 use crate::key_marks::{KeyMarks, in_order, places_of};
 use crate::marks::Marks;
 use crate::placed::{PlacedMark, color_at, holds_at, link_at, marks_in, marks_of};
-use change_ops::attribute::Key;
+use change_ops::attribute::{Color, Key, Link};
 use change_ops::id::OpId;
 use change_ops::operation::Op;
 use char_sequence::sequence::Sequence;
@@ -39,9 +43,42 @@ impl<'a> Model for ResolvedMarks<'a> {
 
     ghost Value = { Resolution };
 
-    ghost view = { λ r. record { elements = r.sequence.now.elements; marks = r.operations.now } };
+    ghost view = { λ r. record { elements = r.sequence.now.elements; marks = r.operations.now; runs = r.comments } };
 
     ghost invariant = { λ r. AreResolved r.sequence.now.elements r.operations.now r.marks.items r.strong r.em r.code r.link r.color r.comments };
+}
+
+/// What holds at a place of each key but comments.
+#[derive(Clone, Copy)]
+pub(crate) struct Decided<'a> {
+    pub(crate) strong: bool,
+    pub(crate) em: bool,
+    pub(crate) code: bool,
+    pub(crate) link: Option<&'a Link>,
+    pub(crate) color: Option<Color>,
+}
+
+/// Whether the links are the same.
+fn is_same_link(first: Option<&Link>, second: Option<&Link>) -> bool
+    ensures { IsTrue result ↔ (option_copied first.entry ≡ option_copied second.entry) }
+{
+    match (first, second) {
+        (Some(link), Some(other)) => link == other,
+        (None, None) => true,
+        _ => false,
+    }
+}
+
+impl Decided<'_> {
+    /// Whether the same holds of each key but the link.
+    fn is_same_but_link(&self, other: &Decided<'_>) -> bool
+        ensures { IsTrue result ↔ ((self.now.strong ≡ other.now.strong) × (self.now.em ≡ other.now.em) × (self.now.code ≡ other.now.code) × (self.now.color ≡ other.now.color)) }
+    {
+        self.strong == other.strong
+            && self.em == other.em
+            && self.code == other.code
+            && self.color == other.color
+    }
 }
 
 impl Marks {
@@ -91,7 +128,9 @@ impl Marks {
 
 impl ResolvedMarks<'_> {
     /// The places at which marks begin and end, and the end of the text.
-    pub(crate) fn cuts(&self, alloc: Global) -> Result<Vec<usize>, AllocError>
+    ///
+    /// `alloc` is for the places.
+    pub fn cuts(&self, alloc: Global) -> Result<Vec<usize>, AllocError>
         ensures { IfOk result (λ cuts. AreCuts self.now.elements self.now.marks cuts.items) }
     {
         let mut cuts = places_of(alloc, &self.marks)?;
@@ -99,22 +138,48 @@ impl ResolvedMarks<'_> {
         Ok(in_order(cuts))
     }
 
+    /// What holds of each key but comments at the place.
+    fn decided_at(&self, place: usize) -> Decided<'_>
+        ensures { IsFormatAt self.now.elements self.now.marks place (formatting_of result (numbers_at self.now.runs place)) }
+    {
+        let operations = self.operations;
+        Decided {
+            strong: holds_at(operations, &self.strong, place),
+            em: holds_at(operations, &self.em, place),
+            code: holds_at(operations, &self.code, place),
+            link: link_at(operations, &self.link, place),
+            color: color_at(operations, &self.color, place),
+        }
+    }
+
+    /// Whether the characters at the two places, which count removed characters too, have one format. No format is made for it.
+    pub fn is_alike(&self, first: usize, second: usize) -> bool
+        requires order { first ≤ second }
+        requires there { second < length self.now.elements }
+        ensures { (format : Formatting) → IsFormatAt self.now.elements self.now.marks first format → IsTrue result ↔ IsFormatAt self.now.elements self.now.marks second format }
+    {
+        let one = self.decided_at(first);
+        let other = self.decided_at(second);
+        let decided = one.is_same_but_link(&other) && is_same_link(one.link, other.link);
+        decided && self.comments.is_alike(first, second)
+    }
+
     /// The format of the character at the place, which counts removed characters too.
     pub fn format_at_place(&self, place: usize) -> Result<Format, AllocError>
         requires { place < length self.now.elements }
-        ensures { (ops : List Op) (e : Element) → Shows self.now.elements ops → AreMarks ops self.now.marks → slice_get self.now.elements place ≡ Some e → IfOk result (λ format. IsFormat ops e.id format) }
+        ensures { IfOk result (λ format. IsFormatAt self.now.elements self.now.marks place format) }
     {
-        let operations = self.operations;
-        let link = match link_at(operations, &self.link, place) {
+        let decided = self.decided_at(place);
+        let link = match decided.link {
             Some(link) => Some(link.clone()?),
             None => None,
         };
         Ok(Format {
-            strong: holds_at(operations, &self.strong, place),
-            em: holds_at(operations, &self.em, place),
-            code: holds_at(operations, &self.code, place),
+            strong: decided.strong,
+            em: decided.em,
+            code: decided.code,
             link,
-            color: color_at(operations, &self.color, place),
+            color: decided.color,
             comments: self.comments.at(place)?,
         })
     }

@@ -3,7 +3,7 @@ use Rattle.std.proofs.Common.{◌≡◌, ℕ, ◌+◌, ◌-◌, ◌<◌, List, [
 use Rattle.std.proofs.lemmas.List.Elements.{All-push, All-cons, All-head, All-tail, All-contains, Contains-push}
 use Rattle.std.specs.Str.{chars}
 use Rattle.std.proofs.lemmas.Str.{IsUtf8-append, chars-append}
-use Rattle.std.proofs.lemmas.List.{length_push, get_or_push, set_at, get_or_default}
+use Rattle.std.proofs.lemmas.List.{length_push, length-set, get_or_push, get_or-set_same, set_at, get_or_default}
 use Rattle.mark_anchors.specs.Formatting.{Formatting}
 use Rattle.span_flatten.specs.declared.version.Row.{Row}
 use Rattle.span_flatten.specs.Spans.{Shown, Span, Cuts}
@@ -109,3 +109,20 @@ draft_fresh shown spans text text' rows now more piece cut layout texts other is
       };
       texts = All-push (λ s. IsUtf8 s.text) spans piece texts is.utf8;
     }
+
+-- what holds of the last row's format
+pub last_read : (P : Formatting → Type 0) (rows : List Row) (count : ℕ) (was : Row) → count ≡ length rows → 0 < count → was ≡ get_or rows (count - 1) was → ((d : Row) → 0 < length rows → P (get_or rows (length rows - 1) d).format) → P was.format
+last_read P rows count was counted some reads last =
+    let place : count - 1 ≡ length rows - 1 = ap (λ n. n - 1) counted in
+    subst (λ (r : Row). P r.format) (sym (reads ∙ ap (λ n. get_or rows n was) place)) (last was (omega arith))
+
+pub last_set : (P : Formatting → Type 0) (rows : List Row) (count : ℕ) (now : Row) → count ≡ length rows → 0 < count → P now.format → (d : Row) → 0 < length (set rows (count - 1) now) → P (get_or (set rows (count - 1) now) (length (set rows (count - 1) now) - 1) d).format
+last_set P rows count now counted some is d more =
+    let size : length (set rows (count - 1) now) ≡ length rows = length-set rows (count - 1) now in
+    let place : length (set rows (count - 1) now) - 1 ≡ count - 1 = ap (λ n. n - 1) (size ∙ sym counted) in
+    subst (λ (r : Row). P r.format) (sym (ap (λ n. get_or (set rows (count - 1) now) n d) place ∙ get_or-set_same rows (count - 1) now d (omega arith))) is
+
+pub last_push : (P : Formatting → Type 0) (rows : List Row) (now : Row) → P now.format → (d : Row) → 0 < length (rows ++ now ∷ []) → P (get_or (rows ++ now ∷ []) (length (rows ++ now ∷ []) - 1) d).format
+last_push P rows now is d more =
+    let size = length_push rows now in
+    subst (λ (r : Row). P r.format) (sym (get_or_push rows now d (length (rows ++ now ∷ []) - 1) (omega (arith, size)))) is

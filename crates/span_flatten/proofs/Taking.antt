@@ -1,9 +1,9 @@
 -- The text is taken in range after range.
-use Rattle.std.proofs.Common.{◌≡◌, ℕ, zero, suc, ◌+◌, ◌-◌, ◌*◌, ◌<◌, ◌≤◌, Bool, true, false, cond, List, [], ◌∷◌, ◌++◌, Some, length, map, take, drop, refl, sym, ap, subst, ◌∙◌, arith, zero-add, append-nil, length-append, length-drop, All, IsUtf8, encode_utf8_all, ⊎_elim}
+use Rattle.std.proofs.Common.{◌≡◌, ℕ, zero, suc, ◌+◌, ◌-◌, ◌*◌, ◌<◌, ◌≤◌, Bool, true, false, cond, List, [], ◌∷◌, ◌++◌, Some, length, map, take, drop, get_or, refl, sym, ap, subst, ◌∙◌, arith, zero-add, append-nil, length-append, All, IsUtf8, encode_utf8_all, ⊎_elim}
 use Rattle.std.specs.List.{filter, slice_get, slice_range}
 use Rattle.std.specs.Str.{IsCharBoundary, chars}
-use Rattle.std.proofs.lemmas.Bool.{cases_Bool}
-use Rattle.std.proofs.lemmas.Option.{none-some}
+use Rattle.std.proofs.lemmas.Bool.{cases_Bool, cases_lt}
+use Rattle.std.proofs.lemmas.Option.{none-some, slice_get-get_or}
 use Rattle.std.proofs.lemmas.List.{map-append, take_all, drop_at, take_at}
 use Rattle.std.proofs.lemmas.List.Sums.{length-filter}
 use Rattle.std.proofs.lemmas.List.Elements.{All-append, All-cons, filter-append}
@@ -16,14 +16,32 @@ use Rattle.char_sequence.specs.Visible.{visible_text, visible_count}
 use Rattle.mark_anchors.specs.Format.{IsFormat}
 use Rattle.mark_anchors.specs.Formatting.{Formatting}
 use Rattle.mark_anchors.specs.Marks.{AreMarks}
-use Rattle.mark_anchors.specs.Ranges.{IsOfFormat, AreRanges}
-use Rattle.mark_anchors.specs.declared.ranges.FormattedRange.{FormattedRange}
+use Rattle.mark_anchors.specs.Ranges.{IsFormatAt, IsUniform}
+use Rattle.mark_anchors.proofs.Uniform.{one_format_between}
 use Rattle.span_flatten.specs.declared.version.Row.{Row}
 use Rattle.span_flatten.specs.Spans.{Shown, Cuts}
-use Rattle.span_flatten.specs.Taken.{element_of, is_visible, IsTaken}
+use Rattle.span_flatten.specs.Taken.{element_of, is_visible, IsLastFormat, IsTaken}
 use Rattle.span_flatten.specs.Version.{rows_from, IsPiece, IsDraft, IsWhole, IsVersion}
 use Rattle.span_flatten.proofs.Laying.{spans_back, layout_back, rows_ordered, cut_starts, cut_ends, cut_counts, counts_few}
 use Rattle.span_flatten.proofs.Showing.{filter_from, shown_visible}
+
+-- characters side by side, removed ones too, that have one format: those at the places from `from` up to `to`, which is not one of them
+pub record FormattedRange : Type 0 where
+  pub from : ℕ
+  pub to : ℕ
+  pub format : Formatting
+
+-- each character of the range has its format
+abbrev pub IsOfFormat : List Element → List Op → FormattedRange → Type 0
+IsOfFormat es marks r =
+    (ops : List Op) (place : ℕ) (e : Element) → Shows es ops → AreMarks ops marks → r.from ≤ place → place < r.to → slice_get es place ≡ Some e → IsFormat ops e.id r.format
+
+-- between two cuts all characters have the first one's format
+pub uniform_range : (es : List Element) (marks : List Op) (from to : ℕ) (format : Formatting) → from < to → to ≤ length es → IsUniform es marks from to → IsFormatAt es marks from format → IsOfFormat es marks (record { from = from; to = to; format = format })
+uniform_range es marks from to format some within uniform is ops place e shows held low high at =
+    let first : Element = get_or es from e in
+    let here : slice_get es from ≡ Some first = slice_get-get_or es from e (omega arith) in
+    one_format_between ops es marks from to place first e shows held uniform here at low high format (is ops first shows held here)
 
 none : {X : Type 0} (P : X → Type 0) → All P []
 none P k d h = absurd (omega arith)
@@ -106,9 +124,9 @@ spelt_more : (f : Formatting) (es : List Element) → visible_text es ≡ encode
 unfolding visible_text
 spelt_more f es = ap encode_utf8_all (sym (characters_as f (filter is_visible es)))
 
-empty_more : (f : Formatting) (es : List Element) → length (visible_text es) ≡ 0 → filter is_visible es ≡ []
+empty_more : (es : List Element) → length (visible_text es) ≡ 0 → filter is_visible es ≡ []
 unfolding visible_text
-empty_more f es none_shown = nil_of (filter is_visible es) (length-le-encodes (map (λ e. e.character) (filter is_visible es)))
+empty_more es none_shown = nil_of (filter is_visible es) (length-le-encodes (map (λ e. e.character) (filter is_visible es)))
   where
     nil_of : (xs : List Element) → length (map (λ e. e.character) xs) ≤ length (visible_text es) → xs ≡ []
     nil_of [] le = refl
@@ -187,29 +205,42 @@ drawn_range es f shown from to le drawn =
     ∙ sym (filter-append is_visible (take from es) (slice_range es from to))
     ∙ ap (filter is_visible) (sym (take_range es from to le))
 
-module _ (es : List Element) (marks : List Op) (r : FormattedRange) (text text' : List ℕ) (rows : List Row) (some : r.from < r.to) (of : IsOfFormat es marks r) (grown : text' ≡ text ++ visible_text (slice_range es r.from r.to)) (t : IsTaken es marks r.from text rows) where
-  pub taken_empty : length text ≡ length text' → IsTaken es marks r.to text' rows
-  taken_empty same =
-      let none_shown : length (visible_text (slice_range es r.from r.to)) ≡ 0 = omega (arith, ap length grown, length-append text (visible_text (slice_range es r.from r.to))) in
-      let hidden : filter is_visible (slice_range es r.from r.to) ≡ [] = empty_more r.format (slice_range es r.from r.to) none_shown in
-      let kept : text' ≡ text = grown ∙ ap (λ l. text ++ l) (nil_bytes (visible_text (slice_range es r.from r.to)) none_shown) ∙ append-nil text in
-      let short : length text ≤ 4 * r.from = t.short in
-      let few : length rows ≤ r.from = t.few in
-      record {
-        shown = t.shown;
-        drawn =
-            t.drawn ∙ sym (append-nil (filter is_visible (take r.from es))) ∙ ap (λ l. filter is_visible (take r.from es) ++ l) (sym hidden)
-            ∙ sym (filter-append is_visible (take r.from es) (slice_range es r.from r.to)) ∙ ap (filter is_visible) (sym (take_range es r.from r.to (omega arith)));
-        formatted = t.formatted;
-        draft = subst (λ l. IsDraft t.shown l rows) (sym kept) t.draft;
-        short = omega (arith, ap length kept);
-        few = omega arith;
-      }
-    where
-      nil_bytes : (xs : List ℕ) → length xs ≡ 0 → xs ≡ []
-      nil_bytes [] e = refl
-      nil_bytes (x ∷ xs) e = absurd (omega arith)
+-- where the text didn't grow there is nothing to see
+pub taken_empty : (es : List Element) (marks : List Op) (from to : ℕ) (text text' : List ℕ) (rows : List Row) → from ≤ to → text' ≡ text ++ visible_text (slice_range es from to) → length text ≡ length text' → IsTaken es marks from text rows → IsTaken es marks to text' rows
+taken_empty es marks from to text text' rows order grown same t =
+    let none_shown : length (visible_text (slice_range es from to)) ≡ 0 = omega (arith, ap length grown, length-append text (visible_text (slice_range es from to))) in
+    let hidden : filter is_visible (slice_range es from to) ≡ [] = empty_more (slice_range es from to) none_shown in
+    let kept : text' ≡ text = grown ∙ ap (λ l. text ++ l) (nil_bytes (visible_text (slice_range es from to)) none_shown) ∙ append-nil text in
+    let short : length text ≤ 4 * from = t.short in
+    let few : length rows ≤ from = t.few in
+    record {
+      shown = t.shown;
+      drawn =
+          t.drawn ∙ sym (append-nil (filter is_visible (take from es))) ∙ ap (λ l. filter is_visible (take from es) ++ l) (sym hidden)
+          ∙ sym (filter-append is_visible (take from es) (slice_range es from to)) ∙ ap (filter is_visible) (sym (take_range es from to order));
+      formatted = t.formatted;
+      draft = subst (λ l. IsDraft t.shown l rows) (sym kept) t.draft;
+      short = omega (arith, ap length kept);
+      few = omega arith;
+    }
+  where
+    nil_bytes : (xs : List ℕ) → length xs ≡ 0 → xs ≡ []
+    nil_bytes [] e = refl
+    nil_bytes (x ∷ xs) e = absurd (omega arith)
 
+-- where the text grew there is a character
+pub some_between : (left : List Element) (from to : ℕ) (text text' : List ℕ) → from ≤ to → text' ≡ text ++ visible_text (take (to - from) left) → (length text ≡ length text' → ⊥) → from < to
+some_between left from to text text' order grown grew =
+    ⊎_elim
+    (λ (less : from < to). less)
+    (λ (ge : to ≤ from).
+    let none : to - from ≡ 0 = omega arith in
+    let bytes : length (visible_text (take (to - from) left)) ≤ 4 * length (take (to - from) left) = visible_short (take (to - from) left) in
+    let size : length (take (to - from) left) ≡ 0 = ap (λ n. length (take n left)) none in
+    absurd (grew (omega (arith, ap length grown, length-append text (visible_text (take (to - from) left)), bytes, size))))
+    (cases_lt from to)
+
+module _ (es : List Element) (marks : List Op) (r : FormattedRange) (text text' : List ℕ) (rows : List Row) (some : r.from < r.to) (of : IsOfFormat es marks r) (grown : text' ≡ text ++ visible_text (slice_range es r.from r.to)) (t : IsTaken es marks r.from text rows) where
   pub piece_more : (length text ≡ length text' → ⊥) → IsUtf8 text → IsUtf8 text' → IsPiece (more_of r.format (slice_range es r.from r.to)) (record { text = visible_text (slice_range es r.from r.to); format = r.format })
   piece_more grew utf8 utf8' = record {
     some = some_of (filter is_visible (slice_range es r.from r.to)) (λ e. grew (omega (arith, ap length grown, length-append text (visible_text (slice_range es r.from r.to)), shown_none (slice_range es r.from r.to) e)));
@@ -282,45 +313,9 @@ taken_version elements marks place number text rows end t ops h m =
       layout = layout_back d.spans text rows d.layout;
     }
 
--- ---- from range to range
-pub record IsAlong (es : List Element) (marks : List Op) (ranges : List FormattedRange) (k : ℕ) (text : List ℕ) (rows : List Row) (left : List Element) : Type 0 where
-  pub place : ℕ
-  pub taken : IsTaken es marks place text rows
-  pub ahead : left ≡ drop place es
-  pub next : (r : FormattedRange) → slice_get ranges k ≡ Some r → r.from ≡ place
-  pub end : k ≡ length ranges → place ≡ length es
+-- the same of equal elements and marks
+pub taken_along : (es fs : List Element) (marks held : List Op) (place : ℕ) (text : List ℕ) (rows : List Row) → fs ≡ es → held ≡ marks → IsTaken es marks place text rows → IsTaken fs held place text rows
+taken_along es fs marks held place text rows along same t = subst (λ (l : List Element). IsTaken l held place text rows) (sym along) (subst (λ (ms : List Op). IsTaken es ms place text rows) (sym same) t)
 
-pub along_none : (es : List Element) (marks : List Op) (ranges : List FormattedRange) (left : List Element) → left ≡ es → AreRanges es marks (length es) ranges → IsAlong es marks ranges 0 [] [] left
-along_none es marks ranges left whole are = record { place = 0; taken = taken_none es marks; ahead = whole; next = are.first; end = λ e. sym (are.none (sym e)) }
-
--- the cursor stands at the range's start
-pub along_ahead : (es : List Element) (marks : List Op) (ranges : List FormattedRange) (k : ℕ) (r : FormattedRange) (text : List ℕ) (rows : List Row) (left : List Element) → slice_get ranges k ≡ Some r → IsAlong es marks ranges k text rows left → left ≡ drop r.from es
-along_ahead es marks ranges k r text rows left at along = along.ahead ∙ ap (λ n. drop n es) (sym (along.next r at))
-
-pub along_room : (es : List Element) (marks : List Op) (ranges : List FormattedRange) (k : ℕ) (r : FormattedRange) (text : List ℕ) (rows : List Row) (left : List Element) → AreRanges es marks (length es) ranges → slice_get ranges k ≡ Some r → IsAlong es marks ranges k text rows left → r.to - r.from ≤ length left
-along_room es marks ranges k r text rows left are at along =
-    let size = ap length (along_ahead es marks ranges k r text rows left at along) ∙ length-drop r.from es in
-    let within = are.within k r at in
-    omega (arith, size, within)
-
-pub along_more : (es : List Element) (marks : List Op) (ranges : List FormattedRange) (k : ℕ) (r : FormattedRange) (text text' : List ℕ) (rows rows' : List Row) (left left' : List Element) → AreRanges es marks (length es) ranges → slice_get ranges k ≡ Some r → ((elements : List Element) (held : List Op) → left ≡ drop r.from elements → IsOfFormat elements held r → IsTaken elements held r.from text rows → IsTaken elements held r.to text' rows' × (left' ≡ drop r.to elements)) → IsAlong es marks ranges k text rows left → IsAlong es marks ranges (k + 1) text' rows' left'
-along_more es marks ranges k r text text' rows rows' left left' are at more along =
-    let all = more es marks (along_ahead es marks ranges k r text rows left at along) (are.formatted k r at) (subst (λ n. IsTaken es marks n text rows) (sym (along.next r at)) along.taken) in
-    record {
-      place = r.to;
-      taken = all.0;
-      ahead = all.1;
-      next = λ s g. are.next k r s at g;
-      end = λ e. are.last k r e at;
-    }
-
--- what of the ranges was taken in, and what is left
-pub turn_at : {X : Type 0} (front rest all : List X) (x : X) → front ++ x ∷ rest ≡ all → slice_get all (length front) ≡ Some x
-turn_at front rest all x is = ap (λ l. slice_get l (length front)) (sym is) ∙ at front
-  where
-    at : (l : List _) → slice_get (l ++ x ∷ rest) (length l) ≡ Some x
-    at [] = refl
-    at (y ∷ l) = at l
-
-pub turn_end : {X : Type 0} (front rest all : List X) → front ++ rest ≡ all → length rest ≡ 0 → length front ≡ length all
-turn_end front rest all is none = let sum = ap length is in let sizes = length-append front rest in omega (arith, sum, sizes, none)
+pub last_along : (es fs : List Element) (marks held : List Op) (place : ℕ) (rows : List Row) → fs ≡ es → held ≡ marks → IsLastFormat es marks place rows → IsLastFormat fs held place rows
+last_along es fs marks held place rows along same t = subst (λ (l : List Element). IsLastFormat l held place rows) (sym along) (subst (λ (ms : List Op). IsLastFormat es ms place rows) (sym same) t)

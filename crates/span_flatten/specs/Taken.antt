@@ -1,11 +1,12 @@
 -- What of a text is laid out already.
-use Rattle.std.specs.Prelude.{◌≡◌, ◌≤◌, ◌*◌, ℕ, Bool, true, List, length, map, take, All}
+use Rattle.std.specs.Prelude.{◌≡◌, ◌<◌, ◌≤◌, ◌-◌, ◌*◌, ℕ, Bool, true, List, length, map, take, slice_index_or, All}
 use Rattle.std.specs.List.{filter}
 use Rattle.change_ops.specs.declared.operation.Op.{Op}
 use Rattle.char_sequence.specs.declared.sequence.Element.{Element}
 use Rattle.char_sequence.specs.Order.{Shows}
 use Rattle.mark_anchors.specs.Format.{IsFormat}
 use Rattle.mark_anchors.specs.Marks.{AreMarks}
+use Rattle.mark_anchors.specs.Ranges.{IsFormatAt}
 use Rattle.span_flatten.specs.declared.version.Row.{Row}
 use Rattle.span_flatten.specs.Spans.{Shown}
 use Rattle.span_flatten.specs.Version.{IsDraft}
@@ -25,3 +26,7 @@ pub record IsTaken (elements : List Element) (marks : List Op) (place : ℕ) (te
   pub draft : IsDraft shown text rows
   pub short : length text ≤ 4 * place
   pub few : length rows ≤ place
+
+-- the last row has the format of the character at the place
+abbrev pub IsLastFormat : List Element → List Op → ℕ → List Row → Type 0
+IsLastFormat elements marks place rows = (d : Row) → 0 < length rows → IsFormatAt elements marks place (slice_index_or rows (length rows - 1) d).format

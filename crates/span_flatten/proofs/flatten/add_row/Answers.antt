@@ -1,31 +1,62 @@
-use Rattle.std.proofs.Common.{rules, ◌≡◌, ◌<◌, ◌+◌, length, sym, ap, ◌∙◌, subst, arith, refl, get_or, ◌-◌, ◌++◌, true≢false}
+use Rattle.std.proofs.Common.{rules, ◌≡◌, ◌<◌, ◌+◌, length, sym, ap, ◌∙◌, subst, arith, get_or, ◌-◌, ◌++◌, List, true≢false}
+use Rattle.mark_anchors.specs.Formatting.{Formatting}
+use Rattle.mark_anchors.specs.Ranges.{IsFormatAt}
 use Rattle.span_flatten.specs.declared.version.Row.{Row}
 use Rattle.span_flatten.specs.Version.{IsDraft}
-use Rattle.span_flatten.proofs.Drafting.{draft_longer, draft_fresh, other_last}
+use Rattle.span_flatten.proofs.Drafting.{draft_longer, draft_fresh, last_read, last_set, last_push}
 use Rattle.span_flatten.proofs.flatten.add_row.Goals as goal
-use Rattle.span_flatten.proofs.flatten.add_row.Goals.{then-count-gt0+else-eq, else-count-gt0}
+use Rattle.span_flatten.proofs.flatten.add_row.Goals.{then-count-gt0+else-is_alike, else-count-gt0}
 
-pub returns-then-eq-clause-draft : goal.returns-then-eq-clause-draft
-returns-then-eq-clause-draft c =
-    λ shown more piece text text' is format grown started ended characters draft.
+pub returns-then-is_alike-clause-draft : goal.returns-then-is_alike-clause-draft
+returns-then-is_alike-clause-draft c =
+    let rows : List Row = c.args.rows.now.items in
+    let kept : Row = c.index_mut.result.now in
     let told = c.lengthen.ensures in
-    let counted : c.len-count.result ≡ length c.args.rows.now.items = search rules in
-    draft_longer shown draft.spans text text' c.args.rows.now.items c.len-count.result c.index.result.now c.index_mut.result.now c.lengthen.new.row more piece draft.cut draft.layout draft.texts
-    counted c.if-count-gt0.true c.index.ensures c.index_mut.ensures.value is (c.if-eq.ensures.same.0 refl ∙ sym format) grown
-    (ap (λ (r : Row). r.start) told) (ap (λ (r : Row). r.end) told ∙ ended)
-    (ap (λ (r : Row). r.characters) told ∙ ap (λ n. c.index_mut.result.now.characters + n) characters)
-    (ap (λ (r : Row). r.format) told)
+    let counted : c.len-count.result ≡ length rows = search rules in
+    let was = last_read (IsFormatAt c.args.resolved.now.elements c.args.resolved.now.marks c.args.last) rows c.len-count.result kept counted c.if-count-gt0.true c.index_mut.ensures.value c.requires.formatted in (
+      kept.format,
+      (c.is_alike.ensures kept.format was).0 c.if-is_alike.true,
+      λ shown more piece text text' is format grown started ended characters draft.
+          draft_longer shown draft.spans text text' rows c.len-count.result kept kept c.lengthen.new.row more piece draft.cut draft.layout draft.texts
+          counted c.if-count-gt0.true c.index_mut.ensures.value c.index_mut.ensures.value is (sym format) grown
+          (ap (λ (r : Row). r.start) told) (ap (λ (r : Row). r.end) told ∙ ended)
+          (ap (λ (r : Row). r.characters) told ∙ ap (λ n. kept.characters + n) characters)
+          (ap (λ (r : Row). r.format) told),
+    )
+
+pub returns-then-is_alike-clause-formatted : goal.returns-then-is_alike-clause-formatted
+returns-then-is_alike-clause-formatted c =
+    let rows : List Row = c.args.rows.now.items in
+    let kept : Row = c.index_mut.result.now in
+    let counted : c.len-count.result ≡ length rows = search rules in
+    let was = last_read (IsFormatAt c.args.resolved.now.elements c.args.resolved.now.marks c.args.last) rows c.len-count.result kept counted c.if-count-gt0.true c.index_mut.ensures.value c.requires.formatted in
+    last_set (IsFormatAt c.args.resolved.now.elements c.args.resolved.now.marks c.args.from) rows c.len-count.result c.lengthen.new.row counted c.if-count-gt0.true
+    (subst (IsFormatAt c.args.resolved.now.elements c.args.resolved.now.marks c.args.from) (sym (ap (λ (r : Row). r.format) c.lengthen.ensures)) ((c.is_alike.ensures kept.format was).0 c.if-is_alike.true))
 
 pub returns-clause-draft : goal.returns-clause-draft
 returns-clause-draft c =
-    λ shown more piece text text' is format grown started ended characters draft.
-    let now : Row = c.args.row in
-    let counted : c.len-count.result ≡ length c.args.rows.now.items = search rules in
-    let other : (d : Row) → 0 < length c.args.rows.now.items → (get_or c.args.rows.now.items (length c.args.rows.now.items - 1) d).format ≡ piece.format → ⊥ =
+    let rows : List Row = c.args.rows.now.items in
+    let format : Formatting = c.in_ok-format.format in
+    let counted : c.len-count.result ≡ length rows = search rules in
+    let now : Row = record { start = c.args.extent.start; end = c.args.extent.end; characters = c.args.extent.characters; format = format } in
+    let other : (d : Row) → 0 < length rows → (get_or rows (length rows - 1) d).format ≡ format → ⊥ =
     elim c.if-count-gt0.branch [
-      | then-count-gt0+else-eq w ↦
-          other_last c.args.rows.now.items c.len-count.result w.index.result.now piece.format counted w.index.ensures (λ e. absurd (true≢false (sym (w.if-eq.ensures.same.1 (e ∙ format)))))
+      | then-count-gt0+else-is_alike w ↦
+          λ d some same.
+          absurd (true≢false (sym ((w.is_alike.ensures (get_or rows (length rows - 1) d).format (c.requires.formatted d some)).1
+          (subst (IsFormatAt c.args.resolved.now.elements c.args.resolved.now.marks c.args.from) (sym same) c.in_ok-format.ensures)) ∙ w.if-is_alike.false))
       | else-count-gt0 w ↦ λ d some e. absurd (let none = w.if-count-gt0.false in omega arith)
-    ] in
-    subst (λ rows. IsDraft (shown ++ more) text' rows) (sym c.in_ok-push.ensures.items)
-    (draft_fresh shown draft.spans text text' c.args.rows.now.items now more piece draft.cut draft.layout draft.texts other is grown started ended characters (sym format))
+    ] in (
+      format,
+      c.in_ok-format.ensures,
+      λ shown more piece text text' is like grown started ended characters draft.
+          subst (λ r. IsDraft (shown ++ more) text' r) (sym c.in_ok-push.ensures.items)
+          (draft_fresh shown draft.spans text text' rows now more piece draft.cut draft.layout draft.texts (λ d some same. other d some (same ∙ like)) is grown started ended characters (sym like)),
+    )
+
+pub returns-clause-formatted : goal.returns-clause-formatted
+returns-clause-formatted c =
+    let rows : List Row = c.args.rows.now.items in
+    let now : Row = record { start = c.args.extent.start; end = c.args.extent.end; characters = c.args.extent.characters; format = c.in_ok-format.format } in
+    subst (λ (r : List Row). (d : Row) → 0 < length r → IsFormatAt c.args.resolved.now.elements c.args.resolved.now.marks c.args.from (get_or r (length r - 1) d).format) (sym c.in_ok-push.ensures.items)
+    (last_push (IsFormatAt c.args.resolved.now.elements c.args.resolved.now.marks c.args.from) rows now c.in_ok-format.ensures)

@@ -1,92 +1,99 @@
-use Rattle.std.proofs.Common.{◌≡◌, ◌≤◌, ◌∷◌, ◌++◌, ℕ, List, [], length, refl, sym, ap, ◌∙◌, subst, rules, arith, append_assoc, string_bytes, vec_len}
-use Rattle.std.specs.Vec.Iter.{into_iter_items}
-use Rattle.std.proofs.lemmas.List.{length_push}
+use Rattle.std.proofs.Common.{◌≡◌, ◌≤◌, ℕ, List, inl, length, drop, get_or, refl, sym, ap, ◌∙◌, subst, rules, arith, [], string_bytes}
 use Rattle.change_ops.specs.declared.operation.Op.{Op}
 use Rattle.char_sequence.specs.declared.sequence.Element.{Element}
-use Rattle.mark_anchors.specs.Ranges.{AreRanges}
-use Rattle.mark_anchors.specs.declared.ranges.FormattedRange.{FormattedRange}
+use Rattle.mark_anchors.specs.Ranges.{AreCuts}
+use Rattle.mark_anchors.proofs.Uniform.{all_reached}
+use Rattle.mark_anchors.proofs.Cuts.{next_read, reached_next}
 use Rattle.span_flatten.specs.declared.version.Row.{Row}
-use Rattle.span_flatten.proofs.Taking.{IsAlong, along_none, along_more, along_room, turn_at, turn_end, taken_whole, taken_version, draft_counts}
+use Rattle.span_flatten.specs.Taken.{IsTaken, IsLastFormat}
+use Rattle.span_flatten.proofs.Taking.{taken_none, taken_whole, taken_version, taken_along, last_along, draft_counts}
 use Rattle.span_flatten.proofs.flatten.flatten.Goals as goal
 
-pub loop-range-init : goal.loop-range-init
-loop-range-init c =
+pub loop-cut-init : goal.loop-cut-init
+loop-cut-init c =
     let es : List Element = c.args.sequence.now.elements in
     let marks : List Op = c.args.marks.now in
-    let gives = c.into_iter-range-iterator.ensures.into_iter_gives in
-    let xs : List FormattedRange = into_iter_items c.into_iter-range-iterator.result in
-    let are : AreRanges es marks (length es) xs = subst (AreRanges es marks (length es)) (sym gives.0) c.in_ok-ranges.ensures in
-    let lens = gives.1 in
-    let items = ap length gives.0 in
-    let size : vec_len c.in_ok-ranges.ranges ≡ length c.in_ok-ranges.ranges.items = search rules in
     let text : string_bytes c.new-text.result ≡ [] = search rules in
     let rows : c.new-rows.result.items ≡ [] = search rules in
     record {
-      rest = refl;
-      count = omega (arith, lens, items, size);
-      along =
-          subst (λ (t : List ℕ). IsAlong es marks xs 0 t c.new-rows.result.items c.visible_from_start-cursor.result) (sym text)
-          (subst (λ (r : List Row). IsAlong es marks xs 0 [] r c.visible_from_start-cursor.result) (sym rows) (along_none es marks xs c.visible_from_start-cursor.result c.visible_from_start-cursor.ensures are));
+      reached = inl (refl, refl);
+      behind = omega arith;
+      taken =
+          subst (λ (t : List ℕ). IsTaken es marks 0 t c.new-rows.result.items) (sym text)
+          (subst (λ (r : List Row). IsTaken es marks 0 [] r) (sym rows) (taken_none es marks));
+      formatted = subst (IsLastFormat es marks 0) (sym rows) (λ d some. absurd (omega arith));
+      at = c.visible_from_start-cursor.ensures;
     }
 
-pub take_in-requires-clause-some : goal.take_in-requires-clause-some
-take_in-requires-clause-some c =
-    let es : List Element = c.args.sequence.now.elements in
-    let gives = c.into_iter-range-iterator.ensures.into_iter_gives in
-    let xs : List FormattedRange = into_iter_items c.into_iter-range-iterator.result in
-    let are : AreRanges es c.args.marks.now (length es) xs = subst (AreRanges es c.args.marks.now (length es)) (sym gives.0) c.in_ok-ranges.ensures in
-    let steps : into_iter_items c.loop-range.range-iterator ≡ c.in-Some.range ∷ into_iter_items c.next.new.self = c.in-Some.ensures.steps.0 in
-    are.some (length c.loop-range.yielded) c.in-Some.range (turn_at c.loop-range.yielded (into_iter_items c.next.new.self) xs c.in-Some.range (ap (λ l. c.loop-range.yielded ++ l) (sym steps) ∙ c.loop-range.invariant.rest))
+pub take_in-requires-clause-order : goal.take_in-requires-clause-order
+take_in-requires-clause-order c =
+    let resolved = c.in_ok-resolved.resolved in
+    let are = subst (AreCuts resolved.elements resolved.marks) (sym c.deref-cut-items.ensures.value) c.in_ok-cuts.ensures in
+    (next_read resolved.elements resolved.marks c.deref-cut-items.result.now c.loop-cut.cut-index c.loop-cut.from are c.loop-cut.invariant.reached c.loop-cut-test.true).0
 
 pub take_in-requires-clause-within : goal.take_in-requires-clause-within
 take_in-requires-clause-within c =
-    let es : List Element = c.args.sequence.now.elements in
-    let gives = c.into_iter-range-iterator.ensures.into_iter_gives in
-    let xs : List FormattedRange = into_iter_items c.into_iter-range-iterator.result in
-    let are : AreRanges es c.args.marks.now (length es) xs = subst (AreRanges es c.args.marks.now (length es)) (sym gives.0) c.in_ok-ranges.ensures in
-    let steps : into_iter_items c.loop-range.range-iterator ≡ c.in-Some.range ∷ into_iter_items c.next.new.self = c.in-Some.ensures.steps.0 in
-    let read = turn_at c.loop-range.yielded (into_iter_items c.next.new.self) xs c.in-Some.range (ap (λ l. c.loop-range.yielded ++ l) (sym steps) ∙ c.loop-range.invariant.rest) in
-    along_room es c.args.marks.now xs (length c.loop-range.yielded) c.in-Some.range (string_bytes c.loop-range.text) c.loop-range.rows.items c.loop-range.cursor are read c.loop-range.invariant.along
+    let resolved = c.in_ok-resolved.resolved in
+    let are = subst (AreCuts resolved.elements resolved.marks) (sym c.deref-cut-items.ensures.value) c.in_ok-cuts.ensures in
+    (next_read resolved.elements resolved.marks c.deref-cut-items.result.now c.loop-cut.cut-index c.loop-cut.from are c.loop-cut.invariant.reached c.loop-cut-test.true).1
+
+pub take_in-requires-clause-uniform : goal.take_in-requires-clause-uniform
+take_in-requires-clause-uniform c =
+    let resolved = c.in_ok-resolved.resolved in
+    let are = subst (AreCuts resolved.elements resolved.marks) (sym c.deref-cut-items.ensures.value) c.in_ok-cuts.ensures in
+    (next_read resolved.elements resolved.marks c.deref-cut-items.result.now c.loop-cut.cut-index c.loop-cut.from are c.loop-cut.invariant.reached c.loop-cut-test.true).2
+
+pub take_in-requires-clause-at : goal.take_in-requires-clause-at
+take_in-requires-clause-at c = c.loop-cut.invariant.at ∙ ap (λ (l : List Element). drop c.loop-cut.from l) (sym c.in_ok-resolved.ensures.elements)
+
+pub take_in-requires-clause-formatted : goal.take_in-requires-clause-formatted
+take_in-requires-clause-formatted c =
+    last_along c.args.sequence.now.elements c.in_ok-resolved.resolved.elements c.args.marks.now c.in_ok-resolved.resolved.marks c.loop-cut.last c.loop-cut.rows.items
+    c.in_ok-resolved.ensures.elements c.in_ok-resolved.ensures.marks c.loop-cut.invariant.formatted
 
 pub take_in-requires-clause-counted : goal.take_in-requires-clause-counted
 take_in-requires-clause-counted c =
-    let t = c.loop-range.invariant.along.taken in
-    draft_counts t.shown (string_bytes c.loop-range.text) c.loop-range.rows.items t.draft
+    let t = c.loop-cut.invariant.taken in
+    draft_counts t.shown (string_bytes c.loop-cut.text) c.loop-cut.rows.items t.draft
 
-pub loop-range-preserved : goal.loop-range-preserved
-loop-range-preserved c =
+pub loop-cut-preserved : goal.loop-cut-preserved
+loop-cut-preserved c =
+    let resolved = c.in_ok-resolved.resolved in
     let es : List Element = c.args.sequence.now.elements in
     let marks : List Op = c.args.marks.now in
-    let gives = c.into_iter-range-iterator.ensures.into_iter_gives in
-    let xs : List FormattedRange = into_iter_items c.into_iter-range-iterator.result in
-    let are : AreRanges es marks (length es) xs = subst (AreRanges es marks (length es)) (sym gives.0) c.in_ok-ranges.ensures in
-    let steps : into_iter_items c.loop-range.range-iterator ≡ c.in-Some.range ∷ into_iter_items c.next.new.self = c.in-Some.ensures.steps.0 in
-    let gone = c.in-Some.ensures.steps.1 in
-    let short = ap length steps in
-    let count = c.loop-range.invariant.count in
-    let read = turn_at c.loop-range.yielded (into_iter_items c.next.new.self) xs c.in-Some.range (ap (λ l. c.loop-range.yielded ++ l) (sym steps) ∙ c.loop-range.invariant.rest) in
+    let to : ℕ = get_or c.deref-cut-items.result.now c.loop-cut.cut-index 0 in
+    let was =
+    taken_along es resolved.elements marks resolved.marks c.loop-cut.from (string_bytes c.loop-cut.text) c.loop-cut.rows.items c.in_ok-resolved.ensures.elements c.in_ok-resolved.ensures.marks c.loop-cut.invariant.taken in
     record {
-      rest = append_assoc c.loop-range.yielded (c.in-Some.range ∷ []) (into_iter_items c.next.new.self) ∙ ap (λ l. c.loop-range.yielded ++ l) (sym steps) ∙ c.loop-range.invariant.rest;
-      count = omega (arith, gone, short, count);
-      along =
-          subst (λ n. IsAlong es marks xs n (string_bytes c.take_in.new.text) c.take_in.new.rows.items c.take_in.new.cursor) (sym (length_push c.loop-range.yielded c.in-Some.range))
-          (along_more es marks xs (length c.loop-range.yielded) c.in-Some.range (string_bytes c.loop-range.text) (string_bytes c.take_in.new.text) c.loop-range.rows.items c.take_in.new.rows.items c.loop-range.cursor c.take_in.new.cursor
-          are read c.in_ok-take_in.ensures c.loop-range.invariant.along);
+      reached = reached_next c.deref-cut-items.result.now c.loop-cut.cut-index c.loop-cut-test.true;
+      behind = c.take_in.ensures.behind;
+      taken =
+          taken_along resolved.elements es resolved.marks marks to (string_bytes c.take_in.new.text) c.take_in.new.rows.items (sym c.in_ok-resolved.ensures.elements) (sym c.in_ok-resolved.ensures.marks)
+          (c.in_ok-take_in.ensures.taken was);
+      formatted =
+          last_along resolved.elements es resolved.marks marks c.take_in.new.last c.take_in.new.rows.items (sym c.in_ok-resolved.ensures.elements) (sym c.in_ok-resolved.ensures.marks)
+          c.in_ok-take_in.ensures.formatted;
+      at = c.in_ok-take_in.ensures.at ∙ ap (λ (l : List Element). drop to l) c.in_ok-resolved.ensures.elements;
     }
 
+-- at the end all characters are taken in
 pub invariant_of-result : goal.invariant_of-result
 invariant_of-result c =
-    let along = c.loop-range.invariant.along in
-    let none = c.in-None.ensures.steps in
-    let whole = turn_end c.loop-range.yielded (into_iter_items c.loop-range.range-iterator) (into_iter_items c.into_iter-range-iterator.result) c.loop-range.invariant.rest (sym c.loop-range.invariant.count ∙ none.0) in
-    let place : along.place ≡ length c.args.sequence.now.elements = along.end whole in
+    let resolved = c.in_ok-resolved.resolved in
+    let xs : List ℕ = c.deref-cut-items.result.now in
+    let are = subst (AreCuts resolved.elements resolved.marks) (sym c.deref-cut-items.ensures.value) c.in_ok-cuts.ensures in
+    let whole : c.loop-cut.cut-index ≡ length xs = omega arith in
+    let end : c.loop-cut.from ≡ length resolved.elements = all_reached resolved.elements resolved.marks xs are c.loop-cut.cut-index c.loop-cut.from whole c.loop-cut.invariant.reached in
+    let same : length resolved.elements ≡ length c.args.sequence.now.elements = ap length c.in_ok-resolved.ensures.elements in
     let limit : length c.args.sequence.now.elements ≤ 32768 = c.len-count.ensures.limit in
-    taken_whole c.args.sequence.now.elements c.args.marks.now along.place (string_bytes c.loop-range.text) c.loop-range.rows.items (omega arith) along.taken
+    taken_whole c.args.sequence.now.elements c.args.marks.now c.loop-cut.from (string_bytes c.loop-cut.text) c.loop-cut.rows.items (omega arith) c.loop-cut.invariant.taken
 
 pub returns : goal.returns
 returns c =
-    let along = c.loop-range.invariant.along in
-    let none = c.in-None.ensures.steps in
-    let whole = turn_end c.loop-range.yielded (into_iter_items c.loop-range.range-iterator) (into_iter_items c.into_iter-range-iterator.result) c.loop-range.invariant.rest (sym c.loop-range.invariant.count ∙ none.0) in
-    let place : along.place ≡ length c.args.sequence.now.elements = along.end whole in
-    taken_version c.args.sequence.now.elements c.args.marks.now along.place c.args.number (string_bytes c.loop-range.text) c.loop-range.rows.items (omega arith) along.taken
+    let resolved = c.in_ok-resolved.resolved in
+    let xs : List ℕ = c.deref-cut-items.result.now in
+    let are = subst (AreCuts resolved.elements resolved.marks) (sym c.deref-cut-items.ensures.value) c.in_ok-cuts.ensures in
+    let whole : c.loop-cut.cut-index ≡ length xs = omega arith in
+    let end : c.loop-cut.from ≡ length resolved.elements = all_reached resolved.elements resolved.marks xs are c.loop-cut.cut-index c.loop-cut.from whole c.loop-cut.invariant.reached in
+    let same : length resolved.elements ≡ length c.args.sequence.now.elements = ap length c.in_ok-resolved.ensures.elements in
+    taken_version c.args.sequence.now.elements c.args.marks.now c.loop-cut.from c.args.number (string_bytes c.loop-cut.text) c.loop-cut.rows.items (omega arith) c.loop-cut.invariant.taken

@@ -1,11 +1,13 @@
-use Rattle.std.proofs.Common.{◌≡◌, ◌++◌, length, string_bytes}
-use Rattle.std.specs.Vec.Iter.{into_iter_items, into_iter_len}
-use Rattle.span_flatten.proofs.Taking.{IsAlong}
+use Rattle.std.proofs.Common.{◌≡◌, ◌≤◌, drop, string_bytes}
+use Rattle.mark_anchors.specs.Ranges.{IsReached}
+use Rattle.span_flatten.specs.Taken.{IsTaken, IsLastFormat}
 use Rattle.span_flatten.proofs.flatten.flatten.Given as goal
 
-abbrev pub invariant-loop-range : goal.invariant-loop-range
-invariant-loop-range l = record {
-  rest : l.yielded ++ into_iter_items l.range-iterator ≡ into_iter_items l.initial.range-iterator;
-  count : into_iter_len l.range-iterator ≡ length (into_iter_items l.range-iterator);
-  along : IsAlong l.sequence.elements l.marks (into_iter_items l.initial.range-iterator) (length l.yielded) (string_bytes l.text) l.rows.items l.cursor;
+abbrev pub invariant-loop-cut : goal.invariant-loop-cut
+invariant-loop-cut l = record {
+  reached : IsReached l.cut-items l.cut-index l.from;
+  behind : l.last ≤ l.from;
+  taken : IsTaken l.sequence.elements l.marks l.from (string_bytes l.text) l.rows.items;
+  formatted : IsLastFormat l.sequence.elements l.marks l.last l.rows.items;
+  at : l.cursor ≡ drop l.from l.sequence.elements;
 }

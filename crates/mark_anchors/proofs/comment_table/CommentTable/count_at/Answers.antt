@@ -2,7 +2,7 @@ use Rattle.std.proofs.Common.{◌≡◌, ℕ, ◌+◌, ◌-◌, ◌<◌, ◌∙�
 use Rattle.std.specs.Prelude.{◌^◌}
 use Rattle.std.specs.Arc.{arc_slice_items}
 use Rattle.mark_anchors.specs.CommentRuns.{numbers_at}
-use Rattle.mark_anchors.specs.CommentLists.{count_up_to}
+use Rattle.mark_anchors.specs.CommentLists.{begin_of, end_of, count_up_to}
 use Rattle.mark_anchors.specs.declared.comment_runs.CommentRun.{CommentRun}
 use Rattle.mark_anchors.proofs.Counting.{count_of_table, few_at}
 use Rattle.mark_anchors.proofs.comment_table.CommentTable.count_at.Goals as goal
@@ -11,22 +11,22 @@ pub overflow_sub-result : goal.overflow_sub-result
 overflow_sub-result c =
     let runs : List CommentRun = arc_slice_items c.self.inside.runs in
     let place : ℕ = c.args.place in
-    let begins : List ℕ = c.self.inside.begins.items in
-    let ends : List ℕ = c.self.inside.ends.items in
-    let begun : c.places_up_to-begun.result ≡ count_up_to begins place = c.places_up_to-begun.ensures ∙ ap (λ (l : List ℕ). count_up_to l place) c.deref.ensures.value in
-    let ended : c.places_up_to-ended.result ≡ count_up_to ends place = c.places_up_to-ended.ensures ∙ ap (λ (l : List ℕ). count_up_to l place) c.deref-2.ensures.value in
-    let all : length (numbers_at runs place) + count_up_to ends place ≡ count_up_to begins place = count_of_table runs begins ends place c.self.invariant in
+    let begins : List CommentRun = c.self.inside.begins.items in
+    let ends : List CommentRun = c.self.inside.ends.items in
+    let begun : c.begun_up_to-begun.result ≡ count_up_to begin_of begins place = c.begun_up_to-begun.ensures.count ∙ ap (λ (l : List CommentRun). count_up_to begin_of l place) c.deref.ensures.value in
+    let ended : c.ended_up_to-ended.result ≡ count_up_to end_of ends place = c.ended_up_to-ended.ensures.count ∙ ap (λ (l : List CommentRun). count_up_to end_of l place) c.deref-2.ensures.value in
+    let all : length (numbers_at runs place) + count_up_to end_of ends place ≡ count_up_to begin_of begins place = count_of_table runs begins ends place c.self.invariant in
     omega arith
 
 pub overflow_cast-result : goal.overflow_cast-result
 overflow_cast-result c =
     let runs : List CommentRun = arc_slice_items c.self.inside.runs in
     let place : ℕ = c.args.place in
-    let begins : List ℕ = c.self.inside.begins.items in
-    let ends : List ℕ = c.self.inside.ends.items in
-    let begun : c.places_up_to-begun.result ≡ count_up_to begins place = c.places_up_to-begun.ensures ∙ ap (λ (l : List ℕ). count_up_to l place) c.deref.ensures.value in
-    let ended : c.places_up_to-ended.result ≡ count_up_to ends place = c.places_up_to-ended.ensures ∙ ap (λ (l : List ℕ). count_up_to l place) c.deref-2.ensures.value in
-    let all : length (numbers_at runs place) + count_up_to ends place ≡ count_up_to begins place = count_of_table runs begins ends place c.self.invariant in
+    let begins : List CommentRun = c.self.inside.begins.items in
+    let ends : List CommentRun = c.self.inside.ends.items in
+    let begun : c.begun_up_to-begun.result ≡ count_up_to begin_of begins place = c.begun_up_to-begun.ensures.count ∙ ap (λ (l : List CommentRun). count_up_to begin_of l place) c.deref.ensures.value in
+    let ended : c.ended_up_to-ended.result ≡ count_up_to end_of ends place = c.ended_up_to-ended.ensures.count ∙ ap (λ (l : List CommentRun). count_up_to end_of l place) c.deref-2.ensures.value in
+    let all : length (numbers_at runs place) + count_up_to end_of ends place ≡ count_up_to begin_of begins place = count_of_table runs begins ends place c.self.invariant in
     let few : length (numbers_at runs place) < 2 ^ 32 = few_at runs place c.self.invariant.orderly in
     omega arith
 
@@ -34,10 +34,10 @@ pub returns : goal.returns
 returns c =
     let runs : List CommentRun = arc_slice_items c.self.inside.runs in
     let place : ℕ = c.args.place in
-    let begins : List ℕ = c.self.inside.begins.items in
-    let ends : List ℕ = c.self.inside.ends.items in
-    let begun : c.places_up_to-begun.result ≡ count_up_to begins place = c.places_up_to-begun.ensures ∙ ap (λ (l : List ℕ). count_up_to l place) c.deref.ensures.value in
-    let ended : c.places_up_to-ended.result ≡ count_up_to ends place = c.places_up_to-ended.ensures ∙ ap (λ (l : List ℕ). count_up_to l place) c.deref-2.ensures.value in
-    let all : length (numbers_at runs place) + count_up_to ends place ≡ count_up_to begins place = count_of_table runs begins ends place c.self.invariant in
-    let count : c.places_up_to-begun.result - c.places_up_to-ended.result ≡ length (numbers_at runs place) = omega arith in
+    let begins : List CommentRun = c.self.inside.begins.items in
+    let ends : List CommentRun = c.self.inside.ends.items in
+    let begun : c.begun_up_to-begun.result ≡ count_up_to begin_of begins place = c.begun_up_to-begun.ensures.count ∙ ap (λ (l : List CommentRun). count_up_to begin_of l place) c.deref.ensures.value in
+    let ended : c.ended_up_to-ended.result ≡ count_up_to end_of ends place = c.ended_up_to-ended.ensures.count ∙ ap (λ (l : List CommentRun). count_up_to end_of l place) c.deref-2.ensures.value in
+    let all : length (numbers_at runs place) + count_up_to end_of ends place ≡ count_up_to begin_of begins place = count_of_table runs begins ends place c.self.invariant in
+    let count : c.begun_up_to-begun.result - c.ended_up_to-ended.result ≡ length (numbers_at runs place) = omega arith in
     count ∙ ap (λ (rs : List CommentRun). length (numbers_at rs place)) c.self.view_is

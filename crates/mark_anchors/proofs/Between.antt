@@ -1,0 +1,41 @@
+-- Elements in the order of places of theirs: those between two places stand side by side.
+use Rattle.std.proofs.Common.{◌≡◌, ◌∙◌, ℕ, ◌+◌, ◌-◌, ◌<◌, ◌≤◌, List, length, get_or, take, drop, ap, arith, length-drop, ⊎_elim}
+use Rattle.std.specs.List.{Contains}
+use Rattle.std.proofs.lemmas.Bool.{cases_lt}
+use Rattle.std.proofs.lemmas.List.{get_or-take, get_or-drop, length-take-le}
+use Rattle.mark_anchors.proofs.Lists.{item_at}
+
+module _ {X : Type 0} (place_of : X → ℕ) (xs : List X) (a b first second : ℕ) (order : first ≤ second) (within : a ≤ length xs) (end : b ≤ length xs)
+    (low : (k : ℕ) (d : X) → k < a → place_of (get_or xs k d) ≤ first) (high : (k : ℕ) (d : X) → b ≤ k → k < length xs → second < place_of (get_or xs k d)) where
+  pub between_order : a ≤ b
+  between_order =
+      ⊎_elim
+      (λ (less : b < a).
+      let x = item_at xs b (omega arith) in
+      let before : place_of (get_or xs b x.0) ≤ first = low b x.0 less in
+      let behind : second < place_of (get_or xs b x.0) = high b x.0 (omega arith) (omega arith) in
+      absurd (omega arith))
+      (λ (le : a ≤ b). le)
+      (cases_lt b a)
+
+  pub between_holds : (x : X) → Contains xs x → first < place_of x → place_of x ≤ second → Contains (take (b - a) (drop a xs)) x
+  between_holds x held after upto =
+      let i : ℕ = held.0 in
+      let there : i < length xs = held.1 in
+      let is : get_or xs i x ≡ x = held.2 in
+      let at : place_of (get_or xs i x) ≡ place_of x = ap place_of is in
+      let le : a ≤ b = between_order in
+      let begins : a ≤ i =
+      ⊎_elim
+      (λ (less : i < a). let before : place_of (get_or xs i x) ≤ first = low i x less in absurd (omega arith))
+      (λ (ge : a ≤ i). ge)
+      (cases_lt i a) in
+      let ends : i < b =
+      ⊎_elim
+      (λ (less : i < b). less)
+      (λ (ge : b ≤ i). let behind : second < place_of (get_or xs i x) = high i x ge there in absurd (omega arith))
+      (cases_lt i b) in
+      let size : length (drop a xs) ≡ length xs - a = length-drop a xs in
+      let sized : length (take (b - a) (drop a xs)) ≡ b - a = length-take-le (b - a) (drop a xs) (omega arith) in
+      let sum : a + (i - a) ≡ i = omega arith in
+      (i - a, omega arith, get_or-take (b - a) (drop a xs) (i - a) x (omega arith) ∙ get_or-drop a xs (i - a) x ∙ ap (λ k. get_or xs k x) sum ∙ is)

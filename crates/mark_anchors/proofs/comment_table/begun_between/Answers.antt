@@ -1,0 +1,20 @@
+use Rattle.std.proofs.Common.{List, sym, subst}
+use Rattle.std.specs.List.{Contains}
+use Rattle.mark_anchors.specs.CommentLists.{begin_of}
+use Rattle.mark_anchors.specs.declared.comment_runs.CommentRun.{CommentRun}
+use Rattle.mark_anchors.proofs.Between.{between_order, between_holds}
+use Rattle.mark_anchors.proofs.comment_table.begun_between.Goals as goal
+
+pub part-requires-clause-order : goal.part-requires-clause-order
+part-requires-clause-order c =
+    let a = c.begun_up_to-from in
+    let b = c.begun_up_to-to in
+    between_order begin_of c.args.begins.now a.result b.result c.args.first c.args.second c.requires.order a.ensures.within b.ensures.within a.ensures.first b.ensures.rest
+
+pub returns : goal.returns
+returns c =
+    let a = c.begun_up_to-from in
+    let b = c.begun_up_to-to in
+    λ run held after upto.
+    subst (λ (l : List CommentRun). Contains l run) (sym c.part.ensures)
+    (between_holds begin_of c.args.begins.now a.result b.result c.args.first c.args.second c.requires.order a.ensures.within b.ensures.within a.ensures.first b.ensures.rest run held after upto)

@@ -1,0 +1,20 @@
+use Rattle.std.proofs.Common.{List, sym, subst}
+use Rattle.std.specs.List.{Contains}
+use Rattle.mark_anchors.specs.CommentLists.{end_of}
+use Rattle.mark_anchors.specs.declared.comment_runs.CommentRun.{CommentRun}
+use Rattle.mark_anchors.proofs.Between.{between_order, between_holds}
+use Rattle.mark_anchors.proofs.comment_table.ended_between.Goals as goal
+
+pub part-requires-clause-order : goal.part-requires-clause-order
+part-requires-clause-order c =
+    let a = c.ended_up_to-from in
+    let b = c.ended_up_to-to in
+    between_order end_of c.args.ends.now a.result b.result c.args.first c.args.second c.requires.order a.ensures.within b.ensures.within a.ensures.first b.ensures.rest
+
+pub returns : goal.returns
+returns c =
+    let a = c.ended_up_to-from in
+    let b = c.ended_up_to-to in
+    λ run held after upto.
+    subst (λ (l : List CommentRun). Contains l run) (sym c.part.ensures)
+    (between_holds end_of c.args.ends.now a.result b.result c.args.first c.args.second c.requires.order a.ensures.within b.ensures.within a.ensures.first b.ensures.rest run held after upto)
