@@ -1,0 +1,4 @@
+pub mod FieldBytes
+pub mod Growing
+pub mod Naming
+pub mod Runs

@@ -1,0 +1,4 @@
+pub mod Lines
+pub mod Reads
+pub mod Loads
+pub mod Marks

@@ -1,0 +1,45 @@
+-- The lines that say what can be read of a span.
+use Rattle.std.specs.Prelude.{ℕ, zero, suc, Bool, true, false, List, [], ◌∷◌, ◌++◌, codes}
+use Rattle.std.specs.Fmt.{decimal}
+use Rattle.std.specs.List.{join_by}
+use Rattle.bpf_words.specs.declared.context_field.ContextField.{ContextField}
+use Rattle.bpf_words.specs.ContextField.{name_of, every_field}
+use Rattle.bpf_words.specs.declared.profile.Profile.{Profile}
+use Rattle.bpf_words.specs.declared.profile.Profile.TheVariants.{One, Two}
+use Rattle.program_reads.specs.declared.reads.Reads.{Reads}
+
+-- those that are marked
+unfoldable pub marked : List Bool → List ContextField → List ContextField
+marked [] fields = []
+marked (mark ∷ marks) [] = []
+marked (true ∷ marks) (field ∷ fields) = field ∷ marked marks fields
+marked (false ∷ marks) (field ∷ fields) = marked marks fields
+
+-- what stands before a name, where there is one before it
+abbrev pub comma : Bool → List ℕ
+comma true = codes ", "
+comma false = []
+
+-- their names, with a comma between two
+abbrev pub names_text : List ContextField → List ℕ
+names_text [] = codes "nothing"
+names_text (field ∷ fields) = join_by name_of (codes ", ") (field ∷ fields)
+
+-- so many bytes from the first on
+abbrev pub bytes_text : ℕ → List ℕ
+bytes_text zero = codes "nothing"
+bytes_text (suc last) = codes "bytes 0..=" ++ decimal last
+
+abbrev pub fields_line : List Bool → List ℕ
+fields_line fields = codes "context: " ++ names_text (marked fields every_field) ++ 10 ∷ []
+
+abbrev pub bytes_line : List ℕ → ℕ → List ℕ
+bytes_line name count = name ++ codes ": " ++ bytes_text count ++ 10 ∷ []
+
+-- the link's text is lent in the second profile alone
+abbrev pub link_line : Profile → Reads → List ℕ
+link_line One reads = []
+link_line Two reads = bytes_line (codes "link") reads.link
+
+abbrev pub read_lines : Profile → Reads → List ℕ
+read_lines profile reads = fields_line reads.fields ++ bytes_line (codes "text") reads.text ++ link_line profile reads
