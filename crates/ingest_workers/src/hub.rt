@@ -10,21 +10,38 @@ ghost use Rattle.ingest_workers.specs.Holdings.{InOneHolding};
 use crate::books::Books;
 use crate::share::{Share, cut};
 use crate::text::ChangeText;
+use crate::turns::{Turn, Turns};
 use batches::batch::Batch;
 use batches::item::Job;
 use hub_core::error::{CommitError, NoSubscriber, SubscribeError};
 use hub_core::hub::Core;
 use std::alloc::{AllocError, Global};
 use std::sync::ledger::{Blank, Book, Ledger};
-use std::sync::{Mutex, Wait};
+use std::sync::{Mutex, MutexGuard, Wait};
 use subscriber_queues::ends::QueueSink;
 use version_history::published::{Naming, ProgramToken, Published, VersionToken};
 
-/// A hub that threads share. Each call holds its lock once, for one call of the books.
+/// A hub that threads share. Each call holds its lock once, for one call of the books, and calls have it in the order in which they came.
 #[derive(Drop)]
 pub struct Hub<'p, N: Naming + Ledger, R: Wait + Copy> {
     pub(crate) published: Published<'p, N>,
-    pub(crate) books: Mutex<Books<'p, N, R>>,
+    turns: Turns,
+    books: Mutex<Books<'p, N, R>>,
+}
+
+/// What lies under a hub's lock, for as long as a turn is held.
+pub(crate) struct Holding<'h, 'p, N: Naming + Ledger, R: Wait + Copy> {
+    pub(crate) books: MutexGuard<'h, Books<'p, N, R>>,
+    turn: Turn<'h>,
+}
+
+impl<N: Naming + Ledger, R: Wait + Copy> Drop for Holding<'_, '_, N, R> {
+    /// The lock is given back before the turn ends, so that no other thread waits for it than the one whose turn it is.
+    fn drop(self) {
+        let Holding { books, turn } = self;
+        drop(books);
+        drop(turn);
+    }
 }
 
 /// A hub with no change, whose book is this.
@@ -39,6 +56,7 @@ fn locked<'p, N: Naming + Ledger, R: Wait + Copy>(
     let core = Core::new(rt, alloc, published)?;
     Ok(Hub {
         published: published.again(),
+        turns: Turns::new(),
         books: Mutex::new(Books::new(alloc, core, book)),
     })
 }
@@ -63,12 +81,21 @@ impl<'p, N: Naming + Ledger, R: Wait + Copy> Hub<'p, N, R> {
         Ok((hub, shares))
     }
 
+    /// Takes the lock, behind all calls that came before.
+    pub(crate) fn hold(&self, rt: &R) -> Holding<'_, 'p, N, R> {
+        let turn = self.turns.wait(rt);
+        Holding {
+            books: self.books.lock(rt),
+            turn,
+        }
+    }
+
     /// Whether as many subscribers were added as ever are, closed ones counted. It stays so for good, so one that asks first
     /// need not publish a program that no subscriber will have.
     pub fn is_full(&self, rt: &R) -> bool
         ensures { InOneHolding (λ old new. (new ≡ old) × (IsTrue result ↔ (length old.subs ≡ 64))) }
     {
-        self.books.lock(rt).is_full()
+        self.hold(rt).books.is_full()
     }
 
     /// Whether no version had this number yet. A version stays, so one that asks first need not publish a program for a version
@@ -76,21 +103,21 @@ impl<'p, N: Naming + Ledger, R: Wait + Copy> Hub<'p, N, R> {
     pub fn lacks_version(&self, rt: &R, number: u64) -> bool
         ensures { InOneHolding (λ old new. (new ≡ old) × (IsTrue result ↔ (length old.changes < number))) }
     {
-        self.books.lock(rt).lacks_version(number)
+        self.hold(rt).books.lacks_version(number)
     }
 
     /// The number of the latest version.
     pub fn latest(&self, rt: &R) -> u64
         ensures { InOneHolding (λ old new. (new ≡ old) × (result ≡ length old.changes)) }
     {
-        self.books.lock(rt).latest()
+        self.hold(rt).books.latest()
     }
 
     /// The token of the version with this number; None where no version had it yet.
     pub fn version(&self, rt: &R, number: u64) -> Option<VersionToken<N>>
         ensures { InOneHolding (λ old new. (new ≡ old) × (result ≡ slice_get old.versions number)) }
     {
-        self.books.lock(rt).version(number)
+        self.hold(rt).books.version(number)
     }
 
     /// The texts of so many accepted changes behind a version, or of as many as there were; None where no version had that number
@@ -103,14 +130,14 @@ impl<'p, N: Naming + Ledger, R: Wait + Copy> Hub<'p, N, R> {
     ) -> Result<Option<Vec<ChangeText>>, AllocError>
         ensures { IfOk result (λ found. InOneHolding (λ old new. (new ≡ old) × MatchOption found (length old.changes < from) (λ texts. (from ≤ length old.changes) × (texts.items ≡ map change_text (take most (drop from old.changes)))))) }
     {
-        self.books.lock(rt).texts_behind(from, most)
+        self.hold(rt).books.texts_behind(from, most)
     }
 
     /// The greatest counter of a peer's accepted operations, 0 where it has none.
     pub fn last_counter(&self, rt: &R, node: u16) -> u64
         ensures { InOneHolding (λ old new. (new ≡ old) × IsLastCounter (operations_of old.changes) node result) }
     {
-        self.books.lock(rt).last_counter(node)
+        self.hold(rt).books.last_counter(node)
     }
 
     /// Adds a subscriber, from the latest version or an earlier one on.
@@ -125,7 +152,7 @@ impl<'p, N: Naming + Ledger, R: Wait + Copy> Hub<'p, N, R> {
         requires suits { Suits sink.promise program.value first }
         ensures { InOneHolding (λ old new. Subscribes old first program sink result new) }
     {
-        self.books.lock(rt).subscribe_from(program, sink, first)
+        self.hold(rt).books.subscribe_from(program, sink, first)
     }
 
     /// Adds a subscriber, from the latest version on.
@@ -139,14 +166,14 @@ impl<'p, N: Naming + Ledger, R: Wait + Copy> Hub<'p, N, R> {
         requires suits { (first : ℕ) → Suits sink.promise program.value first }
         ensures { InOneHolding (λ old new. Subscribes old (length old.changes) program sink result new) }
     {
-        self.books.lock(rt).subscribe(program, sink)
+        self.hold(rt).books.subscribe(program, sink)
     }
 
     /// Hands out a version that a subscriber's program is to be run on; None only where there was none.
     pub fn take_job(&self, rt: &R) -> Option<Job<N>>
         ensures { InOneHolding (λ old new. TakesJob old result new) }
     {
-        self.books.lock(rt).take_job()
+        self.hold(rt).books.take_job()
     }
 
     /// The job of the first version that an open subscriber waits for, whoever it was handed out to; None only where it waited
@@ -154,7 +181,7 @@ impl<'p, N: Naming + Ledger, R: Wait + Copy> Hub<'p, N, R> {
     pub fn missing_job(&self, rt: &R, id: usize) -> Option<Job<N>>
         ensures { InOneHolding (λ old new. (new ≡ old) × Misses old id result) }
     {
-        self.books.lock(rt).missing_job(id)
+        self.hold(rt).books.missing_job(id)
     }
 
     /// Holds a batch, if its subscriber waits for it.
@@ -162,27 +189,27 @@ impl<'p, N: Naming + Ledger, R: Wait + Copy> Hub<'p, N, R> {
         ensures commits { InOneHolding (λ old new. Commits old batch result new) }
         ensures takes_no_memory { ¬ (result ≡ Err CommitError.OutOfMemory) }
     {
-        self.books.lock(rt).commit(batch)
+        self.hold(rt).books.commit(batch)
     }
 
     /// Sends what can be sent to a subscriber. It answers how many items.
     pub fn pump(&self, rt: &R, id: usize) -> Result<usize, NoSubscriber>
         ensures { InOneHolding (λ old new. Pumps was_sent IsFull old id result new) }
     {
-        self.books.lock(rt).pump(id)
+        self.hold(rt).books.pump(id)
     }
 
     /// What a subscriber doesn't hold may be handed out again.
     pub fn reissue(&self, rt: &R, id: usize) -> Result<(), NoSubscriber>
         ensures { InOneHolding (λ old new. Reissues old id result new) }
     {
-        self.books.lock(rt).reissue(id)
+        self.hold(rt).books.reissue(id)
     }
 
     /// Closes a subscriber for good, and drops the batches that it holds.
     pub fn close(&self, rt: &R, id: usize) -> Result<(), NoSubscriber>
         ensures { InOneHolding (λ old new. Closes old id result new) }
     {
-        self.books.lock(rt).close(id)
+        self.hold(rt).books.close(id)
     }
 }

@@ -67,7 +67,7 @@ pub fn ingest_change<N: Naming + Ledger, R: Wait + Copy>(
     ensures err { OnErr result (share.new ≡ share.old) }
     ensures numbered { IfOk result (λ number. (share.new ≤ number) × (number ≤ 4096)) }
 {
-    let token = hub.books.lock(rt).submit(rt, share, change)?;
+    let token = hub.hold(rt).books.submit(rt, share, change)?;
     Ok(hub.published.look(&token).number())
 }
 
@@ -107,5 +107,5 @@ pub fn settle<N: Naming + Ledger, R: Wait + Copy>(
     while let Some(share) = shares.pop() {
         all.merge(share.into_part());
     }
-    hub.books.lock(rt).settle(&mut all)
+    hub.hold(rt).books.settle(&mut all)
 }

@@ -6,3 +6,4 @@ pub mod hub;
 pub mod ingest;
 pub mod share;
 pub mod text;
+mod turns;
