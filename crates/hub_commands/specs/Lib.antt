@@ -6,3 +6,4 @@ pub mod Programs
 pub mod SpansReply
 pub mod Stopping
 pub mod Requests
+pub mod Explained

@@ -56,17 +56,6 @@ pub data IsAcceptanceReply (profile : Profile) (bytes : List ℕ) (reply : Reply
 unfoldable pub IsCheckReply : Profile → List ℕ → Reply → Type 0
 IsCheckReply profile input reply = IsProgramReply (IsAcceptanceReply profile) (without_blanks input) reply
 
--- of a program: what `check` answers, with further text behind it
-pub record IsExplainedReply (profile : Profile) (bytes : List ℕ) (reply : Reply) : Type 0 where
-  pub first : Reply
-  pub judged : IsAcceptanceReply profile bytes first
-  pub more : List ℕ
-  pub is : reply ≡ record first { text = first.text ++ more }
-
--- `check --explain`: what `check` answers, and behind it what is known of a program
-unfoldable pub IsExplainReply : Profile → List ℕ → Reply → Type 0
-IsExplainReply profile input reply = IsProgramReply (IsExplainedReply profile) (without_blanks input) reply
-
 -- a text that a span may have
 pub record IsSpanText (text : List ℕ) : Type 0 where
   pub characters : IsUtf8 text

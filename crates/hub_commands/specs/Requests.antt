@@ -5,7 +5,8 @@ use Rattle.hub_requests.specs.declared.Command.TheVariants.{Asm, Check, Dis, Run
 use Rattle.hub_requests.specs.declared.Detail.TheVariants.{Verdict, Reason, Listing}
 use Rattle.hub_requests.specs.declared.Shown.TheVariants.{Outcome, Steps}
 use Rattle.hub_commands.specs.Answers.{Reply}
-use Rattle.hub_commands.specs.Programs.{IsAsmReply, IsCheckReply, IsExplainReply, IsDisReply, IsRunReply, IsTraceReply}
+use Rattle.hub_commands.specs.Explained.{IsExplainReply}
+use Rattle.hub_commands.specs.Programs.{IsAsmReply, IsCheckReply, IsDisReply, IsRunReply, IsTraceReply}
 use Rattle.hub_commands.specs.SpansReply.{IsSpansReply}
 
 -- the reply that the command gives to an input

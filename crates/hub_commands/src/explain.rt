@@ -8,12 +8,13 @@ ghost use Rattle.meaning.specs.Outcomes.{outcome, outcome_from};
 ghost use Rattle.meaning.specs.Safe.{IsSpan, Safe, SafeIn};
 ghost use Rattle.verifier.specs.Structure.{IsStructured};
 ghost use Rattle.hub_commands.specs.Answers.{IsAnswered};
-ghost use Rattle.verifier.specs.Judged.{IsJudged};
+ghost use Rattle.bpf_words.specs.declared.profile.Profile.TheVariants.{Two};
+ghost use Rattle.program_reads.specs.Reads.{Determines};
+ghost use Rattle.verifier.specs.Judged.{Rejects};
 ghost use Rattle.hub_commands.specs.Hints.{digits_hint};
-ghost use Rattle.hub_commands.specs.Programs.{IsExplainedReply, IsExplainReply};
+ghost use Rattle.hub_commands.specs.Explained.{IsExplainedReply, IsExplainReply};
 
 use crate::answer::Answer;
-use crate::check::{acceptance_answer, rejection};
 use crate::ended::Ended;
 use crate::failure::Failure;
 use crate::hexadecimal::{decode_hex, without_blanks};
@@ -21,15 +22,17 @@ use crate::hint::digits_hint;
 use crate::input::read_input;
 use crate::listing::{push_instructions, push_listing, push_listing_until};
 use crate::output::write_answer;
-use crate::reads::push_reads;
 use bpf_words::instruction::Insn;
 use bpf_words::profile::Profile;
 use bpf_words::words::Words;
+use program_reads::lines::push_reads;
+use program_reads::reads::Reads;
 use refusals::reason::Reason;
 use std::alloc::{AllocError, Global};
 use std::io::{Read, Write};
 use verifier::before::states_before;
 use verifier::refusal::VerifyError;
+use verifier::verify::verify;
 
 /// Whether a run can go on to the next instruction.
 fn falls_through(insn: &Insn) -> bool
@@ -124,46 +127,64 @@ fn push_refused(
     }
 }
 
-/// Appends the greatest number of steps of an accepted program, and what it can read of a span; then its listing, where that is asked for.
-fn push_accepted(
+/// What is answered to a program that isn't accepted: what `check` answers, and where the program is at fault.
+fn refused_answer(
     alloc: Global,
-    text: &mut String,
     words: &Words<'_>,
     profile: Profile,
+    error: VerifyError,
     is_whole: bool,
-) -> Result<(), AllocError>
-    requires structured { IsStructured (program_of words.now) }
-    requires seen { SafeIn profile (program_of words.now) }
+) -> Result<Answer, AllocError>
+    requires { Rejects profile (program_of words.now) error }
+    ensures { IfOk result (λ answer. IsExplainedReply profile words.now answer) }
 {
-    writeln!(text, "steps <= {}", most_steps(alloc, words)?)?;
-    let states = match states_before(alloc, words, profile) {
-        Ok(states) => states,
-        Err(VerifyError::OutOfMemory) => return Err(AllocError),
-        Err(_) => return Ok(()),
-    };
-    push_reads(text, words, profile, &states)?;
-    if is_whole {
-        push_listing(text, words, profile, &states)?;
-    }
-    Ok(())
+    let Answer { ending, mut text } = Answer::refused(alloc, &Reason::Unverified(error))?;
+    let mut explanation = String::new(alloc);
+    push_refused(alloc, &mut explanation, words, profile, error, is_whole)?;
+    text.push_str(explanation.as_str())?;
+    Ok(Answer { ending, text })
 }
 
-/// What is known of a program, by why it isn't accepted.
-fn explanation(
+/// The listing of an accepted program, where that is asked for.
+fn listing(
     alloc: Global,
     words: &Words<'_>,
     profile: Profile,
-    rejection: Option<VerifyError>,
     is_whole: bool,
-) -> Result<String, AllocError>
-    requires { IsJudged profile (program_of words.now) rejection }
-{
+) -> Result<String, AllocError> {
     let mut text = String::new(alloc);
-    match rejection {
-        Some(error) => push_refused(alloc, &mut text, words, profile, error, is_whole)?,
-        None => push_accepted(alloc, &mut text, words, profile, is_whole)?,
+    if !is_whole {
+        return Ok(text);
+    }
+    match states_before(alloc, words, profile) {
+        Ok(states) => push_listing(&mut text, words, profile, &states)?,
+        Err(VerifyError::OutOfMemory) => return Err(AllocError),
+        Err(_) => {}
     }
     Ok(text)
+}
+
+/// What is answered to an accepted program: what `check` answers, the greatest number of its steps, and what it can read of a span; then
+/// its listing, where that is asked for.
+fn accepted_answer(
+    alloc: Global,
+    words: &Words<'_>,
+    profile: Profile,
+    reads: &Reads,
+    is_whole: bool,
+) -> Result<Answer, AllocError>
+    requires structured { IsStructured (program_of words.now) }
+    requires seen { SafeIn profile (program_of words.now) }
+    requires determines { Determines reads.now Two (program_of words.now) }
+    ensures { IfOk result (λ answer. IsExplainedReply profile words.now answer) }
+{
+    let slots = words.len();
+    let steps = most_steps(alloc, words)?;
+    let mut text = format!(in alloc; "accepted {slots}\nsteps <= {steps}\n")?;
+    push_reads(&mut text, reads, profile)?;
+    let listing = listing(alloc, words, profile, is_whole)?;
+    text.push_str(listing.as_str())?;
+    Ok(Answer::done(text))
 }
 
 /// What `check` answers to a program, and behind it what is known of the program. The verifier is asked once, so that both are of one
@@ -176,11 +197,10 @@ fn explained_answer(
 ) -> Result<Answer, AllocError>
     ensures { IfOk result (λ answer. IsExplainedReply profile words.now answer) }
 {
-    let rejection = rejection(alloc, words, profile);
-    let Answer { ending, mut text } = acceptance_answer(alloc, words, rejection)?;
-    let explanation = explanation(alloc, words, profile, rejection, is_whole)?;
-    text.push_str(explanation.as_str())?;
-    Ok(Answer { ending, text })
+    match verify(alloc, words, profile) {
+        Ok(verified) => accepted_answer(alloc, words, profile, &verified.reads(), is_whole),
+        Err(error) => refused_answer(alloc, words, profile, error, is_whole),
+    }
 }
 
 /// What `check --explain` answers to a program in hexadecimal, or `check --explain=all`, which lists the whole program.

@@ -15,7 +15,6 @@ mod known_lines;
 mod listing;
 mod output;
 pub mod perform;
-mod reads;
 mod run;
 mod spans;
 mod trace;

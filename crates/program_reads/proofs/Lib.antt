@@ -2,3 +2,4 @@ pub mod FieldBytes
 pub mod Growing
 pub mod Naming
 pub mod Runs
+pub mod Narrow

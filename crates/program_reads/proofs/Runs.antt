@@ -27,8 +27,8 @@ use Rattle.meaning.proofs.Witness.{both}
 use Rattle.meaning.specs.Safe.{IsSpanIn, SafeIn}
 use Rattle.abstract_state.specs.declared.state.AbsState.{AbsState}
 use Rattle.abstract_state.specs.State.{Span, lengths_of}
-use Rattle.verifier.specs.Reaches.{Reaches, ContainAllRuns}
-use Rattle.verifier.specs.Reaches.Reaches.{at_start, by_step}
+use Rattle.program_reads.specs.Runs.{Reaches, ContainAllRuns}
+use Rattle.program_reads.specs.Runs.Reaches.{at_start, by_step}
 use Rattle.program_reads.specs.declared.reads.Reads.{Reads}
 use Rattle.program_reads.specs.Reads.{AgreesOn, CoversAt, Determines}
 use Rattle.program_reads.specs.Loads.{CoversLoad, CoversRuns, CoversStates}

@@ -1,4 +1,5 @@
 pub mod Lines
 pub mod Reads
+pub mod Runs
 pub mod Loads
 pub mod Marks

@@ -10,7 +10,7 @@ use Rattle.meaning.specs.Step.{Program}
 use Rattle.abstract_state.specs.declared.state.AbsState.{AbsState}
 use Rattle.abstract_state.specs.Lent.{Lengths}
 use Rattle.abstract_state.specs.State.{Span, WithinState}
-use Rattle.verifier.specs.Reaches.{Reaches}
+use Rattle.program_reads.specs.Runs.{Reaches}
 use Rattle.program_reads.specs.declared.reads.Reads.{Reads}
 use Rattle.program_reads.specs.Reads.{CoversAt}
 

@@ -2,6 +2,7 @@
 #![tactic(auto)]
 
 ghost use Rattle.bpf_words.specs.declared.profile.Profile.{Profile};
+ghost use Rattle.bpf_words.specs.declared.profile.Profile.TheVariants.{Two};
 ghost use Rattle.meaning.specs.Safe.{SafeIn};
 ghost use Rattle.meaning.specs.Step.{Program};
 ghost use Rattle.program_reads.specs.declared.reads.Reads.{Reads};
@@ -12,7 +13,8 @@ mod fields;
 pub mod lines;
 pub mod reads;
 
-/// What no load of a program can read, its outcome doesn't depend on.
+/// What no load of a program can read, its outcome doesn't depend on: neither on what its profile lends, nor on the whole span.
 pub fn unread_is_free()
-    ensures { (profile : Profile) (program : Program) (reads : Reads) → SafeIn profile program → CoversRuns reads profile program → Determines reads profile program }
+    ensures lent { (profile : Profile) (program : Program) (reads : Reads) → SafeIn profile program → CoversRuns reads profile program → Determines reads profile program }
+    ensures whole { (profile : Profile) (program : Program) (reads : Reads) → SafeIn profile program → CoversRuns reads profile program → Determines reads Two program }
 {}

@@ -11,7 +11,7 @@ ghost use Rattle.abstract_state.specs.declared.known.Known.{Known as TheKnown};
 ghost use Rattle.abstract_state.specs.Known.{ContainsKnown};
 ghost use Rattle.abstract_state.specs.Lent.{Lengths, base_of, limit_of};
 ghost use Rattle.abstract_state.specs.State.{ContainsRegister, Contains, WithinState};
-ghost use Rattle.verifier.specs.Reaches.{ContainAllRuns};
+ghost use Rattle.program_reads.specs.Runs.{ContainAllRuns};
 ghost use Rattle.program_reads.specs.Reads.{CoversAt, Determines};
 ghost use Rattle.program_reads.specs.Loads.{CoversLoad, CoversStates};
 ghost use Rattle.program_reads.specs.Marks.{Grows};

@@ -11,3 +11,4 @@ pub mod FramedRuns
 pub mod GuardRuns
 pub mod Reaching
 pub mod Enough
+pub mod Listing

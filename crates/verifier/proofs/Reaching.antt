@@ -25,7 +25,8 @@ use Rattle.verifier.specs.Structure.{IsStructured}
 use Rattle.verifier.specs.Arises.{ArisesAt}
 use Rattle.verifier.specs.Waiting.{States, waiting_at}
 use Rattle.verifier.specs.Walk.{Between, IsAwaited, Advances, Keeps}
-use Rattle.verifier.specs.Reaches.{Reaches, at_start, by_step, ContainsRuns, Enters, from_start, from_below, Covers, IsStateBelow, IsBefore}
+use Rattle.program_reads.specs.Runs.{Reaches, at_start, by_step, ContainsRuns}
+use Rattle.verifier.specs.Reaches.{Enters, from_start, from_below, Covers, IsStateBelow, IsBefore}
 use Rattle.verifier.proofs.Runs.{StaysAt, stays, stays_on, contains_at, stepped}
 use Rattle.verifier.proofs.Walking.{fall_starts}
 

@@ -1,34 +1,29 @@
--- The states that the runs of a program come to, and what is known of them.
-use Rattle.std.specs.Prelude.{◌≡◌, ℕ, ◌<◌, ◌≤◌, List, length, Option, None, Ok, slice_index_or}
+-- What the walk over the slots knows of the states that runs come to.
+use Rattle.std.specs.Prelude.{◌≡◌, ℕ, ◌<◌, ◌≤◌, List, Option, None, Ok, slice_index_or}
 use Rattle.bpf_words.specs.declared.profile.Profile.{Profile}
 use Rattle.bpf_words.specs.declared.instruction.Insn.{Insn}
 use Rattle.bpf_words.specs.Flow.{StartsAt}
 use Rattle.meaning.specs.State.{State, start}
+use Rattle.program_reads.specs.declared.reads.Reads.{Reads}
+use Rattle.program_reads.specs.Runs.{Reaches}
+use Rattle.program_reads.specs.Loads.{CoversLoad}
 use Rattle.meaning.specs.Step.{Program, Next, step}
 use Rattle.abstract_state.specs.declared.state.AbsState.{AbsState}
-use Rattle.abstract_state.specs.State.{Span, lengths_of, WithinState}
+use Rattle.abstract_state.specs.State.{Span, lengths_of}
 use Rattle.verifier.specs.declared.refusal.VerifyError.{VerifyError}
 use Rattle.verifier.specs.declared.refusal.VerifyError.TheVariants.{Structure, State as StateRefused, OutOfMemory}
 use Rattle.verifier.specs.Waiting.{States}
 use Rattle.verifier.specs.Walk.{IsAwaited}
 use Rattle.verifier.specs.Arises.{ArisesAt}
 
--- the run on a span comes to a state
-pub data Reaches (program : Program) (span : Span) : State → Type 0 where
-  at_start : Reaches program span start
-  by_step : {s next : State} → Reaches program span s → step program span.bytes s ≡ Ok (Next next) → Reaches program span next
-
--- what is known before a slot contains each state that a run of the profile comes to there; where nothing is known, no run comes there
-abbrev pub ContainsRuns : Profile → Program → ℕ → Option AbsState → Type 0
-ContainsRuns profile program slot known = (span : Span) (s : State) → span.profile ≡ profile → Reaches program span s → s.slot ≡ slot → WithinState known (lengths_of span) s
-
--- so does what is known before each slot
-abbrev pub ContainAllRuns : Profile → Program → List (Option AbsState) → Type 0
-ContainAllRuns profile program states = (slot : ℕ) → slot < length program → ContainsRuns profile program slot (slice_index_or states slot None)
-
 -- each state that is known arises from the program's steps
 abbrev pub AriseEverywhere : Profile → Program → List (Option AbsState) → Type 0
 AriseEverywhere profile program states = (slot : ℕ) (insn : Insn) → StartsAt program slot insn → ArisesAt profile program slot (slice_index_or states slot None)
+
+-- what each run of the profile loads at a slot below is listed
+abbrev pub ListsBelow : Profile → Program → ℕ → Reads → Type 0
+ListsBelow profile program end reads =
+    (span : Span) (s : State) (insn : Insn) → span.profile ≡ profile → Reaches program span s → s.slot < end → StartsAt program s.slot insn → CoversLoad reads s insn
 
 -- a refusal for what is known at a slot below, or for want of memory
 abbrev pub IsStateBelow : ℕ → VerifyError → Type 0

@@ -8,7 +8,8 @@ ghost use Rattle.abstract_state.specs.declared.refusal.Refusal.{Refusal as TheRe
 ghost use Rattle.verifier.specs.Plain.{IsPlain};
 ghost use Rattle.verifier.specs.Guard.{IsGuard};
 ghost use Rattle.verifier.specs.Structure.{FirstFault};
-ghost use Rattle.verifier.specs.Reaches.{ContainsRuns, ContainAllRuns, AriseEverywhere, IsBefore};
+ghost use Rattle.program_reads.specs.Runs.{ContainsRuns, ContainAllRuns};
+ghost use Rattle.verifier.specs.Reaches.{AriseEverywhere, IsBefore};
 ghost use Rattle.verifier.specs.declared.refusal.StructureFault.{StructureFault};
 
 use crate::refusal::VerifyError;

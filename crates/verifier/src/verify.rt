@@ -1,7 +1,9 @@
 //! The verifier, and the programs that it accepts.
 ghost use Rattle.std.specs.Prelude.{◌≡◌, ◌↔◌, ℕ, length, Err, IfOk, IfErr};
+ghost use Rattle.bpf_words.specs.declared.profile.Profile.TheVariants.{Two};
 ghost use Rattle.bpf_words.specs.Words.{program_of};
 ghost use Rattle.meaning.specs.Safe.{Safe, SafeIn, IsBlindToLink};
+ghost use Rattle.program_reads.specs.Reads.{Determines};
 ghost use Rattle.verifier.specs.Plain.{IsPlain};
 ghost use Rattle.verifier.specs.Framed.{IsFramed};
 ghost use Rattle.verifier.specs.Guard.{IsGuard};
@@ -18,12 +20,14 @@ use crate::walk::walk;
 use bpf_words::profile::Profile;
 use bpf_words::words::Words;
 use decoded_rows::rows::Rows;
+use program_reads::reads::Reads;
 use std::alloc::Global;
 use std::marker::Model;
 
 /// A program of which every run ends with a number: it meets no fault, and takes no more steps than the program has slots.
 pub struct Verified {
     profile: Profile,
+    reads: Reads,
     rows: Rows,
 }
 
@@ -31,20 +35,23 @@ impl Drop for Verified {
     fn drop(self) {
         let Verified {
             profile: _,
+            reads: _,
             rows: _,
         } = self;
     }
 }
 
 impl Model for Verified {
+    ghost use Rattle.bpf_words.specs.declared.profile.Profile.TheVariants.{Two};
     ghost use Rattle.meaning.specs.Safe.{Safe, SafeIn, IsBlindToLink};
     ghost use Rattle.meaning.specs.Step.{Program};
+    ghost use Rattle.program_reads.specs.Reads.{Determines};
 
     ghost Value = { Program };
 
     ghost view = { λ v. v.rows };
 
-    ghost invariant = { λ v. Safe v.rows × SafeIn v.profile v.rows };
+    ghost invariant = { λ v. Safe v.rows × SafeIn v.profile v.rows × Determines v.reads Two v.rows };
 }
 
 impl Verified {
@@ -53,6 +60,13 @@ impl Verified {
         ensures { SafeIn result self.now }
     {
         self.profile
+    }
+
+    /// What its loads can read of a span: spans that agree on that give it one verdict.
+    pub fn reads(&self) -> Reads
+        ensures { Determines result Two self.now }
+    {
+        self.reads
     }
 
     /// The program's words, lent.
@@ -96,9 +110,10 @@ pub fn verify(alloc: Global, words: &Words<'_>, profile: Profile) -> Result<Veri
             fault: wrong.fault,
         });
     }
-    walk(alloc, words, profile)?;
+    let reads = walk(alloc, words, profile)?;
     Ok(Verified {
         profile,
+        reads,
         rows: Rows::of(alloc, words)?,
     })
 }

@@ -15,7 +15,9 @@ ghost use Rattle.verifier.specs.Structure.{IsOfState, IsStructured};
 ghost use Rattle.verifier.specs.Arises.{Arises, ArisesAt, AllArise, IsTarget, IsGranted, IsCause, FallsAs, FallsFrom};
 ghost use Rattle.verifier.specs.Waiting.{waiting_at};
 ghost use Rattle.verifier.specs.Walk.{Advances, Follows, IsComparison, JumpsWithin, Keeps};
-ghost use Rattle.verifier.specs.Reaches.{ContainsRuns, ContainAllRuns, AriseEverywhere, Covers, IsStateBelow};
+ghost use Rattle.program_reads.specs.Runs.{ContainsRuns, ContainAllRuns};
+ghost use Rattle.program_reads.specs.Loads.{CoversRuns};
+ghost use Rattle.verifier.specs.Reaches.{AriseEverywhere, Covers, ListsBelow, IsStateBelow};
 
 use crate::refusal::VerifyError;
 use crate::waiting::Waiting;
@@ -25,6 +27,7 @@ use abstract_state::step::Flow;
 use bpf_words::instruction::Insn;
 use bpf_words::profile::Profile;
 use bpf_words::words::Words;
+use program_reads::reads::Reads;
 use std::alloc::{AllocError, Global};
 
 /// Why a walk doesn't go past an instruction.
@@ -171,7 +174,7 @@ fn pass(
     }
 }
 
-/// Joins all edges into a slot, and goes past its instruction, if a run can come there.
+/// Joins all edges into a slot, lists what its instruction can read, and goes past it, if a run can come there.
 fn visit(
     profile: Profile,
     slot: usize,
@@ -179,6 +182,7 @@ fn visit(
     flow: Flow,
     state: &mut AbsState,
     waiting: &mut Waiting,
+    reads: &mut Reads,
 ) -> Result<Flow, VerifyError>
     requires slot { slot < length waiting.old }
     requires few { slot < 4096 }
@@ -188,11 +192,13 @@ fn visit(
     ensures below { IfErr result (IsStateBelow (slot + 1)) }
     ensures covers { (program : Program) → IsPaired program → IsStructured program → StartsAt program slot insn.now → Covers profile program slot (after flow state.old) waiting.old → IfOk result (λ next. Covers profile program (slot + 1) (after next state.new) waiting.new) }
     ensures follows { (program : Program) → IsPaired program → IsStructured program → StartsAt program slot insn.now → Follows profile program slot (after flow state.old) waiting.old → IfOk result (λ next. Follows profile program (slot + 1) (after next state.new) waiting.new) }
+    ensures lists { (program : Program) → IsStructured program → StartsAt program slot insn.now → Covers profile program slot (after flow state.old) waiting.old → ListsBelow profile program slot reads.old → IfOk result (λ _. ListsBelow profile program (slot + 1) reads.new) }
     ensures floor { (program : Program) → IsPaired program → IsStructured program → StartsAt program slot insn.now → AllArise profile program waiting.old → FallsAs profile program slot (after flow state.old) → IfErr result (IsCause profile program) × IfOk result (λ next. AllArise profile program waiting.new × FallsAs profile program (slot + 1) (after next state.new)) }
 {
     let Flow::Live = waiting.arrive(slot, flow, state) else {
         return Ok(Flow::Dead);
     };
+    reads.add_insn(insn, state);
     match pass(profile, slot, insn, state, waiting) {
         Ok(next) => Ok(next),
         Err(Stop::Refused(fault)) => Err(VerifyError::State { slot, fault }),
@@ -206,6 +212,8 @@ pub struct Walked {
     flow: Flow,
     state: AbsState,
     waiting: Waiting,
+    /// What the instructions below can read.
+    reads: Reads,
 }
 
 /// Takes the instructions below a slot in order, once.
@@ -220,6 +228,7 @@ fn walk_to(
     ensures size { IfOk result (λ walked. length walked.waiting ≡ length (program_of words.now)) }
     ensures follows { IfOk result (λ walked. Follows profile (program_of words.now) end (after walked.flow walked.state) walked.waiting) }
     ensures covers { IfOk result (λ walked. Covers profile (program_of words.now) end (after walked.flow walked.state) walked.waiting) }
+    ensures lists { IfOk result (λ walked. ListsBelow profile (program_of words.now) end walked.reads) }
     ensures arises { IfOk result (λ walked. AllArise profile (program_of words.now) walked.waiting × FallsAs profile (program_of words.now) end (after walked.flow walked.state)) }
     ensures below { IfErr result (IsStateBelow end) }
     ensures floor { IfErr result (IsCause profile (program_of words.now)) }
@@ -227,29 +236,40 @@ fn walk_to(
     let mut waiting = Waiting::new(alloc, words.len())?;
     let mut state = AbsState::entry();
     let mut flow = Flow::Live;
+    let mut reads = Reads::nothing();
     for slot in 0..end {
         if let Some(insn) = words.insn(slot) {
-            flow = visit(profile, slot, &insn, flow, &mut state, &mut waiting)?;
+            flow = visit(
+                profile,
+                slot,
+                &insn,
+                flow,
+                &mut state,
+                &mut waiting,
+                &mut reads,
+            )?;
         }
     }
     Ok(Walked {
         flow,
         state,
         waiting,
+        reads,
     })
 }
 
-/// Takes the instructions of a program in order, once.
-pub fn walk(alloc: Global, words: &Words<'_>, profile: Profile) -> Result<(), VerifyError>
+/// Takes the instructions of a program in order, once, and lists what they can read.
+pub fn walk(alloc: Global, words: &Words<'_>, profile: Profile) -> Result<Reads, VerifyError>
     requires { IsStructured (program_of words.now) }
     ensures safe { IfOk result (λ _. Safe (program_of words.now)) }
     ensures seen { IfOk result (λ _. SafeIn profile (program_of words.now)) }
+    ensures reads { IfOk result (λ reads. CoversRuns reads profile (program_of words.now)) }
     ensures states { IfErr result IsOfState }
     ensures below { IfErr result (IsStateBelow (length (program_of words.now))) }
     ensures floor { IfErr result (IsCause profile (program_of words.now)) }
 {
-    walk_to(alloc, words, profile, words.len())?;
-    Ok(())
+    let walked = walk_to(alloc, words, profile, words.len())?;
+    Ok(walked.reads)
 }
 
 /// What is known before a slot, from all edges into it; nothing only where no run comes there.
@@ -270,6 +290,7 @@ pub fn walk_before(
         flow,
         mut state,
         mut waiting,
+        reads: _,
     } = walk_to(alloc, words, profile, slot)?;
     match waiting.arrive(slot, flow, &mut state) {
         Flow::Live => Ok(Some(state)),
@@ -294,11 +315,20 @@ pub fn walk_each(
     let mut waiting = Waiting::new(alloc, words.len())?;
     let mut state = AbsState::entry();
     let mut flow = Flow::Live;
+    let mut reads = Reads::nothing();
     for slot in 0..words.len() {
         flow = waiting.arrive(slot, flow, &mut state);
         states.push(live(flow, &state))?;
         if let Some(insn) = words.insn(slot) {
-            flow = visit(profile, slot, &insn, flow, &mut state, &mut waiting)?;
+            flow = visit(
+                profile,
+                slot,
+                &insn,
+                flow,
+                &mut state,
+                &mut waiting,
+                &mut reads,
+            )?;
         }
     }
     Ok(states)

@@ -4,7 +4,7 @@ use Rattle.refusals.specs.declared.reason.Reason.TheVariants.{BadHex, Words}
 use Rattle.hub_commands.specs.Answers.{Reply}
 use Rattle.hub_commands.specs.Hexadecimal.{without_blanks}
 use Rattle.hub_commands.specs.Reasons.{refusal}
-use Rattle.hub_commands.specs.Programs.{IsExplainedReply, IsExplainReply}
+use Rattle.hub_commands.specs.Explained.{IsExplainedReply, IsExplainReply}
 use Rattle.hub_commands.proofs.Replies.{mapped, hex_refused, words_refused, program_answered}
 use Rattle.hub_commands.proofs.explain.explain_answer.Goals as goal
 

@@ -4,6 +4,9 @@ use Rattle.verifier.specs.declared.refusal.VerifyError.TheVariants.{OutOfMemory}
 use Rattle.meaning.specs.Safe.{Safe, SafeIn, IsBlindToLink}
 use Rattle.meaning.proofs.More.{one_verdict}
 use Rattle.bpf_words.specs.declared.profile.Profile.{Profile}
+use Rattle.bpf_words.specs.declared.profile.Profile.TheVariants.{Two}
+use Rattle.program_reads.specs.Reads.{Determines}
+use Rattle.program_reads.proofs.Narrow.{whole_spans}
 use Rattle.verifier.specs.Judged.{Rejects}
 use Rattle.verifier.proofs.Refusals.{no_fault, named, not_named, walk_rejects}
 use Rattle.verifier.specs.Plain.{IsPlain}
@@ -21,9 +24,9 @@ use Rattle.verifier.proofs.verify.verify.Goals as goal
 pub returns-in-Err-clause-structure : goal.returns-in-Err-clause-structure
 returns-in-Err-clause-structure c = λ slot fault. named (program_of c.args.words.now) c.in-Err.wrong.slot slot c.in-Err.wrong.fault fault c.in-Err.ensures
 
-pub returns-in_err-walk-clause-structure : goal.returns-in_err-walk-clause-structure
-returns-in_err-walk-clause-structure c = λ slot fault.
-    (λ is. absurd (not_named _ _ slot fault c.from_residual.ensures.1 c.in_err-walk.ensures.states is), λ first. absurd (no_fault _ slot fault c.in_default.ensures first))
+pub returns-in_err-reads-clause-structure : goal.returns-in_err-reads-clause-structure
+returns-in_err-reads-clause-structure c = λ slot fault.
+    (λ is. absurd (not_named _ _ slot fault c.from_residual.ensures.1 c.in_err-reads.ensures.states is), λ first. absurd (no_fault _ slot fault c.in_default.ensures first))
 
 pub returns-in_err-of-clause-structure : goal.returns-in_err-of-clause-structure
 returns-in_err-of-clause-structure c = λ slot fault.
@@ -32,15 +35,15 @@ returns-in_err-of-clause-structure c = λ slot fault.
 pub returns-clause-structure : goal.returns-clause-structure
 returns-clause-structure c = λ slot fault. (λ is. absurd (cc), λ first. absurd (no_fault _ slot fault c.in_default.ensures first))
 
-pub returns-in_err-walk-clause-plain : goal.returns-in_err-walk-clause-plain
-returns-in_err-walk-clause-plain c =
-    passed_on c.from_residual.result c.in_err-walk.field-0.0 (λ e. IsPlain (program_of c.args.words.now) → e ≡ OutOfMemory) c.from_residual.ensures.1
-    (only_memory c.args.profile (program_of c.args.words.now) c.in_err-walk.field-0.0 (IsPlain (program_of c.args.words.now)) (plain_grants c.args.profile (program_of c.args.words.now)) c.in_err-walk.ensures.floor)
+pub returns-in_err-reads-clause-plain : goal.returns-in_err-reads-clause-plain
+returns-in_err-reads-clause-plain c =
+    passed_on c.from_residual.result c.in_err-reads.field-0.0 (λ e. IsPlain (program_of c.args.words.now) → e ≡ OutOfMemory) c.from_residual.ensures.1
+    (only_memory c.args.profile (program_of c.args.words.now) c.in_err-reads.field-0.0 (IsPlain (program_of c.args.words.now)) (plain_grants c.args.profile (program_of c.args.words.now)) c.in_err-reads.ensures.floor)
 
-pub returns-in_err-walk-clause-guard : goal.returns-in_err-walk-clause-guard
-returns-in_err-walk-clause-guard c =
-    passed_on c.from_residual.result c.in_err-walk.field-0.0 (λ e. IsGuard c.args.profile (program_of c.args.words.now) → e ≡ OutOfMemory) c.from_residual.ensures.1
-    (only_memory c.args.profile (program_of c.args.words.now) c.in_err-walk.field-0.0 (IsGuard c.args.profile (program_of c.args.words.now)) (guard_grants c.args.profile (program_of c.args.words.now)) c.in_err-walk.ensures.floor)
+pub returns-in_err-reads-clause-guard : goal.returns-in_err-reads-clause-guard
+returns-in_err-reads-clause-guard c =
+    passed_on c.from_residual.result c.in_err-reads.field-0.0 (λ e. IsGuard c.args.profile (program_of c.args.words.now) → e ≡ OutOfMemory) c.from_residual.ensures.1
+    (only_memory c.args.profile (program_of c.args.words.now) c.in_err-reads.field-0.0 (IsGuard c.args.profile (program_of c.args.words.now)) (guard_grants c.args.profile (program_of c.args.words.now)) c.in_err-reads.ensures.floor)
 
 pub returns-in-Err-clause-plain : goal.returns-in-Err-clause-plain
 returns-in-Err-clause-plain c = λ plain. absurd (no_fault _ _ _ plain.structured c.in-Err.ensures)
@@ -48,24 +51,24 @@ returns-in-Err-clause-plain c = λ plain. absurd (no_fault _ _ _ plain.structure
 pub returns-in-Err-clause-guard : goal.returns-in-Err-clause-guard
 returns-in-Err-clause-guard c = λ guard. absurd (no_fault _ _ _ (guard_structured c.args.profile _ guard) c.in-Err.ensures)
 
-pub returns-in_err-walk-clause-before : goal.returns-in_err-walk-clause-before
-returns-in_err-walk-clause-before c =
-    passed_on c.from_residual.result c.in_err-walk.field-0.0 (IsBefore (length (program_of c.args.words.now))) c.from_residual.ensures.1
-    (is_before (length (program_of c.args.words.now)) c.in_err-walk.field-0.0 c.in_err-walk.ensures.below)
+pub returns-in_err-reads-clause-before : goal.returns-in_err-reads-clause-before
+returns-in_err-reads-clause-before c =
+    passed_on c.from_residual.result c.in_err-reads.field-0.0 (IsBefore (length (program_of c.args.words.now))) c.from_residual.ensures.1
+    (is_before (length (program_of c.args.words.now)) c.in_err-reads.field-0.0 c.in_err-reads.ensures.below)
 
 pub returns-in-Err-clause-rejects : goal.returns-in-Err-clause-rejects
 returns-in-Err-clause-rejects c = c.in-Err.ensures
 
-pub returns-in_err-walk-clause-rejects : goal.returns-in_err-walk-clause-rejects
-returns-in_err-walk-clause-rejects c =
+pub returns-in_err-reads-clause-rejects : goal.returns-in_err-reads-clause-rejects
+returns-in_err-reads-clause-rejects c =
     let program = program_of c.args.words.now in
-    let e = c.in_err-walk.field-0.0 in
+    let e = c.in_err-reads.field-0.0 in
     passed_on c.from_residual.result e (Rejects c.args.profile program) c.from_residual.ensures.1
-    (walk_rejects c.args.profile program e c.in_default.ensures c.in_err-walk.ensures.states c.in_err-walk.ensures.below
-    (only_memory c.args.profile program e (IsPlain program) (plain_grants c.args.profile program) c.in_err-walk.ensures.floor)
-    (only_memory c.args.profile program e (IsFramed program) (framed_grants c.args.profile program) c.in_err-walk.ensures.floor)
-    (only_memory c.args.profile program e (IsGuard c.args.profile program) (guard_grants c.args.profile program) c.in_err-walk.ensures.floor)
-    (λ slot fault is. caused c.args.profile program e slot fault c.in_err-walk.ensures.floor is))
+    (walk_rejects c.args.profile program e c.in_default.ensures c.in_err-reads.ensures.states c.in_err-reads.ensures.below
+    (only_memory c.args.profile program e (IsPlain program) (plain_grants c.args.profile program) c.in_err-reads.ensures.floor)
+    (only_memory c.args.profile program e (IsFramed program) (framed_grants c.args.profile program) c.in_err-reads.ensures.floor)
+    (only_memory c.args.profile program e (IsGuard c.args.profile program) (guard_grants c.args.profile program) c.in_err-reads.ensures.floor)
+    (λ slot fault is. caused c.args.profile program e slot fault c.in_err-reads.ensures.floor is))
 
 pub returns-in_err-of-clause-rejects : goal.returns-in_err-of-clause-rejects
 returns-in_err-of-clause-rejects c =
@@ -76,26 +79,29 @@ returns-in_err-of-clause-rejects c =
 pub returns-clause-blind : goal.returns-clause-blind
 returns-clause-blind c = λ one.
     let program = program_of c.args.words.now in
-    subst IsBlindToLink (sym c.in_ok-of.ensures) (one_verdict program (subst (λ (p : Profile). SafeIn p program) one c.in_ok-walk.ensures.seen))
+    subst IsBlindToLink (sym c.in_ok-of.ensures) (one_verdict program (subst (λ (p : Profile). SafeIn p program) one c.in_ok-reads.ensures.seen))
 
 pub invariant_of-result : goal.invariant_of-result
-invariant_of-result c =
-    (subst Safe (sym c.in_ok-of.ensures) c.in_ok-walk.ensures.safe, subst (SafeIn c.args.profile) (sym c.in_ok-of.ensures) c.in_ok-walk.ensures.seen)
+invariant_of-result c = (
+  subst Safe (sym c.in_ok-of.ensures) c.in_ok-reads.ensures.safe,
+  subst (SafeIn c.args.profile) (sym c.in_ok-of.ensures) c.in_ok-reads.ensures.seen,
+  subst (Determines c.in_ok-reads.reads Two) (sym c.in_ok-of.ensures) (whole_spans c.in_ok-reads.reads c.args.profile (program_of c.args.words.now) c.in_ok-reads.ensures.seen c.in_ok-reads.ensures.reads),
+)
 
-pub returns-in_err-walk-clause-refused : goal.returns-in_err-walk-clause-refused
-returns-in_err-walk-clause-refused c = λ at fault is.
+pub returns-in_err-reads-clause-refused : goal.returns-in_err-reads-clause-refused
+returns-in_err-reads-clause-refused c = λ at fault is.
     refuses_at c.args.profile (program_of c.args.words.now) c.from_residual.result at fault
-    (passed_on c.from_residual.result c.in_err-walk.field-0.0 (IsCause c.args.profile (program_of c.args.words.now)) c.from_residual.ensures.1 c.in_err-walk.ensures.floor) is
+    (passed_on c.from_residual.result c.in_err-reads.field-0.0 (IsCause c.args.profile (program_of c.args.words.now)) c.from_residual.ensures.1 c.in_err-reads.ensures.floor) is
 
 pub returns-in_err-of-clause-refused : goal.returns-in_err-of-clause-refused
 returns-in_err-of-clause-refused c = λ at fault is.
     refuses_at c.args.profile (program_of c.args.words.now) c.from_residual-in_err-of.result at fault
     (passed_on c.from_residual-in_err-of.result OutOfMemory (IsCause c.args.profile (program_of c.args.words.now)) c.from_residual-in_err-of.ensures.1 (inl refl)) is
 
-pub returns-in_err-walk-clause-framed : goal.returns-in_err-walk-clause-framed
-returns-in_err-walk-clause-framed c =
-    passed_on c.from_residual.result c.in_err-walk.field-0.0 (λ e. IsFramed (program_of c.args.words.now) → e ≡ OutOfMemory) c.from_residual.ensures.1
-    (only_memory c.args.profile (program_of c.args.words.now) c.in_err-walk.field-0.0 (IsFramed (program_of c.args.words.now)) (framed_grants c.args.profile (program_of c.args.words.now)) c.in_err-walk.ensures.floor)
+pub returns-in_err-reads-clause-framed : goal.returns-in_err-reads-clause-framed
+returns-in_err-reads-clause-framed c =
+    passed_on c.from_residual.result c.in_err-reads.field-0.0 (λ e. IsFramed (program_of c.args.words.now) → e ≡ OutOfMemory) c.from_residual.ensures.1
+    (only_memory c.args.profile (program_of c.args.words.now) c.in_err-reads.field-0.0 (IsFramed (program_of c.args.words.now)) (framed_grants c.args.profile (program_of c.args.words.now)) c.in_err-reads.ensures.floor)
 
 pub returns-in-Err-clause-framed : goal.returns-in-Err-clause-framed
 returns-in-Err-clause-framed c = λ framed. absurd (no_fault _ _ _ framed.structured c.in-Err.ensures)

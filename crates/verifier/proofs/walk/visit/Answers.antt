@@ -6,7 +6,8 @@ use Rattle.verifier.proofs.walk.visit.Goals as goal
 use Rattle.std.proofs.Common.{refl, inl, inr, Err, ap}
 use Rattle.verifier.specs.declared.walk.Stop.{Stop}
 use Rattle.verifier.proofs.Arising.{falls_here, falls_next, dead_falls}
-use Rattle.verifier.proofs.Reaching.{covers_passed}
+use Rattle.verifier.proofs.Listing.{lists_dead, lists_more}
+use Rattle.verifier.proofs.Reaching.{all_joined, covers_passed}
 use Rattle.verifier.proofs.Waits.{within_some}
 
 pub returns-in_default-clause-follows : goal.returns-in_default-clause-follows
@@ -65,3 +66,14 @@ returns-in-Ok-clause-covers c = λ program paired structured starts covers.
     covers_passed c.args.profile program c.args.slot c.args.insn.now (after c.args.flow c.args.state.now) (Some c.arrive.new.state) (after c.in-Ok.next c.pass.new.state) c.args.waiting.now c.arrive.new.self c.pass.new.waiting paired structured starts
     c.in-Live.ensures.falls c.in-Live.ensures.arrives c.in-Live.ensures.others c.in-Ok.ensures.kept
     (λ span s which within. c.in-Ok.ensures.sound span s which (within_some (Some c.arrive.new.state) c.arrive.new.state (lengths_of span) s refl within)) covers
+
+pub returns-in_default-clause-lists : goal.returns-in_default-clause-lists
+returns-in_default-clause-lists c = λ program structured starts covers below.
+    lists_dead c.args.profile program c.args.slot c.args.reads.now
+    (all_joined c.args.profile program c.args.slot (after c.args.flow c.args.state.now) None c.args.waiting.now structured c.in_default.ensures.falls c.in_default.ensures.arrives covers) below
+
+pub returns-in-Ok-clause-lists : goal.returns-in-Ok-clause-lists
+returns-in-Ok-clause-lists c = λ program structured starts covers below.
+    lists_more c.args.profile program c.args.slot c.args.insn.now c.arrive.new.state c.args.reads.now c.add_insn.new.self starts
+    (all_joined c.args.profile program c.args.slot (after c.args.flow c.args.state.now) (Some c.arrive.new.state) c.args.waiting.now structured c.in-Live.ensures.falls c.in-Live.ensures.arrives covers)
+    c.add_insn.ensures.grows c.add_insn.ensures.covers below

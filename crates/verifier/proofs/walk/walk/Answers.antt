@@ -3,18 +3,22 @@ use Rattle.bpf_words.specs.Words.{program_of}
 use Rattle.abstract_state.specs.Steps.{after}
 use Rattle.meaning.proofs.More.{seen_safe}
 use Rattle.verifier.specs.Walk.{Follows}
+use Rattle.verifier.proofs.Listing.{lists_all}
 use Rattle.verifier.proofs.Walking.{ends}
 use Rattle.verifier.proofs.walk.walk.Goals as goal
 
 pub returns-clause-seen : goal.returns-clause-seen
 returns-clause-seen c =
-    let walked = c.in_ok-walk_to.field-0 in
+    let walked = c.in_ok-walked.walked in
     ends c.args.profile (program_of c.args.words.now) (after walked.flow walked.state) walked.waiting
-    (subst (λ n. Follows c.args.profile (program_of c.args.words.now) n (after walked.flow walked.state) walked.waiting) c.len.ensures.value c.in_ok-walk_to.ensures.follows)
+    (subst (λ n. Follows c.args.profile (program_of c.args.words.now) n (after walked.flow walked.state) walked.waiting) c.len.ensures.value c.in_ok-walked.ensures.follows)
 
 pub returns-clause-safe : goal.returns-clause-safe
 returns-clause-safe c =
-    let walked = c.in_ok-walk_to.field-0 in
+    let walked = c.in_ok-walked.walked in
     seen_safe c.args.profile (program_of c.args.words.now)
     (ends c.args.profile (program_of c.args.words.now) (after walked.flow walked.state) walked.waiting
-    (subst (λ n. Follows c.args.profile (program_of c.args.words.now) n (after walked.flow walked.state) walked.waiting) c.len.ensures.value c.in_ok-walk_to.ensures.follows))
+    (subst (λ n. Follows c.args.profile (program_of c.args.words.now) n (after walked.flow walked.state) walked.waiting) c.len.ensures.value c.in_ok-walked.ensures.follows))
+
+pub returns-clause-reads : goal.returns-clause-reads
+returns-clause-reads c = lists_all c.args.profile (program_of c.args.words.now) _ c.in_ok-walked.walked.reads c.len.ensures.value c.in_ok-walked.ensures.lists

@@ -9,7 +9,8 @@ use Rattle.bpf_words.specs.declared.instruction.Insn.{Insn}
 use Rattle.bpf_words.specs.Flow.{StartsAt}
 use Rattle.verifier.specs.Waiting.{waiting_at}
 use Rattle.verifier.specs.Arises.{ArisesAt, AllArise, FallsAs, IsCause}
-use Rattle.verifier.specs.Reaches.{ContainsRuns, Covers}
+use Rattle.program_reads.specs.Runs.{ContainsRuns}
+use Rattle.verifier.specs.Reaches.{Covers}
 use Rattle.verifier.proofs.Arising.{entry_falls, falls_here, here_falls, second_falls, nothing_waits, passed_on}
 use Rattle.verifier.proofs.Walking.{jumps_within}
 use Rattle.verifier.proofs.Reaching.{ContainRunsBelow, AriseBelow, all_joined, contain_none, contain_more, arise_none, arise_more, count_more, covers_begin, covers_over, covers_arrived}

@@ -4,12 +4,13 @@ use Rattle.bpf_words.proofs.Paired.{program_of-paired}
 use Rattle.abstract_state.specs.Steps.{after}
 use Rattle.verifier.specs.Walk.{Follows, JumpsWithin}
 use Rattle.verifier.specs.declared.refusal.StructureFault.TheVariants.{WriteR10}
-use Rattle.verifier.specs.Reaches.{Covers}
+use Rattle.verifier.specs.Reaches.{Covers, ListsBelow}
 use Rattle.verifier.proofs.Walking.{jumps_within, begins, stepped_over}
 use Rattle.verifier.proofs.walk.walk_to.Goals.{in-Some+in_ok-flow, in_default}
 use Rattle.verifier.proofs.walk.walk_to.Goals as goal
 use Rattle.verifier.specs.Arises.{IsCause}
 use Rattle.verifier.proofs.Arising.{entry_falls, second_falls, passed_on}
+use Rattle.verifier.proofs.Listing.{lists_none, lists_over}
 use Rattle.verifier.proofs.Reaching.{covers_begin, covers_over}
 
 pub loop-slot-init : goal.loop-slot-init
@@ -19,6 +20,7 @@ loop-slot-init c =
       size = search rules;
       follows = begins c.args.profile (program_of c.args.words.now) c.entry-state.result c.in_ok-waiting.waiting some (program_of-paired c.args.words.now c.len.ensures.sound) c.entry-state.ensures.contains;
       covers = covers_begin c.args.profile (program_of c.args.words.now) c.entry-state.result c.in_ok-waiting.waiting c.entry-state.ensures.contains;
+      lists = lists_none c.args.profile (program_of c.args.words.now) c.nothing-reads.result;
       waits = λ slot a e. let none = c.in_ok-waiting.ensures.nothing slot in absurd (cc);
       falls = entry_falls c.args.profile (program_of c.args.words.now) c.entry-state.result some (program_of-paired c.args.words.now c.len.ensures.sound) c.entry-state.ensures.context c.entry-state.ensures.frame;
     }
@@ -40,20 +42,22 @@ loop-slot-preserved c =
           let follows : Follows c.args.profile (program_of c.args.words.now) (c.loop-slot.slot + 1) (after w.in_ok-flow.flow w.visit.new.state) w.visit.new.waiting =
           w.in_ok-flow.ensures.follows (program_of c.args.words.now) (program_of-paired c.args.words.now c.len.ensures.sound) c.requires.structured w.in-Some.ensures.value c.loop-slot.invariant.follows in
           let step = w.in_ok-flow.ensures.floor (program_of c.args.words.now) (program_of-paired c.args.words.now c.len.ensures.sound) c.requires.structured w.in-Some.ensures.value c.loop-slot.invariant.waits c.loop-slot.invariant.falls in
-          rw (w.waiting-is, w.state-is, w.flow-is)
+          rw (w.waiting-is, w.state-is, w.flow-is, w.reads-is)
           (record {
             size = w.in_ok-flow.ensures.size ∙ c.loop-slot.invariant.size;
             follows = follows;
             covers = w.in_ok-flow.ensures.covers (program_of c.args.words.now) (program_of-paired c.args.words.now c.len.ensures.sound) c.requires.structured w.in-Some.ensures.value c.loop-slot.invariant.covers;
+            lists = w.in_ok-flow.ensures.lists (program_of c.args.words.now) c.requires.structured w.in-Some.ensures.value c.loop-slot.invariant.covers c.loop-slot.invariant.lists;
             waits = step.1.0;
             falls = step.1.1;
           })
       | in_default w ↦
-          rw (w.waiting-is, w.state-is, w.flow-is)
+          rw (w.waiting-is, w.state-is, w.flow-is, w.reads-is)
           (record {
             size = c.loop-slot.invariant.size;
             follows = stepped_over c.args.profile (program_of c.args.words.now) c.loop-slot.slot (after c.loop-slot.flow c.loop-slot.state) c.loop-slot.waiting w.in_default.ensures.value c.loop-slot.invariant.follows;
             covers = covers_over c.args.profile (program_of c.args.words.now) c.loop-slot.slot (after c.loop-slot.flow c.loop-slot.state) c.loop-slot.waiting w.in_default.ensures.value c.loop-slot.invariant.covers;
+            lists = lists_over c.args.profile (program_of c.args.words.now) c.loop-slot.slot c.loop-slot.reads w.in_default.ensures.value c.loop-slot.invariant.lists;
             waits = c.loop-slot.invariant.waits;
             falls = second_falls c.args.profile (program_of c.args.words.now) c.loop-slot.slot (after c.loop-slot.flow c.loop-slot.state) w.in_default.ensures.value c.loop-slot.invariant.falls;
           })
@@ -68,6 +72,11 @@ pub returns-clause-covers : goal.returns-clause-covers
 returns-clause-covers c =
     let last : c.loop-slot.slot ≡ c.args.end = search rules in
     subst (λ n. Covers c.args.profile (program_of c.args.words.now) n (after c.loop-slot.flow c.loop-slot.state) c.loop-slot.waiting) last c.loop-slot.invariant.covers
+
+pub returns-clause-lists : goal.returns-clause-lists
+returns-clause-lists c =
+    let last : c.loop-slot.slot ≡ c.args.end = search rules in
+    subst (λ n. ListsBelow c.args.profile (program_of c.args.words.now) n c.loop-slot.reads) last c.loop-slot.invariant.lists
 
 pub returns-in_err-flow-clause-floor : goal.returns-in_err-flow-clause-floor
 returns-in_err-flow-clause-floor c =

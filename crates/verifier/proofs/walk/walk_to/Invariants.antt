@@ -3,7 +3,7 @@ use Rattle.bpf_words.specs.Words.{program_of}
 use Rattle.abstract_state.specs.Steps.{after}
 use Rattle.verifier.specs.Arises.{AllArise, FallsAs}
 use Rattle.verifier.specs.Walk.{Follows}
-use Rattle.verifier.specs.Reaches.{Covers}
+use Rattle.verifier.specs.Reaches.{Covers, ListsBelow}
 use Rattle.verifier.proofs.walk.walk_to.Given as goal
 
 abbrev pub invariant-loop-slot : goal.invariant-loop-slot
@@ -11,6 +11,7 @@ invariant-loop-slot l = record {
   size : length l.waiting ≡ length (program_of l.words);
   follows : Follows l.profile (program_of l.words) l.slot (after l.flow l.state) l.waiting;
   covers : Covers l.profile (program_of l.words) l.slot (after l.flow l.state) l.waiting;
+  lists : ListsBelow l.profile (program_of l.words) l.slot l.reads;
   waits : AllArise l.profile (program_of l.words) l.waiting;
   falls : FallsAs l.profile (program_of l.words) l.slot (after l.flow l.state);
 }
