@@ -1,2 +1,4 @@
 pub mod Replies
 pub mod Accepting
+pub mod Decoding
+pub mod Gathering
