@@ -1,3 +1,5 @@
 pub mod Replies
 pub mod Accepting
 pub mod Explaining
+pub mod Decoding
+pub mod Gathering

@@ -10,6 +10,7 @@ use Rattle.hex.specs.declared.error.FromHexError.{FromHexError}
 use Rattle.bpf_words.specs.declared.profile.Profile.{Profile}
 use Rattle.bpf_words.specs.declared.context.Facts.{Facts}
 use Rattle.bpf_words.specs.declared.refusal.WordError.{WordError}
+use Rattle.bpf_words.specs.declared.refusal.WordError.TheVariants.{Empty, TooLong, LengthNotEight, Slot}
 use Rattle.bpf_words.specs.Words.{IsProgram, IsRefused, program_of}
 use Rattle.bpf_words.specs.Context.{span_bytes, context_bytes}
 use Rattle.meaning.specs.declared.Outcome.{Outcome}
@@ -24,7 +25,12 @@ use Rattle.assembler.specs.Text.{AsmText, AsmFault}
 use Rattle.hub_requests.specs.declared.SpanOptions.{SpanOptions}
 use Rattle.refusals.specs.declared.reason.Reason.TheVariants.{BadHex, Words, Source}
 use Rattle.hub_commands.specs.Answers.{Reply, IsWritten, IsAnswered, done, behind}
-use Rattle.hub_commands.specs.Hexadecimal.{slot_lines}
+use Rattle.hub_commands.specs.Digits.{AreDigits, StandFor}
+use Rattle.hub_commands.specs.HexInput.{IsHexInput}
+use Rattle.hub_commands.specs.declared.hex_input.HexInput.{HexInput}
+use Rattle.hub_commands.specs.declared.hint.Hint.{Hint}
+use Rattle.hub_commands.specs.Hexadecimal.{slot_lines, without_blanks}
+use Rattle.hub_commands.specs.Hints.{digits_hint}
 use Rattle.hub_commands.specs.Reasons.{refusal}
 use Rattle.hub_commands.specs.Programs.{IsAsmReply, no_source, assembled, IsProgramReply, no_hex, no_program, program, facts_of, link_of, bytes_of, outcome_reply, IsSpanReply, no_text, ran, IsTracedReply, not_run, traced}
 
@@ -76,6 +82,36 @@ module _ (Replies : List ℕ → Reply → Type 0) (digits lent : List ℕ) (sam
       let P : List ℕ → Type 0 = λ d. decode_of d ≡ Ok bytes in
       let Q : List ℕ → Type 0 = λ b. Replies b reply in
       program bytes (subst P same decoded) (subst IsProgram is right) (subst Q is answered)
+
+too_many : (all : List ℕ) (error : WordError) → 32768 < length all → IsRefused (take 32769 all) error → IsRefused all error
+too_many all Empty long refused = absurd (omega (arith, refused, length-take 32769 all))
+too_many all TooLong long refused = long
+too_many all LengthNotEight long refused = absurd (omega (arith, refused.1, length-take 32769 all))
+too_many all (Slot slot fault) long refused = absurd (omega (arith, refused.whole.short, length-take 32769 all))
+
+-- the same of the first bytes, which are enough to see that there are too many
+refused_first : (all : List ℕ) (error : WordError) → IsRefused (take 32769 all) error → IsRefused all error
+refused_first all error refused = elim (cases_lt 32768 (length all)) [
+  | inl long ↦ too_many all error long refused
+  | inr short ↦
+      let P : List ℕ → Type 0 = λ bytes. IsRefused bytes error in
+      subst P (take_all 32769 all (omega arith)) refused
+]
+
+pub first_refused : (Replies : List ℕ → Reply → Type 0) (digits bytes given : List ℕ) (error : WordError) (reply : Reply) → StandFor digits bytes → given ≡ bytes → IsRefused given error
+    → reply ≡ refusal (Words error) → IsProgramReply Replies digits reply
+first_refused Replies digits bytes given error reply stand is refused e =
+    let P : List ℕ → Type 0 = λ b. IsRefused b error in
+    no_program stand.0 error stand.1 (refused_first stand.0 error (subst P (is ∙ stand.2) refused)) e
+
+pub first_answered : (Replies : List ℕ → Reply → Type 0) (digits bytes given : List ℕ) (reply : Reply) → StandFor digits bytes → given ≡ bytes → IsProgram given → Replies given reply
+    → IsProgramReply Replies digits reply
+first_answered Replies digits bytes given reply stand is right answered =
+    let first : given ≡ take 32769 stand.0 = is ∙ stand.2 in
+    let few : length stand.0 ≤ 32769 = omega (arith, right.whole.short, ap length first, length-take 32769 stand.0) in
+    let whole : given ≡ stand.0 = first ∙ take_all 32769 stand.0 few in
+    let Q : List ℕ → Type 0 = λ b. Replies b reply in
+    program stand.0 stand.1 (subst IsProgram whole right) (subst Q whole answered)
 
 -- what the verifier's answer says of a program
 pub judged : (profile : Profile) (code : Program) (given : Result Program VerifyError) (left : Option VerifyError) → left ≡ result_err given → IfOk given (λ same. same ≡ code)
@@ -139,3 +175,14 @@ past_limit_traced options text bytes reply given =
           let whole : take 131073 text ≡ text = take_all 131073 text (omega arith) in
           subst P whole given
     ]
+
+-- ---- an input of hexadecimal digits
+pub hex_answered : (IsReply : List ℕ → Reply → Type 0) (known old new : Option (List ℕ)) (kept : HexInput) (reply : Reply) (status : ℕ) → IfSome known (λ input. IsHexInput input kept)
+    → ((input : List ℕ) → AreDigits (without_blanks input) kept.digits → IsReply input reply) → IsWritten reply old new status → IsAnswered IsReply known old new status
+hex_answered IsReply None old new kept reply status read is written = tt
+hex_answered IsReply (Some input) old new kept reply status read is written = (reply, is input read.digits, written)
+
+pub hex_hinted : (known : Option (List ℕ)) (kept : HexInput) (hint : Option Hint) → IfSome known (λ input. IsHexInput input kept) → ((input : List ℕ) → IsHexInput input kept → hint ≡ digits_hint input)
+    → IfSome known (λ input. hint ≡ digits_hint input)
+hex_hinted None kept hint read is = tt
+hex_hinted (Some input) kept hint read is = is input read

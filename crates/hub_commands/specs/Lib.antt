@@ -1,6 +1,8 @@
 pub mod Answers
 pub mod Hexadecimal
 pub mod Hints
+pub mod Digits
+pub mod HexInput
 pub mod Reasons
 pub mod Programs
 pub mod SpansReply

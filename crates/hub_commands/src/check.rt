@@ -1,17 +1,18 @@
-ghost use Rattle.std.specs.Prelude.{◌≡◌, IfOk, IfSome};
+ghost use Rattle.std.specs.Prelude.{◌≡◌, ℕ, List, IfOk, IfSome};
 ghost use Rattle.bpf_words.specs.Words.{program_of};
 ghost use Rattle.hub_commands.specs.Answers.{IsAnswered};
 ghost use Rattle.bpf_words.specs.declared.profile.Profile.{Profile as TheProfile};
 ghost use Rattle.verifier.specs.Judged.{IsJudged};
+ghost use Rattle.hub_commands.specs.Digits.{AreDigits};
+ghost use Rattle.hub_commands.specs.Hexadecimal.{without_blanks};
 ghost use Rattle.hub_commands.specs.Hints.{digits_hint};
 ghost use Rattle.hub_commands.specs.Programs.{IsAcceptanceReply, IsCheckReply};
 
 use crate::answer::Answer;
+use crate::digits::Digits;
 use crate::ended::Ended;
 use crate::failure::Failure;
-use crate::hexadecimal::{decode_hex, without_blanks};
-use crate::hint::digits_hint;
-use crate::input::read_input;
+use crate::hex_input::HexInput;
 use crate::output::write_answer;
 use bpf_words::profile::Profile;
 use bpf_words::words::Words;
@@ -46,11 +47,10 @@ pub fn acceptance_answer(
 }
 
 /// What `check` answers to a program in hexadecimal.
-pub fn check_answer(alloc: Global, profile: Profile, input: &[u8]) -> Result<Answer, AllocError>
-    ensures { IfOk result (λ answer. IsCheckReply profile input.now answer) }
+pub fn check_answer(alloc: Global, profile: Profile, digits: &Digits) -> Result<Answer, AllocError>
+    ensures { IfOk result (λ answer. (input : List ℕ) → AreDigits (without_blanks input) digits.now → IsCheckReply profile input answer) }
 {
-    let digits = without_blanks(alloc, input)?;
-    let Some(bytes) = decode_hex(alloc, &digits)? else {
+    let Some(bytes) = digits.bytes(alloc)? else {
         return Answer::refused(alloc, &Reason::BadHex);
     };
     match Words::new(&bytes) {
@@ -70,11 +70,11 @@ pub fn check<R: Read, W: Write>(
         (W.contents writer.old) (W.contents writer.new) ended.status) }
     ensures hinted { IfOk result (λ ended. IfSome (R.remaining reader.old) (λ input. ended.hint ≡ digits_hint input)) }
 {
-    let input = read_input(alloc, reader)?;
-    let answer = check_answer(alloc, profile, &input)?;
+    let input = HexInput::read(alloc, reader)?;
+    let answer = check_answer(alloc, profile, &input.digits)?;
     let status = write_answer(writer, &answer)?;
     Ok(Ended {
         status,
-        hint: digits_hint(&input),
+        hint: input.hint(),
     })
 }

@@ -1,14 +1,15 @@
-ghost use Rattle.std.specs.Prelude.{◌≡◌, IfOk, IfSome};
+ghost use Rattle.std.specs.Prelude.{◌≡◌, ℕ, List, IfOk, IfSome};
 ghost use Rattle.hub_commands.specs.Answers.{IsAnswered};
+ghost use Rattle.hub_commands.specs.Digits.{AreDigits};
+ghost use Rattle.hub_commands.specs.Hexadecimal.{without_blanks};
 ghost use Rattle.hub_commands.specs.Hints.{digits_hint};
 ghost use Rattle.hub_commands.specs.Programs.{IsDisReply};
 
 use crate::answer::Answer;
+use crate::digits::Digits;
 use crate::ended::Ended;
 use crate::failure::Failure;
-use crate::hexadecimal::{decode_hex, without_blanks};
-use crate::hint::digits_hint;
-use crate::input::read_input;
+use crate::hex_input::HexInput;
 use crate::output::write_answer;
 use bpf_words::words::Words;
 use disassembler::disassemble::disassemble;
@@ -17,11 +18,10 @@ use std::alloc::{AllocError, Global};
 use std::io::{Read, Write};
 
 /// What `dis` answers to a program in hexadecimal: its canonical text.
-pub fn dis_answer(alloc: Global, input: &[u8]) -> Result<Answer, AllocError>
-    ensures { IfOk result (λ answer. IsDisReply input.now answer) }
+pub fn dis_answer(alloc: Global, digits: &Digits) -> Result<Answer, AllocError>
+    ensures { IfOk result (λ answer. (input : List ℕ) → AreDigits (without_blanks input) digits.now → IsDisReply input answer) }
 {
-    let digits = without_blanks(alloc, input)?;
-    let Some(bytes) = decode_hex(alloc, &digits)? else {
+    let Some(bytes) = digits.bytes(alloc)? else {
         return Answer::refused(alloc, &Reason::BadHex);
     };
     match Words::new(&bytes) {
@@ -44,11 +44,11 @@ pub fn dis<R: Read, W: Write>(
         (W.contents writer.old) (W.contents writer.new) ended.status) }
     ensures hinted { IfOk result (λ ended. IfSome (R.remaining reader.old) (λ input. ended.hint ≡ digits_hint input)) }
 {
-    let input = read_input(alloc, reader)?;
-    let answer = dis_answer(alloc, &input)?;
+    let input = HexInput::read(alloc, reader)?;
+    let answer = dis_answer(alloc, &input.digits)?;
     let status = write_answer(writer, &answer)?;
     Ok(Ended {
         status,
-        hint: digits_hint(&input),
+        hint: input.hint(),
     })
 }

@@ -28,13 +28,13 @@ impl Display for Hint {
     }
 }
 
-fn begins_with_mark(input: &[u8]) -> bool
+pub(crate) fn begins_with_mark(input: &[u8]) -> bool
     ensures { result ≡ begins_with_mark input.now }
 {
     input.starts_with(&BYTE_ORDER_MARK)
 }
 
-fn is_printable(byte: u8) -> bool
+pub(crate) fn is_printable(byte: u8) -> bool
     ensures { result ≡ is_printable byte }
 {
     is_blank(byte) || (byte >= 0x20 && byte <= 0x7e)

@@ -4,10 +4,12 @@
 mod answer;
 mod asm;
 mod check;
+mod digits;
 mod dis;
 pub mod ended;
 mod explain;
 pub mod failure;
+mod hex_input;
 mod hexadecimal;
 pub mod hint;
 mod input;
