@@ -1,4 +1,10 @@
 ghost use Rattle.std.specs.Prelude.{◌≡◌, ◌≤◌, ◌+◌, ◌++◌, ◌∷◌, [], IfOk, OnOk, map, length, vec_len};
+ghost use Rattle.bpf_words.specs.declared.profile.Profile.TheVariants.{Two};
+ghost use Rattle.meaning.specs.Safe.{IsSpan};
+ghost use Rattle.program_reads.specs.declared.reads.Reads.{Reads};
+ghost use Rattle.program_reads.specs.Reads.{AgreesOn, Determines};
+ghost use Rattle.span_view.specs.Views.{LentSpan};
+ghost use Rattle.span_view.specs.ContextOf.{bytes_of};
 ghost use Rattle.batches.specs.Batches.{items_of, entry, hits_from};
 ghost use Rattle.batches.specs.Verdicts.{verdict_on, verdicts_of};
 
@@ -35,10 +41,11 @@ impl<N: Naming> Model for Batch<N> {
     ghost invariant = { λ b. (b.items.items ≡ items_of b.job.program b.job.version) × (vec_len b.items ≤ 32769) };
 }
 
-/// The verdict of a program on a span.
+/// The verdict of a program on a span, and on each that agrees with it on what the program reads.
 #[tactic(auto, using(crate::proofs::Hits::verdict_is))]
 pub fn verdict(program: &Verified, span: &SpanView<'_>) -> u64
-    ensures { result ≡ verdict_on program.now span.now }
+    ensures verdict { result ≡ verdict_on program.now span.now }
+    ensures alike { (reads : Reads) (other : LentSpan) → Determines reads Two program.now → IsSpan (bytes_of other) → AgreesOn reads (bytes_of span.now) (bytes_of other) → result ≡ verdict_on program.now other }
 {
     run(program, &context(span), span.text.as_bytes(), link(span))
 }
