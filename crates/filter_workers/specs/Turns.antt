@@ -1,5 +1,5 @@
 -- What workers do to a hub.
-use Rattle.std.specs.Prelude.{◌≡◌, ◌<◌, ◌≤◌, ℕ, Bool, true, false, Result, Ok, Err, Option, Some, None, List, All, length}
+use Rattle.std.specs.Prelude.{◌≡◌, ◌<◌, ◌≤◌, ◌+◌, ◌*◌, ◌⊎◌, ℕ, Bool, true, false, Result, Ok, Err, Option, Some, None, List, All, length}
 use Rattle.batches.specs.Batches.{Slip}
 use Rattle.hub_core.specs.Machine.{TakesJob, Misses, Commits, Pumps}
 use Rattle.hub_core.specs.declared.error.CommitError.{CommitError}
@@ -23,6 +23,17 @@ IsPumped subscriber = (sent : Result ℕ NoSubscriber) × InOneHolding (λ old n
 abbrev pub Turns : Option TurnEnd → Type 0
 Turns (Some end) = (job : Slip) × InOneHolding (λ old new. TakesJob old (Some job) new) × Ends job end × IsPumped job.subscriber
 Turns None = InOneHolding (λ old new. TakesJob old None new)
+
+-- the most steps that running the program on each span of the version takes: a run takes at most one a slot, and to begin it counts as 32
+abbrev pub most_steps : Slip → ℕ
+most_steps job = length job.version.value.rows * (length job.program.value + 32)
+
+-- a job of at most so many steps was taken in one holding of the lock, its batch committed or refused in another, and its subscriber sent what
+-- could be in a third; or a longer one was taken and left to its subscriber, or there was none to take, which says nothing of the hub
+abbrev pub Helps : ℕ → Bool → Type 0
+Helps most true =
+    (job : Slip) × (most_steps job ≤ most) × InOneHolding (λ old new. TakesJob old (Some job) new) × (end : TurnEnd) × Ends job end × IsPumped job.subscriber
+Helps most false = ((job : Slip) × (most < most_steps job) × InOneHolding (λ old new. TakesJob old (Some job) new)) ⊎ Turns None
 
 -- what a subscriber was found to wait for is no version, or one behind this
 abbrev pub IsBehind : ℕ → Option Slip → Type 0

@@ -1,7 +1,8 @@
-ghost use Rattle.std.specs.Prelude.{◌≡◌, ◌≤◌, IfOk};
+ghost use Rattle.std.specs.Prelude.{◌≡◌, ◌≤◌, ◌↔◌, IsTrue, IfOk};
 ghost use Rattle.std.specs.Option.{option_map_or};
 ghost use Rattle.span_view.specs.Views.{view_at};
 ghost use Rattle.batches.specs.Verdicts.{verdict_on, verdicts_of};
+ghost use Rattle.filter_workers.specs.Turns.{most_steps};
 
 use batches::batch::{Batch, verdict};
 use batches::item::Job;
@@ -56,6 +57,15 @@ fn verdicts<R: Threads + Sync>(
             { verdict_at(program, version, index) },
         )
         .collect(rt, alloc)
+}
+
+/// Whether a job's batch takes at most so many steps, a little counted for each run's start.
+pub(crate) fn is_short<N: Naming>(published: &Published<'_, N>, job: &Job<N>, most: usize) -> bool
+    ensures { IsTrue result ↔ (most_steps job.now ≤ most) }
+{
+    let slots = published.program(&job.program).words().len();
+    let spans = published.look(&job.version).rows().len();
+    spans.saturating_mul(slots + STEPS_TO_BEGIN) <= most
 }
 
 /// The batch of a job, where so many workers share the processors: the more they are, the fewer threads this one may start.

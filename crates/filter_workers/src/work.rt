@@ -1,7 +1,7 @@
 ghost use Rattle.std.specs.Prelude.{◌≡◌, ◌≤◌, ◌<◌, ◌*◌, ◌^◌, Ok, All, IfOk, length};
-ghost use Rattle.filter_workers.specs.Turns.{Ends, Turns, CatchesUp, AreCommitted, batches_of};
+ghost use Rattle.filter_workers.specs.Turns.{Ends, IsPumped, Turns, Helps, CatchesUp, AreCommitted, batches_of};
 
-use crate::filter::filter_beside;
+use crate::filter::{filter_beside, is_short};
 use crate::gate::Gate;
 use batches::item::Job;
 use hub_core::error::CommitError;
@@ -51,7 +51,31 @@ fn answer<N: Naming + Ledger, R: Threads + Wait + Copy + Sync>(
     }
 }
 
-/// A turn of a worker. What a subscriber is owed is handed out again where no memory was found.
+/// Computes the batch of a job, commits it, and has its subscriber sent what can be sent. What the subscriber is owed is handed out
+/// again where no memory was found.
+fn serve<N: Naming + Ledger, R: Threads + Wait + Copy + Sync>(
+    rt: &R,
+    alloc: Global,
+    hub: &Hub<'_, N, R>,
+    published: &Published<'_, N>,
+    job: &Job<N>,
+    workers: usize,
+) -> Result<TurnEnd, AllocError>
+    ensures { IfOk result (λ end. Ends job.now end × IsPumped job.now.subscriber) }
+{
+    match answer(rt, alloc, hub, published, job, workers) {
+        Ok(end) => {
+            let _ = hub.pump(rt, job.subscriber);
+            Ok(end)
+        }
+        Err(error) => {
+            let _ = hub.reissue(rt, job.subscriber);
+            Err(error)
+        }
+    }
+}
+
+/// A turn of a worker; None where there was no job.
 fn turn<N: Naming + Ledger, R: Threads + Wait + Copy + Sync, G: Gate<N>>(
     rt: &R,
     alloc: Global,
@@ -66,18 +90,9 @@ fn turn<N: Naming + Ledger, R: Threads + Wait + Copy + Sync, G: Gate<N>>(
         return Ok(None);
     };
     gate.before(&job);
-    match answer(rt, alloc, hub, published, &job, workers) {
-        Ok(end) => {
-            let _ = hub.pump(rt, job.subscriber);
-            gate.after(&job);
-            Ok(Some(end))
-        }
-        Err(error) => {
-            let _ = hub.reissue(rt, job.subscriber);
-            gate.after(&job);
-            Err(error)
-        }
-    }
+    let served = serve(rt, alloc, hub, published, &job, workers);
+    gate.after(&job);
+    Ok(Some(served?))
 }
 
 /// A worker's turns, until there is no job or no memory was found. It answers how many batches it committed.
@@ -145,6 +160,28 @@ pub fn work<N: Naming + Ledger + Send + Sync, R: Threads + Wait + Copy + Send + 
         { work_alone(rt, alloc, hub, published, gate, workers, turns) },
     )?;
     total(counts.as_slice(), u64::from(turns))
+}
+
+/// Takes a job, whichever subscriber it is of. If it takes at most so many steps its batch is computed and committed; a longer one is
+/// left to whoever catches its subscriber up. It answers whether one was computed; where no memory was found, what the subscriber is owed
+/// is handed out again.
+pub fn help<N: Naming + Ledger, R: Threads + Wait + Copy + Sync>(
+    rt: &R,
+    alloc: Global,
+    hub: &Hub<'_, N, R>,
+    published: &Published<'_, N>,
+    most: usize,
+) -> Result<bool, AllocError>
+    ensures { IfOk result (Helps most) }
+{
+    let Some(job) = hub.take_job(rt) else {
+        return Ok(false);
+    };
+    if !is_short(published, &job, most) {
+        return Ok(false);
+    }
+    let _end = serve(rt, alloc, hub, published, &job, 1)?;
+    Ok(true)
 }
 
 /// Computes the batch of the first version that a subscriber waits for, whoever its job was handed out to, and commits it, if the

@@ -18,6 +18,7 @@ use session_lines::request::{Next, SessionRequest, next_request};
 use session_reads::reading::read;
 use session_subscribers::session_hub::{Held, SessionHub};
 use std::alloc::{AllocError, Global};
+use std::cell::Cell;
 use std::io;
 use std::io::{Read, Write};
 use std::sync::Wait;
@@ -227,7 +228,7 @@ fn converse<
         let turn = take_turn(hub, share, held, lines, out);
         write_reply(writer, out.as_str())?;
         match turn {
-            Ok(Turn::More) => {}
+            Ok(Turn::More) => hub.help_others(),
             Ok(Turn::Last) => return Ok(()),
             Err(TurnFault::Read(error)) => return Err(SessionFault::Read(error)),
             Err(TurnFault::Memory) => return write_no_memory(writer),
@@ -291,6 +292,7 @@ pub fn session<
         published,
         workers,
         reads,
+        owes_help: Cell::new(false),
     };
     let mut held = Vec::new(alloc);
     let ended = begin(&session_hub, share, &mut held, reader, writer);

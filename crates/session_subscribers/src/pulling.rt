@@ -4,8 +4,7 @@ ghost use Rattle.session_subscribers.specs.Items.{item_reply, Takes, TakesShort}
 
 use crate::session_hub::{Held, SessionHub, place_of};
 use batches::item::Finding;
-use filter_workers::gate::Open;
-use filter_workers::work::{catch_up, work};
+use filter_workers::work::{catch_up, help};
 use refusals::reason::Reason;
 use session_lines::reply::Reply;
 use std::alloc::AllocError;
@@ -15,9 +14,9 @@ use std::thread::Threads;
 use subscriber_queues::ends::Subscription;
 use version_history::published::Naming;
 
-/// How many batches each worker computes after a round of a pull, for whichever subscribers they are due. A pull serves its own
-/// subscriber first; the bound keeps it from waiting for the programs of those that never pull.
-const TURNS_FOR_ALL: u32 = 1;
+/// The most steps of a batch that a session computes for others: about half a millisecond, which its client's next request may have to
+/// wait.
+const STEPS_FOR_OTHERS: usize = 262_144;
 
 /// What is printed of an item.
 fn reply_of(what: Finding) -> Reply
@@ -87,7 +86,7 @@ impl<N: Naming + Ledger + Send + Sync, R: Threads + Wait + Copy + Send + Sync> S
     /// Computes the first batch that this subscriber waits for, whoever else computes it, if its version is one of those up to this
     /// one. It answers whether the subscriber waited for one.
     fn compute_own(&self, id: usize, last: u64) -> Result<bool, AllocError> {
-        catch_up(
+        let waited = catch_up(
             &self.rt,
             self.alloc,
             self.hub,
@@ -95,22 +94,25 @@ impl<N: Naming + Ledger + Send + Sync, R: Threads + Wait + Copy + Send + Sync> S
             id,
             last,
             self.workers,
-        )
+        )?;
+        if waited {
+            self.owes_help.set(true);
+        }
+        Ok(waited)
     }
 
-    /// Computes a few of the batches that no worker computes yet, of all subscribers. It answers whether memory was found; where it
-    /// wasn't, what a subscriber is owed is handed out again.
-    fn compute_for_all(&self) -> bool {
-        work(
-            &self.rt,
-            self.alloc,
-            self.hub,
-            self.published,
-            &Open,
-            self.workers,
-            TURNS_FOR_ALL,
-        )
-        .is_ok()
+    /// Where a pull computed something since the last call, computes one short batch for whichever subscriber is due, those of other
+    /// sessions too. To be called once the pull was answered. Where no memory is found, what a subscriber is owed is handed out again.
+    pub fn help_others(&self) {
+        if self.owes_help.replace(false) {
+            let _ = help(
+                &self.rt,
+                self.alloc,
+                self.hub,
+                self.published,
+                STEPS_FOR_OTHERS,
+            );
+        }
     }
 
     /// Computes and takes items of the versions up to the one that is the latest now, until so many are taken or none is due.
@@ -138,9 +140,6 @@ impl<N: Naming + Ledger + Send + Sync, R: Threads + Wait + Copy + Send + Sync> S
             };
             if taken == count || (more == 0 && !waited) {
                 break;
-            }
-            if waited && !self.compute_for_all() {
-                return Ok(Reply::Refused(Reason::OutOfMemory));
             }
         }
         Ok(Reply::Items(taken))

@@ -3,6 +3,7 @@ ghost use Rattle.session_subscribers.specs.Holding.{place_in};
 
 use ingest_workers::hub::Hub;
 use std::alloc::Global;
+use std::cell::Cell;
 use std::marker::Model;
 use std::sync::Wait;
 use std::sync::ledger::Ledger;
@@ -19,6 +20,8 @@ pub struct SessionHub<'s, 'p, N: Naming + Ledger, R: Wait + Copy> {
     pub workers: usize,
     /// Whether the session may read of the text.
     pub reads: bool,
+    /// Whether a pull computed a batch since others were last helped.
+    pub owes_help: Cell<bool>,
     ghost range: { (1 ≤ workers) × (workers ≤ 16) },
 }
 

@@ -23,11 +23,3 @@ returns-then-taken-count-clause-ok g c = record {
 
 pub returns-in_err-more-clause-err : goal.returns-in_err-more-clause-err
 returns-in_err-more-clause-err g c = where_err c.from_residual.result _ (taken_short _ _ _ _ _ _ _ _ _ (omega (arith, c.loop-round.invariant.1)) c.loop-round.invariant.0 c.in_err-more.ensures.err)
-
-pub returns-then-not-compute_for_all-clause-ok : goal.returns-then-not-compute_for_all-clause-ok
-returns-then-not-compute_for_all-clause-ok g c = record {
-  many = c.loop-round.taken + c.in_ok-more.more;
-  most = omega (arith, c.loop-round.invariant.1, c.in_ok-more.ensures.ok.0);
-  takes = taken_both _ _ _ _ _ _ _ _ _ refl c.loop-round.invariant.0 c.in_ok-more.ensures.ok.1;
-  told = inr refl;
-}

@@ -1,9 +1,0 @@
-use Rattle.std.proofs.Common.{ap, subst}
-use Rattle.batches.specs.Batches.{Slip}
-use Rattle.filter_workers.specs.Turns.{IsPumped}
-use Rattle.filter_workers.proofs.work.turn.Goals as goal
-
-pub returns-in-Ok : goal.returns-in-Ok
-returns-in-Ok g c =
-    let pumped : IsPumped c.in-Some.job.subscriber = subst IsPumped (ap (λ (j : Slip). j.subscriber) c.job.view_is) (c.pump.result, c.pump.ensures) in
-    (c.in-Some.job, c.in-Some.ensures, c.in-Ok.ensures, pumped)
