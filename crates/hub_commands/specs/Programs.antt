@@ -14,7 +14,6 @@ use Rattle.meaning.specs.declared.FaultKind.TheVariants.{UnsetRegister, BadAddre
 use Rattle.meaning.specs.declared.Outcome.{Outcome}
 use Rattle.meaning.specs.declared.Outcome.TheVariants.{Done, Fault, OutOfSteps}
 use Rattle.meaning.specs.Outcomes.{outcome}
-use Rattle.meaning.specs.Step.{Program}
 use Rattle.meaning.specs.Safe.{SafeIn}
 use Rattle.verifier.specs.declared.refusal.VerifyError.{VerifyError}
 use Rattle.verifier.specs.Structure.{IsStructured}
