@@ -1,5 +1,5 @@
 //! Printing the spans of a version, a line a span.
-ghost use Rattle.std.specs.Prelude.{◌≡◌, ◌++◌, [], Some, if◌then◌else◌, IfOk, OnOk, codes, map, encode_utf8, string_bytes};
+ghost use Rattle.std.specs.Prelude.{◌≡◌, ◌++◌, [], Some, if◌then◌else◌, IfOk, codes, map, encode_utf8, string_bytes};
 ghost use Rattle.std.specs.Fmt.{WritesOnOk};
 ghost use Rattle.std.specs.Option.{option_copied};
 ghost use Rattle.span_flatten.specs.Version.{spans_of as spans_in};
@@ -213,22 +213,4 @@ impl fmt::Display for SomeSpans<'_> {
         }
         Ok(())
     }
-}
-
-/// Appends so many spans of the version, from one of them on, or as many as there are. Where there is no memory, the string may have
-/// some of them.
-pub fn push_some(
-    out: &mut String,
-    version: &Version,
-    first: usize,
-    most: usize,
-) -> Result<(), AllocError>
-    ensures { OnOk result (string_bytes out.new ≡ string_bytes out.old ++ some_lines first most version.now) }
-{
-    let spans = SomeSpans {
-        version,
-        first,
-        most,
-    };
-    write!(out, "{spans}")
 }
