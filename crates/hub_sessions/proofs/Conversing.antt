@@ -1,5 +1,5 @@
 -- How the exchanges of a session add up, and how it ends after them.
-use Rattle.std.proofs.Common.{◌≡◌, ℕ, ◌+◌, ◌≤◌, if◌then◌else◌, true, false, List, [], ◌∷◌, ◌++◌, Option, Result, Ok, Err, refl, sym, ap, subst, ◌∙◌, append_assoc, append-nil, IsErrAnd, inl, inr, arith, length}
+use Rattle.std.proofs.Common.{◌≡◌, ℕ, ◌+◌, ◌≤◌, List, [], ◌∷◌, ◌++◌, Option, Result, Ok, Err, refl, sym, ap, subst, ◌∙◌, append_assoc, append-nil, IsErrAnd, inl, inr, arith, length}
 use Rattle.std.specs.Prelude.{IfOk, IfErr, OnOk, All, suc, ⊤}
 use Rattle.std.specs.List.{flat_map}
 use Rattle.std.specs.Io.KnownBytes.{Appends}
@@ -12,8 +12,10 @@ use Rattle.session_lines.specs.declared.request.SessionRequest.{SessionRequest}
 use Rattle.session_lines.specs.declared.request.SessionRequest.TheVariants as asked
 use Rattle.subscriber_queues.specs.Queue.{Taking}
 use Rattle.session_subscribers.specs.Items.{TakesShort}
-use Rattle.session_subscribers.specs.Holding.{Pulls, PullsShort}
-use Rattle.hub_sessions.specs.Sessions.{Standing, Exchange, IsExchange, Answers, Follow, Converses, is_read, TakesTurn, BreaksTurn, IsUnwritten, FallsShort, Ends, EndsAfter, EndsShort, printed, reply_line}
+use Rattle.session_subscribers.specs.Holding.{Pulls, PullsAny, PullsShort}
+use Rattle.session_reads.specs.Found.{found_text}
+use Rattle.session_reads.specs.declared.found.Found.{Found}
+use Rattle.hub_sessions.specs.Sessions.{Standing, Exchange, IsExchange, Answers, AreApart, Follow, Converses, found_in, read_in, TakesTurn, BreaksTurn, IsUnwritten, FallsShort, Ends, EndsAfter, EndsShort, printed, reply_line}
 use Rattle.hub_sessions.specs.declared.conversation.SessionFault.{SessionFault}
 use Rattle.hub_sessions.specs.declared.conversation.SessionFault.TheVariants as fault
 use Rattle.hub_sessions.specs.declared.conversation.Turn.{Turn}
@@ -36,9 +38,9 @@ follow_more s left (x ∷ one) s' left' e p q = (p.0, follow_more x.stands x.lef
 pub begun : (s : Standing) (left w : Option (List ℕ)) → Converses s left w s left w
 begun s left w = record { exchanges = []; follow = (refl, refl); written = Appends-nil w }
 
-pub turned : (s : Standing) (left old : Option (List ℕ)) (s' : Standing) (left' mid : Option (List ℕ)) (text : List ℕ) (s'' : Standing) (left'' new : Option (List ℕ))
-    → Converses s left old s' left' mid → TakesTurn More s' left' text s'' left'' → Appends mid new text → Converses s left old s'' left'' new
-turned s left old s' left' mid text s'' left'' new c t a =
+turned_more : (s : Standing) (left old : Option (List ℕ)) (s' : Standing) (left' mid : Option (List ℕ)) (found : Found) (text : List ℕ) (s'' : Standing) (left'' new : Option (List ℕ))
+    → Converses s left old s' left' mid → TakesTurn (More found) s' left' text s'' left'' → Appends mid new text → Converses s left old s'' left'' new
+turned_more s left old s' left' mid found text s'' left'' new c t a =
     let e = t.0 in
     let followed = follow_more s left c.exchanges s' left' e c.follow t.1 in
     record {
@@ -47,19 +49,32 @@ turned s left old s' left' mid text s'' left'' new c t a =
       written = subst (Appends old new) (sym (printed_more c.exchanges e)) (Appends-trans old mid new _ _ c.written (subst (Appends mid new) t.2 a));
     }
 
-pub ended : (s : Standing) (left old : Option (List ℕ)) (s' : Standing) (left' mid : Option (List ℕ)) (text : List ℕ) (s'' : Standing) (left'' new : Option (List ℕ))
-    → Converses s left old s' left' mid → TakesTurn Last s' left' text s'' left'' → Appends mid new text → EndsAfter s left old s''.count new
-ended s left old s' left' mid text s'' left'' new c t a = record {
-  stands = s';
-  rest = left';
-  before = mid;
-  converses = c;
-  over = left'';
-  text = text;
-  last = t.0;
-  written = a;
-  counted = ap (λ z. z.count) t.1;
-}
+-- a turn of which it is known that it was not the last: what it found was written, and then its lines
+pub turned : (s : Standing) (left old : Option (List ℕ)) (s' : Standing) (left' mid : Option (List ℕ)) (r : Result Turn TurnFault) (found : Found) (lines : List ℕ) (s'' : Standing) (left'' new : Option (List ℕ))
+    → Converses s left old s' left' mid → r ≡ Ok (More found) → IfOk r (λ turn. TakesTurn turn s' left' (found_in turn ++ lines) s'' left'') → Appends mid new (read_in r ++ lines)
+    → Converses s left old s'' left'' new
+turned s left old s' left' mid r found lines s'' left'' new c is t a =
+    turned_more s left old s' left' mid found (found_text found ++ lines) s'' left'' new c
+    (subst (λ z. IfOk z (λ turn. TakesTurn turn s' left' (found_in turn ++ lines) s'' left'')) is t)
+    (subst (λ z. Appends mid new (read_in z ++ lines)) is a)
+
+-- a turn of which it is known that it was the last
+pub ended : (s : Standing) (left old : Option (List ℕ)) (s' : Standing) (left' mid : Option (List ℕ)) (r : Result Turn TurnFault) (text : List ℕ) (s'' : Standing) (left'' new : Option (List ℕ))
+    → Converses s left old s' left' mid → r ≡ Ok Last → IfOk r (λ turn. TakesTurn turn s' left' (found_in turn ++ text) s'' left'') → Appends mid new (read_in r ++ text)
+    → EndsAfter s left old s''.count new
+ended s left old s' left' mid r text s'' left'' new c is t a =
+    let last : TakesTurn Last s' left' text s'' left'' = subst (λ z. IfOk z (λ turn. TakesTurn turn s' left' (found_in turn ++ text) s'' left'')) is t in
+    record {
+      stands = s';
+      rest = left';
+      before = mid;
+      converses = c;
+      over = left'';
+      text = text;
+      last = last.0;
+      written = subst (λ z. Appends mid new (read_in z ++ text)) is a;
+      counted = ap (λ z. z.count) last.1;
+    }
 
 pub short : (s : Standing) (left old : Option (List ℕ)) (s' : Standing) (left' mid : Option (List ℕ)) (part : List ℕ) (s'' : Standing) (middle new : Option (List ℕ))
     → Converses s left old s' left' mid → FallsShort s' part s'' → Appends mid middle part → Appends middle new (reply_line (reply.Refused reason.OutOfMemory)) → EndsShort s left old new
@@ -98,20 +113,18 @@ pub not_begun : (r : Result ⊤ SessionFault) (s : Standing) (left old new : Opt
     → OnOk r (Appends old new (reply_line (reply.Refused reason.OutOfMemory))) → IfErr r IsUnwritten → Ends r s left old count new
 not_begun r s left old new count b e = unfinished r s left old s left old [] s old new count (begun s left old) (inl refl) (Appends-nil old) b e
 
--- a turn of which it is known that it was the last
-pub last_turn : (r : Result Turn TurnFault) (s : Standing) (left : Option (List ℕ)) (text : List ℕ) (s' : Standing) (left' : Option (List ℕ))
-    → r ≡ Ok Last → IfOk r (λ turn. TakesTurn turn s left text s' left') → TakesTurn Last s left text s' left'
-last_turn r s left text s' left' is p = subst (λ z. IfOk z (λ turn. TakesTurn turn s left text s' left')) is p
-
 -- the last share that was cut is 0, as each is
 pub last_is_none : (others : List ℕ) (last : ℕ) → All (λ count. count ≡ 0) (others ++ last ∷ []) → last ≡ 0
 last_is_none [] last all = all 0 0 (omega arith)
 last_is_none (x ∷ others) last all = last_is_none others last (λ k d low. all (suc k) d (omega (arith, low)))
 
--- a turn of which it is known that it met want of memory
-pub short_turn : (r : Result Turn TurnFault) (s : Standing) (text : List ℕ) (s' : Standing)
-    → r ≡ Err broken.Memory → IfErr r (λ f. BreaksTurn f s text s') → FallsShort s text s'
-short_turn r s text s' is p = subst (λ z. IfErr z (λ f. BreaksTurn f s text s')) is p
+-- a turn of which it is known that it met want of memory: nothing was found, and what it has of its lines was written
+pub broke : (r : Result Turn TurnFault) (s : Standing) (text : List ℕ) (s' : Standing) (mid new : Option (List ℕ)) → r ≡ Err broken.Memory
+    → IfErr r (λ f. BreaksTurn f s text s') → Appends mid new (read_in r ++ text) → FallsShort s text s' × Appends mid new text
+broke r s text s' mid new is p a = (
+  subst (λ z. IfErr z (λ f. BreaksTurn f s text s')) is p,
+  subst (λ z. Appends mid new (read_in z ++ text)) is a,
+)
 
 -- a turn that changed and printed nothing, whatever broke it
 pub broke_still : (r : Result Turn TurnFault) (s : Standing) (text : List ℕ) → text ≡ [] → IfErr r (λ f. BreaksTurn f s text s)
@@ -136,27 +149,29 @@ whole_lines count end end' out out' answer p = record {
 }
 
 -- a request was done and its last line not printed: what stands then
-pub unanswered : (request : SessionRequest) (s : Standing) (items : List ℕ) (answer : Reply) (s' : Standing) (text : List ℕ)
-    → Answers request s [] items answer s' → text ≡ (if is_read request then [] else items) → FallsShort s text s'
-unanswered (asked.Change change) s items answer s' text met is = inl (is ∙ met.2)
-unanswered (asked.Subscribe profile capacity program first) s items answer s' text met is = inl (is ∙ met.2)
-unanswered (asked.Pull id count) s items answer s' text met is = elim met.0 [
-  | inl held ↦ inr (
-    id,
-    count,
-    subst (PullsShort id count s.held s'.held []) (sym is) (record {
-      place = held.place;
-      there = held.there;
-      one = held.one;
-      is = held.is;
-      items = held.items;
-      others = held.others;
-      orderly = held.orderly;
-      promised = held.promised;
-      takes = whole_lines count held.one.items held.items [] items answer held.pulls;
-    }),
-  )
-  | inr none ↦ inl (is ∙ none.printed)
-]
-unanswered (asked.Close id) s items answer s' text met is = inl (is ∙ met.2)
-unanswered (asked.Read query) s items answer s' text met is = inl is
+pub unanswered : (request : SessionRequest) (s : Standing) (text lines : List ℕ) (answer : Reply) (s' : Standing)
+    → Answers request s [] (text ++ lines) answer s' → AreApart request text lines → FallsShort s lines s'
+unanswered (asked.Change change) s text lines answer s' met none = inl (sym (ap (λ l. l ++ lines) none) ∙ met.2)
+unanswered (asked.Subscribe profile capacity program first) s text lines answer s' met none = inl (sym (ap (λ l. l ++ lines) none) ∙ met.2)
+unanswered (asked.Pull id count) s text lines answer s' met none =
+    let pulled : PullsAny id count s.held s'.held [] lines answer = subst (λ l. PullsAny id count s.held s'.held [] (l ++ lines) answer) none met.0 in
+    elim pulled [
+      | inl held ↦ inr (
+        id,
+        count,
+        record {
+          place = held.place;
+          there = held.there;
+          one = held.one;
+          is = held.is;
+          items = held.items;
+          others = held.others;
+          orderly = held.orderly;
+          promised = held.promised;
+          takes = whole_lines count held.one.items held.items [] lines answer held.pulls;
+        },
+      )
+      | inr none' ↦ inl none'.printed
+    ]
+unanswered (asked.Close id) s text lines answer s' met none = inl (sym (ap (λ l. l ++ lines) none) ∙ met.2)
+unanswered (asked.Read query) s text lines answer s' met none = inl none

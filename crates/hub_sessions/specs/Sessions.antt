@@ -1,5 +1,5 @@
 -- A session from its first line to its end: what came, and what was printed for it.
-use Rattle.std.specs.Prelude.{◌≡◌, ◌⊎◌, ℕ, ◌+◌, ◌≤◌, Bool, true, false, List, [], ◌∷◌, ◌++◌, Option, Result, Ok, Err, ⊤}
+use Rattle.std.specs.Prelude.{◌≡◌, ◌⊎◌, ℕ, ◌+◌, ◌≤◌, Bool, List, [], ◌∷◌, ◌++◌, Option, Result, Ok, Err, ⊤}
 use Rattle.std.specs.List.{flat_map}
 use Rattle.std.specs.Io.KnownBytes.{Appends, Keeps}
 use Rattle.change_ops.specs.Changes.{Edit}
@@ -14,6 +14,7 @@ use Rattle.session_lines.specs.declared.request.Next.TheVariants as next
 use Rattle.session_lines.specs.declared.request.SessionRequest.{SessionRequest}
 use Rattle.session_lines.specs.declared.request.SessionRequest.TheVariants as asked
 use Rattle.session_subscribers.specs.Holding.{Watched, Adds, Closes, PullsAny, PullsShort}
+use Rattle.session_reads.specs.Found.{found_text}
 use Rattle.session_reads.specs.Reads.{Reads}
 use Rattle.hub_sessions.specs.declared.conversation.SessionFault.{SessionFault}
 use Rattle.hub_sessions.specs.declared.conversation.SessionFault.TheVariants as fault
@@ -90,13 +91,22 @@ IsLast left left' text = (IsNext left next.End left' × (text ≡ [])) ⊎ (IsNe
 
 -- an exchange, or what ends the session
 abbrev pub TakesTurn : Turn → Standing → Option (List ℕ) → List ℕ → Standing → Option (List ℕ) → Type 0
-TakesTurn More s left text s' left' = (e : Exchange) × IsExchange s left e × (text ≡ printed e) × (s' ≡ e.stands) × (left' ≡ e.left)
+TakesTurn (More found) s left text s' left' = (e : Exchange) × IsExchange s left e × (text ≡ printed e) × (s' ≡ e.stands) × (left' ≡ e.left)
 TakesTurn Last s left text s' left' = IsLast left left' text × (s' ≡ s)
 
--- a request that only reads
-abbrev pub is_read : SessionRequest → Bool
-is_read (asked.Read query) = true
-is_read request = false
+-- what is printed for a request to read, and the lines of items that are printed for others: never both
+abbrev pub AreApart : SessionRequest → List ℕ → List ℕ → Type 0
+AreApart (asked.Read query) text lines = lines ≡ []
+AreApart request text lines = text ≡ []
+
+-- what a turn found, which is printed before its lines
+abbrev pub found_in : Turn → List ℕ
+found_in (More found) = found_text found
+found_in Last = []
+
+abbrev pub read_in : Result Turn TurnFault → List ℕ
+read_in (Ok turn) = found_in turn
+read_in (Err fault) = []
 
 -- no memory was found for a whole reply: nothing of it is printed, or, of a pull, whole lines of items that it took
 abbrev pub FallsShort : Standing → List ℕ → Standing → Type 0

@@ -1,9 +1,10 @@
-ghost use Rattle.std.specs.Prelude.{◌≡◌, ◌≤◌, ◌↔◌, ◌++◌, [], if◌then◌else◌, IfOk, IfErr, OnOk, OnErr, string_bytes};
+ghost use Rattle.std.specs.Prelude.{◌≡◌, ◌≤◌, ◌↔◌, ◌++◌, [], IfOk, IfErr, OnOk, OnErr, string_bytes};
 ghost use Rattle.std.specs.Io.KnownBytes.{Appends};
 ghost use Rattle.refusals.specs.declared.reason.Reason.TheVariants as why;
 ghost use Rattle.session_lines.specs.declared.fault.ReadFault.TheVariants as read_fault;
 ghost use Rattle.session_lines.specs.declared.reply.Reply.TheVariants as told;
-ghost use Rattle.hub_sessions.specs.Sessions.{Submits, Answers, FallsShort, TakesTurn, BreaksTurn, Ends, IsUnwritten, is_read, reply_line};
+ghost use Rattle.session_reads.specs.Found.{found_text};
+ghost use Rattle.hub_sessions.specs.Sessions.{Submits, Answers, AreApart, FallsShort, found_in, read_in, TakesTurn, BreaksTurn, Ends, IsUnwritten, reply_line};
 ghost use Rattle.hub_sessions.specs.declared.conversation.TurnFault.TheVariants as turn_fault;
 
 use change_ops::change::Change;
@@ -15,6 +16,7 @@ use session_lines::fault::ReadFault;
 use session_lines::reader::LineReader;
 use session_lines::reply::Reply;
 use session_lines::request::{Next, SessionRequest, next_request};
+use session_reads::found::{Answer, Found};
 use session_reads::reading::read;
 use session_subscribers::session_hub::{Held, SessionHub};
 use std::alloc::{AllocError, Global};
@@ -26,8 +28,8 @@ use std::sync::ledger::Ledger;
 use std::thread::Threads;
 use version_history::published::{Naming, Published};
 
-/// The most bytes of the lines that answer one request but to read: 1,024 items of at most 36, and one line more. What an answer to that
-/// takes beyond is given back before the next.
+/// Room for the lines that answer one request, but for what is read of the text: 1,024 items of 36 bytes, and one line more. What longer
+/// items take beyond is given back before the next request.
 const REPLY_ROOM: usize = 37_000;
 
 /// Why a session ended before its end.
@@ -40,9 +42,10 @@ pub enum SessionFault {
 }
 
 /// Whether a session goes on.
-#[derive(Clone, Copy)]
-enum Turn {
-    More,
+#[derive(Drop)]
+enum Turn<'a> {
+    /// What was found is printed before the lines.
+    More(Found<'a>),
     Last,
 }
 
@@ -72,8 +75,8 @@ impl From<ReadFault> for TurnFault {
     }
 }
 
-/// Writes what answers one request, whole.
-fn write_reply<W: Write>(writer: &mut W, out: &str) -> Result<(), SessionFault>
+/// Writes lines and flushes them.
+fn write_lines<W: Write>(writer: &mut W, out: &str) -> Result<(), SessionFault>
     ensures ok { OnOk result (Appends (W.contents writer.old) (W.contents writer.new) out.now) }
     ensures err { IfErr result IsUnwritten }
 {
@@ -91,7 +94,25 @@ fn write_no_memory<W: Write>(writer: &mut W) -> Result<(), SessionFault>
     ensures ok { OnOk result (Appends (W.contents writer.old) (W.contents writer.new) (reply_line (told.Refused why.OutOfMemory))) }
     ensures err { IfErr result IsUnwritten }
 {
-    write_reply(writer, "no 45 OutOfMemory\n")
+    write_lines(writer, "no 45 OutOfMemory\n")
+}
+
+/// Writes what answers one request, whole: what was found, then lines.
+fn write_reply<W: Write>(
+    writer: &mut W,
+    turn: &Result<Turn<'_>, TurnFault>,
+    lines: &str,
+) -> Result<(), SessionFault>
+    ensures ok { OnOk result (Appends (W.contents writer.old) (W.contents writer.new) (read_in turn.now ++ lines.now)) }
+    ensures err { IfErr result IsUnwritten }
+{
+    match turn {
+        Ok(Turn::More(found)) => {
+            found.write(lines, writer).map_err(SessionFault::Write)?;
+            writer.flush().map_err(SessionFault::Write)
+        }
+        _ => write_lines(writer, lines),
+    }
 }
 
 /// Submits a change.
@@ -110,60 +131,39 @@ fn change<N: Naming + Ledger, R: Wait + Copy>(
     }
 }
 
-/// Does what is asked, appends the lines of items or of what is read to an empty string, and answers the line after them.
-fn answer<N: Naming + Ledger + Send + Sync, R: Threads + Wait + Copy + Send + Sync>(
-    hub: &SessionHub<'_, '_, N, R>,
+/// Does what is asked, appends the lines of items to an empty string, and answers what was found and the line after that or those.
+fn answer<'s, N: Naming + Ledger + Send + Sync, R: Threads + Wait + Copy + Send + Sync>(
+    hub: &SessionHub<'s, '_, N, R>,
     share: &mut Share<N>,
     held: &mut Vec<Held<N, R>>,
     request: SessionRequest,
     out: &mut String,
-) -> Result<Reply, AllocError>
+) -> Result<Answer<'s>, AllocError>
     requires { string_bytes out.old ≡ [] }
-    ensures answers { IfOk result (λ answer. Answers request (record { count = share.old; held = held.old.items; reads = hub.now.reads }) (string_bytes out.old) (string_bytes out.new)
-        answer (record { count = share.new; held = held.new.items; reads = hub.now.reads })) }
+    ensures answers { IfOk result (λ answer. Answers request (record { count = share.old; held = held.old.items; reads = hub.now.reads }) (string_bytes out.old) (found_text answer.found ++ string_bytes out.new)
+        answer.reply (record { count = share.new; held = held.new.items; reads = hub.now.reads })) }
+    ensures apart { IfOk result (λ answer. AreApart request (found_text answer.found) (string_bytes out.new)) }
     ensures short { OnErr result (FallsShort (record { count = share.old; held = held.old.items; reads = hub.now.reads }) (string_bytes out.new)
         (record { count = share.new; held = held.new.items; reads = hub.now.reads })) }
     ensures share { share.old ≤ share.new }
 {
     match request {
-        SessionRequest::Change(asked) => Ok(change(&hub.rt, hub.hub, share, asked)),
+        SessionRequest::Change(asked) => {
+            Ok(Answer::line(change(&hub.rt, hub.hub, share, asked)))
+        }
         SessionRequest::Subscribe {
             profile,
             capacity,
             program,
             first,
-        } => Ok(hub.subscribe(held, profile, capacity, &program, first)),
-        SessionRequest::Pull { subscriber, count } => hub.pull(held, subscriber, count, out),
-        SessionRequest::Close { subscriber } => Ok(hub.close(held, subscriber)),
-        SessionRequest::Read(query) => Ok(read(
-            &hub.rt,
-            hub.hub,
-            hub.published,
-            hub.reads,
-            query,
-            out,
-        )),
+        } => Ok(Answer::line(hub.subscribe(held, profile, capacity, &program, first))),
+        SessionRequest::Pull { subscriber, count } => {
+            let reply = hub.pull(held, subscriber, count, out)?;
+            Ok(Answer::line(reply))
+        }
+        SessionRequest::Close { subscriber } => Ok(Answer::line(hub.close(held, subscriber))),
+        SessionRequest::Read(query) => Ok(read(&hub.rt, hub.hub, hub.published, hub.reads, query)),
     }
-}
-
-/// Whether a request only reads.
-fn only_reads(request: &SessionRequest) -> bool
-    ensures { result ≡ is_read request.now }
-{
-    matches!(request, SessionRequest::Read(_))
-}
-
-/// Appends the last line of a reply. Where no memory is found for it, what was read is taken back; the lines of items stay, since those
-/// were taken.
-fn push_last(reply: Reply, reads: bool, out: &mut String) -> Result<(), AllocError>
-    ensures ok { OnOk result (string_bytes out.new ≡ string_bytes out.old ++ reply_line reply) }
-    ensures err { OnErr result (string_bytes out.new ≡ (if reads then [] else string_bytes out.old)) }
-{
-    let pushed = reply.push_line(out);
-    if pushed.is_err() && reads {
-        out.clear();
-    }
-    pushed
 }
 
 /// Empties the lines of a reply, and gives back the room that they took beyond the one that is kept.
@@ -174,15 +174,16 @@ fn empty_reply(out: &mut String)
     out.shrink_to(REPLY_ROOM);
 }
 
-/// Reads a request, does what it asks, and puts the lines of the reply in place of those of the one before.
-fn take_turn<N: Naming + Ledger + Send + Sync, R: Threads + Wait + Copy + Send + Sync, I: Read>(
-    hub: &SessionHub<'_, '_, N, R>,
+/// Reads a request, does what it asks, and puts the lines of the reply in place of those of the one before. The last line is there
+/// before what was found is written, so that no want of memory can come between them.
+fn take_turn<'s, N: Naming + Ledger + Send + Sync, R: Threads + Wait + Copy + Send + Sync, I: Read>(
+    hub: &SessionHub<'s, '_, N, R>,
     share: &mut Share<N>,
     held: &mut Vec<Held<N, R>>,
     lines: &mut LineReader<I>,
     out: &mut String,
-) -> Result<Turn, TurnFault>
-    ensures ok { IfOk result (λ turn. TakesTurn turn (record { count = share.old; held = held.old.items; reads = hub.now.reads }) lines.old.left (string_bytes out.new)
+) -> Result<Turn<'s>, TurnFault>
+    ensures ok { IfOk result (λ turn. TakesTurn turn (record { count = share.old; held = held.old.items; reads = hub.now.reads }) lines.old.left (found_in turn ++ string_bytes out.new)
         (record { count = share.new; held = held.new.items; reads = hub.now.reads }) lines.new.left) }
     ensures err { IfErr result (λ fault. BreaksTurn fault (record { count = share.old; held = held.old.items; reads = hub.now.reads }) (string_bytes out.new)
         (record { count = share.new; held = held.new.items; reads = hub.now.reads })) }
@@ -191,13 +192,13 @@ fn take_turn<N: Naming + Ledger + Send + Sync, R: Threads + Wait + Copy + Send +
     empty_reply(out);
     match next_request(hub.alloc, lines)? {
         Next::Request(request) => {
-            let reads = only_reads(&request);
-            push_last(answer(hub, share, held, request, out)?, reads, out)?;
-            Ok(Turn::More)
+            let answer = answer(hub, share, held, request, out)?;
+            answer.reply.push_line(out)?;
+            Ok(Turn::More(answer.found))
         }
         Next::Refused(refusal) => {
             Reply::Refused(Reason::from(refusal)).push_line(out)?;
-            Ok(Turn::More)
+            Ok(Turn::More(Found::Nothing))
         }
         Next::TooLong => {
             Reply::Refused(Reason::LineTooLong).push_line(out)?;
@@ -226,9 +227,9 @@ fn converse<
 {
     for _ in hub.rt.forever() {
         let turn = take_turn(hub, share, held, lines, out);
-        write_reply(writer, out.as_str())?;
+        write_reply(writer, &turn, out.as_str())?;
         match turn {
-            Ok(Turn::More) => hub.help_others(),
+            Ok(Turn::More(_)) => hub.help_others(),
             Ok(Turn::Last) => return Ok(()),
             Err(TurnFault::Read(error)) => return Err(SessionFault::Read(error)),
             Err(TurnFault::Memory) => return write_no_memory(writer),

@@ -1,5 +1,5 @@
 -- What a session is shown of the text.
-use Rattle.std.specs.Prelude.{◌≡◌, ℕ, ◌<◌, ◌≤◌, Some, None, List, [], length, map, take, drop, slice_get, Bool, true, false}
+use Rattle.std.specs.Prelude.{◌≡◌, ℕ, ◌<◌, ◌≤◌, Some, None, List, [], length, take, drop, slice_get, Bool, true, false}
 use Rattle.std.specs.List.{flat_map}
 use Rattle.change_ops.specs.Changes.{Edit}
 use Rattle.change_ops.specs.Spelling.{change_text}

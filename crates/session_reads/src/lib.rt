@@ -1,4 +1,5 @@
 //! What a session reads of the text: versions and their spans, accepted changes, counters.
 #![tactic(auto)]
 
+pub mod found;
 pub mod reading;

@@ -1,67 +1,63 @@
-ghost use Rattle.std.specs.Prelude.{◌≡◌, ◌++◌, ℕ, [], IfOk, OnOk, MatchResult, string_bytes};
-ghost use Rattle.std.specs.List.{flat_map};
+ghost use Rattle.std.specs.Prelude.{◌≡◌, Some, IfOk, MatchResult};
+ghost use Rattle.session_reads.specs.Found.{found_text};
 ghost use Rattle.session_reads.specs.Reads.{Shows, Lists, Counts, Tells, Reads};
 ghost use Rattle.session_lines.specs.declared.query.Query.TheVariants as query;
 
+use crate::found::{Answer, Found};
 use change_ops::refusal::ChangeError;
 use ingest_workers::hub::Hub;
-use ingest_workers::text::ChangeText;
 use refusals::reason::Reason;
 use session_lines::query::Query;
 use session_lines::reply::Reply;
-use span_lines::printing::push_some;
+use span_lines::printing::SomeSpans;
 use std::alloc::AllocError;
 use std::sync::Wait;
 use std::sync::ledger::Ledger;
 use version_history::published::{Naming, Published};
 
-/// Appends so many spans of a version, from one of them on.
-fn show<N: Naming + Ledger, R: Wait + Copy>(
+/// So many spans of a version, from one of them on.
+fn show<'a, N: Naming + Ledger, R: Wait + Copy>(
     rt: &R,
     hub: &Hub<'_, N, R>,
-    published: &Published<'_, N>,
+    published: &'a Published<'_, N>,
     number: u64,
     first: u64,
     most: u64,
-    out: &mut String,
-) -> Result<Reply, AllocError>
-    requires { string_bytes out.old ≡ [] }
-    ensures { IfOk result (λ answer. Shows number first most (string_bytes out.new) answer) }
+) -> Answer<'a>
+    ensures { Shows number first most (found_text result.found) result.reply }
 {
     let Some(token) = hub.version(rt, number) else {
-        return Ok(Reply::Refused(Reason::NoVersion));
+        return Answer::line(Reply::Refused(Reason::NoVersion));
     };
     let version = published.look(&token);
-    push_some(out, version, first as usize, most as usize)?;
-    Ok(Reply::Spans(version.rows().len()))
-}
-
-/// Appends texts, one behind the other.
-fn push_texts(out: &mut String, texts: &[ChangeText]) -> Result<(), AllocError>
-    ensures { OnOk result (string_bytes out.new ≡ string_bytes out.old ++ flat_map (λ text. text) texts.now) }
-{
-    for text in texts {
-        out.push_str(text.as_str())?;
+    let spans = SomeSpans {
+        version,
+        first: first as usize,
+        most: most as usize,
+    };
+    Answer {
+        found: Found::Spans(spans),
+        reply: Reply::Spans(version.rows().len()),
     }
-    Ok(())
 }
 
-/// Appends so many accepted changes behind a version.
-fn list<N: Naming + Ledger, R: Wait + Copy>(
+/// So many accepted changes behind a version.
+fn list<'a, N: Naming + Ledger, R: Wait + Copy>(
     rt: &R,
     hub: &Hub<'_, N, R>,
     from: u64,
     most: u64,
-    out: &mut String,
-) -> Result<Reply, AllocError>
-    requires { string_bytes out.old ≡ [] }
-    ensures { IfOk result (λ answer. Lists from most (string_bytes out.new) answer) }
+) -> Result<Answer<'a>, AllocError>
+    ensures { IfOk result (λ answer. Lists from most (found_text answer.found) answer.reply) }
 {
     let Some(texts) = hub.texts_behind(rt, from, most as usize)? else {
-        return Ok(Reply::Refused(Reason::NoVersion));
+        return Ok(Answer::line(Reply::Refused(Reason::NoVersion)));
     };
-    push_texts(out, &texts)?;
-    Ok(Reply::Changes(texts.len()))
+    let reply = Reply::Changes(texts.len());
+    Ok(Answer {
+        found: Found::Changes(texts),
+        reply,
+    })
 }
 
 /// The greatest counter of a peer's accepted operations, where the number is one of a peer.
@@ -75,49 +71,42 @@ fn count<N: Naming + Ledger, R: Wait + Copy>(rt: &R, hub: &Hub<'_, N, R>, node: 
 }
 
 /// What a query is told.
-fn told<N: Naming + Ledger, R: Wait + Copy>(
+fn told<'a, N: Naming + Ledger, R: Wait + Copy>(
     rt: &R,
     hub: &Hub<'_, N, R>,
-    published: &Published<'_, N>,
+    published: &'a Published<'_, N>,
     query: Query,
-    out: &mut String,
-) -> Result<Reply, AllocError>
-    requires { string_bytes out.old ≡ [] }
-    ensures { IfOk result (λ answer. Tells query (string_bytes out.new) answer) }
+) -> Result<Answer<'a>, AllocError>
+    ensures { IfOk result (λ answer. Tells query (found_text answer.found) answer.reply) }
 {
     match query {
-        Query::Latest => Ok(Reply::Latest(hub.latest(rt))),
+        Query::Latest => Ok(Answer::line(Reply::Latest(hub.latest(rt)))),
         Query::Show {
             version,
             first,
             count,
-        } => show(rt, hub, published, version, first, count, out),
-        Query::Changes { from, count } => list(rt, hub, from, count, out),
-        Query::Newest { node } => Ok(count(rt, hub, node)),
+        } => Ok(show(rt, hub, published, version, first, count)),
+        Query::Changes { from, count } => list(rt, hub, from, count),
+        Query::Newest { node } => Ok(Answer::line(count(rt, hub, node))),
     }
 }
 
-/// Reads of the text, appends what is read to an empty string, and answers the reply behind it. A hub that isn't read refuses. Reading
-/// changes nothing, and where there is no memory for what is read the string is left empty.
-pub fn read<N: Naming + Ledger, R: Wait + Copy>(
+/// Reads of the text: what is found, and the reply behind it. A hub that isn't read refuses. Reading changes nothing, and copies nothing
+/// of the text: no memory is taken but for a list of up to 64 texts.
+pub fn read<'a, N: Naming + Ledger, R: Wait + Copy>(
     rt: &R,
     hub: &Hub<'_, N, R>,
-    published: &Published<'_, N>,
+    published: &'a Published<'_, N>,
     reads: bool,
     query: Query,
-    out: &mut String,
-) -> Reply
-    requires { string_bytes out.old ≡ [] }
-    ensures { Reads reads query (string_bytes out.new) result }
+) -> Answer<'a>
+    ensures { Reads reads query (found_text result.found) result.reply }
 {
     if !reads {
-        return Reply::Refused(Reason::BadCommand);
+        return Answer::line(Reply::Refused(Reason::BadCommand));
     }
-    match told(rt, hub, published, query, out) {
+    match told(rt, hub, published, query) {
         Ok(answer) => answer,
-        Err(_) => {
-            out.clear();
-            Reply::Refused(Reason::OutOfMemory)
-        }
+        Err(_) => Answer::line(Reply::Refused(Reason::OutOfMemory)),
     }
 }

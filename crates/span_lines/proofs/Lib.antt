@@ -1,3 +1,4 @@
+pub mod Calls
 pub mod Commas
 pub mod SpanPrinting
 pub mod Some

@@ -1,5 +1,5 @@
 -- The spans of a version from one of them on, so many or as many as there are.
-use Rattle.std.proofs.Common.{◌≡◌, ℕ, ◌+◌, ◌-◌, ◌<◌, ◌≤◌, List, [], ◌∷◌, ◌++◌, Option, Some, length, take, drop, min, refl, sym, ap, ◌∙◌, arith, ⊎_elim}
+use Rattle.std.proofs.Common.{◌≡◌, ℕ, ◌+◌, ◌-◌, ◌<◌, ◌≤◌, List, ◌++◌, Some, length, take, drop, min, sym, ap, ◌∙◌, arith, ⊎_elim}
 use Rattle.std.specs.List.{flat_map, slice_get, slice_range}
 use Rattle.std.specs.Option.{option_map}
 use Rattle.std.proofs.lemmas.Bool.{cases_lt}
@@ -7,7 +7,7 @@ use Rattle.std.proofs.lemmas.List.{take_all, length-drop, flat_map_more}
 use Rattle.span_flatten.specs.Version.{Snapshot}
 use Rattle.span_view.specs.Views.{LentSpan, view_of, view_at, views}
 use Rattle.span_view.proofs.Views.{length-views, viewed, back_taken, row_at}
-use Rattle.span_lines.specs.SpanLines.{named_line, lent_line}
+use Rattle.span_lines.specs.SpanLines.{named_line}
 
 -- one more span
 pub some_more : (version : Snapshot) (first index : ℕ) (span : LentSpan) (before after : List ℕ) → first ≤ index → index < length version.rows → Some span ≡ view_at version index

@@ -34,6 +34,11 @@ keys_of format =
 abbrev pub behind_commas : List (List ℕ) → List ℕ
 behind_commas keys = flat_map (λ key. 44 ∷ key) keys
 
+-- a comma between each two keys, and one before the first where another key stands before it
+abbrev pub parted : Bool → List (List ℕ) → List ℕ
+parted behind [] = []
+parted behind (key ∷ keys) = (if behind then 44 ∷ [] else []) ++ key ++ behind_commas keys
+
 -- the keys with a comma between each two, `plain` where there is none
 abbrev pub keys_text : List (List ℕ) → List ℕ
 keys_text [] = codes "plain"

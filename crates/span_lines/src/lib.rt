@@ -2,3 +2,4 @@
 #![tactic(auto)]
 
 pub mod printing;
+pub mod writing;

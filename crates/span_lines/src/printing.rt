@@ -1,108 +1,183 @@
 //! Printing the spans of a version, a line a span.
-ghost use Rattle.std.specs.Prelude.{◌≡◌, ◌++◌, IfOk, OnOk, map, encode_utf8, string_bytes};
+ghost use Rattle.std.specs.Prelude.{◌≡◌, ◌++◌, [], Some, if◌then◌else◌, IfOk, codes, map, encode_utf8, string_bytes};
+ghost use Rattle.std.specs.Fmt.{WritesOnOk};
 ghost use Rattle.std.specs.Option.{option_copied};
 ghost use Rattle.span_flatten.specs.Version.{spans_of as spans_in};
-ghost use Rattle.span_lines.specs.SpanLines.{flag_keys, link_keys, color_keys, comment_key, keys_of, behind_commas, format_text, escaped, lent_line, some_lines, span_lines};
+ghost use Rattle.span_lines.specs.SpanLines.{flag_keys, link_keys, color_keys, comment_key, parted, format_text, escaped, lent_line, some_lines, span_lines};
 
 use change_ops::attribute::{Color, Link};
-use mark_anchors::comment_list::CommentNumbers;
 use mark_anchors::format::Format;
 use span_flatten::version::Version;
 use span_view::view::{SpanView, spans as spans_of, view};
 use std::alloc::{AllocError, Global};
+use std::fmt;
 use std::fmt::Write as _;
 
-/// Appends a key without a value behind a comma, where it holds.
-fn push_flag(keys: &mut String, holds: bool, name: &str) -> Result<(), AllocError>
-    ensures { OnOk result (string_bytes keys.new ≡ string_bytes keys.old ++ behind_commas (flag_keys holds name.now)) }
-{
-    if holds {
-        write!(keys, ",{name}")?;
-    }
-    Ok(())
-}
+/// What stands before a key: a comma behind another key.
+#[derive(Clone, Copy)]
+struct Comma(bool);
 
-fn push_link(keys: &mut String, link: Option<&Link>) -> Result<(), AllocError>
-    ensures { OnOk result (string_bytes keys.new ≡ string_bytes keys.old ++ behind_commas (link_keys (option_copied link.entry))) }
-{
-    match link {
-        Some(link) => write!(keys, ",link={}", link.target()),
-        None => Ok(()),
+impl fmt::Display for Comma {
+    ghost output = { λ comma. Some (if comma.0 then codes "," else []) };
+
+    fn fmt<W: fmt::Write>(&self, f: &mut fmt::Formatter<W>) -> fmt::Result {
+        if self.0 { f.write_str(",") } else { Ok(()) }
     }
 }
 
-#[tactic(auto, using(crate::proofs::SpanPrinting::color_written))]
-fn push_color(keys: &mut String, color: Option<Color>) -> Result<(), AllocError>
-    ensures { OnOk result (string_bytes keys.new ≡ string_bytes keys.old ++ behind_commas (color_keys color)) }
-{
-    match color {
-        Some(color) => write!(keys, ",color={:06x}", color.rgb()),
-        None => Ok(()),
+/// A key without a value, where it holds.
+#[derive(Clone, Copy)]
+struct Flag<'a> {
+    behind: bool,
+    holds: bool,
+    name: &'a str,
+}
+
+impl fmt::Display for Flag<'_> {
+    ghost output = { λ flag. Some (parted flag.behind (flag_keys flag.holds flag.name.now)) };
+
+    fn fmt<W: fmt::Write>(&self, f: &mut fmt::Formatter<W>) -> fmt::Result {
+        if !self.holds {
+            return Ok(());
+        }
+        write!(f, "{}{}", Comma(self.behind), self.name)
     }
 }
 
-fn push_comments(keys: &mut String, comments: CommentNumbers<'_>) -> Result<(), AllocError>
-    ensures { OnOk result (string_bytes keys.new ≡ string_bytes keys.old ++ behind_commas (map comment_key comments.entry)) }
-{
-    for comment in comments {
-        write!(keys, ",comment:{}", comment.number())?;
-    }
-    Ok(())
+#[derive(Clone, Copy)]
+struct LinkKey<'a> {
+    behind: bool,
+    link: Option<&'a Link>,
 }
 
-/// Appends the keys that hold with their values, each behind a comma.
-fn push_keys(keys: &mut String, format: &Format) -> Result<(), AllocError>
-    ensures { OnOk result (string_bytes keys.new ≡ string_bytes keys.old ++ behind_commas (keys_of format.now)) }
-{
-    push_flag(keys, format.strong(), "strong")?;
-    push_flag(keys, format.em(), "em")?;
-    push_flag(keys, format.code(), "code")?;
-    push_link(keys, format.link())?;
-    push_color(keys, format.color())?;
-    push_comments(keys, format.comments())
-}
+impl fmt::Display for LinkKey<'_> {
+    ghost output = { λ key. Some (parted key.behind (link_keys (option_copied key.link))) };
 
-/// Appends the keys that hold with their values, `plain` where there is none.
-fn push_format(out: &mut String, format: &Format) -> Result<(), AllocError>
-    ensures { OnOk result (string_bytes out.new ≡ string_bytes out.old ++ format_text format.now) }
-{
-    let mut keys = String::new(*out.allocator());
-    push_keys(&mut keys, format)?;
-    match keys.as_str().strip_prefix(',') {
-        Some(keys) => out.push_str(keys),
-        None => out.push_str("plain"),
+    fn fmt<W: fmt::Write>(&self, f: &mut fmt::Formatter<W>) -> fmt::Result {
+        match self.link {
+            Some(link) => write!(f, "{}link={}", Comma(self.behind), link.target()),
+            None => Ok(()),
+        }
     }
 }
 
-fn push_character(out: &mut String, character: char) -> Result<(), AllocError>
-    ensures { OnOk result (string_bytes out.new ≡ string_bytes out.old ++ escaped (encode_utf8 character)) }
+#[derive(Clone, Copy)]
+struct ColorKey {
+    behind: bool,
+    color: Option<Color>,
+}
+
+impl fmt::Display for ColorKey {
+    ghost output = { λ key. Some (parted key.behind (color_keys key.color)) };
+
+    fn fmt<W: fmt::Write>(&self, f: &mut fmt::Formatter<W>) -> fmt::Result {
+        match self.color {
+            Some(color) => write!(f, "{}color={:06x}", Comma(self.behind), color.rgb()),
+            None => Ok(()),
+        }
+    }
+}
+
+/// The comments' keys of a format.
+#[derive(Clone, Copy)]
+struct CommentKeys<'a> {
+    behind: bool,
+    format: &'a Format,
+}
+
+impl fmt::Display for CommentKeys<'_> {
+    ghost output = { λ keys. Some (parted keys.behind (map comment_key keys.format.now.comments)) };
+
+    fn fmt<W: fmt::Write>(&self, f: &mut fmt::Formatter<W>) -> fmt::Result {
+        let mut behind = self.behind;
+        for comment in self.format.comments() {
+            write!(f, "{}comment:{}", Comma(behind), comment.number())?;
+            behind = true;
+        }
+        Ok(())
+    }
+}
+
+/// The keys of a format that hold, with their values and a comma between each two; `plain` where there is none.
+#[derive(Clone, Copy)]
+struct Keys<'a>(&'a Format);
+
+impl fmt::Display for Keys<'_> {
+    ghost output = { λ keys. Some (format_text keys.0.now) };
+
+    fn fmt<W: fmt::Write>(&self, f: &mut fmt::Formatter<W>) -> fmt::Result {
+        let format = self.0;
+        if format.is_plain() {
+            return f.write_str("plain");
+        }
+        let strong = Flag {
+            behind: false,
+            holds: format.strong(),
+            name: "strong",
+        };
+        let em = Flag {
+            behind: strong.holds,
+            holds: format.em(),
+            name: "em",
+        };
+        let code = Flag {
+            behind: em.behind | em.holds,
+            holds: format.code(),
+            name: "code",
+        };
+        let link = LinkKey {
+            behind: code.behind | code.holds,
+            link: format.link(),
+        };
+        let color = ColorKey {
+            behind: link.behind | link.link.is_some(),
+            color: format.color(),
+        };
+        let comments = CommentKeys {
+            behind: color.behind | color.color.is_some(),
+            format,
+        };
+        write!(f, "{strong}{em}{code}{link}{color}{comments}")
+    }
+}
+
+fn write_character<W: fmt::Write>(f: &mut fmt::Formatter<W>, character: char) -> fmt::Result
+    ensures { WritesOnOk W.write_str_gives f.old result (escaped (encode_utf8 character)) f.new }
 {
     match character {
-        '\n' => out.push_str("\\n"),
-        '\\' => out.push_str("\\\\"),
-        _ => out.push(character),
+        '\n' => f.write_str("\\n"),
+        '\\' => f.write_str("\\\\"),
+        _ => f.write_char(character),
     }
 }
 
-/// Appends the text with its line feeds and backslashes escaped.
-fn push_text(out: &mut String, text: &str) -> Result<(), AllocError>
-    ensures { OnOk result (string_bytes out.new ≡ string_bytes out.old ++ escaped text.now) }
-{
-    for character in text.chars() {
-        push_character(out, character)?;
+/// A text with its line feeds and backslashes escaped.
+#[derive(Clone, Copy)]
+struct Escaped<'a>(&'a str);
+
+impl fmt::Display for Escaped<'_> {
+    ghost output = { λ text. Some (escaped text.0.now) };
+
+    fn fmt<W: fmt::Write>(&self, f: &mut fmt::Formatter<W>) -> fmt::Result {
+        for character in self.0.chars() {
+            write_character(f, character)?;
+        }
+        Ok(())
     }
-    Ok(())
 }
 
-fn push_line(out: &mut String, span: &SpanView<'_>) -> Result<(), AllocError>
-    ensures { OnOk result (string_bytes out.new ≡ string_bytes out.old ++ lent_line span.now) }
-{
-    let index = span.index;
-    write!(out, "{index} ")?;
-    push_format(out, span.format)?;
-    out.push(' ')?;
-    push_text(out, span.text)?;
-    out.push('\n')
+/// The line of a span with its LF: its index, format and text.
+#[derive(Clone, Copy)]
+struct SpanLine<'a>(&'a SpanView<'a>);
+
+impl fmt::Display for SpanLine<'_> {
+    ghost output = { λ line. Some (lent_line line.0.now) };
+
+    fn fmt<W: fmt::Write>(&self, f: &mut fmt::Formatter<W>) -> fmt::Result {
+        let span = self.0;
+        let index = span.index;
+        write!(f, "{index} {} {}\n", Keys(span.format), Escaped(span.text))
+    }
 }
 
 /// A line for each span of the version: its index, format and text.
@@ -111,29 +186,31 @@ pub fn lines_of(alloc: Global, version: &Version) -> Result<String, AllocError>
 {
     let mut out = String::new(alloc);
     for span in spans_of(version) {
-        push_line(&mut out, &span)?;
+        write!(out, "{}", SpanLine(&span))?;
     }
     Ok(out)
 }
 
-/// Appends a line for each of so many spans of the version, from one of them on, or for as many as there are: `span ` and what
-/// [`lines_of`] has. Where there is no memory, the string may have some of them.
-pub fn push_some(
-    out: &mut String,
-    version: &Version,
-    first: usize,
-    most: usize,
-) -> Result<(), AllocError>
-    ensures { OnOk result (string_bytes out.new ≡ string_bytes out.old ++ some_lines first most version.now) }
-{
-    let left = version.rows().len().saturating_sub(first);
-    let end = first + left.min(most);
-    for index in first..end {
-        let Some(span) = view(version, index) else {
-            unreachable!()
-        };
-        out.push_str("span ")?;
-        push_line(out, &span)?;
+/// So many spans of a version, from one of them on, or as many as there are: a line for each, `span ` and what [`lines_of`] has.
+#[derive(Clone, Copy)]
+pub struct SomeSpans<'a> {
+    pub version: &'a Version,
+    pub first: usize,
+    pub most: usize,
+}
+
+impl fmt::Display for SomeSpans<'_> {
+    ghost output = { λ some. Some (some_lines some.first some.most some.version.now) };
+
+    fn fmt<W: fmt::Write>(&self, f: &mut fmt::Formatter<W>) -> fmt::Result {
+        let left = self.version.rows().len().saturating_sub(self.first);
+        let end = self.first + left.min(self.most);
+        for index in self.first..end {
+            let Some(span) = view(self.version, index) else {
+                unreachable!()
+            };
+            write!(f, "span {}", SpanLine(&span))?;
+        }
+        Ok(())
     }
-    Ok(())
 }

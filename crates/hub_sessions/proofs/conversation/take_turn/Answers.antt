@@ -1,26 +1,28 @@
-use Rattle.std.proofs.Common.{◌≡◌, [], refl, subst, ap, ◌∙◌, string_bytes, inr, if◌then◌else◌}
+use Rattle.std.proofs.Common.{◌≡◌, [], ◌++◌, refl, sym, subst, ap, ◌∙◌, append_assoc, string_bytes, inr}
 use Rattle.refusals.specs.declared.reason.Reason.TheVariants as reason
 use Rattle.session_lines.specs.Replies.{reason_of}
 use Rattle.session_lines.specs.Requests.{IsNext}
 use Rattle.session_lines.specs.declared.reply.Reply.TheVariants as reply
 use Rattle.session_lines.specs.declared.request.Next.TheVariants as next
-use Rattle.hub_sessions.specs.Sessions.{Standing, Exchange, Answers}
+use Rattle.session_reads.specs.Found.{found_text}
+use Rattle.hub_sessions.specs.Sessions.{Standing, Exchange, Answers, FallsShort, reply_line}
 use Rattle.hub_sessions.proofs.Conversing.{refused_line, broke_still, broke_short, unanswered}
 use Rattle.hub_sessions.proofs.conversation.take_turn.Goals as goal
 
-pub returns-in_ok-push_last-in-Request-clause-ok : goal.returns-in_ok-push_last-in-Request-clause-ok
-returns-in_ok-push_last-in-Request-clause-ok g c =
+pub returns-in_ok-push_line-in-Request-clause-ok : goal.returns-in_ok-push_line-in-Request-clause-ok
+returns-in_ok-push_line-in-Request-clause-ok g c =
     let before : Standing = record { count = c.args.share.now; held = c.args.held.now.items; reads = c.args.hub.now.reads } in
     let now : Standing = record { count = c.answer.new.share; held = c.answer.new.held.items; reads = c.args.hub.now.reads } in
-    let items = string_bytes c.answer.new.out in
-    let answer = c.in_ok-answer-in-Request.field-0 in
-    let exchange : Exchange = record { came = next.Request c.in-Request.request; items = items; answer = answer; left = c.next_request.new.reader.left; stands = now } in (
+    let lines = string_bytes c.answer.new.out in
+    let answer = c.in_ok-answer-in-Request.answer in
+    let items = found_text answer.found ++ lines in
+    let exchange : Exchange = record { came = next.Request c.in-Request.request; items = items; answer = answer.reply; left = c.next_request.new.reader.left; stands = now } in (
       exchange,
       record {
         next = subst (λ n. IsNext c.args.lines.now.left n c.next_request.new.reader.left) c.in-Request.is c.in_ok-request.ensures;
-        met = subst (λ out. Answers c.in-Request.request before out items answer now) c.empty_reply.ensures c.in_ok-answer-in-Request.ensures.answers;
+        met = subst (λ out. Answers c.in-Request.request before out items answer.reply now) c.empty_reply.ensures c.in_ok-answer-in-Request.ensures.answers;
       },
-      c.in_ok-push_last-in-Request.ensures.ok,
+      ap (λ l. found_text answer.found ++ l) c.in_ok-push_line-in-Request.ensures.ok ∙ sym (append_assoc (found_text answer.found) lines (reply_line answer.reply)),
       refl,
       refl,
     )
@@ -54,15 +56,15 @@ returns-in_err-request-clause-err g c = broke_still c.from_residual.result _ _ c
 pub returns-in_err-answer-in-Request-clause-err : goal.returns-in_err-answer-in-Request-clause-err
 returns-in_err-answer-in-Request-clause-err g c = broke_short c.from_residual-in_err-answer-in-Request.result _ _ _ c.from_residual-in_err-answer-in-Request.ensures.1 c.in_err-answer-in-Request.ensures.short
 
-pub returns-in_err-push_last-in-Request-clause-err : goal.returns-in_err-push_last-in-Request-clause-err
-returns-in_err-push_last-in-Request-clause-err g c =
+pub returns-in_err-push_line-in-Request-clause-err : goal.returns-in_err-push_line-in-Request-clause-err
+returns-in_err-push_line-in-Request-clause-err g c =
     let before : Standing = record { count = c.args.share.now; held = c.args.held.now.items; reads = c.args.hub.now.reads } in
     let now : Standing = record { count = c.answer.new.share; held = c.answer.new.held.items; reads = c.args.hub.now.reads } in
-    let items = string_bytes c.answer.new.out in
-    let answer = c.in_ok-answer-in-Request.field-0 in
-    let met : Answers c.in-Request.request before [] items answer now = subst (λ out. Answers c.in-Request.request before out items answer now) c.empty_reply.ensures c.in_ok-answer-in-Request.ensures.answers in
-    let stands = c.in_err-push_last-in-Request.ensures.err ∙ ap (λ b. if b then [] else items) c.only_reads-reads.ensures in
-    broke_short c.from_residual-in_err-push_last-in-Request.result _ _ _ c.from_residual-in_err-push_last-in-Request.ensures.1 (unanswered c.in-Request.request before items answer now _ met stands)
+    let lines = string_bytes c.answer.new.out in
+    let answer = c.in_ok-answer-in-Request.answer in
+    let met : Answers c.in-Request.request before [] (found_text answer.found ++ lines) answer.reply now = subst (λ out. Answers c.in-Request.request before out (found_text answer.found ++ lines) answer.reply now) c.empty_reply.ensures c.in_ok-answer-in-Request.ensures.answers in
+    let short = unanswered c.in-Request.request before (found_text answer.found) lines answer.reply now met c.in_ok-answer-in-Request.ensures.apart in
+    broke_short c.from_residual-in_err-push_line-in-Request.result _ _ _ c.from_residual-in_err-push_line-in-Request.ensures.1 (subst (λ l. FallsShort before l now) (sym c.in_err-push_line-in-Request.ensures.err) short)
 
 pub returns-in_err-push_line-in-Refused-clause-err : goal.returns-in_err-push_line-in-Refused-clause-err
 returns-in_err-push_line-in-Refused-clause-err g c = broke_still c.from_residual-in_err-push_line-in-Refused.result _ _ (c.in_err-push_line-in-Refused.ensures.err ∙ c.empty_reply.ensures)

@@ -1,4 +1,4 @@
-use Rattle.std.proofs.Common.{◌≡◌, length, take, drop, arith, ap}
+use Rattle.std.proofs.Common.{◌≡◌, length, take, drop, arith}
 use Rattle.session_reads.proofs.Listing.{listed, as_many}
 use Rattle.session_reads.proofs.reading.list.Goals as goal
 
@@ -8,6 +8,5 @@ returns g c =
     let changes = take c.args.most (drop c.args.from found.0.changes) in
     let spelled = found.2.1.1 in
     let many = as_many c.in-Some.texts.items changes spelled in
-    let text = listed _ _ c.deref.result.now c.in-Some.texts.items changes c.in_ok-push_texts.ensures c.requires c.deref.ensures.value spelled in
-    let count : c.len.result ≡ length changes = omega (arith, many, c.len.ensures, c.deref.ensures.len, ap length c.deref.ensures.value) in
-    (found.0, found.1, (found.2.0, (found.2.1.0, (text, count))), found.3)
+    let count : c.len.result ≡ length changes = omega (arith, many, c.len.ensures) in
+    (found.0, found.1, (found.2.0, (found.2.1.0, (listed c.in-Some.texts.items changes spelled, count))), found.3)

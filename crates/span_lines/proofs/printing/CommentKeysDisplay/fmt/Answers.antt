@@ -1,0 +1,18 @@
+use Rattle.std.proofs.Common.{◌≡◌, ◌∷◌, ◌++◌, rules, ap, sym, ◌∙◌, append_assoc, map}
+use Rattle.std.proofs.Output.{has_written_append}
+use Rattle.span_lines.specs.SpanLines.{parted, comment_key}
+use Rattle.span_lines.proofs.Commas.{one_more_key}
+use Rattle.span_lines.proofs.printing.CommentKeysDisplay.fmt.Goals as goal
+
+pub loop-comment-preserved : goal.loop-comment-preserved
+loop-comment-preserved g c = λ plain.
+    let (done, wrote, is) = c.loop-comment.invariant plain in
+    let behind = c.loop-comment.behind in
+    let here : c.loop-comment.comment-iterator ≡ c.number.result ∷ c.next.new.self = c.in-Some.ensures.steps ∙ ap (λ n. n ∷ c.next.new.self) (sym c.number.ensures.value) in
+    let written = c.write.ensures.writes wrote.plain (search rules) in (
+      _,
+      has_written_append _ _ _ _ _ _ wrote written,
+      append_assoc done _ _
+          ∙ ap (λ l. done ++ l) (one_more_key behind (comment_key c.number.result) (map comment_key c.next.new.self) ∙ ap (λ l. parted behind (map comment_key l)) (sym here))
+          ∙ is,
+    )
