@@ -1,4 +1,4 @@
-//! Tests of sessions: over readers and writers that fail, with the longest lines and long replies, flush by flush, and while others hold their subscribers' jobs.
+//! Tests of sessions: over readers and writers that fail, with the longest lines, flush by flush, and while others hold their subscribers' jobs.
 #![tactic(auto)]
 
 #[cfg(test)]
@@ -9,8 +9,6 @@ mod flushes;
 mod lines;
 #[cfg(test)]
 mod long_lines;
-#[cfg(test)]
-mod long_replies;
 #[cfg(test)]
 mod replays;
 #[cfg(test)]
