@@ -36,7 +36,7 @@ class Items(text.Session):
                 self.lent[version] = lent(self.versions[version], version)
             verdicts = [Machine(self.programs[program], *given).run()[1] for given in self.lent[version]]
             if not all(said.startswith("verdict ") for said in verdicts):
-                raise SystemExit(f"a program meets a fault: {program}")
+                raise ValueError(f"a program meets a fault: {program}")
             hits = [f"hit {version} {index} {said.split()[1]}" for index, said in enumerate(verdicts) if said != "verdict 0"]
             self.known[version, program] = hits + [f"end {version} {len(verdicts)}"]
         return self.known[version, program]
@@ -147,14 +147,13 @@ class Editor:
         return text.change_lines(1, node, [[("i", (self.known.counters.get(node, 1), node), None, 0x61)]])
 
     def beginning(self, characters, marks):
-        """Changes that make a text of so many characters with so many marks, each over one character of two."""
-        changes = []
-        for _ in range(0, characters, 256):
+        """Changes that make a text of so many characters with so many marks, each over one character of two; each is to be
+        accepted before the next one is asked for."""
+        for start in range(0, characters, 256):
             place, own = (self.visible() or [None])[-1], self.next_id()
-            codes = [ord(self.rng.choice(LETTERS)) for _ in range(min(256, characters - len(self.known.codes)))]
-            changes.append(self.spelled(own[1], [text.run_of(own, place, codes)]))
-            yield changes[-1]
-        there, own = self.visible(), self.next_id()
+            codes = [ord(self.rng.choice(LETTERS)) for _ in range(min(256, characters - start))]
+            yield self.spelled(own[1], [text.run_of(own, place, codes)])
+        there = self.visible()
         for start in range(0, marks, 256):
             own, lines = self.next_id(), []
             for at in range(start, min(marks, start + 256)):
