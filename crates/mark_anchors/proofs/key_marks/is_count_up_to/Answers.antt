@@ -1,4 +1,4 @@
-use Rattle.std.proofs.Common.{◌≡◌, ◌∙◌, ◌-◌, ◌≤◌, ◌<◌, ◌⊎◌, inl, inr, ℕ, List, length, get_or, sym, arith}
+use Rattle.std.proofs.Common.{◌≡◌, ◌∙◌, ◌-◌, ◌≤◌, ◌⊎◌, inl, inr, ℕ, List, length, get_or, sym, arith}
 use Rattle.std.proofs.lemmas.Bool.{leb-true, ltb-true}
 use Rattle.mark_anchors.proofs.Nearby.{places_counted}
 use Rattle.mark_anchors.proofs.key_marks.is_count_up_to.Goals as goal
