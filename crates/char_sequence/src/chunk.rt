@@ -157,6 +157,11 @@ impl Chunk {
         ensures within { IfSome result (λ k. k < 64) }
         ensures found { MatchOption result (HasId self.now id → ⊥) (λ k. IsAt self.now id k) }
     {
+        // Where the chunk's characters were typed one after another, their counters are too.
+        let typed = id.counter().saturating_sub(self.items[0].id.counter()) as usize;
+        if typed < self.items.len() && self.items[typed].id == id {
+            return Some(typed);
+        }
         for place in 0..self.items.len() {
             if self.items[place].id == id {
                 return Some(place);

@@ -5,6 +5,7 @@ pub mod Entries
 pub mod AnchorLists
 pub mod Holding
 pub mod MarkLaws
+mod Nearby
 pub mod Places
 pub mod AnchorOrder
 pub mod Deciding

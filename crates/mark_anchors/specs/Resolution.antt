@@ -19,6 +19,11 @@ pub record Resolution : Type 0 where
   pub marks : List Op
   pub runs : List CommentRun
 
+-- where a walk over the characters stands
+pub record Standing : Type 0 where
+  pub resolution : Resolution
+  pub place : ℕ
+
 -- the format of what was decided of the other keys, and of the comments' numbers
 abbrev pub formatting_of : Decided → List ℕ → Formatting
 formatting_of d numbers = record { strong = d.strong; em = d.em; code = d.code; link = option_copied d.link; color = d.color; comments = numbers }

@@ -38,17 +38,19 @@ impl CommentRun {
 }
 
 /// The run from the one place to the other, between which no mark of the comment begins or ends, if the comment holds there.
+/// `near` is where the last look-up among the comment's marks ended.
 fn run_between(
     operations: &[Op],
     comment: &CommentMarks,
     from: usize,
     to: usize,
+    near: &mut usize,
 ) -> Option<CommentRun>
     requires { (i : ℕ) (p : PlacedMark) → slice_get comment.now.marks i ≡ Some p → p.index < length operations.now }
     ensures run { IfSome result (λ run. IsRun comment.now.number from to run) }
     ensures along { (es : List Element) (ops : List Op) (p : ℕ) (e : OpId) → Shows es ops → AreMarks ops operations.now → ArePlaced es operations.now (Key.Comment comment.now.number) comment.now.marks → AreStill comment.now.marks from to → from ≤ p → p < to → IsAt es e p → IsSome result ↔ Bears ops e (Attribute.Comment comment.now.number) }
 {
-    if !holds_at(operations, &comment.marks, from) {
+    if !holds_at(operations, &comment.marks, from, near) {
         return None;
     }
     let number = comment.number;
@@ -97,8 +99,15 @@ fn push_runs(
 {
     let places = comment.marks.places();
     let gaps = places.len().saturating_sub(1);
+    let mut near = 0;
     for index in 0..gaps {
-        if let Some(run) = run_between(operations, comment, places[index], places[index + 1]) {
+        if let Some(run) = run_between(
+            operations,
+            comment,
+            places[index],
+            places[index + 1],
+            &mut near,
+        ) {
             push_run(runs, run)?;
         }
     }

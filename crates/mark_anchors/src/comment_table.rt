@@ -35,6 +35,13 @@ impl Model for CommentTable {
     ghost invariant = { λ t. IsTable (arc_slice_items t.runs) t.begins.items t.ends.items };
 }
 
+/// How many runs had begun, and how many had ended, where the last look-up ended: from there the next one begins.
+#[derive(Clone, Copy)]
+pub(crate) struct RunCounts {
+    pub(crate) begun: usize,
+    pub(crate) ended: usize,
+}
+
 /// The runs in the order in which they begin.
 fn by_begin(mut runs: Vec<CommentRun>) -> Vec<CommentRun>
     ensures { AreSorted begin_of runs.items result.items }
@@ -73,6 +80,70 @@ fn ended_up_to(ends: &[CommentRun], place: usize) -> usize
     ends.partition_point(|run| run.to <= place)
 }
 
+/// Whether so many of the runs begin at the place or before it.
+fn is_begun_up_to(begins: &[CommentRun], count: usize, place: usize) -> bool
+    requires { IsNonDecreasingBy begin_of begins.now }
+    ensures count { IsTrue result → count ≡ count_up_to begin_of begins.now place }
+    ensures within { IsTrue result → count ≤ length begins.now }
+    ensures first { IsTrue result → (k : ℕ) (d : CommentRun) → k < count → (begin_of (slice_index_or begins.now k d)) ≤ place }
+    ensures rest { IsTrue result → (k : ℕ) (d : CommentRun) → count ≤ k → k < length begins.now → place < begin_of (slice_index_or begins.now k d) }
+{
+    count <= begins.len()
+        && (count == 0 || begins[count - 1].from <= place)
+        && (count == begins.len() || place < begins[count].from)
+}
+
+/// The same number as `begun_up_to`. What was found last, `near`, and one more are tried first.
+fn begun_near(begins: &[CommentRun], place: usize, near: &mut usize) -> usize
+    requires { IsNonDecreasingBy begin_of begins.now }
+    ensures count { result ≡ count_up_to begin_of begins.now place }
+    ensures within { result ≤ length begins.now }
+    ensures first { (k : ℕ) (d : CommentRun) → k < result → (begin_of (slice_index_or begins.now k d)) ≤ place }
+    ensures rest { (k : ℕ) (d : CommentRun) → result ≤ k → k < length begins.now → place < begin_of (slice_index_or begins.now k d) }
+{
+    if !is_begun_up_to(begins, *near, place) {
+        let next = near.saturating_add(1);
+        *near = if is_begun_up_to(begins, next, place) {
+            next
+        } else {
+            begun_up_to(begins, place)
+        };
+    }
+    *near
+}
+
+/// Whether so many of the runs end at the place or before it.
+fn is_ended_up_to(ends: &[CommentRun], count: usize, place: usize) -> bool
+    requires { IsNonDecreasingBy end_of ends.now }
+    ensures count { IsTrue result → count ≡ count_up_to end_of ends.now place }
+    ensures within { IsTrue result → count ≤ length ends.now }
+    ensures first { IsTrue result → (k : ℕ) (d : CommentRun) → k < count → (end_of (slice_index_or ends.now k d)) ≤ place }
+    ensures rest { IsTrue result → (k : ℕ) (d : CommentRun) → count ≤ k → k < length ends.now → place < end_of (slice_index_or ends.now k d) }
+{
+    count <= ends.len()
+        && (count == 0 || ends[count - 1].to <= place)
+        && (count == ends.len() || place < ends[count].to)
+}
+
+/// The same number as `ended_up_to`. What was found last, `near`, and one more are tried first.
+fn ended_near(ends: &[CommentRun], place: usize, near: &mut usize) -> usize
+    requires { IsNonDecreasingBy end_of ends.now }
+    ensures count { result ≡ count_up_to end_of ends.now place }
+    ensures within { result ≤ length ends.now }
+    ensures first { (k : ℕ) (d : CommentRun) → k < result → (end_of (slice_index_or ends.now k d)) ≤ place }
+    ensures rest { (k : ℕ) (d : CommentRun) → result ≤ k → k < length ends.now → place < end_of (slice_index_or ends.now k d) }
+{
+    if !is_ended_up_to(ends, *near, place) {
+        let next = near.saturating_add(1);
+        *near = if is_ended_up_to(ends, next, place) {
+            next
+        } else {
+            ended_up_to(ends, place)
+        };
+    }
+    *near
+}
+
 /// The runs from one index up to another, which is not one of them.
 fn part(runs: &[CommentRun], from: usize, to: usize) -> &[CommentRun]
     requires order { from ≤ to }
@@ -83,24 +154,34 @@ fn part(runs: &[CommentRun], from: usize, to: usize) -> &[CommentRun]
 }
 
 /// The runs that begin behind the first place and not behind the second.
-fn begun_between(begins: &[CommentRun], first: usize, second: usize) -> &[CommentRun]
+fn begun_between<'a>(
+    begins: &'a [CommentRun],
+    first: usize,
+    second: usize,
+    near: &mut usize,
+) -> &'a [CommentRun]
     requires sorted { IsNonDecreasingBy begin_of begins.now }
     requires order { first ≤ second }
     ensures { (run : CommentRun) → Contains begins.now run → first < run.from → run.from ≤ second → Contains result.now run }
 {
-    let from = begun_up_to(begins, first);
-    let to = begun_up_to(begins, second);
+    let from = begun_near(begins, first, near);
+    let to = begun_near(begins, second, near);
     part(begins, from, to)
 }
 
 /// The runs that end behind the first place and not behind the second.
-fn ended_between(ends: &[CommentRun], first: usize, second: usize) -> &[CommentRun]
+fn ended_between<'a>(
+    ends: &'a [CommentRun],
+    first: usize,
+    second: usize,
+    near: &mut usize,
+) -> &'a [CommentRun]
     requires sorted { IsNonDecreasingBy end_of ends.now }
     requires order { first ≤ second }
     ensures { (run : CommentRun) → Contains ends.now run → first < run.to → run.to ≤ second → Contains result.now run }
 {
-    let from = ended_up_to(ends, first);
-    let to = ended_up_to(ends, second);
+    let from = ended_near(ends, first, near);
+    let to = ended_near(ends, second, near);
     part(ends, from, to)
 }
 
@@ -156,30 +237,30 @@ impl CommentTable {
     }
 
     /// How many comments hold at the place.
-    fn count_at(&self, place: usize) -> u32
+    fn count_at(&self, place: usize, near: &mut RunCounts) -> u32
         ensures { result ≡ length (numbers_at self.now place) }
     {
-        let begun = begun_up_to(&self.begins, place);
-        let ended = ended_up_to(&self.ends, place);
+        let begun = begun_near(&self.begins, place, &mut near.begun);
+        let ended = ended_near(&self.ends, place, &mut near.ended);
         (begun - ended) as u32
     }
 
     /// Whether the places have the same comments.
-    pub(crate) fn is_alike(&self, first: usize, second: usize) -> bool
+    pub(crate) fn is_alike(&self, first: usize, second: usize, near: &mut RunCounts) -> bool
         requires { first ≤ second }
         ensures { IsTrue result ↔ AreAlike self.now first second }
     {
-        let begun = begun_between(&self.begins, first, second);
-        let ended = ended_between(&self.ends, first, second);
+        let begun = begun_between(&self.begins, first, second, &mut near.begun);
+        let ended = ended_between(&self.ends, first, second, &mut near.ended);
         are_steady(&self.runs, begun, first, second) && are_steady(&self.runs, ended, first, second)
     }
 
     /// The comments that hold at the place.
-    pub(crate) fn at(&self, place: usize) -> Result<CommentList, AllocError>
+    pub(crate) fn at(&self, place: usize, near: &mut RunCounts) -> Result<CommentList, AllocError>
         ensures numbers { IfOk result (λ list. list ≡ numbers_at self.now place) }
         ensures rising { IfOk result (λ list. IsStrictlyIncreasing list) }
     {
-        let count = self.count_at(place);
+        let count = self.count_at(place, near);
         if count == 0 {
             return Ok(CommentList::none());
         }

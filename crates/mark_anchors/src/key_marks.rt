@@ -1,6 +1,6 @@
 //! The marks of one key, painted over the places at which they begin and end, from the greatest id down: the first that
 //! comes to a place is the one that decides there, so each place is painted once.
-ghost use Rattle.std.specs.Prelude.{◌≡◌, ◌<◌, ◌≤◌, ◌+◌, ◌↔◌, ℕ, List, Some, Contains, IfOk, length, slice_get};
+ghost use Rattle.std.specs.Prelude.{◌≡◌, ◌<◌, ◌≤◌, ◌+◌, ◌↔◌, ℕ, List, Some, Contains, IfOk, IsTrue, length, slice_get};
 ghost use Rattle.std.specs.List.Sorted.{IsStrictlyIncreasing, IsPermutation};
 ghost use Rattle.mark_anchors.specs.Placed.{IsBest};
 ghost use Rattle.mark_anchors.specs.KeyMarks.{AreById, AreEnds, IsEndOf, IsCountBelow, IsCountUpTo, ArePainted, ArePaintedFrom};
@@ -117,6 +117,35 @@ fn count_up_to(places: &[usize], place: usize) -> usize
     }
 }
 
+/// Whether so many of the places are at this one or before it.
+fn is_count_up_to(places: &[usize], count: usize, place: usize) -> bool
+    requires { IsStrictlyIncreasing places.now }
+    ensures up_to { IsTrue result → IsCountUpTo places.now place count }
+    ensures within { IsTrue result → count ≤ length places.now }
+{
+    count <= places.len()
+        && (count == 0 || places[count - 1] <= place)
+        && (count == places.len() || place < places[count])
+}
+
+/// How many of the places are at this one or before it. What was found last, `near`, and one more are tried first, as places are
+/// mostly looked up in their order.
+fn count_near(places: &[usize], place: usize, near: &mut usize) -> usize
+    requires { IsStrictlyIncreasing places.now }
+    ensures up_to { IsCountUpTo places.now place result }
+    ensures within { result ≤ length places.now }
+{
+    if !is_count_up_to(places, *near, place) {
+        let next = near.saturating_add(1);
+        *near = if is_count_up_to(places, next, place) {
+            next
+        } else {
+            count_up_to(places, place)
+        };
+    }
+    *near
+}
+
 /// The places, rising, each once.
 pub(crate) fn in_order(mut places: Vec<usize>) -> Vec<usize>
     ensures rising { IsStrictlyIncreasing result.items }
@@ -181,11 +210,11 @@ impl KeyMarks {
         &self.places
     }
 
-    /// The mark with the greatest id among those that cover the place.
-    pub(crate) fn deciding(&self, place: usize) -> Option<PlacedMark>
+    /// The mark with the greatest id among those that cover the place. `near` is where the last look-up ended.
+    pub(crate) fn deciding(&self, place: usize, near: &mut usize) -> Option<PlacedMark>
         ensures { IsBest self.now place (length self.now) result }
     {
-        let count = count_up_to(&self.places, place);
+        let count = count_near(&self.places, place, near);
         if count == 0 {
             return None;
         }

@@ -8,6 +8,7 @@ mod comment_runs;
 mod comment_table;
 mod comments;
 pub mod format;
+pub mod format_sweep;
 mod key_marks;
 mod mark_index;
 mod mark_range;

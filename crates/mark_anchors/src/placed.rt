@@ -128,12 +128,17 @@ pub(crate) fn marks_of(
     KeyMarks::new(alloc, found)
 }
 
-/// What the deciding mark adds at the place.
-fn added_at<'a>(operations: &'a [Op], marks: &KeyMarks, place: usize) -> Option<&'a Attribute>
+/// What the deciding mark adds at the place. `near`, here and below, is where the last look-up among these marks ended.
+fn added_at<'a>(
+    operations: &'a [Op],
+    marks: &KeyMarks,
+    place: usize,
+    near: &mut usize,
+) -> Option<&'a Attribute>
     requires { (i : ℕ) (p : PlacedMark) → slice_get marks.now i ≡ Some p → p.index < length operations.now }
     ensures { (es : List Element) (ops : List Op) (key : Key) (e : OpId) → Shows es ops → AreMarks ops operations.now → ArePlaced es operations.now key marks.now → IsAt es e place → IsValue ops key e (option_copied result) }
 {
-    let mark = marks.deciding(place)?;
+    let mark = marks.deciding(place, near)?;
     match &operations[mark.index] {
         Op::AddMark { attribute, .. } => Some(attribute),
         _ => None,
@@ -141,31 +146,41 @@ fn added_at<'a>(operations: &'a [Op], marks: &KeyMarks, place: usize) -> Option<
 }
 
 /// Whether the marks' key holds at the place.
-pub(crate) fn holds_at(operations: &[Op], marks: &KeyMarks, place: usize) -> bool
+pub(crate) fn holds_at(operations: &[Op], marks: &KeyMarks, place: usize, near: &mut usize) -> bool
     requires { (i : ℕ) (p : PlacedMark) → slice_get marks.now i ≡ Some p → p.index < length operations.now }
     // The key has one attribute.
     ensures { (es : List Element) (ops : List Op) (a : Attribute) (e : OpId) → ((b : Attribute) → key_of b ≡ key_of a → b ≡ a) → Shows es ops → AreMarks ops operations.now → ArePlaced es operations.now (key_of a) marks.now → IsAt es e place → IsTrue result ↔ Bears ops e a }
 {
-    added_at(operations, marks, place).is_some()
+    added_at(operations, marks, place, near).is_some()
 }
 
 /// The link at the place.
-pub(crate) fn link_at<'a>(operations: &'a [Op], marks: &KeyMarks, place: usize) -> Option<&'a Link>
+pub(crate) fn link_at<'a>(
+    operations: &'a [Op],
+    marks: &KeyMarks,
+    place: usize,
+    near: &mut usize,
+) -> Option<&'a Link>
     requires { (i : ℕ) (p : PlacedMark) → slice_get marks.now i ≡ Some p → p.index < length operations.now }
     ensures { (es : List Element) (ops : List Op) (e : OpId) → Shows es ops → AreMarks ops operations.now → ArePlaced es operations.now Key.Link marks.now → IsAt es e place → (target : List ℕ) → (option_copied result ≡ Some target) ↔ Bears ops e (Attribute.Link target) }
 {
-    match added_at(operations, marks, place)? {
+    match added_at(operations, marks, place, near)? {
         Attribute::Link(link) => Some(link),
         _ => None,
     }
 }
 
 /// The color at the place.
-pub(crate) fn color_at(operations: &[Op], marks: &KeyMarks, place: usize) -> Option<Color>
+pub(crate) fn color_at(
+    operations: &[Op],
+    marks: &KeyMarks,
+    place: usize,
+    near: &mut usize,
+) -> Option<Color>
     requires { (i : ℕ) (p : PlacedMark) → slice_get marks.now i ≡ Some p → p.index < length operations.now }
     ensures { (es : List Element) (ops : List Op) (e : OpId) → Shows es ops → AreMarks ops operations.now → ArePlaced es operations.now Key.Color marks.now → IsAt es e place → (rgb : ℕ) → (result ≡ Some rgb) ↔ Bears ops e (Attribute.Color rgb) }
 {
-    match added_at(operations, marks, place)? {
+    match added_at(operations, marks, place, near)? {
         Attribute::Color(color) => Some(*color),
         _ => None,
     }

@@ -11,9 +11,10 @@ ghost use Rattle.mark_anchors.specs.Resolution.{formatting_of};
 ghost use Rattle.mark_anchors.specs.Ranges.{AreCuts, IsFormatAt};
 
 use crate::comment_runs::comment_runs;
-use crate::comment_table::CommentTable;
+use crate::comment_table::{CommentTable, RunCounts};
 use crate::comments::comment_marks;
 use crate::format::Format;
+use crate::format_sweep::FormatSweep;
 use crate::key_marks::{KeyMarks, in_order, places_of};
 use crate::marks::Marks;
 use crate::placed::{PlacedMark, color_at, holds_at, link_at, marks_in, marks_of};
@@ -66,6 +67,31 @@ fn is_same_link(first: Option<&Link>, second: Option<&Link>) -> bool
         (Some(link), Some(other)) => link == other,
         (None, None) => true,
         _ => false,
+    }
+}
+
+/// Where the last look-up of each key ended: from there the next one begins.
+#[derive(Clone, Copy)]
+pub(crate) struct Near {
+    strong: usize,
+    em: usize,
+    code: usize,
+    link: usize,
+    color: usize,
+    comments: RunCounts,
+}
+
+impl Near {
+    /// No look-up was made.
+    pub(crate) fn start() -> Near {
+        Near {
+            strong: 0,
+            em: 0,
+            code: 0,
+            link: 0,
+            color: 0,
+            comments: RunCounts { begun: 0, ended: 0 },
+        }
     }
 }
 
@@ -139,37 +165,47 @@ impl ResolvedMarks<'_> {
     }
 
     /// What holds of each key but comments at the place.
-    fn decided_at(&self, place: usize) -> Decided<'_>
+    pub(crate) fn decided_at(&self, place: usize, near: &mut Near) -> Decided<'_>
         ensures { IsFormatAt self.now.elements self.now.marks place (formatting_of result (numbers_at self.now.runs place)) }
     {
         let operations = self.operations;
         Decided {
-            strong: holds_at(operations, &self.strong, place),
-            em: holds_at(operations, &self.em, place),
-            code: holds_at(operations, &self.code, place),
-            link: link_at(operations, &self.link, place),
-            color: color_at(operations, &self.color, place),
+            strong: holds_at(operations, &self.strong, place, &mut near.strong),
+            em: holds_at(operations, &self.em, place, &mut near.em),
+            code: holds_at(operations, &self.code, place, &mut near.code),
+            link: link_at(operations, &self.link, place, &mut near.link),
+            color: color_at(operations, &self.color, place, &mut near.color),
         }
     }
 
-    /// Whether the characters at the two places, which count removed characters too, have one format. No format is made for it.
-    pub fn is_alike(&self, first: usize, second: usize) -> bool
+    /// Whether the characters at the two places, of which this was decided, have one format. No format is made for it.
+    pub(crate) fn is_alike(
+        &self,
+        one: &Decided<'_>,
+        first: usize,
+        other: &Decided<'_>,
+        second: usize,
+        near: &mut Near,
+    ) -> bool
         requires order { first ≤ second }
         requires there { second < length self.now.elements }
+        requires one { IsFormatAt self.now.elements self.now.marks first (formatting_of one.now (numbers_at self.now.runs first)) }
+        requires other { IsFormatAt self.now.elements self.now.marks second (formatting_of other.now (numbers_at self.now.runs second)) }
         ensures { (format : Formatting) → IsFormatAt self.now.elements self.now.marks first format → IsTrue result ↔ IsFormatAt self.now.elements self.now.marks second format }
     {
-        let one = self.decided_at(first);
-        let other = self.decided_at(second);
-        let decided = one.is_same_but_link(&other) && is_same_link(one.link, other.link);
-        decided && self.comments.is_alike(first, second)
+        let decided = one.is_same_but_link(other) && is_same_link(one.link, other.link);
+        decided && self.comments.is_alike(first, second, &mut near.comments)
     }
 
-    /// The format of the character at the place, which counts removed characters too.
-    pub fn format_at_place(&self, place: usize) -> Result<Format, AllocError>
-        requires { place < length self.now.elements }
-        ensures { IfOk result (λ format. IsFormatAt self.now.elements self.now.marks place format) }
+    /// The format of what was decided, with the comments at the place.
+    pub(crate) fn format_of(
+        &self,
+        decided: &Decided<'_>,
+        place: usize,
+        near: &mut Near,
+    ) -> Result<Format, AllocError>
+        ensures { IfOk result (λ format. format ≡ formatting_of decided.now (numbers_at self.now.runs place)) }
     {
-        let decided = self.decided_at(place);
         let link = match decided.link {
             Some(link) => Some(link.clone()?),
             None => None,
@@ -180,7 +216,32 @@ impl ResolvedMarks<'_> {
             code: decided.code,
             link,
             color: decided.color,
-            comments: self.comments.at(place)?,
+            comments: self.comments.at(place, &mut near.comments)?,
         })
+    }
+
+    /// The format of the character at the place, which counts removed characters too.
+    pub fn format_at_place(&self, place: usize) -> Result<Format, AllocError>
+        requires { place < length self.now.elements }
+        ensures { IfOk result (λ format. IsFormatAt self.now.elements self.now.marks place format) }
+    {
+        let mut near = Near::start();
+        let decided = self.decided_at(place, &mut near);
+        self.format_of(&decided, place, &mut near)
+    }
+
+    /// The formats of the characters, from the first on.
+    pub fn sweep(&self) -> FormatSweep<'_>
+        ensures resolution { result.resolution ≡ self.now }
+        ensures start { result.place ≡ 0 }
+    {
+        let mut near = Near::start();
+        let decided = self.decided_at(0, &mut near);
+        FormatSweep {
+            resolved: self,
+            place: 0,
+            decided,
+            near,
+        }
     }
 }

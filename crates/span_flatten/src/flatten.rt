@@ -12,8 +12,8 @@ ghost use Rattle.span_flatten.specs.Version.{IsPiece, IsDraft, IsVersion};
 use crate::version::{Row, Version};
 use char_sequence::sequence::Sequence;
 use char_sequence::visible_cursor::VisibleCursor;
+use mark_anchors::format_sweep::FormatSweep;
 use mark_anchors::marks::Marks;
-use mark_anchors::resolved::ResolvedMarks;
 use std::alloc::{AllocError, Global};
 
 /// Lengthens a row by so many characters, up to a new end.
@@ -34,31 +34,33 @@ struct Extent {
 }
 
 /// Adds a row with the format of the character at the place `from`, or lengthens the last row where that has the format too. The last
-/// row's format is that of the character at the place `last`.
+/// row's format is that of the character where the sweep stands, which goes on to the place.
 fn add_row(
     rows: &mut Vec<Row>,
-    resolved: &ResolvedMarks<'_>,
-    last: usize,
+    sweep: &mut FormatSweep<'_>,
     from: usize,
     extent: Extent,
 ) -> Result<(), AllocError>
-    requires order { last ≤ from }
-    requires there { from < length resolved.now.elements }
-    requires formatted { IsLastFormat resolved.now.elements resolved.now.marks last rows.old.items }
+    requires order { sweep.old.place ≤ from }
+    requires there { from < length sweep.old.resolution.elements }
+    requires formatted { IsLastFormat sweep.old.resolution.elements sweep.old.resolution.marks sweep.old.place rows.old.items }
     requires counted { All (λ earlier. earlier.characters ≤ extent.start) rows.old.items }
     requires within { extent.start + extent.characters ≤ extent.end }
-    ensures draft { IfOk result (λ _. (f : Formatting) × IsFormatAt resolved.now.elements resolved.now.marks from f × ((shown more : List Shown) (piece : Span) (text text' : List ℕ) → IsPiece more piece → piece.format ≡ f → text' ≡ text ++ piece.text → extent.start ≡ length text → extent.end ≡ length text' → extent.characters ≡ length (chars piece.text) → IsDraft shown text rows.old.items → IsDraft (shown ++ more) text' rows.new.items)) }
-    ensures formatted { IfOk result (λ _. IsLastFormat resolved.now.elements resolved.now.marks from rows.new.items) }
+    ensures draft { IfOk result (λ _. (f : Formatting) × IsFormatAt sweep.old.resolution.elements sweep.old.resolution.marks from f × ((shown more : List Shown) (piece : Span) (text text' : List ℕ) → IsPiece more piece → piece.format ≡ f → text' ≡ text ++ piece.text → extent.start ≡ length text → extent.end ≡ length text' → extent.characters ≡ length (chars piece.text) → IsDraft shown text rows.old.items → IsDraft (shown ++ more) text' rows.new.items)) }
+    ensures formatted { IfOk result (λ _. IsLastFormat sweep.old.resolution.elements sweep.old.resolution.marks from rows.new.items) }
     ensures count { IfOk result (λ _. length rows.new.items ≤ length rows.old.items + 1) }
+    ensures resolution { sweep.new.resolution ≡ sweep.old.resolution }
+    ensures place { sweep.new.place ≡ from }
 {
+    let alike = sweep.advance(from);
     let count = rows.len();
     if count > 0 {
-        if resolved.is_alike(last, from) {
+        if alike {
             lengthen(&mut rows[count - 1], extent.end, extent.characters);
             return Ok(());
         }
     }
-    let format = resolved.format_at_place(from)?;
+    let format = sweep.format()?;
     rows.push(Row {
         start: extent.start,
         end: extent.end,
@@ -69,27 +71,27 @@ fn add_row(
 }
 
 /// Adds the visible text from one place, at which the cursor stands, up to another, between which all characters have one format.
-/// Where none of them is visible there is no row. The last row's format is that of the character at the place `last`.
+/// Where none of them is visible there is no row. The last row's format is that of the character where the sweep stands.
 fn take_in(
     text: &mut String,
     rows: &mut Vec<Row>,
     cursor: &mut VisibleCursor<'_>,
-    resolved: &ResolvedMarks<'_>,
-    last: &mut usize,
+    sweep: &mut FormatSweep<'_>,
     from: usize,
     to: usize,
 ) -> Result<(), AllocError>
-    requires behind { last.old ≤ from }
+    requires behind { sweep.old.place ≤ from }
     requires order { from ≤ to }
-    requires within { to ≤ length resolved.now.elements }
-    requires uniform { IsUniform resolved.now.elements resolved.now.marks from to }
-    requires at { cursor.old ≡ drop from resolved.now.elements }
-    requires formatted { IsLastFormat resolved.now.elements resolved.now.marks last.old rows.old.items }
+    requires within { to ≤ length sweep.old.resolution.elements }
+    requires uniform { IsUniform sweep.old.resolution.elements sweep.old.resolution.marks from to }
+    requires at { cursor.old ≡ drop from sweep.old.resolution.elements }
+    requires formatted { IsLastFormat sweep.old.resolution.elements sweep.old.resolution.marks sweep.old.place rows.old.items }
     requires counted { All (λ row. row.characters ≤ length (string_bytes text.old)) rows.old.items }
-    ensures taken { IsTaken resolved.now.elements resolved.now.marks from (string_bytes text.old) rows.old.items → IfOk result (λ _. IsTaken resolved.now.elements resolved.now.marks to (string_bytes text.new) rows.new.items) }
-    ensures at { IfOk result (λ _. cursor.new ≡ drop to resolved.now.elements) }
-    ensures formatted { IfOk result (λ _. IsLastFormat resolved.now.elements resolved.now.marks last.new rows.new.items) }
-    ensures behind { last.new ≤ to }
+    ensures taken { IsTaken sweep.old.resolution.elements sweep.old.resolution.marks from (string_bytes text.old) rows.old.items → IfOk result (λ _. IsTaken sweep.old.resolution.elements sweep.old.resolution.marks to (string_bytes text.new) rows.new.items) }
+    ensures at { IfOk result (λ _. cursor.new ≡ drop to sweep.old.resolution.elements) }
+    ensures formatted { IfOk result (λ _. IsLastFormat sweep.old.resolution.elements sweep.old.resolution.marks sweep.new.place rows.new.items) }
+    ensures behind { sweep.new.place ≤ to }
+    ensures resolution { sweep.new.resolution ≡ sweep.old.resolution }
 {
     let start = text.len();
     let characters = cursor.push_next(to - from, text)?;
@@ -102,8 +104,7 @@ fn take_in(
         end,
         characters,
     };
-    add_row(rows, resolved, *last, from, extent)?;
-    *last = from;
+    add_row(rows, sweep, from, extent)?;
     Ok(())
 }
 
@@ -124,18 +125,10 @@ pub fn flatten(
     let mut cursor = sequence.visible_from_start();
     // Its contract bounds the characters, and so the spans, which the proof needs.
     let _count = sequence.len();
-    let mut last = 0;
+    let mut sweep = resolved.sweep();
     let mut from = 0;
     for cut in &cuts {
-        take_in(
-            &mut text,
-            &mut rows,
-            &mut cursor,
-            &resolved,
-            &mut last,
-            from,
-            *cut,
-        )?;
+        take_in(&mut text, &mut rows, &mut cursor, &mut sweep, from, *cut)?;
         from = *cut;
     }
     Ok(Version { number, text, rows })

@@ -7,14 +7,14 @@ use Rattle.mark_anchors.proofs.comment_table.begun_between.Goals as goal
 
 pub part-requires-clause-order : goal.part-requires-clause-order
 part-requires-clause-order c =
-    let a = c.begun_up_to-from in
-    let b = c.begun_up_to-to in
+    let a = c.begun_near-from in
+    let b = c.begun_near-to in
     between_order begin_of c.args.begins.now a.result b.result c.args.first c.args.second c.requires.order a.ensures.within b.ensures.within a.ensures.first b.ensures.rest
 
 pub returns : goal.returns
 returns c =
-    let a = c.begun_up_to-from in
-    let b = c.begun_up_to-to in
+    let a = c.begun_near-from in
+    let b = c.begun_near-to in
     λ run held after upto.
     subst (λ (l : List CommentRun). Contains l run) (sym c.part.ensures)
     (between_holds begin_of c.args.begins.now a.result b.result c.args.first c.args.second c.requires.order a.ensures.within b.ensures.within a.ensures.first b.ensures.rest run held after upto)

@@ -1,7 +1,8 @@
 use Rattle.std.proofs.Common.{◌≡◌, ◌≤◌, ℕ, List, inl, length, drop, get_or, refl, sym, ap, ◌∙◌, subst, rules, arith, [], string_bytes}
 use Rattle.change_ops.specs.declared.operation.Op.{Op}
 use Rattle.char_sequence.specs.declared.sequence.Element.{Element}
-use Rattle.mark_anchors.specs.Ranges.{AreCuts}
+use Rattle.mark_anchors.specs.Ranges.{AreCuts, IsUniform}
+use Rattle.mark_anchors.specs.Resolution.{Resolution}
 use Rattle.mark_anchors.proofs.Uniform.{all_reached}
 use Rattle.mark_anchors.proofs.Cuts.{next_read, reached_next}
 use Rattle.span_flatten.specs.declared.version.Row.{Row}
@@ -17,11 +18,13 @@ loop-cut-init c =
     let rows : c.new-rows.result.items ≡ [] = search rules in
     record {
       reached = inl (refl, refl);
-      behind = omega arith;
+      behind = let start : c.sweep-sweep.result.place ≡ 0 = c.sweep-sweep.ensures.start in omega arith;
+      elements = ap (λ (v : Resolution). v.elements) c.sweep-sweep.ensures.resolution ∙ c.in_ok-resolved.ensures.elements;
+      marks = ap (λ (v : Resolution). v.marks) c.sweep-sweep.ensures.resolution ∙ c.in_ok-resolved.ensures.marks;
       taken =
           subst (λ (t : List ℕ). IsTaken es marks 0 t c.new-rows.result.items) (sym text)
           (subst (λ (r : List Row). IsTaken es marks 0 [] r) (sym rows) (taken_none es marks));
-      formatted = subst (IsLastFormat es marks 0) (sym rows) (λ d some. absurd (omega arith));
+      formatted = subst (IsLastFormat es marks c.sweep-sweep.result.place) (sym rows) (λ d some. absurd (omega arith));
       at = c.visible_from_start-cursor.ensures;
     }
 
@@ -35,21 +38,25 @@ pub take_in-requires-clause-within : goal.take_in-requires-clause-within
 take_in-requires-clause-within c =
     let resolved = c.in_ok-resolved.resolved in
     let are = subst (AreCuts resolved.elements resolved.marks) (sym c.deref-cut-items.ensures.value) c.in_ok-cuts.ensures in
+    subst (λ (l : List Element). get_or c.deref-cut-items.result.now c.loop-cut.cut-index 0 ≤ length l) (c.in_ok-resolved.ensures.elements ∙ sym c.loop-cut.invariant.elements)
     (next_read resolved.elements resolved.marks c.deref-cut-items.result.now c.loop-cut.cut-index c.loop-cut.from are c.loop-cut.invariant.reached c.loop-cut-test.true).1
 
 pub take_in-requires-clause-uniform : goal.take_in-requires-clause-uniform
 take_in-requires-clause-uniform c =
     let resolved = c.in_ok-resolved.resolved in
     let are = subst (AreCuts resolved.elements resolved.marks) (sym c.deref-cut-items.ensures.value) c.in_ok-cuts.ensures in
-    (next_read resolved.elements resolved.marks c.deref-cut-items.result.now c.loop-cut.cut-index c.loop-cut.from are c.loop-cut.invariant.reached c.loop-cut-test.true).2
+    let to : ℕ = get_or c.deref-cut-items.result.now c.loop-cut.cut-index 0 in
+    subst (λ (l : List Element). IsUniform l c.loop-cut.sweep.resolution.marks c.loop-cut.from to) (c.in_ok-resolved.ensures.elements ∙ sym c.loop-cut.invariant.elements)
+    (subst (λ (ms : List Op). IsUniform resolved.elements ms c.loop-cut.from to) (c.in_ok-resolved.ensures.marks ∙ sym c.loop-cut.invariant.marks)
+    (next_read resolved.elements resolved.marks c.deref-cut-items.result.now c.loop-cut.cut-index c.loop-cut.from are c.loop-cut.invariant.reached c.loop-cut-test.true).2)
 
 pub take_in-requires-clause-at : goal.take_in-requires-clause-at
-take_in-requires-clause-at c = c.loop-cut.invariant.at ∙ ap (λ (l : List Element). drop c.loop-cut.from l) (sym c.in_ok-resolved.ensures.elements)
+take_in-requires-clause-at c = c.loop-cut.invariant.at ∙ ap (λ (l : List Element). drop c.loop-cut.from l) (sym c.loop-cut.invariant.elements)
 
 pub take_in-requires-clause-formatted : goal.take_in-requires-clause-formatted
 take_in-requires-clause-formatted c =
-    last_along c.args.sequence.now.elements c.in_ok-resolved.resolved.elements c.args.marks.now c.in_ok-resolved.resolved.marks c.loop-cut.last c.loop-cut.rows.items
-    c.in_ok-resolved.ensures.elements c.in_ok-resolved.ensures.marks c.loop-cut.invariant.formatted
+    let was = c.loop-cut.sweep.resolution in
+    last_along c.args.sequence.now.elements was.elements c.args.marks.now was.marks c.loop-cut.sweep.place c.loop-cut.rows.items c.loop-cut.invariant.elements c.loop-cut.invariant.marks c.loop-cut.invariant.formatted
 
 pub take_in-requires-clause-counted : goal.take_in-requires-clause-counted
 take_in-requires-clause-counted c =
@@ -58,22 +65,21 @@ take_in-requires-clause-counted c =
 
 pub loop-cut-preserved : goal.loop-cut-preserved
 loop-cut-preserved c =
-    let resolved = c.in_ok-resolved.resolved in
     let es : List Element = c.args.sequence.now.elements in
     let marks : List Op = c.args.marks.now in
     let to : ℕ = get_or c.deref-cut-items.result.now c.loop-cut.cut-index 0 in
-    let was =
-    taken_along es resolved.elements marks resolved.marks c.loop-cut.from (string_bytes c.loop-cut.text) c.loop-cut.rows.items c.in_ok-resolved.ensures.elements c.in_ok-resolved.ensures.marks c.loop-cut.invariant.taken in
+    let inv = c.loop-cut.invariant in
+    let held = c.loop-cut.sweep.resolution in
+    let was : IsTaken held.elements held.marks c.loop-cut.from (string_bytes c.loop-cut.text) c.loop-cut.rows.items =
+    taken_along es held.elements marks held.marks c.loop-cut.from (string_bytes c.loop-cut.text) c.loop-cut.rows.items inv.elements inv.marks inv.taken in
     record {
       reached = reached_next c.deref-cut-items.result.now c.loop-cut.cut-index c.loop-cut-test.true;
       behind = c.take_in.ensures.behind;
-      taken =
-          taken_along resolved.elements es resolved.marks marks to (string_bytes c.take_in.new.text) c.take_in.new.rows.items (sym c.in_ok-resolved.ensures.elements) (sym c.in_ok-resolved.ensures.marks)
-          (c.in_ok-take_in.ensures.taken was);
-      formatted =
-          last_along resolved.elements es resolved.marks marks c.take_in.new.last c.take_in.new.rows.items (sym c.in_ok-resolved.ensures.elements) (sym c.in_ok-resolved.ensures.marks)
-          c.in_ok-take_in.ensures.formatted;
-      at = c.in_ok-take_in.ensures.at ∙ ap (λ (l : List Element). drop to l) c.in_ok-resolved.ensures.elements;
+      elements = ap (λ (v : Resolution). v.elements) c.take_in.ensures.resolution ∙ inv.elements;
+      marks = ap (λ (v : Resolution). v.marks) c.take_in.ensures.resolution ∙ inv.marks;
+      taken = taken_along held.elements es held.marks marks to (string_bytes c.take_in.new.text) c.take_in.new.rows.items (sym inv.elements) (sym inv.marks) (c.in_ok-take_in.ensures.taken was);
+      formatted = last_along held.elements es held.marks marks c.take_in.new.sweep.place c.take_in.new.rows.items (sym inv.elements) (sym inv.marks) c.in_ok-take_in.ensures.formatted;
+      at = c.in_ok-take_in.ensures.at ∙ ap (λ (l : List Element). drop to l) inv.elements;
     }
 
 -- at the end all characters are taken in

@@ -1,4 +1,4 @@
-use Rattle.std.proofs.Common.{◌≡◌, ◌∙◌, ◌+◌, ◌-◌, ◌<◌, ◌≤◌, ◌++◌, ℕ, List, length, take, drop, refl, sym, ap, arith, rules, string_bytes, length-append}
+use Rattle.std.proofs.Common.{◌≡◌, ◌∙◌, ◌+◌, ◌-◌, ◌<◌, ◌≤◌, ◌++◌, ℕ, List, length, take, drop, refl, sym, ap, subst, arith, rules, string_bytes, length-append}
 use Rattle.std.specs.List.{slice_range}
 use Rattle.std.proofs.lemmas.List.{drop-drop}
 use Rattle.std.proofs.lemmas.Str.{IsUtf8-string_bytes}
@@ -7,6 +7,7 @@ use Rattle.char_sequence.specs.declared.sequence.Element.{Element}
 use Rattle.char_sequence.specs.Visible.{visible_text, visible_count}
 use Rattle.mark_anchors.specs.Formatting.{Formatting}
 use Rattle.span_flatten.specs.Spans.{Span}
+use Rattle.span_flatten.specs.Taken.{IsLastFormat}
 use Rattle.span_flatten.proofs.Taking.{FormattedRange, more_of, taken_empty, piece_more, taken_more, count_spelt, count_few, some_between, uniform_range}
 use Rattle.span_flatten.proofs.flatten.take_in.Goals as goal
 
@@ -19,7 +20,7 @@ left_behind es left left' from to order at moved =
 pub returns-then-start-end-clause-taken : goal.returns-then-start-end-clause-taken
 returns-then-start-end-clause-taken c =
     λ t.
-    let es : List Element = c.args.resolved.now.elements in
+    let es : List Element = c.args.sweep.now.resolution.elements in
     let from : ℕ = c.args.from in
     let to : ℕ = c.args.to in
     let text : List ℕ = string_bytes c.args.text.now in
@@ -27,16 +28,16 @@ returns-then-start-end-clause-taken c =
     let grown : text' ≡ text ++ visible_text (slice_range es from to) = c.in_ok-characters.ensures.text ∙ ap (λ l. text ++ visible_text (take (to - from) l)) c.requires.at in
     let started : c.len-start.result ≡ length text = search rules in
     let ended : c.len-end.result ≡ length text' = search rules in
-    taken_empty es c.args.resolved.now.marks from to text text' c.args.rows.now.items c.requires.order grown (sym started ∙ c.if-start-end.true ∙ ended) t
+    taken_empty es c.args.sweep.now.resolution.marks from to text text' c.args.rows.now.items c.requires.order grown (sym started ∙ c.if-start-end.true ∙ ended) t
 
 pub returns-then-start-end-clause-at : goal.returns-then-start-end-clause-at
-returns-then-start-end-clause-at c = left_behind c.args.resolved.now.elements c.args.cursor.now c.push_next.new.self c.args.from c.args.to c.requires.order c.requires.at c.in_ok-characters.ensures.left
+returns-then-start-end-clause-at c = left_behind c.args.sweep.now.resolution.elements c.args.cursor.now c.push_next.new.self c.args.from c.args.to c.requires.order c.requires.at c.in_ok-characters.ensures.left
 
 pub returns-clause-taken : goal.returns-clause-taken
 returns-clause-taken c =
     λ t.
-    let es : List Element = c.args.resolved.now.elements in
-    let marks : List Op = c.args.resolved.now.marks in
+    let es : List Element = c.args.sweep.now.resolution.elements in
+    let marks : List Op = c.args.sweep.now.resolution.marks in
     let from : ℕ = c.args.from in
     let to : ℕ = c.args.to in
     let text : List ℕ = string_bytes c.args.text.now in
@@ -57,8 +58,12 @@ returns-clause-taken c =
     let draft = told.2 t.shown (more_of format (slice_range es from to)) piece text text' is refl grown started ended characters t.draft in
     taken_more es marks range text text' rows some of grown t c.add_row.new.rows.items draft c.in_ok-add_row.ensures.count
 
+pub returns-clause-formatted : goal.returns-clause-formatted
+returns-clause-formatted c =
+    subst (λ p. IsLastFormat c.args.sweep.now.resolution.elements c.args.sweep.now.resolution.marks p c.add_row.new.rows.items) (sym c.add_row.ensures.place) c.in_ok-add_row.ensures.formatted
+
 pub returns-clause-at : goal.returns-clause-at
-returns-clause-at c = left_behind c.args.resolved.now.elements c.args.cursor.now c.push_next.new.self c.args.from c.args.to c.requires.order c.requires.at c.in_ok-characters.ensures.left
+returns-clause-at c = left_behind c.args.sweep.now.resolution.elements c.args.cursor.now c.push_next.new.self c.args.from c.args.to c.requires.order c.requires.at c.in_ok-characters.ensures.left
 
 pub add_row-requires-clause-there : goal.add_row-requires-clause-there
 add_row-requires-clause-there c =
@@ -67,7 +72,7 @@ add_row-requires-clause-there c =
     let started : c.len-start.result ≡ length text = search rules in
     let ended : c.len-end.result ≡ length text' = search rules in
     let some : c.args.from < c.args.to = some_between c.args.cursor.now c.args.from c.args.to text text' c.requires.order c.in_ok-characters.ensures.text (λ same. c.if-start-end.false (started ∙ same ∙ sym ended)) in
-    let within : c.args.to ≤ length c.args.resolved.now.elements = c.requires.within in
+    let within : c.args.to ≤ length c.args.sweep.now.resolution.elements = c.requires.within in
     omega arith
 
 pub add_row-requires-clause-counted : goal.add_row-requires-clause-counted

@@ -13,8 +13,8 @@ overflow_sub-result c =
     let place : ℕ = c.args.place in
     let begins : List CommentRun = c.self.inside.begins.items in
     let ends : List CommentRun = c.self.inside.ends.items in
-    let begun : c.begun_up_to-begun.result ≡ count_up_to begin_of begins place = c.begun_up_to-begun.ensures.count ∙ ap (λ (l : List CommentRun). count_up_to begin_of l place) c.deref.ensures.value in
-    let ended : c.ended_up_to-ended.result ≡ count_up_to end_of ends place = c.ended_up_to-ended.ensures.count ∙ ap (λ (l : List CommentRun). count_up_to end_of l place) c.deref-2.ensures.value in
+    let begun : c.begun_near-begun.result ≡ count_up_to begin_of begins place = c.begun_near-begun.ensures.count ∙ ap (λ (l : List CommentRun). count_up_to begin_of l place) c.deref.ensures.value in
+    let ended : c.ended_near-ended.result ≡ count_up_to end_of ends place = c.ended_near-ended.ensures.count ∙ ap (λ (l : List CommentRun). count_up_to end_of l place) c.deref-2.ensures.value in
     let all : length (numbers_at runs place) + count_up_to end_of ends place ≡ count_up_to begin_of begins place = count_of_table runs begins ends place c.self.invariant in
     omega arith
 
@@ -24,8 +24,8 @@ overflow_cast-result c =
     let place : ℕ = c.args.place in
     let begins : List CommentRun = c.self.inside.begins.items in
     let ends : List CommentRun = c.self.inside.ends.items in
-    let begun : c.begun_up_to-begun.result ≡ count_up_to begin_of begins place = c.begun_up_to-begun.ensures.count ∙ ap (λ (l : List CommentRun). count_up_to begin_of l place) c.deref.ensures.value in
-    let ended : c.ended_up_to-ended.result ≡ count_up_to end_of ends place = c.ended_up_to-ended.ensures.count ∙ ap (λ (l : List CommentRun). count_up_to end_of l place) c.deref-2.ensures.value in
+    let begun : c.begun_near-begun.result ≡ count_up_to begin_of begins place = c.begun_near-begun.ensures.count ∙ ap (λ (l : List CommentRun). count_up_to begin_of l place) c.deref.ensures.value in
+    let ended : c.ended_near-ended.result ≡ count_up_to end_of ends place = c.ended_near-ended.ensures.count ∙ ap (λ (l : List CommentRun). count_up_to end_of l place) c.deref-2.ensures.value in
     let all : length (numbers_at runs place) + count_up_to end_of ends place ≡ count_up_to begin_of begins place = count_of_table runs begins ends place c.self.invariant in
     let few : length (numbers_at runs place) < 2 ^ 32 = few_at runs place c.self.invariant.orderly in
     omega arith
@@ -36,8 +36,8 @@ returns c =
     let place : ℕ = c.args.place in
     let begins : List CommentRun = c.self.inside.begins.items in
     let ends : List CommentRun = c.self.inside.ends.items in
-    let begun : c.begun_up_to-begun.result ≡ count_up_to begin_of begins place = c.begun_up_to-begun.ensures.count ∙ ap (λ (l : List CommentRun). count_up_to begin_of l place) c.deref.ensures.value in
-    let ended : c.ended_up_to-ended.result ≡ count_up_to end_of ends place = c.ended_up_to-ended.ensures.count ∙ ap (λ (l : List CommentRun). count_up_to end_of l place) c.deref-2.ensures.value in
+    let begun : c.begun_near-begun.result ≡ count_up_to begin_of begins place = c.begun_near-begun.ensures.count ∙ ap (λ (l : List CommentRun). count_up_to begin_of l place) c.deref.ensures.value in
+    let ended : c.ended_near-ended.result ≡ count_up_to end_of ends place = c.ended_near-ended.ensures.count ∙ ap (λ (l : List CommentRun). count_up_to end_of l place) c.deref-2.ensures.value in
     let all : length (numbers_at runs place) + count_up_to end_of ends place ≡ count_up_to begin_of begins place = count_of_table runs begins ends place c.self.invariant in
-    let count : c.begun_up_to-begun.result - c.ended_up_to-ended.result ≡ length (numbers_at runs place) = omega arith in
+    let count : c.begun_near-begun.result - c.ended_near-ended.result ≡ length (numbers_at runs place) = omega arith in
     count ∙ ap (λ (rs : List CommentRun). length (numbers_at rs place)) c.self.view_is

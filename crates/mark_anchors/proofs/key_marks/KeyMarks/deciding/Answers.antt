@@ -13,9 +13,9 @@ pub returns-then-count-eq0 : goal.returns-then-count-eq0
 returns-then-count-eq0 c =
     let marks : List PlacedMark = c.self.inside.marks.items in
     let places : List ℕ = c.self.inside.places.items in
-    let zero : c.count_up_to-count.result ≡ 0 = omega arith in
+    let zero : c.count_near-count.result ≡ 0 = omega arith in
     let up_to : IsCountUpTo places c.args.place 0 =
-    subst (λ n. IsCountUpTo places c.args.place n) zero (subst (λ (l : List ℕ). IsCountUpTo l c.args.place c.count_up_to-count.result) c.deref.ensures.value c.count_up_to-count.ensures.up_to) in
+    subst (λ n. IsCountUpTo places c.args.place n) zero (subst (λ (l : List ℕ). IsCountUpTo l c.args.place c.count_near-count.result) c.deref.ensures.value c.count_near-count.ensures.up_to) in
     subst (λ (ms : List PlacedMark). IsBest ms c.args.place (length ms) None) c.self.view_is
     (none_before marks places c.self.inside.numbers.items c.self.invariant c.args.place up_to)
 
@@ -24,11 +24,11 @@ returns-in_err-number c =
     let marks : List PlacedMark = c.self.inside.marks.items in
     let places : List ℕ = c.self.inside.places.items in
     let numbers : List (Option ℕ) = c.self.inside.numbers.items in
-    let count : ℕ = c.count_up_to-count.result in
+    let count : ℕ = c.count_near-count.result in
     let j : ℕ = count - 1 in
     let next : count ≡ j + 1 = omega arith in
-    let counted : IsCountUpTo places c.args.place count = subst (λ (l : List ℕ). IsCountUpTo l c.args.place count) c.deref.ensures.value c.count_up_to-count.ensures.up_to in
-    let all : count ≤ length places = subst (λ (l : List ℕ). count ≤ length l) c.deref.ensures.value c.count_up_to-count.ensures.within in
+    let counted : IsCountUpTo places c.args.place count = subst (λ (l : List ℕ). IsCountUpTo l c.args.place count) c.deref.ensures.value c.count_near-count.ensures.up_to in
+    let all : count ≤ length places = subst (λ (l : List ℕ). count ≤ length l) c.deref.ensures.value c.count_near-count.ensures.within in
     let sized : length numbers ≡ length places = c.self.invariant.painted.sized in
     let stands : slice_get numbers j ≡ Some c.index.result.now = read_at numbers j c.index.result.now c.index.ensures (omega arith) in
     let best = best_from marks places numbers c.self.invariant c.args.place j (get_or places j 0) (subst (λ n. IsCountUpTo places c.args.place n) next counted) (slice_get-get_or places j 0 (omega arith)) c.index.result.now stands in
@@ -40,11 +40,11 @@ returns c =
     let marks : List PlacedMark = c.self.inside.marks.items in
     let places : List ℕ = c.self.inside.places.items in
     let numbers : List (Option ℕ) = c.self.inside.numbers.items in
-    let count : ℕ = c.count_up_to-count.result in
+    let count : ℕ = c.count_near-count.result in
     let j : ℕ = count - 1 in
     let next : count ≡ j + 1 = omega arith in
-    let counted : IsCountUpTo places c.args.place count = subst (λ (l : List ℕ). IsCountUpTo l c.args.place count) c.deref.ensures.value c.count_up_to-count.ensures.up_to in
-    let all : count ≤ length places = subst (λ (l : List ℕ). count ≤ length l) c.deref.ensures.value c.count_up_to-count.ensures.within in
+    let counted : IsCountUpTo places c.args.place count = subst (λ (l : List ℕ). IsCountUpTo l c.args.place count) c.deref.ensures.value c.count_near-count.ensures.up_to in
+    let all : count ≤ length places = subst (λ (l : List ℕ). count ≤ length l) c.deref.ensures.value c.count_near-count.ensures.within in
     let sized : length numbers ≡ length places = c.self.invariant.painted.sized in
     let stands : slice_get numbers j ≡ Some c.index.result.now = read_at numbers j c.index.result.now c.index.ensures (omega arith) in
     let best = best_from marks places numbers c.self.invariant c.args.place j (get_or places j 0) (subst (λ n. IsCountUpTo places c.args.place n) next counted) (slice_get-get_or places j 0 (omega arith)) c.index.result.now stands in

@@ -1,23 +1,14 @@
-use Rattle.std.proofs.Common.{◌≡◌, ◌∙◌, Some, ap, refl, sym, subst}
-use Rattle.std.specs.Option.{option_copied}
+use Rattle.std.proofs.Common.{◌≡◌, sym, subst}
 use Rattle.mark_anchors.specs.CommentRuns.{numbers_at}
-use Rattle.mark_anchors.specs.Format.{IsFormat}
 use Rattle.mark_anchors.specs.Formatting.{Formatting}
-use Rattle.mark_anchors.specs.Resolution.{Resolution, formatting_of}
-use Rattle.mark_anchors.proofs.Formats.{same_fields}
-use Rattle.mark_anchors.proofs.resolved.ResolvedMarks.format_at_place.Goals.{in-Some+in_ok-clone-in-Some, in-None}
+use Rattle.mark_anchors.specs.Ranges.{IsFormatAt}
+use Rattle.mark_anchors.specs.Resolution.{formatting_of}
+use Rattle.mark_anchors.proofs.Alike.{ok_more}
 use Rattle.mark_anchors.proofs.resolved.ResolvedMarks.format_at_place.Goals as goal
 
 pub returns : goal.returns
 returns c =
-    λ ops e shows marks at.
-    let decided = c.decided_at-decided.result in
-    let numbers : c.in_ok-at.field-0 ≡ numbers_at c.args.self.now.runs c.args.place = c.in_ok-at.ensures.numbers ∙ ap (λ (v : Resolution). numbers_at v.runs c.args.place) c.self.view_is in
-    let link : c.match-decided.link ≡ option_copied decided.link =
-    elim c.match-decided.branch [
-      | in-Some+in_ok-clone-in-Some w ↦ w.link-is ∙ ap Some w.in_ok-clone-in-Some.ensures.cases ∙ sym (ap option_copied w.in-Some.is)
-      | in-None w ↦ w.link-is ∙ sym (ap option_copied w.in-None.is)
-    ] in
-    let made : Formatting = record { strong = decided.strong; em = decided.em; code = decided.code; link = c.match-decided.link; color = decided.color; comments = c.in_ok-at.field-0 } in
-    let same : formatting_of decided (numbers_at c.args.self.now.runs c.args.place) ≡ made = same_fields _ made refl refl refl (sym link) refl (sym numbers) in
-    subst (IsFormat ops e.id) same (c.decided_at-decided.ensures ops e shows marks at)
+    let is : Formatting → Type 0 = IsFormatAt c.args.self.now.elements c.args.self.now.marks c.args.place in
+    ok_more (λ f. f ≡ formatting_of c.decided_at-decided.result (numbers_at c.args.self.now.runs c.args.place)) is c.format_of.result
+    (λ f same. subst is (sym same) c.decided_at-decided.ensures)
+    c.format_of.ensures

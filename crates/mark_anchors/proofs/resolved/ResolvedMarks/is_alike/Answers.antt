@@ -17,8 +17,8 @@ returns-then-decided c =
     let first : ℕ = c.args.first in
     let second : ℕ = c.args.second in
     let runs = c.args.self.now.runs in
-    let one : Formatting = formatting_of c.decided_at-one.result (numbers_at runs first) in
-    let other : Formatting = formatting_of c.decided_at-other.result (numbers_at runs second) in
+    let one : Formatting = formatting_of c.args.one.now (numbers_at runs first) in
+    let other : Formatting = formatting_of c.args.other.now (numbers_at runs second) in
     let order : first ≤ second = c.requires.order in
     let there : second < length c.args.self.now.elements = c.requires.there in
     let text = subst (λ (v : Resolution). (ops : List Op) × Shows v.elements ops × AreMarks ops v.marks) c.self.view_is c.self.invariant.text in
@@ -32,7 +32,7 @@ returns-then-decided c =
       | then-is_same_but_link w ↦ w.is_same_link-decided.ensures.0 (sym w.decided-is ∙ c.if-decided.true)
       | else-is_same_but_link w ↦ absurd (false≢true (sym w.if-is_same_but_link.false ∙ sym w.decided-is ∙ c.if-decided.true))
     ] in
-    alike_told c.args.self.now.elements c.args.self.now.marks text first second (omega arith) there one other c.decided_at-one.ensures c.decided_at-other.ensures c.is_alike.result (
+    alike_told c.args.self.now.elements c.args.self.now.marks text first second (omega arith) there one other c.requires.one c.requires.other c.is_alike.result (
       λ yes. same_fields one other fields.0 fields.1 fields.2 link fields.3 (subst (λ (v : Resolution). AreAlike v.runs first second) c.self.view_is (c.is_alike.ensures.0 yes)),
       λ same. c.is_alike.ensures.1 (subst (λ (v : Resolution). AreAlike v.runs first second) (sym c.self.view_is) (ap (λ (f : Formatting). f.comments) same)),
     )
@@ -42,12 +42,12 @@ returns-else-decided c =
     let first : ℕ = c.args.first in
     let second : ℕ = c.args.second in
     let runs = c.args.self.now.runs in
-    let one : Formatting = formatting_of c.decided_at-one.result (numbers_at runs first) in
-    let other : Formatting = formatting_of c.decided_at-other.result (numbers_at runs second) in
+    let one : Formatting = formatting_of c.args.one.now (numbers_at runs first) in
+    let other : Formatting = formatting_of c.args.other.now (numbers_at runs second) in
     let order : first ≤ second = c.requires.order in
     let there : second < length c.args.self.now.elements = c.requires.there in
     let text = subst (λ (v : Resolution). (ops : List Op) × Shows v.elements ops × AreMarks ops v.marks) c.self.view_is c.self.invariant.text in
-    alike_told c.args.self.now.elements c.args.self.now.marks text first second (omega arith) there one other c.decided_at-one.ensures c.decided_at-other.ensures c.if-is_same_but_link.decided (
+    alike_told c.args.self.now.elements c.args.self.now.marks text first second (omega arith) there one other c.requires.one c.requires.other c.if-is_same_but_link.decided (
       λ yes. absurd (false≢true (sym c.if-decided.false ∙ yes)),
       λ same.
           elim c.if-is_same_but_link.branch [
