@@ -292,11 +292,12 @@ def large_inputs(hub):
     cases = (
         ("check", inputs.too_long_program(size), "16 MiB of digits", 1),
         ("check", inputs.program_before_blanks(size), "a program and 16 MiB of line feeds", 1),
+        ("check --explain", inputs.too_long_program(size), "16 MiB of digits", 1),
         ("dis", inputs.too_long_program(size), "16 MiB of digits", 1),
         ("asm", source, "2 MiB of line feeds", 1.5 * len(source) / MIB),
         ("spans", inputs.refused_change_before(size), "16 MiB behind a wrong first line", 1),
     )
-    return [alone("7", f"{command} of {what}: held", most_held(hub, [command], given) / MIB, "MiB", limit) for command, given, what, limit in cases]
+    return [alone("7", f"{command} of {what}: held", most_held(hub, command.split(), given) / MIB, "MiB", limit) for command, given, what, limit in cases]
 
 
 def assembler_lines(hub):

@@ -6,7 +6,7 @@ ghost use Rattle.assembler.specs.Labels.{onto_held};
 ghost use Rattle.assembler.specs.Text.{bytes_of, AsmFault, AsmText, IsFault};
 
 use crate::fault::AsmError;
-use crate::labels::{Definition, Labels, slots};
+use crate::labels::{Definition, Labels};
 use crate::lines::first_line;
 use assembler_lines::fault::LineFault;
 use assembler_lines::reading::{jump_by, reach, reading};
@@ -157,12 +157,11 @@ pub fn assemble(alloc: Global, source: &str) -> Result<Vec<u8>, AsmError>
     let mut bytes = Vec::new(alloc);
     let mut rest = Some(source.as_bytes());
     let mut index = 0;
-    let mut slot = 0;
     while let Some(text) = rest {
         let (line, behind) = first_line(text);
+        let slot = bytes.len() / 8;
         append_line(&mut bytes, &mut labels, line, index, slot)?;
         index += 1;
-        slot += slots(line);
         rest = behind;
     }
     Ok(bytes)

@@ -27,7 +27,7 @@ type Definitions<'a> = BTreeMap<&'a [u8], Definition>;
 
 /// The slots that a line takes, right or at fault.
 #[tactic(auto, unfolding(assembler_lines::specs::Places::slots, assembler_lines::specs::Mnemonics::name_of))]
-pub(crate) fn slots(line: &[u8]) -> usize
+fn slots(line: &[u8]) -> usize
     ensures value { result ≡ slots line.now }
     ensures bound { result ≤ length line.now }
 {

@@ -342,6 +342,21 @@ fn forms_on(second: u8) -> &'static [Form]
     }
 }
 
+/// Whether a word is a mnemonic. They are compared byte by byte, since both are short.
+fn is_word(mnemonic: &[u8], word: &[u8]) -> bool
+    ensures { result ≡ bytes_eq mnemonic.now word.now }
+{
+    if mnemonic.len() != word.len() {
+        return false;
+    }
+    for index in 0..word.len() {
+        if mnemonic[index] != word[index] {
+            return false;
+        }
+    }
+    true
+}
+
 /// The first of some forms whose mnemonic a word is.
 fn form_among(forms: &[Form], word: &[u8]) -> Option<Form>
     ensures { result ≡ find (λ form. bytes_eq (name_of form) word.now) forms.now }
@@ -349,7 +364,7 @@ fn form_among(forms: &[Form], word: &[u8]) -> Option<Form>
     forms
         .iter()
         .copied()
-        .find(|form| name(*form).as_bytes() == word)
+        .find(|form| is_word(name(*form).as_bytes(), word))
 }
 
 /// The form that a mnemonic names.

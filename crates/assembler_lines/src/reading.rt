@@ -11,7 +11,8 @@ use crate::mnemonics::form_of;
 use crate::shapes;
 use crate::statement::{Jump, Statement, Target, Value};
 use crate::token::{Sign, SignedNumeral, Term};
-use crate::words::terms;
+use crate::words::read_terms;
+use arrayvec::ArrayVec;
 use bpf_words::instruction::{
     Arithmetic, Comparison, Conversion, ConvertedBits, Extension, Insn, Operand, SignedSize, Size,
     Width,
@@ -419,6 +420,9 @@ fn statement<'a>(terms: &[Term<'a>]) -> Result<Statement<'a>, LineFault>
 pub fn reading(line: &[u8]) -> Result<Statement<'_>, LineFault>
     ensures { judged_seen result ≡ reading_of line.now }
 {
-    let found = terms(line).ok_or(LineFault::Syntax)?;
+    let mut found = ArrayVec::new();
+    if !read_terms(line, &mut found) {
+        return Err(LineFault::Syntax);
+    }
     statement(found.as_slice())
 }

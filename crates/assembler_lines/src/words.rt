@@ -1,4 +1,4 @@
-ghost use Rattle.std.specs.Prelude.{◌≡◌, ℕ, ◌+◌, ◌*◌, ◌≤◌, ◌<◌, take, option_map};
+ghost use Rattle.std.specs.Prelude.{◌≡◌, ℕ, ◌+◌, ◌*◌, ◌≤◌, ◌<◌, [], take, option_map, Some, None, if◌then◌else◌};
 ghost use Rattle.assembler_lines.specs.Scanning.{lexeme, term_seen, terms_seen};
 ghost use Rattle.assembler_lines.specs.Terms.{bounded, numeral_in, numeral_of, term_of_word, term_of, terms_of};
 ghost use Rattle.assembler_lines.specs.Tokens.{tokens_of};
@@ -67,17 +67,19 @@ fn term_of(token: Token<'_>) -> Option<Term<'_>>
     }
 }
 
-/// The first terms of a line, or `None` where a token of it is not right.
-pub(crate) fn terms(line: &[u8]) -> Option<ArrayVec<Term<'_>, MOST_TERMS>>
-    ensures { option_map (λ v. terms_seen v.items) result ≡ option_map (take 10) (terms_of (tokens_of line.now)) }
+/// Appends the first terms of a line: whether every token of it is right.
+pub(crate) fn read_terms<'a>(line: &'a [u8], found: &mut ArrayVec<Term<'a>, MOST_TERMS>) -> bool
+    requires { found.old.items ≡ [] }
+    ensures { (if result then Some (terms_seen found.new.items) else None) ≡ option_map (take 10) (terms_of (tokens_of line.now)) }
 {
-    let mut found = ArrayVec::new();
     let mut rest = line;
     loop {
         match next(rest) {
-            Next::End => return Some(found),
+            Next::End => return true,
             Next::Found(token, after) => {
-                let term = term_of(token)?;
+                let Some(term) = term_of(token) else {
+                    return false;
+                };
                 if !found.is_full() {
                     found.push(term);
                 }

@@ -1,5 +1,5 @@
 -- What is kept of an input of hexadecimal digits.
-use Rattle.std.specs.Prelude.{◌≡◌, ℕ, List, ◌++◌, take, Option, Some, None}
+use Rattle.std.specs.Prelude.{◌≡◌, ℕ, List, take}
 use Rattle.std.specs.List.{list_all}
 use Rattle.hub_commands.specs.Digits.{AreDigits}
 use Rattle.hub_commands.specs.Hexadecimal.{without_blanks}
@@ -11,9 +11,3 @@ pub record IsHexInput (input : List ℕ) (kept : HexInput) : Type 0 where
   pub front : kept.front.items ≡ take 3 input
   pub printable : kept.are_printable ≡ list_all is_printable input
   pub digits : AreDigits (without_blanks input) kept.digits
-
--- what is kept of what was read since a reader had these bytes, where they are known
-abbrev pub HasRead : Option (List ℕ) → Option (List ℕ) → HexInput → Type 0
-HasRead None new kept = Unit {0}
-HasRead (Some input) None kept = ⊥
-HasRead (Some input) (Some rest) kept = (front : List ℕ) × (input ≡ front ++ rest) × IsHexInput front kept

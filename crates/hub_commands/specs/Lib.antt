@@ -2,6 +2,7 @@ pub mod Answers
 pub mod Hexadecimal
 pub mod Hints
 pub mod Digits
+pub mod Pieces
 pub mod HexInput
 pub mod Reasons
 pub mod Programs

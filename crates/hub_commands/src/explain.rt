@@ -11,15 +11,16 @@ ghost use Rattle.hub_commands.specs.Answers.{IsAnswered};
 ghost use Rattle.bpf_words.specs.declared.profile.Profile.TheVariants.{Two};
 ghost use Rattle.program_reads.specs.Reads.{Determines};
 ghost use Rattle.verifier.specs.Judged.{Rejects};
+ghost use Rattle.hub_commands.specs.Digits.{AreDigits};
+ghost use Rattle.hub_commands.specs.Hexadecimal.{without_blanks};
 ghost use Rattle.hub_commands.specs.Hints.{digits_hint};
 ghost use Rattle.hub_commands.specs.Explained.{IsExplainedReply, IsExplainReply};
 
 use crate::answer::Answer;
+use crate::digits::Digits;
 use crate::ended::Ended;
 use crate::failure::Failure;
-use crate::hexadecimal::{decode_hex, without_blanks};
-use crate::hint::digits_hint;
-use crate::input::read_input;
+use crate::hex_input::HexInput;
 use crate::listing::{push_instructions, push_listing, push_listing_until};
 use crate::output::write_answer;
 use bpf_words::instruction::Insn;
@@ -208,12 +209,12 @@ pub fn explain_answer(
     alloc: Global,
     profile: Profile,
     is_whole: bool,
-    input: &[u8],
+    digits: &Digits,
 ) -> Result<Answer, AllocError>
-    ensures { IfOk result (λ answer. IsExplainReply profile input.now answer) }
+    ensures { IfOk result (λ answer. (input : List ℕ) → AreDigits (without_blanks input) digits.now
+        → IsExplainReply profile input answer) }
 {
-    let digits = without_blanks(alloc, input)?;
-    let Some(bytes) = decode_hex(alloc, &digits)? else {
+    let Some(bytes) = digits.bytes(alloc)? else {
         return Answer::refused(alloc, &Reason::BadHex);
     };
     match Words::new(&bytes) {
@@ -234,11 +235,11 @@ pub fn explain<R: Read, W: Write>(
         (W.contents writer.old) (W.contents writer.new) ended.status) }
     ensures hinted { IfOk result (λ ended. IfSome (R.remaining reader.old) (λ input. ended.hint ≡ digits_hint input)) }
 {
-    let input = read_input(alloc, reader)?;
-    let answer = explain_answer(alloc, profile, is_whole, &input)?;
+    let input = HexInput::read(alloc, reader)?;
+    let answer = explain_answer(alloc, profile, is_whole, &input.digits)?;
     let status = write_answer(writer, &answer)?;
     Ok(Ended {
         status,
-        hint: digits_hint(&input),
+        hint: input.hint(),
     })
 }

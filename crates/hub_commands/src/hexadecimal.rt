@@ -2,7 +2,7 @@ ghost use Rattle.std.specs.Prelude.{◌≡◌, IfOk, Ok, Err, Result, IfSome, If
 ghost use Rattle.std.specs.String.{string_bytes};
 ghost use Rattle.hex.specs.Hex.{decode_of};
 ghost use Rattle.hex.specs.declared.error.FromHexError.{FromHexError};
-ghost use Rattle.hub_commands.specs.Hexadecimal.{is_blank, without_blanks, slot_lines};
+ghost use Rattle.hub_commands.specs.Hexadecimal.{is_blank, slot_lines};
 
 use std::alloc::{AllocError, Global};
 
@@ -23,16 +23,6 @@ pub fn is_blank(byte: u8) -> bool
     ensures { result ≡ is_blank byte }
 {
     matches!(byte, b' ' | b'\t' | b'\r' | b'\n')
-}
-
-/// The text without spaces, tabs, carriage returns and line feeds.
-pub fn without_blanks(alloc: Global, text: &[u8]) -> Result<Vec<u8>, AllocError>
-    ensures { IfOk result (λ kept. kept.items ≡ without_blanks text.now) }
-{
-    text.iter()
-        .copied()
-        .filter(|byte| !is_blank(*byte))
-        .collect(alloc)
 }
 
 /// The bytes as a line of 16 lower-case digits a slot.

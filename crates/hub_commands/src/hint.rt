@@ -1,7 +1,6 @@
 //! What is wrong with the form of an input, where it is easily put right.
 ghost use Rattle.std.specs.Prelude.{◌≡◌};
-ghost use Rattle.std.specs.List.{list_all};
-ghost use Rattle.hub_commands.specs.Hints.{begins_with_mark, is_printable, text_hint, digits_hint};
+ghost use Rattle.hub_commands.specs.Hints.{begins_with_mark, is_printable, text_hint};
 
 use crate::hexadecimal::is_blank;
 use std::fmt;
@@ -40,12 +39,6 @@ pub(crate) fn is_printable(byte: u8) -> bool
     is_blank(byte) || (byte >= 0x20 && byte <= 0x7e)
 }
 
-fn are_printable(bytes: &[u8]) -> bool
-    ensures { result ≡ list_all is_printable bytes.now }
-{
-    bytes.iter().all(|byte| is_printable(*byte))
-}
-
 #[tactic(auto, unfolding(crate::specs::Hints::text_hint))]
 /// The hint to an input that is text.
 pub fn text_hint(input: &[u8]) -> Option<Hint>
@@ -55,19 +48,5 @@ pub fn text_hint(input: &[u8]) -> Option<Hint>
         Some(Hint::ByteOrderMark)
     } else {
         None
-    }
-}
-
-#[tactic(auto, unfolding(crate::specs::Hints::digits_hint))]
-/// The hint to an input that is hexadecimal digits.
-pub fn digits_hint(input: &[u8]) -> Option<Hint>
-    ensures { result ≡ digits_hint input.now }
-{
-    if begins_with_mark(input) {
-        Some(Hint::ByteOrderMark)
-    } else if are_printable(input) {
-        None
-    } else {
-        Some(Hint::Binary)
     }
 }

@@ -1,16 +1,40 @@
 ghost use Rattle.std.specs.Prelude.{◌≡◌, ◌+◌, ◌<◌, ◌^◌, take, IfOk, IfSome};
 
 use crate::failure::Failure;
-use std::alloc::Global;
+use crate::pieces::{Gather, read_pieces};
+use std::alloc::{AllocError, Global};
 use std::io::Read;
+
+/// All bytes of an input.
+#[derive(Drop)]
+struct Whole {
+    bytes: Vec<u8>,
+}
+
+impl Gather for Whole {
+    ghost use Rattle.std.specs.Prelude.{◌≡◌};
+
+    ghost keeps = { λ input whole. whole.bytes.items ≡ input };
+
+    /// Room is made for a quarter more than is there, so that at most a quarter is held beside the input.
+    fn push_piece(&mut self, piece: &[u8]) -> Result<(), AllocError> {
+        let bytes = &mut self.bytes;
+        if bytes.capacity() - bytes.len() < piece.len() {
+            bytes.reserve_exact(piece.len().max(bytes.len() / 4))?;
+        }
+        bytes.extend_from_slice(piece)
+    }
+}
 
 /// The whole input.
 pub fn read_input<R: Read>(alloc: Global, reader: &mut R) -> Result<Vec<u8>, Failure>
     ensures { IfOk result (λ input. IfSome (R.remaining reader.old) (λ bytes. input.items ≡ bytes)) }
 {
-    let mut input = Vec::new(alloc);
-    reader.read_to_end(&mut input).map_err(Failure::of_read)?;
-    Ok(input)
+    let mut whole = Whole {
+        bytes: Vec::new(alloc),
+    };
+    read_pieces(alloc, reader, &mut whole)?;
+    Ok(whole.bytes)
 }
 
 /// The input up to one byte past a limit, so that more than the limit is seen and not kept.

@@ -17,6 +17,7 @@ mod known_lines;
 mod listing;
 mod output;
 pub mod perform;
+mod pieces;
 mod run;
 mod spans;
 mod trace;

@@ -1,11 +1,10 @@
-use Rattle.std.proofs.Common.{◌≡◌, ◌<◌, ◌^◌, length, refl, ap, sym, arith, ◌∙◌}
-use Rattle.std.specs.Prelude.{sum_by}
+use Rattle.std.proofs.Common.{◌≡◌, ℕ, List, length, ap, sym, arith, ◌∙◌}
 use Rattle.assembler_lines.specs.Places.{lines_of, place}
 use Rattle.assembler.specs.Lines.{lines_left}
 use Rattle.assembler.specs.Text.{bytes_before}
-use Rattle.assembler.proofs.Labelling.{place_more, room_for, fits_more}
 use Rattle.assembler.proofs.Reading.{left_within, left_here, left_more, lines_few, none_left}
-use Rattle.assembler.proofs.Assembling.{room_of, bytes_more, right_more, right_none, text_whole}
+use Rattle.assembler.proofs.Slots.{placed_more}
+use Rattle.assembler.proofs.Assembling.{bytes_more, right_more, right_none, text_whole}
 use Rattle.assembler.proofs.assembly.assemble.Goals as goal
 
 pub loop-rest-init : goal.loop-rest-init
@@ -16,8 +15,7 @@ loop-rest-init c = record {
   within = omega arith;
   right = right_none (lines_of c.args.source.now);
   whole = c.new-bytes.ensures.items;
-  placed = refl;
-  fits = omega arith;
+  placed = ap length c.new-bytes.ensures.items;
 }
 
 pub append_line-requires-clause-room : goal.append_line-requires-clause-room
@@ -34,18 +32,10 @@ overflow_add-index c =
     let within = left_within (lines_of source) c.loop-rest.index c.first_line.result.0.now (lines_left c.first_line.result.1) left in
     omega (arith, within, lines_few source)
 
-pub overflow_add-slot : goal.overflow_add-slot
-overflow_add-slot c =
-    let source = c.args.source.now in
-    let lines = lines_of source in
-    let index = c.loop-rest.index in
-    let line = c.first_line.result.0.now in
-    let left = sym c.first_line.ensures ∙ ap lines_left (sym c.in-Some.is) ∙ c.loop-rest.invariant.left in
-    let within = left_within lines index line (lines_left c.first_line.result.1) left in
-    let here = left_here lines index line (lines_left c.first_line.result.1) left in
-    let room = room_for lines index c.loop-rest.slot line within here c.loop-rest.invariant.fits in
-    let all : sum_by length lines < 2 ^ 64 = room_of source lines refl (omega arith) in
-    omega (arith, c.slots-slot.ensures.bound, room, all)
+pub append_line-requires-clause-slot : goal.append_line-requires-clause-slot
+append_line-requires-clause-slot c =
+    let same = ap (λ (source : List ℕ). place (lines_of source) c.loop-rest.index) c.loop-rest.invariant.same in
+    omega (arith, same, c.loop-rest.invariant.placed, c.len-slot.ensures)
 
 pub loop-rest-preserved : goal.loop-rest-preserved
 loop-rest-preserved c =
@@ -63,8 +53,8 @@ loop-rest-preserved c =
       within = omega (arith, within);
       right = right_more lines index (rw same at c.in_ok-append_line.ensures.right) c.loop-rest.invariant.right;
       whole = bytes_more lines index c.loop-rest.bytes.items c.append_line.new.bytes.items c.loop-rest.invariant.whole (rw same at c.in_ok-append_line.ensures.appended);
-      placed = rw c.slots-slot.ensures.value (sym (place_more lines index within ∙ rw (here, ← c.loop-rest.invariant.placed) refl));
-      fits = fits_more lines index c.loop-rest.slot c.slots-slot.result line within here c.loop-rest.invariant.fits c.slots-slot.ensures.bound;
+      placed = placed_more lines index c.loop-rest.bytes.items c.append_line.new.bytes.items within c.loop-rest.invariant.placed
+          (rw same at c.in_ok-append_line.ensures.right) (rw same at c.in_ok-append_line.ensures.appended);
     }
 
 pub returns-clause-text : goal.returns-clause-text

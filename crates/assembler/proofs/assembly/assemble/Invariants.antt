@@ -1,5 +1,4 @@
-use Rattle.std.proofs.Common.{◌≡◌, ◌≤◌, take, drop, length}
-use Rattle.std.specs.Prelude.{sum_by}
+use Rattle.std.proofs.Common.{◌≡◌, ◌*◌, ◌≤◌, drop, length}
 use Rattle.assembler_lines.specs.Places.{lines_of, place}
 use Rattle.assembler.specs.Lines.{lines_left}
 use Rattle.assembler.specs.Text.{AreRight, bytes_before}
@@ -14,8 +13,7 @@ invariant-loop-rest l =
       within : l.index ≤ length lines;
       right : AreRight lines l.index;
       whole : l.bytes.items ≡ bytes_before lines l.index;
-      placed : l.slot ≡ place lines l.index;
-      fits : l.slot ≤ sum_by length (take l.index lines);
+      placed : length l.bytes.items ≡ 8 * place lines l.index;
     }
 
 abbrev pub decreases-loop-rest : goal.decreases-loop-rest

@@ -1,0 +1,5 @@
+use Rattle.hub_commands.specs.Pieces.{HasRead}
+use Rattle.hub_commands.proofs.pieces.take_from.Given as goal
+
+abbrev pub invariant-loop : goal.invariant-loop
+invariant-loop g l = HasRead g.G.Gather.keeps (g.R.Read.remaining l.initial.reader) (g.R.Read.remaining l.reader) l.kept
