@@ -1,5 +1,5 @@
 -- What a refusal by a walk up to some slot says of a structured program.
-use Rattle.std.proofs.Common.{◌≡◌, ℕ, ◌<◌, ◌≤◌, length, Result, Ok, Err, arith}
+use Rattle.std.proofs.Common.{ℕ, ◌≤◌, length, Result, Ok, Err, arith}
 use Rattle.std.specs.Result.{IfErr}
 use Rattle.bpf_words.specs.declared.profile.Profile.{Profile}
 use Rattle.meaning.specs.Step.{Program}

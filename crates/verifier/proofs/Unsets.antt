@@ -21,11 +21,10 @@ use Rattle.abstract_state.specs.declared.state.AbsReg.{AbsReg}
 use Rattle.abstract_state.specs.declared.state.AbsReg.TheVariants.{Unset, Set}
 use Rattle.abstract_state.specs.declared.state.AbsState.{AbsState}
 use Rattle.abstract_state.specs.Lent.{Lengths}
-use Rattle.abstract_state.specs.State.{Span, lengths_of, register_at, ContainsRegister, WithinState}
+use Rattle.abstract_state.specs.State.{lengths_of, register_at, ContainsRegister, WithinState}
 use Rattle.abstract_state.specs.Unset.{HasUnset}
 use Rattle.abstract_state.specs.Branch.{LeavesSides}
 use Rattle.abstract_state.specs.Guard.{LeavesOthers}
-use Rattle.program_reads.specs.Runs.{Reaches}
 use Rattle.verifier.specs.declared.refusal.VerifyError.{VerifyError}
 use Rattle.verifier.specs.declared.refusal.VerifyError.TheVariants.{State as StateRefused}
 use Rattle.verifier.specs.Plain.{IsFree, Leads, Path, begins, goes, with_written}

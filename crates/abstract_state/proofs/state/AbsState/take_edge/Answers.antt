@@ -1,4 +1,4 @@
-use Rattle.std.proofs.Common.{◌≡◌, true, false, ℕ, Option, Some, ◌∙◌, sym, ap, subst, ◌↔◌, ◌∷◌}
+use Rattle.std.proofs.Common.{◌≡◌, true, false, ℕ, Option, ◌∙◌, sym, ap, subst, ◌↔◌, ◌∷◌}
 use Rattle.std.specs.Option.{IfSome}
 use Rattle.meaning.specs.Value.{cut, holds_of}
 use Rattle.abstract_state.specs.declared.branch.Pair.{Pair}
