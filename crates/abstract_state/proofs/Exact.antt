@@ -17,7 +17,7 @@ use Rattle.abstract_state.specs.declared.state.AbsReg.{AbsReg}
 use Rattle.abstract_state.specs.declared.state.AbsReg.TheVariants.{Unset, Set}
 use Rattle.abstract_state.specs.Kinds.{IsNumberReg}
 use Rattle.abstract_state.specs.Known.{IsNumber, AreNumbers}
-use Rattle.abstract_state.specs.Exact.{HasBits, IsIn, IsNumberIn, IsLentIn, IsNoLess, Refines, Says, Holds, NumberIn, AnyNumber}
+use Rattle.abstract_state.specs.Exact.{HasBits, IsIn, IsNumberIn, IsNoLess, Refines, Says, Holds, LentIn, NumberIn, AnyNumber, Exactly}
 use Rattle.abstract_state.proofs.Options.{some_is, where_some}
 use Rattle.abstract_state.proofs.KnownBits.{one_kept, bits_value, most_one}
 
@@ -44,11 +44,18 @@ one_made region o bits range tails n t narrows keeps lies tail one = where_some 
     let high : q.range.high ≡ n = omega (arith, ends.0, ends.1, ordered, value, top) in
     (low, high, ap (λ (s : Tails). tail_of s region) inner.2 ∙ tail, bits_now))
 
-pub lent_is : (region : Region) (low high : ℕ) (t : Option ℕ) (k : Known) → IsLentIn region low high t k → (p : LentPlace) × (k ≡ Lent p) × (p.region ≡ region) × IsIn region p.offset low high t
-lent_is region low high t (Number q) h = absurd h
-lent_is region low high t (Context p) h = absurd h
-lent_is region low high t (Stack p) h = absurd h
-lent_is region low high t (Lent p) h = (p, refl, h.0, h.1)
+-- what an address in a lent region is
+pub lent_set : (region : Region) (low high : ℕ) (t : Option ℕ) (reg : AbsReg) → Holds (LentIn region low high t) reg
+    → (p : LentPlace) × (reg ≡ Set (Lent p)) × (p.region ≡ region) × IsIn region p.offset low high t
+lent_set region low high t Unset h = absurd h
+lent_set region low high t (Set (Number q)) h = absurd h
+lent_set region low high t (Set (Context p)) h = absurd h
+lent_set region low high t (Set (Stack p)) h = absurd h
+lent_set region low high t (Set (Lent p)) h = (p, refl, h.0, h.1)
+
+pub set_exactly : (reg : AbsReg) (k : Known) → reg ≡ Set k → Holds (Exactly k) reg
+set_exactly Unset k e = absurd (cc)
+set_exactly (Set v) k e = cc
 
 pub any_number : (o : Option Known) → AreNumbers o → IfSome o (λ k. Says AnyNumber k)
 any_number None h = tt

@@ -22,6 +22,9 @@ use Rattle.abstract_state.specs.declared.state.AbsState.{AbsState}
 use Rattle.abstract_state.specs.declared.refusal.Refusal.{Refusal}
 use Rattle.abstract_state.specs.declared.step.Flow.{Flow}
 use Rattle.abstract_state.specs.declared.known.Known.{Known}
+use Rattle.abstract_state.specs.declared.known.Known.TheVariants.{Lent}
+use Rattle.abstract_state.specs.declared.place.LentPlace.{LentPlace}
+use Rattle.abstract_state.specs.declared.state.AbsReg.TheVariants.{Set}
 use Rattle.abstract_state.specs.declared.slot.Slot.TheVariants.{Spilled}
 use Rattle.abstract_state.specs.State.{register_at, slot_at}
 use Rattle.abstract_state.specs.Frame.{IsStackByte, AreMarked}
@@ -65,8 +68,8 @@ compute_rows profile a insn d fact w op dest operand result b (folded region ope
     (subst (λ (v : Arithmetic). Keeps result b dest (NumberIn region (value_of v Full m n) (value_of v Full m n) None)) is
     (folded_so region m n wide_so (subst (λ (v : Arithmetic). Folds v m n) (sym is) folds) (subst (λ (i : ℕ). Holds (NumberIn region m m None) (register_at a.registers i)) (sym at) left) (subst (λ (v : Operand). IsOperand region a v n) (sym right) h)))
 compute_rows profile a insn d fact w op dest operand result b (wide region d' n) e lent added moved_so copied_so folded_so = absurd (cc)
-compute_rows profile a insn d fact w op dest operand result b (lent_read region size d' r o low high t h short within) e lent added moved_so copied_so folded_so = absurd (cc)
-compute_rows profile a insn d fact w op dest operand result b (lent_read_signed region size d' r o low high t h short within) e lent added moved_so copied_so folded_so = absurd (cc)
+compute_rows profile a insn d fact w op dest operand result b (lent_read size d' r o p h short within) e lent added moved_so copied_so folded_so = absurd (cc)
+compute_rows profile a insn d fact w op dest operand result b (lent_read_signed size d' r o p h short within) e lent added moved_so copied_so folded_so = absurd (cc)
 compute_rows profile a insn d fact w op dest operand result b (stack_read size d' base' p o h m) e lent added moved_so copied_so folded_so = absurd (cc)
 compute_rows profile a insn d fact w op dest operand result b (stack_read_signed size d' base' p o h m) e lent added moved_so copied_so folded_so = absurd (cc)
 compute_rows profile a insn d fact w op dest operand result b (refilled d' base' i o known h less is) e lent added moved_so copied_so folded_so = absurd (cc)
@@ -75,7 +78,7 @@ byte_moves : (a : AbsState) (p : ℕ) (o offset : ℤ) (r base : ℕ) → o ≡ 
 byte_moves a p o offset r base far from h =
     subst (λ (k : ℕ). IsStackByte p (cast_unsigned w64 offset) (register_at a.registers k)) from (subst (λ (z : ℤ). IsStackByte p (cast_unsigned w64 z) (register_at a.registers r)) far h)
 
-pub load_rows : (profile : Profile) (a : AbsState) (insn : Insn) (d : ℕ) (fact : Fact) (z : Size) (dest base : ℕ) (offset : ℤ) (result : Result Flow Refusal) (b : AbsState) → Yields profile a insn d fact → insn ≡ Load z dest base offset → ((region : Region) → Lends region profile → offset ≡ pos (begin_field region) → z ≡ Double → IsContextAt 0 (register_at a.registers base) → Keeps result b dest (LentIn region 0 0 (Some 0))) → ((region : Region) → Lends region profile → offset ≡ pos (end_field region) → z ≡ Double → IsContextAt 0 (register_at a.registers base) → Keeps result b dest (LentIn region 0 (limit_of region) (Some 0))) → ((region : Region) (o low high : ℕ) (t : Option ℕ) → offset ≡ pos o → Holds (LentIn region low high t) (register_at a.registers base) → o < 2 ^ 15 → high + o + bytes_in z ≤ bound_of a.bounds region → Keeps result b dest AnyNumber) → ((p : ℕ) → IsStackByte p (cast_unsigned w64 offset) (register_at a.registers base) → AreMarked a.stack p (bytes_in z) → Keeps result b dest AnyNumber) → ((i : ℕ) (known : Known) → IsStackByte (8 * i) (cast_unsigned w64 offset) (register_at a.registers base) → i < 64 → z ≡ Double → slot_at a.stack i ≡ Spilled known → Keeps result b dest (Exactly known)) → Keeps result b d fact
+pub load_rows : (profile : Profile) (a : AbsState) (insn : Insn) (d : ℕ) (fact : Fact) (z : Size) (dest base : ℕ) (offset : ℤ) (result : Result Flow Refusal) (b : AbsState) → Yields profile a insn d fact → insn ≡ Load z dest base offset → ((region : Region) → Lends region profile → offset ≡ pos (begin_field region) → z ≡ Double → IsContextAt 0 (register_at a.registers base) → Keeps result b dest (LentIn region 0 0 (Some 0))) → ((region : Region) → Lends region profile → offset ≡ pos (end_field region) → z ≡ Double → IsContextAt 0 (register_at a.registers base) → Keeps result b dest (LentIn region 0 (limit_of region) (Some 0))) → ((o : ℕ) (p : LentPlace) → offset ≡ pos o → register_at a.registers base ≡ Set (Lent p) → o < 2 ^ 15 → p.offset.range.high + o + bytes_in z ≤ bound_of a.bounds p.region → Keeps result b dest AnyNumber) → ((p : ℕ) → IsStackByte p (cast_unsigned w64 offset) (register_at a.registers base) → AreMarked a.stack p (bytes_in z) → Keeps result b dest AnyNumber) → ((i : ℕ) (known : Known) → IsStackByte (8 * i) (cast_unsigned w64 offset) (register_at a.registers base) → i < 64 → z ≡ Double → slot_at a.stack i ≡ Spilled known → Keeps result b dest (Exactly known)) → Keeps result b d fact
 load_rows profile a insn d fact z dest base offset result b (lent_begin region d' base' lends h) e begin end read marked spilled_so =
     let size : z ≡ Double = cc in
     let at : dest ≡ d' = cc in
@@ -94,14 +97,15 @@ load_rows profile a insn d fact z dest base offset result b (copied region d' n 
 load_rows profile a insn d fact z dest base offset result b (moved d' r known h) e begin end read marked spilled_so = absurd (cc)
 load_rows profile a insn d fact z dest base offset result b (folded region operation d' m n o folds left h) e begin end read marked spilled_so = absurd (cc)
 load_rows profile a insn d fact z dest base offset result b (wide region d' n) e begin end read marked spilled_so = absurd (cc)
-load_rows profile a insn d fact z dest base offset result b (lent_read region size d' r o low high t h short within) e begin end read marked spilled_so =
+load_rows profile a insn d fact z dest base offset result b (lent_read size d' r o p h short within) e begin end read marked spilled_so =
     let same : size ≡ z = cc in
     let at : dest ≡ d' = cc in
     let from : r ≡ base = cc in
     let far : offset ≡ pos o = cc in
     subst (λ (i : ℕ). Keeps result b i AnyNumber) at
-    (read region o low high t far (subst (λ (i : ℕ). Holds (LentIn region low high t) (register_at a.registers i)) from h) short (subst (λ (v : Size). high + o + bytes_in v ≤ bound_of a.bounds region) same within))
-load_rows profile a insn d fact z dest base offset result b (lent_read_signed region size d' r o low high t h short within) e begin end read marked spilled_so = absurd (cc)
+    (read o p far (subst (λ (i : ℕ). register_at a.registers i ≡ Set (Lent p)) from h) short
+    (subst (λ (v : Size). p.offset.range.high + o + bytes_in v ≤ bound_of a.bounds p.region) same within))
+load_rows profile a insn d fact z dest base offset result b (lent_read_signed size d' r o p h short within) e begin end read marked spilled_so = absurd (cc)
 load_rows profile a insn d fact z dest base offset result b (stack_read size d' base' p o h m) e begin end read marked spilled_so =
     let same : size ≡ z = cc in
     let at : dest ≡ d' = cc in
@@ -130,13 +134,13 @@ wide_rows profile a insn d fact dest value o (wide region d' n) e one =
     let same : value ≡ n = cc in
     subst (λ (i : ℕ). IfSome o (λ b. Holds (NumberIn region n n None) (register_at b.registers i))) at
     (subst (λ (v : ℕ). IfSome o (λ b. Holds (NumberIn region v v None) (register_at b.registers dest))) same (one region))
-wide_rows profile a insn d fact dest value o (lent_read region size d' r k low high t h short within) e one = absurd (cc)
-wide_rows profile a insn d fact dest value out (lent_read_signed region size d' r o low high t h short within) e one = absurd (cc)
+wide_rows profile a insn d fact dest value o (lent_read size d' r k p h short within) e one = absurd (cc)
+wide_rows profile a insn d fact dest value out (lent_read_signed size d' r o p h short within) e one = absurd (cc)
 wide_rows profile a insn d fact dest value out (stack_read size d' base' p o h m) e one = absurd (cc)
 wide_rows profile a insn d fact dest value out (stack_read_signed size d' base' p o h m) e one = absurd (cc)
 wide_rows profile a insn d fact dest value out (refilled d' base' i o known h less is) e one = absurd (cc)
 
-pub signed_rows : (profile : Profile) (a : AbsState) (insn : Insn) (d : ℕ) (fact : Fact) (z : SignedSize) (dest base : ℕ) (offset : ℤ) (result : Result Flow Refusal) (b : AbsState) → Yields profile a insn d fact → insn ≡ LoadSigned z dest base offset → ((region : Region) (o low high : ℕ) (t : Option ℕ) → offset ≡ pos o → Holds (LentIn region low high t) (register_at a.registers base) → o < 2 ^ 15 → high + o + bytes_in_signed z ≤ bound_of a.bounds region → Keeps result b dest AnyNumber) → ((p : ℕ) → IsStackByte p (cast_unsigned w64 offset) (register_at a.registers base) → AreMarked a.stack p (bytes_in_signed z) → Keeps result b dest AnyNumber) → Keeps result b d fact
+pub signed_rows : (profile : Profile) (a : AbsState) (insn : Insn) (d : ℕ) (fact : Fact) (z : SignedSize) (dest base : ℕ) (offset : ℤ) (result : Result Flow Refusal) (b : AbsState) → Yields profile a insn d fact → insn ≡ LoadSigned z dest base offset → ((o : ℕ) (p : LentPlace) → offset ≡ pos o → register_at a.registers base ≡ Set (Lent p) → o < 2 ^ 15 → p.offset.range.high + o + bytes_in_signed z ≤ bound_of a.bounds p.region → Keeps result b dest AnyNumber) → ((p : ℕ) → IsStackByte p (cast_unsigned w64 offset) (register_at a.registers base) → AreMarked a.stack p (bytes_in_signed z) → Keeps result b dest AnyNumber) → Keeps result b d fact
 signed_rows profile a insn d fact z dest base offset result b (lent_begin region d' base' lends h) e read marked = absurd (cc)
 signed_rows profile a insn d fact z dest base offset result b (lent_end region d' base' lends h) e read marked = absurd (cc)
 signed_rows profile a insn d fact z dest base offset result b (lent_moved region d' r n t h) e read marked = absurd (cc)
@@ -145,14 +149,15 @@ signed_rows profile a insn d fact z dest base offset result b (copied region d' 
 signed_rows profile a insn d fact z dest base offset result b (moved d' r known h) e read marked = absurd (cc)
 signed_rows profile a insn d fact z dest base offset result b (folded region operation d' m n right folds left h) e read marked = absurd (cc)
 signed_rows profile a insn d fact z dest base offset result b (wide region d' n) e read marked = absurd (cc)
-signed_rows profile a insn d fact z dest base offset result b (lent_read region size d' r o low high t h short within) e read marked = absurd (cc)
-signed_rows profile a insn d fact z dest base offset result b (lent_read_signed region size d' r o low high t h short within) e read marked =
+signed_rows profile a insn d fact z dest base offset result b (lent_read size d' r o p h short within) e read marked = absurd (cc)
+signed_rows profile a insn d fact z dest base offset result b (lent_read_signed size d' r o p h short within) e read marked =
     let same : size ≡ z = cc in
     let at : dest ≡ d' = cc in
     let from : r ≡ base = cc in
     let far : offset ≡ pos o = cc in
     subst (λ (i : ℕ). Keeps result b i AnyNumber) at
-    (read region o low high t far (subst (λ (i : ℕ). Holds (LentIn region low high t) (register_at a.registers i)) from h) short (subst (λ (v : SignedSize). high + o + bytes_in_signed v ≤ bound_of a.bounds region) same within))
+    (read o p far (subst (λ (i : ℕ). register_at a.registers i ≡ Set (Lent p)) from h) short
+    (subst (λ (v : SignedSize). p.offset.range.high + o + bytes_in_signed v ≤ bound_of a.bounds p.region) same within))
 signed_rows profile a insn d fact z dest base offset result b (stack_read size d' base' p o h m) e read marked = absurd (cc)
 signed_rows profile a insn d fact z dest base offset result b (stack_read_signed size d' base' p o h m) e read marked =
     let same : size ≡ z = cc in

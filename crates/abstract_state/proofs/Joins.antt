@@ -1,5 +1,5 @@
 -- What joins, from what is known of both.
-use Rattle.std.proofs.Common.{◌≡◌, ℕ, Option, Some, None, refl, sym, subst, rules}
+use Rattle.std.proofs.Common.{◌≡◌, ℕ, ◌⊎◌, inl, inr, Option, Some, None, refl, sym, subst, rules}
 use Rattle.std.specs.Option.{IsSome, IfSome}
 use Rattle.abstract_state.specs.declared.known.Known.{Known}
 use Rattle.abstract_state.specs.declared.known.Known.TheVariants.{Number, Lent}
@@ -28,8 +28,13 @@ set_some a b e = cc
 none_some : (a : Known) → None ≡ Some a → ⊥
 none_some a e = cc
 
+both_set : (a b : Known) → (Set a ≡ Unset) ⊎ (Set b ≡ Unset) → ⊥
+both_set a b (inl e) = cc
+both_set a b (inr e) = cc
+
 pub joins_held : (a b : Known) (o : Option Known) → (IsNumber a → IsNumber b → IsSome o × AreNumbers o) → ((p q : Quantity) → a ≡ Number p → b ≡ Number q → (r : Quantity) × (o ≡ Some (Number r)) × JoinsNumber p q r) → ((p q : LentPlace) → a ≡ Lent p → b ≡ Lent q → p.region ≡ q.region → (r : LentPlace) × (o ≡ Some (Lent r)) × (r.region ≡ p.region) × JoinsNumber p.offset q.offset r.offset) → ((n : ℕ) → IsContextAt n (Set a) → IsContextAt n (Set b) → IsSome o × IfSome o (λ k. IsContextAt n (Set k))) → ((n : ℕ) → IsStackAt n (Set a) → IsStackAt n (Set b) → IsSome o × IfSome o (λ k. IsStackAt n (Set k))) → JoinsReg (Set a) (Set b) (held o)
 joins_held a b None numbers values lent context stack = record {
+  unset = λ either. refl;
   numbers = λ p q. absurd (some_none None refl (numbers p q).0);
   context = λ n p q. absurd (some_none None refl (context n p q).0);
   stack = λ n p q. absurd (some_none None refl (stack n p q).0);
@@ -37,6 +42,7 @@ joins_held a b None numbers values lent context stack = record {
   lent = λ p q e f same. absurd (none_some _ (lent p q (known_set _ _ e) (known_set _ _ f) same).1);
 }
 joins_held a b (Some k) numbers values lent context stack = record {
+  unset = λ either. absurd (both_set a b either);
   numbers = λ p q. (numbers p q).1;
   context = λ n p q. (context n p q).1;
   stack = λ n p q. (stack n p q).1;

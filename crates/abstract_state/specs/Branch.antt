@@ -8,6 +8,7 @@ use Rattle.bpf_words.specs.declared.instruction.Comparison.TheVariants as is
 use Rattle.meaning.specs.State.{State, register_of, operand_in}
 use Rattle.meaning.specs.Value.{cut, holds_of}
 use Rattle.abstract_state.specs.declared.branch.Pair.{Pair}
+use Rattle.abstract_state.specs.declared.state.AbsReg.TheVariants.{Unset}
 use Rattle.abstract_state.specs.declared.state.AbsState.{AbsState}
 use Rattle.abstract_state.specs.declared.region.Region.{Region}
 use Rattle.abstract_state.specs.Lent.{Lengths}
@@ -54,6 +55,8 @@ LongFrom region n (Context p) = ⊥
 LongFrom region n (Stack p) = ⊥
 LongFrom region n (Lent p) = EndsFrom region n p.offset
 
--- each register that is on neither side is as it was
-abbrev pub LeavesSides : ℕ → Operand → AbsState → AbsState → Type 0
-LeavesSides left right a b = (i : ℕ) → i ≢ left → (right ≡ Source i → ⊥) → register_at b.registers i ≡ register_at a.registers i
+-- each register that is on neither side is as it was, and those on the sides are set
+pub record LeavesSides (left : ℕ) (right : Operand) (a b : AbsState) : Type 0 where
+  pub others : (i : ℕ) → i ≢ left → (right ≡ Source i → ⊥) → register_at b.registers i ≡ register_at a.registers i
+  pub left_set : register_at b.registers left ≢ Unset
+  pub right_set : (i : ℕ) → right ≡ Source i → register_at b.registers i ≢ Unset

@@ -16,10 +16,13 @@ use Rattle.meaning.specs.Memory.{bytes_in, bytes_in_signed}
 use Rattle.meaning.specs.Value.{value_of}
 use Rattle.abstract_state.specs.declared.region.Region.{Region}
 use Rattle.abstract_state.specs.Lent.{begin_field, end_field, limit_of, bound_of, Lends}
+use Rattle.abstract_state.specs.declared.place.LentPlace.{LentPlace}
+use Rattle.abstract_state.specs.declared.state.AbsReg.TheVariants.{Unset, Set}
 use Rattle.abstract_state.specs.declared.state.AbsState.{AbsState}
 use Rattle.abstract_state.specs.declared.refusal.Refusal.{Refusal}
 use Rattle.abstract_state.specs.declared.step.Flow.{Flow}
 use Rattle.abstract_state.specs.declared.known.Known.{Known}
+use Rattle.abstract_state.specs.declared.known.Known.TheVariants.{Lent}
 use Rattle.abstract_state.specs.declared.slot.Slot.TheVariants.{Spilled}
 use Rattle.abstract_state.specs.State.{register_at, slot_at}
 use Rattle.abstract_state.specs.Steps.{after}
@@ -44,8 +47,12 @@ pub data Yields (profile : Profile) (a : AbsState) : Insn → ℕ → Fact → T
   moved : (d r : ℕ) (known : Known) → Holds (Exactly known) (register_at a.registers r) → Yields profile a (Compute Full Mov d (Source r)) d (NoLess known)
   folded : (region : Region) (operation : Arithmetic) (d m n : ℕ) (o : Operand) → Folds operation m n → Holds (NumberIn region m m None) (register_at a.registers d) → IsOperand region a o n → Yields profile a (Compute Full operation d o) d (NumberIn region (value_of operation Full m n) (value_of operation Full m n) None)
   wide : (region : Region) (d n : ℕ) → Yields profile a (LoadWide d n) d (NumberIn region n n None)
-  lent_read : (region : Region) (size : Size) (d r o low high : ℕ) (t : Option ℕ) → Holds (LentIn region low high t) (register_at a.registers r) → o < 2 ^ 15 → high + o + bytes_in size ≤ bound_of a.bounds region → Yields profile a (Load size d r (pos o)) d AnyNumber
-  lent_read_signed : (region : Region) (size : SignedSize) (d r o low high : ℕ) (t : Option ℕ) → Holds (LentIn region low high t) (register_at a.registers r) → o < 2 ^ 15 → high + o + bytes_in_signed size ≤ bound_of a.bounds region → Yields profile a (LoadSigned size d r (pos o)) d AnyNumber
+  lent_read : (size : Size) (d r o : ℕ) (p : LentPlace) → register_at a.registers r ≡ Set (Lent p) → o < 2 ^ 15
+      → p.offset.range.high + o + bytes_in size ≤ bound_of a.bounds p.region
+      → Yields profile a (Load size d r (pos o)) d AnyNumber
+  lent_read_signed : (size : SignedSize) (d r o : ℕ) (p : LentPlace) → register_at a.registers r ≡ Set (Lent p)
+      → o < 2 ^ 15 → p.offset.range.high + o + bytes_in_signed size ≤ bound_of a.bounds p.region
+      → Yields profile a (LoadSigned size d r (pos o)) d AnyNumber
   stack_read : (size : Size) (d base p : ℕ) (offset : ℤ) → IsStackByte p (cast_unsigned w64 offset) (register_at a.registers base) → AreMarked a.stack p (bytes_in size) → Yields profile a (Load size d base offset) d AnyNumber
   stack_read_signed : (size : SignedSize) (d base p : ℕ) (offset : ℤ) → IsStackByte p (cast_unsigned w64 offset) (register_at a.registers base) → AreMarked a.stack p (bytes_in_signed size) → Yields profile a (LoadSigned size d base offset) d AnyNumber
   refilled : (d base i : ℕ) (offset : ℤ) (known : Known) → IsStackByte (8 * i) (cast_unsigned w64 offset) (register_at a.registers base) → i < 64 → slot_at a.stack i ≡ Spilled known → Yields profile a (Load Double d base offset) d (Exactly known)
@@ -62,6 +69,11 @@ pub data Spills (a : AbsState) : Insn → ℕ → Known → Type 0 where
 abbrev pub SameBut : ℕ → AbsState → AbsState → Type 0
 SameBut d a b = (i : ℕ) → i ≢ d → register_at b.registers i ≡ register_at a.registers i
 
+-- and that one is set
+pub record Writes (d : ℕ) (a b : AbsState) : Type 0 where
+  pub others : SameBut d a b
+  pub set : register_at b.registers d ≢ Unset
+
 -- the stack and the bounds are as they were
 abbrev pub SameMemory : AbsState → AbsState → Type 0
 SameMemory a b = (b.stack ≡ a.stack) × (b.bounds ≡ a.bounds)
@@ -70,19 +82,19 @@ SameMemory a b = (b.stack ≡ a.stack) × (b.bounds ≡ a.bounds)
 abbrev pub LengthensMemory : AbsState → AbsState → Type 0
 LengthensMemory a b = (b.stack ≡ a.stack) × ((region : Region) → bound_of a.bounds region ≤ bound_of b.bounds region)
 
--- each register that the instruction doesn't write, or compare, is as it was
+-- each register that the instruction doesn't write, or compare, is as it was, and those that it does are set
 abbrev pub LeavesOthers : AbsState → Insn → AbsState → Type 0
-LeavesOthers a (Compute w op d o) b = SameBut d a b
-LeavesOthers a (Negate w d) b = SameBut d a b
-LeavesOthers a (Extend e d r) b = SameBut d a b
-LeavesOthers a (Convert c bits d) b = SameBut d a b
+LeavesOthers a (Compute w op d o) b = Writes d a b
+LeavesOthers a (Negate w d) b = Writes d a b
+LeavesOthers a (Extend e d r) b = Writes d a b
+LeavesOthers a (Convert c bits d) b = Writes d a b
 LeavesOthers a (Jump distance) b = b ≡ a
 LeavesOthers a (JumpLong distance) b = b ≡ a
 LeavesOthers a (Branch w c l r distance) b = LeavesSides l r a b
-LeavesOthers a (Load z d base o) b = SameBut d a b
-LeavesOthers a (LoadSigned z d base o) b = SameBut d a b
+LeavesOthers a (Load z d base o) b = Writes d a b
+LeavesOthers a (LoadSigned z d base o) b = Writes d a b
 LeavesOthers a (Store z base o v) b = b.registers ≡ a.registers
-LeavesOthers a (LoadWide d v) b = SameBut d a b
+LeavesOthers a (LoadWide d v) b = Writes d a b
 LeavesOthers a Exit b = b ≡ a
 
 -- so are the stack, where it is no store, and the bounds, where it is no comparison

@@ -1,5 +1,5 @@
 -- The kinds of registers, for what is never refused.
-use Rattle.std.specs.Prelude.{◌≡◌, ◌≢◌, ℕ, ◌<◌, ◌≤◌, ◌%◌, true, false, Option, Some, None, slice_index_or}
+use Rattle.std.specs.Prelude.{◌≡◌, ◌≢◌, ◌⊎◌, ℕ, ◌<◌, ◌≤◌, ◌%◌, true, false, Option, Some, None, slice_index_or}
 use Rattle.bpf_words.specs.declared.instruction.Size.{Size}
 use Rattle.bpf_words.specs.declared.instruction.Size.TheVariants.{Byte, Half, Word, Double}
 use Rattle.std.specs.Int.{cast_unsigned, w64}
@@ -119,8 +119,9 @@ IsStackAt n (Set (Stack p)) = p.place ≡ n
 IsStackAt n (Set (Lent p)) = ⊥
 
 -- what is alike in both is so in c: a number, or an address in the context or the stack; of two numbers, and of two addresses in
--- one lent region, nothing that both know is lost
+-- one lent region, nothing that both know is lost; and where one is unset, c is
 pub record JoinsReg (a b c : AbsReg) : Type 0 where
+  pub unset : (a ≡ Unset) ⊎ (b ≡ Unset) → c ≡ Unset
   pub numbers : IsNumberReg a → IsNumberReg b → IsNumberReg c
   pub context : (n : ℕ) → IsContextAt n a → IsContextAt n b → IsContextAt n c
   pub stack : (n : ℕ) → IsStackAt n a → IsStackAt n b → IsStackAt n c
@@ -137,7 +138,7 @@ abbrev pub IsMarked : Slot → ℕ → Type 0
 IsMarked (Marks marks) j = slice_index_or marks j false ≡ true
 IsMarked (Spilled k) j = IsNumber k
 
--- what is spilled in both joins as registers do, and a byte that is set in both is set
+-- what is spilled in both joins as registers do, marks as an unset one, and a byte that is set in both is set
 pub record JoinsSlot (a b c : Slot) : Type 0 where
   pub spilled : JoinsReg (spilled_in a) (spilled_in b) (spilled_in c)
   pub marked : (j : ℕ) → j < 8 → IsMarked a j → IsMarked b j → IsMarked c j

@@ -1,5 +1,5 @@
 //! Comparisons: what is known on either edge.
-ghost use Rattle.std.specs.Prelude.{◌≡◌, ◌≢◌, IfErr, [], ◌∷◌, ℕ, true, false, ◌+◌, ◌%◌, ◌^◌, ◌<◌, ◌≤◌, Option, Some, Ok, IfSome, IfOk, IsOk, IsTrue, ◌↔◌};
+ghost use Rattle.std.specs.Prelude.{◌≡◌, ◌≢◌, ◌⊎◌, IfErr, [], ◌∷◌, ℕ, true, false, ◌+◌, ◌%◌, ◌^◌, ◌<◌, ◌≤◌, Option, Some, Ok, IfSome, IfOk, IsOk, IsTrue, ◌↔◌};
 ghost use Rattle.bpf_words.specs.declared.instruction.Width.TheVariants.{Narrow, Full};
 ghost use Rattle.meaning.specs.State.{State, register_of, operand_in};
 ghost use Rattle.meaning.specs.Value.{cut, holds_of};
@@ -13,7 +13,8 @@ ghost use Rattle.abstract_state.specs.State.{Contains, WithinState, register_at}
 ghost use Rattle.abstract_state.specs.Branch.{WithinPair, IsOrder, ReadsAs, Edge, LongFrom, LeavesSides};
 ghost use Rattle.abstract_state.specs.Relation.{EndsFrom};
 ghost use Rattle.abstract_state.specs.Exact.{Fact, Says, Holds};
-ghost use Rattle.abstract_state.specs.Guard.{SameBut, SameMemory, LengthensMemory};
+ghost use Rattle.abstract_state.specs.declared.state.AbsReg.TheVariants.{Unset, Set};
+ghost use Rattle.abstract_state.specs.Guard.{Writes, SameMemory, LengthensMemory};
 ghost use Rattle.abstract_state.specs.Steps.{after};
 ghost use Rattle.abstract_state.specs.Unset.{HasUnset};
 ghost use Rattle.bpf_words.specs.Flow.{read_operand};
@@ -114,8 +115,11 @@ fn pair_on(
     b: Known,
 ) -> Result<Option<Pair>, Refusal>
     ensures sound { IfOk result (λ o. (lengths : Lengths) (m n : ℕ) → ContainsKnown a lengths m → ContainsKnown b lengths n → holds_of comparison width (cut width m) (cut width n) ≡ taken → WithinPair o lengths m n) }
-    ensures regions { (region : Region) (l1 h1 l2 h2 : ℕ) (t1 t2 : Option ℕ) → width ≡ Full → IsOrder comparison → Says (Fact.LentIn region l1 h1 t1) a → Says (Fact.LentIn region l2 h2 t2) b → IsOk result }
-    ensures guards { (region : Region) (n high l2 h2 t : ℕ) (t1 : Option ℕ) → width ≡ Full → comparison ≡ Comparison.Greater → taken ≡ false → Says (Fact.LentIn region n high t1) a → Says (Fact.LentIn region l2 h2 (Some t)) b → IfOk result (λ o. IfSome o (λ p. LongFrom region n p.left)) }
+    ensures regions { (p q : LentPlace) → width ≡ Full → IsOrder comparison → a ≡ Known.Lent p → b ≡ Known.Lent q
+        → p.region ≡ q.region → IsOk result }
+    ensures guards { (p q : LentPlace) (t : ℕ) → width ≡ Full → comparison ≡ Comparison.Greater → taken ≡ false
+        → a ≡ Known.Lent p → b ≡ Known.Lent q → p.region ≡ q.region → tail_of q.offset.tails p.region ≡ Some t
+        → IfOk result (λ o. IfSome o (λ sides. LongFrom p.region p.offset.range.low sides.left)) }
     ensures floor { IsNumber a → IsNumber b → IsOk result }
     ensures numbers { IsNumber a → IsNumber b → IfOk result (λ o. AreNumbersOn o) }
     ensures not_unset { IfErr result (λ e. e ≢ Refusal.UnsetRegister) }
@@ -195,7 +199,7 @@ impl AbsState {
     /// Notes what more is known of a register.
     fn keep(&mut self, register: Register, known: Known)
         ensures sound { (lengths : Lengths) (s : State) (n : ℕ) → Contains self.old lengths s → register_of s register ≡ Ok n → ContainsKnown known lengths n → Contains self.new lengths s }
-        ensures others { SameBut register self.old self.new }
+        ensures others { Writes register self.old self.new }
         ensures memory { SameMemory self.old self.new }
         ensures kinds { HasNumberAt self.old register → IsNumber known → KeepsAll self.old self.new }
     {
@@ -206,6 +210,8 @@ impl AbsState {
     fn keep_right(&mut self, right: &Operand, known: Known)
         ensures sound { (lengths : Lengths) (s : State) (n : ℕ) → Contains self.old lengths s → ReadsAs s right.now n → ContainsKnown known lengths n → Contains self.new lengths s }
         ensures others { (i : ℕ) → (right.now ≡ Operand.Source i → ⊥) → register_at self.new.registers i ≡ register_at self.old.registers i }
+        ensures set { (i : ℕ) → (right.now ≡ Operand.Source i) ⊎ (register_at self.old.registers i ≢ Unset)
+            → register_at self.new.registers i ≢ Unset }
         ensures memory { SameMemory self.old self.new }
         ensures kinds { HasNumberIn self.old right.now → IsNumber known → KeepsAll self.old self.new }
     {
@@ -276,8 +282,16 @@ impl AbsState {
         ensures sound { IfOk result (λ flow. Edge self.old width comparison left right.now taken (after flow self.new)) }
         ensures others { IfOk result (λ flow. IfSome (after flow self.new) (λ b. LeavesSides left right.now self.old b)) }
         ensures memory { IfOk result (λ flow. IfSome (after flow self.new) (λ b. LengthensMemory self.old b)) }
-        ensures regions { (region : Region) (r l1 h1 l2 h2 : ℕ) (t1 t2 : Option ℕ) → right.now ≡ Operand.Source r → width ≡ Full → IsOrder comparison → Holds (Fact.LentIn region l1 h1 t1) (register_at self.old.registers left) → Holds (Fact.LentIn region l2 h2 t2) (register_at self.old.registers r) → IsOk result }
-        ensures guards { (region : Region) (r n high l2 h2 t : ℕ) (t1 : Option ℕ) → right.now ≡ Operand.Source r → left ≢ r → width ≡ Full → comparison ≡ Comparison.Greater → taken ≡ false → Holds (Fact.LentIn region n high t1) (register_at self.old.registers left) → Holds (Fact.LentIn region l2 h2 (Some t)) (register_at self.old.registers r) → IfOk result (λ flow. IfSome (after flow self.new) (λ b. n ≤ bound_of b.bounds region)) }
+        ensures regions { (r : ℕ) (p q : LentPlace) → right.now ≡ Operand.Source r → width ≡ Full → IsOrder comparison
+            → register_at self.old.registers left ≡ Set (Known.Lent p)
+            → register_at self.old.registers r ≡ Set (Known.Lent q) → p.region ≡ q.region → IsOk result }
+        ensures guards { (r t : ℕ) (p q : LentPlace) → right.now ≡ Operand.Source r → left ≢ r → width ≡ Full
+            → comparison ≡ Comparison.Greater → taken ≡ false
+            → register_at self.old.registers left ≡ Set (Known.Lent p)
+            → register_at self.old.registers r ≡ Set (Known.Lent q) → p.region ≡ q.region
+            → tail_of q.offset.tails p.region ≡ Some t
+            → IfOk result (λ flow.
+            IfSome (after flow self.new) (λ b. p.offset.range.low ≤ bound_of b.bounds p.region)) }
         ensures floor { HasNumberAt self.old left → HasNumberIn self.old right.now → IsOk result }
         ensures kinds { HasNumberAt self.old left → HasNumberIn self.old right.now → IfOk result (λ flow. IfSome (after flow self.new) (λ b. KeepsAll self.old b)) }
         ensures unset { IfErr result (λ e. (e ≡ Refusal.UnsetRegister) ↔ HasUnset self.old (left ∷ read_operand right.now)) }
@@ -305,8 +319,14 @@ impl AbsState {
         ensures untaken_others { IfOk result (λ edges. IfSome edges.untaken (λ b. LeavesSides left right.now self.now b)) }
         ensures taken_memory { IfOk result (λ edges. IfSome edges.taken (λ b. LengthensMemory self.now b)) }
         ensures untaken_memory { IfOk result (λ edges. IfSome edges.untaken (λ b. LengthensMemory self.now b)) }
-        ensures regions { (region : Region) (r l1 h1 l2 h2 : ℕ) (t1 t2 : Option ℕ) → right.now ≡ Operand.Source r → width ≡ Full → IsOrder comparison → Holds (Fact.LentIn region l1 h1 t1) (register_at self.now.registers left) → Holds (Fact.LentIn region l2 h2 t2) (register_at self.now.registers r) → IsOk result }
-        ensures guards { (region : Region) (r n high l2 h2 t : ℕ) (t1 : Option ℕ) → right.now ≡ Operand.Source r → left ≢ r → width ≡ Full → comparison ≡ Comparison.Greater → Holds (Fact.LentIn region n high t1) (register_at self.now.registers left) → Holds (Fact.LentIn region l2 h2 (Some t)) (register_at self.now.registers r) → IfOk result (λ edges. IfSome edges.untaken (λ b. n ≤ bound_of b.bounds region)) }
+        ensures regions { (r : ℕ) (p q : LentPlace) → right.now ≡ Operand.Source r → width ≡ Full → IsOrder comparison
+            → register_at self.now.registers left ≡ Set (Known.Lent p)
+            → register_at self.now.registers r ≡ Set (Known.Lent q) → p.region ≡ q.region → IsOk result }
+        ensures guards { (r t : ℕ) (p q : LentPlace) → right.now ≡ Operand.Source r → left ≢ r → width ≡ Full
+            → comparison ≡ Comparison.Greater → register_at self.now.registers left ≡ Set (Known.Lent p)
+            → register_at self.now.registers r ≡ Set (Known.Lent q) → p.region ≡ q.region
+            → tail_of q.offset.tails p.region ≡ Some t
+            → IfOk result (λ edges. IfSome edges.untaken (λ b. p.offset.range.low ≤ bound_of b.bounds p.region)) }
         ensures floor { HasNumberAt self.now left → HasNumberIn self.now right.now → IsOk result }
         ensures taken_kinds { HasNumberAt self.now left → HasNumberIn self.now right.now → IfOk result (λ edges. IfSome edges.taken (λ b. KeepsAll self.now b)) }
         ensures untaken_kinds { HasNumberAt self.now left → HasNumberIn self.now right.now → IfOk result (λ edges. IfSome edges.untaken (λ b. KeepsAll self.now b)) }

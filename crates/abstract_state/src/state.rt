@@ -7,7 +7,7 @@ ghost use Rattle.abstract_state.specs.State.{Span, lengths_of, IsLong, WithinLon
 ghost use Rattle.std.specs.Int.{cast_unsigned, w64};
 ghost use Rattle.abstract_state.specs.Kinds.{HasNumberAt, HasNumberIn, WritesNumber, IsContextAt, IsStackAt};
 ghost use Rattle.abstract_state.specs.Exact.{Fact, Says, Holds, IsNumberIn};
-ghost use Rattle.abstract_state.specs.Guard.{IsOperand, SameBut, SameMemory};
+ghost use Rattle.abstract_state.specs.Guard.{IsOperand, SameBut, SameMemory, Writes};
 ghost use Rattle.abstract_state.specs.Frame.{IsStackByte};
 ghost use Rattle.abstract_state.specs.Steps.{after};
 ghost use Rattle.abstract_state.specs.Unset.{HasUnset};
@@ -149,7 +149,7 @@ impl AbsState {
     /// Writes a register, if there is something to write.
     pub fn write(&mut self, register: Register, known: Option<Known>) -> Flow
         ensures sound { (lengths : Lengths) (s : State) (n : ℕ) → Contains self.old lengths s → WithinKnown known lengths n → WithinState (after result self.new) lengths (with_register s register n) }
-        ensures others { IfSome (after result self.new) (λ b. SameBut register self.old b) }
+        ensures others { IfSome (after result self.new) (λ b. Writes register self.old b) }
         ensures memory { IfSome (after result self.new) (λ b. SameMemory self.old b) }
         ensures holds { (fact : Fact) → IfSome known (λ k. Says fact k) → IfSome (after result self.new) (λ b. Holds fact (register_at b.registers register)) }
         ensures numbers { AreNumbers known → IfSome (after result self.new) (λ b. WritesNumber self.old register b) }

@@ -9,13 +9,15 @@ ghost use Rattle.abstract_state.specs.Steps.{MayStep, StepsTo, after};
 ghost use Rattle.abstract_state.specs.Exact.{Fact, Folds, Holds, tail_after};
 ghost use Rattle.abstract_state.specs.declared.region.Region.{Region};
 ghost use Rattle.abstract_state.specs.Lent.{begin_field, end_field, limit_of, bound_of, Lends};
-ghost use Rattle.abstract_state.specs.Guard.{Yields, Stores, Spills, Keeps, IsOperand, SameBut, LeavesOthers, SameMemory, LeavesMemory};
+ghost use Rattle.abstract_state.specs.Guard.{Yields, Stores, Spills, Keeps, IsOperand, Writes, LeavesOthers, SameMemory, LeavesMemory};
 ghost use Rattle.meaning.specs.Value.{value_of};
 ghost use Rattle.abstract_state.specs.Unset.{HasUnset};
 ghost use Rattle.bpf_words.specs.Flow.{read_by, read_first, read_operand};
 ghost use Rattle.meaning.specs.Memory.{bytes_in, bytes_in_signed};
 ghost use Rattle.abstract_state.specs.Frame.{IsStackByte, AreMarked, StoresSlots, SpillsSlot};
 ghost use Rattle.abstract_state.specs.declared.slot.Slot.{Slot};
+ghost use Rattle.abstract_state.specs.declared.state.AbsReg.TheVariants.{Set};
+ghost use Rattle.abstract_state.specs.declared.place.LentPlace.{LentPlace};
 
 use crate::known::Known;
 use crate::quantity::Quantity;
@@ -50,7 +52,7 @@ impl AbsState {
     ) -> Result<Flow, Refusal>
         requires { destination ≢ 10 }
         ensures sound { IfOk result (λ flow. StepsBy self.old (Insn.Compute width Arithmetic.Mov destination operand) (pos 0) (after flow self.new)) }
-        ensures others { IfOk result (λ flow. IfSome (after flow self.new) (λ b. SameBut destination self.old b)) }
+        ensures others { IfOk result (λ flow. IfSome (after flow self.new) (λ b. Writes destination self.old b)) }
         ensures memory { IfOk result (λ flow. IfSome (after flow self.new) (λ b. SameMemory self.old b)) }
         ensures lent { (region : Region) (r n : ℕ) (t : Option ℕ) → width ≡ Width.Full → operand ≡ Operand.Source r → Holds (Fact.LentIn region n n t) (register_at self.old.registers r) → Keeps result self.new destination (Fact.LentIn region n n t) }
         ensures moves { (r : ℕ) (known : Known) → width ≡ Width.Full → operand ≡ Operand.Source r → Holds (Fact.Exactly known) (register_at self.old.registers r) → Keeps result self.new destination (Fact.NoLess known) }
@@ -76,7 +78,7 @@ impl AbsState {
         requires frame { destination ≢ 10 }
         requires reads { operation ≢ Arithmetic.Mov }
         ensures sound { IfOk result (λ flow. StepsBy self.old (Insn.Compute width operation destination operand) (pos 0) (after flow self.new)) }
-        ensures others { IfOk result (λ flow. IfSome (after flow self.new) (λ b. SameBut destination self.old b)) }
+        ensures others { IfOk result (λ flow. IfSome (after flow self.new) (λ b. Writes destination self.old b)) }
         ensures memory { IfOk result (λ flow. IfSome (after flow self.new) (λ b. SameMemory self.old b)) }
         ensures adds { (region : Region) (k n : ℕ) (t : Option ℕ) → width ≡ Width.Full → operation ≡ Arithmetic.Add → operand ≡ Operand.Immediate (pos k) → Holds (Fact.LentIn region n n t) (register_at self.old.registers destination) → n + k ≤ 2 ^ 20 → Keeps result self.new destination (Fact.LentIn region (n + k) (n + k) (tail_after t k)) }
         ensures folds { (region : Region) (m n : ℕ) → width ≡ Width.Full → Folds operation m n → Holds (Fact.NumberIn region m m None) (register_at self.old.registers destination) → IsOperand region self.old operand n → Keeps result self.new destination (Fact.NumberIn region (value_of operation Width.Full m n) (value_of operation Width.Full m n) None) }
@@ -94,7 +96,7 @@ impl AbsState {
     fn negate(&mut self, width: Width, destination: Register) -> Result<Flow, Refusal>
         requires { destination ≢ 10 }
         ensures sound { IfOk result (λ flow. StepsBy self.old (Insn.Negate width destination) (pos 0) (after flow self.new)) }
-        ensures others { IfOk result (λ flow. IfSome (after flow self.new) (λ b. SameBut destination self.old b)) }
+        ensures others { IfOk result (λ flow. IfSome (after flow self.new) (λ b. Writes destination self.old b)) }
         ensures memory { IfOk result (λ flow. IfSome (after flow self.new) (λ b. SameMemory self.old b)) }
         ensures floor { HasNumberAt self.old destination → IsOk result }
         ensures numbers { HasNumberAt self.old destination → IfOk result (λ flow. IfSome (after flow self.new) (λ b. WritesNumber self.old destination b)) }
@@ -114,7 +116,7 @@ impl AbsState {
     ) -> Result<Flow, Refusal>
         requires { destination ≢ 10 }
         ensures sound { IfOk result (λ flow. StepsBy self.old (Insn.Extend extension destination source) (pos 0) (after flow self.new)) }
-        ensures others { IfOk result (λ flow. IfSome (after flow self.new) (λ b. SameBut destination self.old b)) }
+        ensures others { IfOk result (λ flow. IfSome (after flow self.new) (λ b. Writes destination self.old b)) }
         ensures memory { IfOk result (λ flow. IfSome (after flow self.new) (λ b. SameMemory self.old b)) }
         ensures floor { HasNumberAt self.old source → IsOk result }
         ensures numbers { HasNumberAt self.old source → IfOk result (λ flow. IfSome (after flow self.new) (λ b. WritesNumber self.old destination b)) }
@@ -134,7 +136,7 @@ impl AbsState {
     ) -> Result<Flow, Refusal>
         requires { destination ≢ 10 }
         ensures sound { IfOk result (λ flow. StepsBy self.old (Insn.Convert conversion bits destination) (pos 0) (after flow self.new)) }
-        ensures others { IfOk result (λ flow. IfSome (after flow self.new) (λ b. SameBut destination self.old b)) }
+        ensures others { IfOk result (λ flow. IfSome (after flow self.new) (λ b. Writes destination self.old b)) }
         ensures memory { IfOk result (λ flow. IfSome (after flow self.new) (λ b. SameMemory self.old b)) }
         ensures floor { HasNumberAt self.old destination → IsOk result }
         ensures numbers { HasNumberAt self.old destination → IfOk result (λ flow. IfSome (after flow self.new) (λ b. WritesNumber self.old destination b)) }
@@ -156,13 +158,16 @@ impl AbsState {
     ) -> Result<Flow, Refusal>
         requires { destination ≢ 10 }
         ensures sound { IfOk result (λ flow. StepsIn profile self.old (Insn.Load size destination base offset) (pos 0) (after flow self.new)) }
-        ensures others { IfOk result (λ flow. IfSome (after flow self.new) (λ b. SameBut destination self.old b)) }
+        ensures others { IfOk result (λ flow. IfSome (after flow self.new) (λ b. Writes destination self.old b)) }
         ensures memory { IfOk result (λ flow. IfSome (after flow self.new) (λ b. SameMemory self.old b)) }
         ensures begin { (region : Region) → Lends region profile → offset ≡ pos (begin_field region) → size ≡ Size.Double → IsContextAt 0 (register_at self.old.registers base) → Keeps result self.new destination (Fact.LentIn region 0 0 (Some 0)) }
         ensures end { (region : Region) → Lends region profile → offset ≡ pos (end_field region) → size ≡ Size.Double → IsContextAt 0 (register_at self.old.registers base) → Keeps result self.new destination (Fact.LentIn region 0 (limit_of region) (Some 0)) }
         ensures stack { (p : ℕ) → IsStackByte p (cast_unsigned w64 offset) (register_at self.old.registers base) → AreMarked self.old.stack p (bytes_in size) → Keeps result self.new destination Fact.AnyNumber }
         ensures spilled { (i : ℕ) (known : Known) → IsStackByte (8 * i) (cast_unsigned w64 offset) (register_at self.old.registers base) → i < 64 → size ≡ Size.Double → slot_at self.old.stack i ≡ Slot.Spilled known → Keeps result self.new destination (Fact.Exactly known) }
-        ensures lent { (region : Region) (o low high : ℕ) (t : Option ℕ) → offset ≡ pos o → Holds (Fact.LentIn region low high t) (register_at self.old.registers base) → o < 2 ^ 15 → high + o + bytes_in size ≤ bound_of self.old.bounds region → Keeps result self.new destination Fact.AnyNumber }
+        ensures lent { (o : ℕ) (p : LentPlace) → offset ≡ pos o → o < 2 ^ 15
+            → register_at self.old.registers base ≡ Set (Known.Lent p)
+            → p.offset.range.high + o + bytes_in size ≤ bound_of self.old.bounds p.region
+            → Keeps result self.new destination Fact.AnyNumber }
         ensures floor { IsContextAt 0 (register_at self.old.registers base) → IsNumberField size (cast_unsigned w64 offset) → IsOk result }
         ensures numbers { IsContextAt 0 (register_at self.old.registers base) → IsNumberField size (cast_unsigned w64 offset) → IfOk result (λ flow. IfSome (after flow self.new) (λ b. WritesNumber self.old destination b)) }
         ensures unset { IfErr result (λ e. (e ≡ Refusal.UnsetRegister) ↔ HasUnset self.old (base ∷ [])) }
@@ -182,9 +187,12 @@ impl AbsState {
     ) -> Result<Flow, Refusal>
         requires { destination ≢ 10 }
         ensures sound { IfOk result (λ flow. StepsBy self.old (Insn.LoadSigned size destination base offset) (pos 0) (after flow self.new)) }
-        ensures others { IfOk result (λ flow. IfSome (after flow self.new) (λ b. SameBut destination self.old b)) }
+        ensures others { IfOk result (λ flow. IfSome (after flow self.new) (λ b. Writes destination self.old b)) }
         ensures memory { IfOk result (λ flow. IfSome (after flow self.new) (λ b. SameMemory self.old b)) }
-        ensures lent { (region : Region) (o low high : ℕ) (t : Option ℕ) → offset ≡ pos o → Holds (Fact.LentIn region low high t) (register_at self.old.registers base) → o < 2 ^ 15 → high + o + bytes_in_signed size ≤ bound_of self.old.bounds region → Keeps result self.new destination Fact.AnyNumber }
+        ensures lent { (o : ℕ) (p : LentPlace) → offset ≡ pos o → o < 2 ^ 15
+            → register_at self.old.registers base ≡ Set (Known.Lent p)
+            → p.offset.range.high + o + bytes_in_signed size ≤ bound_of self.old.bounds p.region
+            → Keeps result self.new destination Fact.AnyNumber }
         ensures stack { (p : ℕ) → IsStackByte p (cast_unsigned w64 offset) (register_at self.old.registers base) → AreMarked self.old.stack p (bytes_in_signed size) → Keeps result self.new destination Fact.AnyNumber }
         ensures unset { IfErr result (λ e. (e ≡ Refusal.UnsetRegister) ↔ HasUnset self.old (base ∷ [])) }
         ensures set { IfOk result (λ _. HasUnset self.old (base ∷ []) → ⊥) }
@@ -219,7 +227,7 @@ impl AbsState {
     fn load_wide(&mut self, destination: Register, value: u64) -> Flow
         requires { destination ≢ 10 }
         ensures sound { StepsBy self.old (Insn.LoadWide destination value) (pos 1) (after result self.new) }
-        ensures others { IfSome (after result self.new) (λ b. SameBut destination self.old b) }
+        ensures others { IfSome (after result self.new) (λ b. Writes destination self.old b) }
         ensures memory { IfSome (after result self.new) (λ b. SameMemory self.old b) }
         ensures yields { (region : Region) → IfSome (after result self.new) (λ b. Holds (Fact.NumberIn region value value None) (register_at b.registers destination)) }
         ensures numbers { IfSome (after result self.new) (λ b. WritesNumber self.old destination b) }
@@ -238,7 +246,7 @@ impl AbsState {
     ) -> Result<Flow, Refusal>
         requires { destination ≢ 10 }
         ensures sound { IfOk result (λ flow. StepsBy self.old (Insn.Compute width operation destination operand) (pos 0) (after flow self.new)) }
-        ensures others { IfOk result (λ flow. IfSome (after flow self.new) (λ b. SameBut destination self.old b)) }
+        ensures others { IfOk result (λ flow. IfSome (after flow self.new) (λ b. Writes destination self.old b)) }
         ensures memory { IfOk result (λ flow. IfSome (after flow self.new) (λ b. SameMemory self.old b)) }
         ensures yields { (d : ℕ) (fact : Fact) → Yields profile self.old (Insn.Compute width operation destination operand) d fact → Keeps result self.new d fact }
         ensures floor { ReadsFirst self.old operation destination → HasNumberIn self.old operand → IsOk result }

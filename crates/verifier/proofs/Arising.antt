@@ -1,5 +1,5 @@
 -- How what is known arises through the walk.
-use Rattle.std.proofs.Common.{◌≡◌, ℕ, ◌+◌, ◌<◌, ◌≤◌, inl, inr, ⊎_elim, true, Option, Some, None, Result, Ok, Err, length, set, get_or, Box, refl, sym, ap, ◌∙◌, subst, arith}
+use Rattle.std.proofs.Common.{◌≡◌, ◌≢◌, ℕ, ◌+◌, ◌<◌, ◌≤◌, inl, inr, ⊎_elim, true, Option, Some, None, Result, Ok, Err, length, set, get_or, Box, refl, sym, ap, ◌∙◌, subst, arith}
 use Rattle.std.specs.Prelude.{ℤ, pos}
 use Rattle.std.specs.List.{slice_get}
 use Rattle.std.specs.Result.{IfErr, IsErrAnd}
@@ -17,6 +17,7 @@ use Rattle.bpf_words.specs.declared.instruction.Insn.{Insn}
 use Rattle.bpf_words.specs.declared.instruction.Insn.TheVariants.{Compute, Negate, Extend, Convert, Jump, JumpLong, Branch, Load, LoadSigned, Store, LoadWide, Exit}
 use Rattle.bpf_words.specs.Flow.{StartsAt, IsPaired, jump_of, slots_of, falls_through}
 use Rattle.meaning.specs.Step.{Program}
+use Rattle.abstract_state.specs.declared.state.AbsReg.TheVariants.{Unset}
 use Rattle.abstract_state.specs.declared.state.AbsState.{AbsState}
 use Rattle.abstract_state.specs.State.{register_at}
 use Rattle.abstract_state.specs.Kinds.{IsContextAt, IsStackAt}
@@ -175,12 +176,12 @@ second_falls profile program slot falling second falls a e =
     (λ (other : to ≡ slot → ⊥). (to, (f.1.0, (omega arith), between, f.1.3, f.1.4)))
     (cases_eq to slot)
 
-pub entry_falls : (profile : Profile) (program : Program) (entry : AbsState) → 0 < length program → IsPaired program → IsContextAt 0 (register_at entry.registers 1) → IsStackAt 512 (register_at entry.registers 10) → FallsAs profile program 0 (Some entry)
-entry_falls profile program entry some paired context frame a e =
+pub entry_falls : (profile : Profile) (program : Program) (entry : AbsState) → 0 < length program → IsPaired program → IsContextAt 0 (register_at entry.registers 1) → IsStackAt 512 (register_at entry.registers 10) → ((i : ℕ) → i ≢ 1 → i ≢ 10 → register_at entry.registers i ≡ Unset) → FallsAs profile program 0 (Some entry)
+entry_falls profile program entry some paired context frame unset a e =
     let start = starts_at program 0 some paired.begins in
     let is : entry ≡ a = same_Some entry a e in
     let none : Between program 0 0 = λ k low high. absurd (omega arith) in
-    (0, (start.0, (omega arith), none, start.1, subst (λ x. Arises profile program 0 x) is (first context frame)))
+    (0, (start.0, (omega arith), none, start.1, subst (λ x. Arises profile program 0 x) is (first context frame unset)))
 
 -- ---- a refusal that is passed on
 pub passed_on : {T : Type 0} (r : Result T VerifyError) (e : VerifyError) (P : VerifyError → Type 0) → IsErrAnd r (λ y. y ≡ e) → P e → IfErr r P

@@ -100,22 +100,22 @@ reads_in program slot a insn framed at starts = record {
 
 -- ---- what an instruction leaves
 side_leaves : (register left : ℕ) (right : Operand) (a b : AbsState) → ((d : ℕ) → IsFree d → register ≢ d) → IsFree left → IsFreeOperand right → LeavesSides left right a b → register_at b.registers register ≡ register_at a.registers register
-side_leaves register left (Immediate value) a b fixed free operand leaves = leaves register (fixed left free) (λ e. cc)
-side_leaves register left (Source other) a b fixed free operand leaves = leaves register (fixed left free) (λ e. let same : register ≡ other = cc in fixed other operand same)
+side_leaves register left (Immediate value) a b fixed free operand leaves = leaves.others register (fixed left free) (λ e. cc)
+side_leaves register left (Source other) a b fixed free operand leaves = leaves.others register (fixed left free) (λ e. let same : register ≡ other = cc in fixed other operand same)
 
 leaves : (register : ℕ) (a b : AbsState) (insn : Insn) → ((d : ℕ) → IsFree d → register ≢ d) → IsFramedInsn insn → LeavesOthers a insn b → register_at b.registers register ≡ register_at a.registers register
-leaves register a b (Compute w op d o) fixed (free, fo) others = others register (fixed d free)
-leaves register a b (Negate w d) fixed free others = others register (fixed d free)
-leaves register a b (Extend x d r) fixed (free, fr) others = others register (fixed d free)
-leaves register a b (Convert c x d) fixed free others = others register (fixed d free)
+leaves register a b (Compute w op d o) fixed (free, fo) others = others.others register (fixed d free)
+leaves register a b (Negate w d) fixed free others = others.others register (fixed d free)
+leaves register a b (Extend x d r) fixed (free, fr) others = others.others register (fixed d free)
+leaves register a b (Convert c x d) fixed free others = others.others register (fixed d free)
 leaves register a b (Jump distance) fixed p others = ap (λ (s : AbsState). register_at s.registers register) others
 leaves register a b (JumpLong distance) fixed p others = ap (λ (s : AbsState). register_at s.registers register) others
 leaves register a b (Branch w c l r distance) fixed (fl, fr) others = side_leaves register l r a b fixed fl fr others
-leaves register a b (Load z d base o) fixed (inl (free, fb, ff)) others = others register (fixed d free)
-leaves register a b (Load z d base o) fixed (inr (free, within)) others = others register (fixed d free)
-leaves register a b (LoadSigned z d base o) fixed (free, within) others = others register (fixed d free)
+leaves register a b (Load z d base o) fixed (inl (free, fb, ff)) others = others.others register (fixed d free)
+leaves register a b (Load z d base o) fixed (inr (free, within)) others = others.others register (fixed d free)
+leaves register a b (LoadSigned z d base o) fixed (free, within) others = others.others register (fixed d free)
 leaves register a b (Store z base o v) fixed p others = ap (λ (regs : List AbsReg). register_at regs register) others
-leaves register a b (LoadWide d v) fixed free others = others register (fixed d free)
+leaves register a b (LoadWide d v) fixed free others = others.others register (fixed d free)
 leaves register a b Exit fixed p others = ap (λ (s : AbsState). register_at s.registers register) others
 
 loaded : (a b : AbsState) (insn : Insn) (d : ℕ) → written_by insn ≡ Some d → ((i : ℕ) → i ≢ d → register_at b.registers i ≡ register_at a.registers i) → IsNumberReg (register_at b.registers d) → TakesNumbers a insn b
@@ -134,10 +134,10 @@ takes_numbers profile a b (LoadWide d v) is from takes = takes.numbers (reads a 
 takes_numbers profile a b Exit is from takes = takes.numbers (reads a Exit is from.context from.numbers)
 takes_numbers profile a b (Load z d base o) (inl plain) from takes = takes.numbers (reads a (Load z d base o) plain from.context from.numbers)
 takes_numbers profile a b (Load z d base o) (inr (free, (is, within))) from takes =
-    loaded a b (Load z d base o) d refl takes.others
+    loaded a b (Load z d base o) d refl takes.others.others
     (any_is_number _ (takes.yields d AnyNumber (stack_read z d base (byte_at o) o (at_frame a base o is from.frame) (load_marked a (Load z d base o) o (bytes_in z) within (λ p low high. (is, (low, high))) from))))
 takes_numbers profile a b (LoadSigned z d base o) (free, (is, within)) from takes =
-    loaded a b (LoadSigned z d base o) d refl takes.others
+    loaded a b (LoadSigned z d base o) d refl takes.others.others
     (any_is_number _ (takes.yields d AnyNumber (stack_read_signed z d base (byte_at o) o (at_frame a base o is from.frame) (load_marked a (LoadSigned z d base o) o (bytes_in_signed z) within (λ p low high. (low, high)) from))))
 takes_numbers profile a b (Store z base o v) is from takes = record {
   written = λ i e. absurd (cc);
@@ -201,7 +201,7 @@ carried_at profile program slot to a b insn framed at starts leads takes =
     }
 
 framed_at : (profile : Profile) (program : Program) (slot : ℕ) (a : AbsState) → IsFramed program → Arises profile program slot a → FramedAt program slot a
-framed_at profile program slot a framed (first context frame) = record {
+framed_at profile program slot a framed (first context frame unset) = record {
   context = context;
   frame = frame;
   registers = λ i h. inr ([], begins, nothing_in i);

@@ -1,5 +1,5 @@
 -- In a guard program each instruction is granted.
-use Rattle.std.proofs.Common.{◌≡◌, ℕ, zero, suc, ◌+◌, ◌<◌, ◌≤◌, true, Some, None, length, refl, sym, ◌∙◌, subst, arith}
+use Rattle.std.proofs.Common.{◌≡◌, ℕ, zero, suc, ◌+◌, ◌<◌, ◌≤◌, true, Some, None, length, refl, sym, ap, ◌∙◌, subst, arith}
 use Rattle.std.specs.Prelude.{pos}
 use Rattle.std.specs.List.{slice_get}
 use Rattle.std.proofs.lemmas.Option.{same_Some}
@@ -14,14 +14,14 @@ use Rattle.bpf_words.specs.declared.instruction.Insn.TheVariants.{Compute, Branc
 use Rattle.bpf_words.specs.Flow.{StartsAt, jump_of, slots_of, falls_through, written_by}
 use Rattle.meaning.specs.Step.{Program}
 use Rattle.abstract_state.specs.declared.region.Region.{Region}
-use Rattle.abstract_state.specs.Lent.{begin_field, end_field, limit_of, bound_of, Lends}
+use Rattle.abstract_state.specs.Lent.{begin_field, end_field, limit_of, bound_of, tail_of, Lends}
 use Rattle.abstract_state.specs.declared.state.AbsReg.{AbsReg}
 use Rattle.abstract_state.specs.declared.state.AbsState.{AbsState}
 use Rattle.abstract_state.specs.State.{register_at}
 use Rattle.abstract_state.specs.Kinds.{HasNumberAt, IsContextAt, IsNumberReg}
 use Rattle.abstract_state.specs.Exact.{Fact, LentIn, NumberIn, AnyNumber, Holds, tail_after}
 use Rattle.abstract_state.specs.Guard.{Yields, lent_begin, lent_end, lent_moved, lent_added, copied, lent_read}
-use Rattle.abstract_state.proofs.Exact.{any_is_number, in_is_number}
+use Rattle.abstract_state.proofs.Exact.{any_is_number, in_is_number, lent_set}
 use Rattle.abstract_state.proofs.Regions.{limit_low}
 use Rattle.verifier.specs.declared.refusal.StructureFault.TheVariants.{BackwardJump, JumpOut, JumpIntoWide, FallOff, WriteR10}
 use Rattle.verifier.specs.Structure.{IsSound, IsStructured}
@@ -140,14 +140,25 @@ adds profile region n a short at =
     subst (λ k. Yields profile a (Compute Full Add 4 (Immediate (pos n))) 4 (LentIn region k k (tail_after (Some 0) n))) same (lent_added region 4 n 0 (Some 0) at.1 (omega arith))
 
 tests : (region : Region) (n : ℕ) (a : AbsState) → At region n 5 a → Guards a (Branch Full Greater 4 (Source 3) (pos 1)) region n
-tests region n a at = behind region 4 3 n n 0 (limit_of region) 0 (tail_after (Some 0) n) (pos 1) (λ e. omega arith) at.1 at.0.1
+tests region n a at =
+    let left = lent_set region n n (tail_after (Some 0) n) (register_at a.registers 4) at.1 in
+    let right = lent_set region 0 (limit_of region) (Some 0) (register_at a.registers 3) at.0.1 in
+    let ends : tail_of right.0.offset.tails left.0.region ≡ Some 0 =
+    ap (λ (r : Region). tail_of right.0.offset.tails r) left.2 ∙ right.3.2 in
+    let given : Guards a (Branch Full Greater 4 (Source 3) (pos 1)) left.0.region left.0.offset.range.low =
+    behind 4 3 0 left.0 right.0 (pos 1) (λ e. omega arith) left.1 right.1 (left.2 ∙ sym right.2) ends in
+    subst (λ (r : Region). Guards a (Branch Full Greater 4 (Source 3) (pos 1)) r n) left.2
+    (subst (λ (k : ℕ). Guards a (Branch Full Greater 4 (Source 3) (pos 1)) left.0.region k) left.3.0 given)
 
 reads : (profile : Profile) (region : Region) (n offset : ℕ) (a : AbsState) → IsSized profile region n offset → At region n 6 a → Yields profile a (Load Byte 0 2 (pos offset)) 0 AnyNumber
 reads profile region n offset a sized at =
     let inside = sized.within in
     let fits = sized.fits in
     let long = at.1 in
-    lent_read region Byte 0 2 offset 0 0 (Some 0) at.0 (omega arith) (omega arith)
+    let place = lent_set region 0 0 (Some 0) (register_at a.registers 2) at.0 in
+    let high : place.0.offset.range.high ≡ 0 = place.3.1 in
+    let same : bound_of a.bounds place.0.region ≡ bound_of a.bounds region = ap (bound_of a.bounds) place.2 in
+    lent_read Byte 0 2 offset place.0 place.1 (omega arith) (omega arith)
 
 row_granted : (profile : Profile) (region : Region) (n offset slot : ℕ) (insn : Insn) (a : AbsState) → IsSized profile region n offset → Row region n offset slot insn → At region n slot a → IsGranted profile a insn
 row_granted profile region n offset slot insn a sized row_begin at = of_row 2 _ (lent_begin region 2 1 sized.lends at)
@@ -162,28 +173,28 @@ row_granted profile region n offset slot insn a sized row_exit at = of_numbers a
 -- what falls into the next slot
 fell_at : (profile : Profile) (region : Region) (n offset slot : ℕ) (insn : Insn) (a b : AbsState) → IsSized profile region n offset → Row region n offset slot insn → At region n slot a → Takes profile a insn b → IsLongBehind a insn b → falls_through insn ≡ true → At region n (slot + slots_of insn) b
 fell_at profile region n offset slot insn a b sized row_begin at takes long falls = (
-  stays a b 1 (IsContextAt 0) (takes.others 1 (λ e. omega arith)) at,
+  stays a b 1 (IsContextAt 0) (takes.others.others 1 (λ e. omega arith)) at,
   takes.yields 2 (LentIn region 0 0 (Some 0)) (lent_begin region 2 1 sized.lends at),
 )
 fell_at profile region n offset slot insn a b sized row_end at takes long falls = (
-  stays a b 2 (Holds (LentIn region 0 0 (Some 0))) (takes.others 2 (λ e. omega arith)) at.1,
+  stays a b 2 (Holds (LentIn region 0 0 (Some 0))) (takes.others.others 2 (λ e. omega arith)) at.1,
   takes.yields 3 (LentIn region 0 (limit_of region) (Some 0)) (lent_end region 3 1 sized.lends at.0),
 )
 fell_at profile region n offset slot insn a b sized row_move at takes long falls = (
-  ends_stay region a b (takes.others 2 (λ e. omega arith)) (takes.others 3 (λ e. omega arith)) at,
+  ends_stay region a b (takes.others.others 2 (λ e. omega arith)) (takes.others.others 3 (λ e. omega arith)) at,
   takes.yields 4 (LentIn region 0 0 (Some 0)) (lent_moved region 4 2 0 (Some 0) at.0),
 )
 fell_at profile region n offset slot insn a b sized row_add at takes long falls = (
-  ends_stay region a b (takes.others 2 (λ e. omega arith)) (takes.others 3 (λ e. omega arith)) at.0,
+  ends_stay region a b (takes.others.others 2 (λ e. omega arith)) (takes.others.others 3 (λ e. omega arith)) at.0,
   takes.yields 4 (LentIn region n n (tail_after (Some 0) n)) (adds profile region n a sized.short at),
 )
 fell_at profile region n offset slot insn a b sized row_zero at takes long falls = (
-  ends_stay region a b (takes.others 2 (λ e. omega arith)) (takes.others 3 (λ e. omega arith)) at.0,
-  stays a b 4 (Holds (LentIn region n n (tail_after (Some 0) n))) (takes.others 4 (λ e. omega arith)) at.1,
+  ends_stay region a b (takes.others.others 2 (λ e. omega arith)) (takes.others.others 3 (λ e. omega arith)) at.0,
+  stays a b 4 (Holds (LentIn region n n (tail_after (Some 0) n))) (takes.others.others 4 (λ e. omega arith)) at.1,
   in_is_number region 0 0 None _ (takes.yields 0 (NumberIn region 0 0 None) (copied region 0 0 (Immediate (pos 0)) refl)),
 )
 fell_at profile region n offset slot insn a b sized row_branch at takes long falls = (
-  stays a b 2 (Holds (LentIn region 0 0 (Some 0))) (takes.others 2 (λ e. omega arith) (λ e. cc)) at.0.0,
+  stays a b 2 (Holds (LentIn region 0 0 (Some 0))) (takes.others.others 2 (λ e. omega arith) (λ e. cc)) at.0.0,
   long region n (tests region n a at),
 )
 fell_at profile region n offset slot insn a b sized row_read at takes long falls = any_is_number _ (takes.yields 0 AnyNumber (reads profile region n offset a sized at))
@@ -208,7 +219,7 @@ jump_keeps profile region n offset slot k insn a b row_end at takes jumps = absu
 jump_keeps profile region n offset slot k insn a b row_move at takes jumps = absurd (cc)
 jump_keeps profile region n offset slot k insn a b row_add at takes jumps = absurd (cc)
 jump_keeps profile region n offset slot k insn a b row_zero at takes jumps = absurd (cc)
-jump_keeps profile region n offset slot k insn a b row_branch at takes jumps = stays a b 0 IsNumberReg (takes.others 0 (λ e. omega arith) (λ e. cc)) at.2
+jump_keeps profile region n offset slot k insn a b row_branch at takes jumps = stays a b 0 IsNumberReg (takes.others.others 0 (λ e. omega arith) (λ e. cc)) at.2
 jump_keeps profile region n offset slot k insn a b row_read at takes jumps = absurd (cc)
 jump_keeps profile region n offset slot k insn a b row_exit at takes jumps = absurd (cc)
 
@@ -220,7 +231,7 @@ at_seven : (region : Region) (n slot : ℕ) (a : AbsState) → slot ≡ 7 → At
 at_seven region n slot a is at = subst (λ k. At region n k a) is at
 
 guard_at : (profile : Profile) (region : Region) (n offset slot : ℕ) (a : AbsState) → IsSized profile region n offset → Arises profile (guard region n offset) slot a → At region n slot a
-guard_at profile region n offset slot a sized (first context frame) = context
+guard_at profile region n offset slot a sized (first context frame unset) = context
 guard_at profile region n offset slot a sized (fell {slot = before} {a = old} {insn = insn} from starts falls takes long) =
     fell_at profile region n offset before insn old a sized (row_at region n offset before insn starts) (guard_at profile region n offset before old sized from) takes long falls
 guard_at profile region n offset slot a sized (jumped {slot = before} {n = k} {a = old} {insn = insn} from starts jumps takes) =

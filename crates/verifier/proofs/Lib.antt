@@ -12,3 +12,5 @@ pub mod GuardRuns
 pub mod Reaching
 pub mod Enough
 pub mod Listing
+pub mod Rejecting
+pub mod Unsets

@@ -94,22 +94,22 @@ reads_at program slot a insn plain at starts =
 
 -- ---- what an instruction leaves
 is_no_side : (left : ℕ) (right : Operand) (a b : AbsState) → IsFree left → IsFreeOperand right → LeavesSides left right a b → register_at b.registers 1 ≡ register_at a.registers 1
-is_no_side left (Immediate value) a b free operand leaves = leaves 1 (λ e. free.1 (sym e)) (λ e. cc)
+is_no_side left (Immediate value) a b free operand leaves = leaves.others 1 (λ e. free.1 (sym e)) (λ e. cc)
 is_no_side left (Source register) a b free operand leaves =
-    leaves 1 (λ e. free.1 (sym e)) (λ e. let same : register ≡ 1 = cc in operand.1 same)
+    leaves.others 1 (λ e. free.1 (sym e)) (λ e. let same : register ≡ 1 = cc in operand.1 same)
 
 leaves_r1 : (a b : AbsState) (insn : Insn) → IsPlainInsn insn → LeavesOthers a insn b → register_at b.registers 1 ≡ register_at a.registers 1
-leaves_r1 a b (Compute w op d o) (free, fo) others = others 1 (λ e. free.1 (sym e))
-leaves_r1 a b (Negate w d) free others = others 1 (λ e. free.1 (sym e))
-leaves_r1 a b (Extend x d r) (free, fr) others = others 1 (λ e. free.1 (sym e))
-leaves_r1 a b (Convert c x d) free others = others 1 (λ e. free.1 (sym e))
+leaves_r1 a b (Compute w op d o) (free, fo) others = others.others 1 (λ e. free.1 (sym e))
+leaves_r1 a b (Negate w d) free others = others.others 1 (λ e. free.1 (sym e))
+leaves_r1 a b (Extend x d r) (free, fr) others = others.others 1 (λ e. free.1 (sym e))
+leaves_r1 a b (Convert c x d) free others = others.others 1 (λ e. free.1 (sym e))
 leaves_r1 a b (Jump distance) p others = ap (λ (s : AbsState). register_at s.registers 1) others
 leaves_r1 a b (JumpLong distance) p others = ap (λ (s : AbsState). register_at s.registers 1) others
 leaves_r1 a b (Branch w c l r distance) (fl, fr) others = is_no_side l r a b fl fr others
-leaves_r1 a b (Load z d base o) (free, fb, ff) others = others 1 (λ e. free.1 (sym e))
+leaves_r1 a b (Load z d base o) (free, fb, ff) others = others.others 1 (λ e. free.1 (sym e))
 leaves_r1 a b (LoadSigned z d base o) p others = absurd p
 leaves_r1 a b (Store z base o v) p others = absurd p
-leaves_r1 a b (LoadWide d v) free others = others 1 (λ e. free.1 (sym e))
+leaves_r1 a b (LoadWide d v) free others = others.others 1 (λ e. free.1 (sym e))
 leaves_r1 a b Exit p others = ap (λ (s : AbsState). register_at s.registers 1) others
 
 carried_at : (profile : Profile) (program : Program) (slot to : ℕ) (a b : AbsState) (insn : Insn) → IsPlain program → PlainAt program slot a → StartsAt program slot insn → Leads insn slot to → Takes profile a insn b → PlainAt program to b
@@ -130,7 +130,7 @@ carried_at profile program slot to a b insn plain at starts leads takes =
     }
 
 plain_at : (profile : Profile) (program : Program) (slot : ℕ) (a : AbsState) → IsPlain program → Arises profile program slot a → PlainAt program slot a
-plain_at profile program slot a plain (first context frame) = record {
+plain_at profile program slot a plain (first context frame unset) = record {
   context = context;
   registers = λ i h. inr ([], begins, nothing_in i);
 }

@@ -1,5 +1,5 @@
 -- What is promised past an instruction, on each of its edges.
-use Rattle.std.proofs.Common.{◌≡◌, ◌≢◌, ℕ, ⊎_elim, Option, Some, None, refl, sym, ap, ◌∙◌, subst}
+use Rattle.std.proofs.Common.{◌≡◌, ◌≢◌, ℕ, ◌∷◌, ⊎_elim, Option, Some, None, refl, sym, ap, ◌∙◌, subst}
 use Rattle.std.specs.Prelude.{ℤ}
 use Rattle.std.specs.Option.{IfSome}
 use Rattle.std.proofs.lemmas.Bool.{cases_eq}
@@ -13,7 +13,8 @@ use Rattle.bpf_words.specs.declared.instruction.Operand.{Operand}
 use Rattle.bpf_words.specs.declared.instruction.Operand.TheVariants.{Source}
 use Rattle.bpf_words.specs.declared.instruction.Insn.{Insn}
 use Rattle.bpf_words.specs.declared.instruction.Insn.TheVariants.{Compute, Negate, Extend, Convert, Jump, JumpLong, Branch, Load, LoadSigned, Store, LoadWide, Exit}
-use Rattle.bpf_words.specs.Flow.{written_by, jump_of}
+use Rattle.bpf_words.specs.Flow.{written_by, jump_of, read_by, read_operand}
+use Rattle.abstract_state.specs.Unset.{HasUnset}
 use Rattle.abstract_state.specs.declared.known.Known.TheVariants.{Number, Context, Stack, Lent}
 use Rattle.abstract_state.specs.declared.state.AbsReg.{AbsReg}
 use Rattle.abstract_state.specs.declared.state.AbsReg.TheVariants.{Unset, Set}
@@ -22,7 +23,9 @@ use Rattle.abstract_state.specs.declared.state.AbsState.{AbsState}
 use Rattle.abstract_state.specs.State.{register_at}
 use Rattle.abstract_state.specs.Branch.{LeavesSides}
 use Rattle.abstract_state.specs.Kinds.{HasNumberAt, HasNumberIn, IsNumberReg, KeepsAll, KeepsKind, ReadsNumbers, WritesNumber, Carries}
-use Rattle.abstract_state.specs.Exact.{Fact, LentIn, Holds}
+use Rattle.abstract_state.specs.Exact.{Fact, Holds}
+use Rattle.abstract_state.specs.Lent.{tail_of}
+use Rattle.abstract_state.specs.declared.place.LentPlace.{LentPlace}
 use Rattle.abstract_state.specs.Guard.{Yields, lent_begin, lent_end, lent_moved, lent_added, copied, moved, folded, wide, lent_read, lent_read_signed, stack_read, stack_read_signed, refilled, Stores, stored, Spills, spilled, LeavesOthers, LeavesMemory, LengthensMemory}
 use Rattle.abstract_state.specs.Frame.{StoresSlots, SpillsSlot}
 use Rattle.abstract_state.specs.declared.known.Known.{Known}
@@ -43,8 +46,8 @@ yields_writes profile a insn d fact (copied region d' n o h) = refl
 yields_writes profile a insn d fact (moved d' r known h) = refl
 yields_writes profile a insn d fact (folded region operation d' m n o folds left h) = refl
 yields_writes profile a insn d fact (wide region d' n) = refl
-yields_writes profile a insn d fact (lent_read region size d' r o low high t h short within) = refl
-yields_writes profile a insn d fact (lent_read_signed region size d' r o low high t h short within) = refl
+yields_writes profile a insn d fact (lent_read size d' r o p h short within) = refl
+yields_writes profile a insn d fact (lent_read_signed size d' r o p h short within) = refl
 yields_writes profile a insn d fact (stack_read size d' base p o h m) = refl
 yields_writes profile a insn d fact (stack_read_signed size d' base p o h m) = refl
 yields_writes profile a insn d fact (refilled d' base i o known h less is) = refl
@@ -53,7 +56,7 @@ no_row : (profile : Profile) (a : AbsState) (insn : Insn) (d : ℕ) (fact : Fact
 no_row profile a insn d fact none row = let both : None ≡ Some d = sym none ∙ yields_writes profile a insn d fact row in absurd (cc)
 
 no_guard : (a : AbsState) (insn : Insn) (region : Region) (n : ℕ) → IsStraight insn → Guards a insn region n → ⊥
-no_guard a insn region n straight (behind lent l r n' high low2 high2 t tail distance apart h g) = straight
+no_guard a insn region n straight (behind l r t p q distance apart h g region' tail) = straight
 
 -- a store writes no register, and is neither an exit nor a comparison
 stores_none : (a : AbsState) (insn : Insn) (p count : ℕ) → Stores a insn p count → (insn ≡ Exit → ⊥) × (written_by insn ≡ None) × ((distance : ℤ) → jump_of insn ≡ Some distance → ⊥)
@@ -74,22 +77,24 @@ step_granted profile a insn P straight numbers row stores spills (of_spill i kno
 pub exit_granted : (profile : Profile) (a : AbsState) (insn : Insn) → insn ≡ Exit → IsGranted profile a insn → HasNumberAt a 0
 exit_granted profile a insn is (of_numbers reads) = subst (ReadsNumbers a) is reads
 exit_granted profile a insn is (of_row d fact row) = absurd (no_row profile a insn d fact (ap written_by is) row)
-exit_granted profile a insn is (of_guard region n (behind lent l r n' high low2 high2 t tail distance apart h g)) = absurd (cc)
+exit_granted profile a insn is (of_guard region n (behind l r t p q distance apart h g region' tail)) = absurd (cc)
 exit_granted profile a insn is (of_store p count store) = absurd ((stores_none a insn p count store).0 is)
 exit_granted profile a insn is (of_spill i known spill) = absurd ((spills_none a insn i known spill).0 is)
 
 -- what is promised of a comparison of two addresses in one lent region, of its answer
 abbrev pub IfGuards : AbsState → Width → Comparison → ℕ → Operand → (Region → ℕ → Type 0) → Type 0
 IfGuards a width comparison left right P =
-    (region : Region) (r n high low2 high2 t : ℕ) (tail : Option ℕ) → right ≡ Source r → left ≢ r → width ≡ Full → comparison ≡ Greater → Holds (LentIn region n high tail) (register_at a.registers left) → Holds (LentIn region low2 high2 (Some t)) (register_at a.registers r) → P region n
+    (r t : ℕ) (p q : LentPlace) → right ≡ Source r → left ≢ r → width ≡ Full → comparison ≡ Greater
+    → register_at a.registers left ≡ Set (Lent p) → register_at a.registers r ≡ Set (Lent q) → p.region ≡ q.region
+    → tail_of q.offset.tails p.region ≡ Some t → P p.region p.offset.range.low
 
 pub guard_is : (a : AbsState) (insn : Insn) (width : Width) (comparison : Comparison) (left : ℕ) (right : Operand) (distance : ℤ) (P : Region → ℕ → Type 0) (region : Region) (n : ℕ) → insn ≡ Branch width comparison left right distance → IfGuards a width comparison left right P → Guards a insn region n → P region n
-guard_is a insn width comparison left right distance P region n is f (behind lent l r n' high low2 high2 t tail d apart h g) =
+guard_is a insn width comparison left right distance P region n is f (behind l r t p q d apart h g same tail) =
     let wide : width ≡ Full = cc in
     let greater : comparison ≡ Greater = cc in
     let at : l ≡ left = cc in
     let other : right ≡ Source r = cc in
-    f lent r n' high low2 high2 t tail other (λ e. apart (at ∙ e)) wide greater (subst (λ (i : ℕ). Holds (LentIn lent n' high tail) (register_at a.registers i)) at h) g
+    f r t p q other (λ e. apart (at ∙ e)) wide greater (subst (λ (i : ℕ). register_at a.registers i ≡ Set (Lent p)) at h) g same tail
 
 -- what is promised of a comparison in each of these cases
 pub branch_granted : (profile : Profile) (a : AbsState) (insn : Insn) (width : Width) (comparison : Comparison) (left : ℕ) (right : Operand) (distance : ℤ) (P : Type 0) → insn ≡ Branch width comparison left right distance → (HasNumberAt a left → HasNumberIn a right → P) → IfGuards a width comparison left right (λ region n. P) → IsGranted profile a insn → P
@@ -126,8 +131,9 @@ carries_takes a b (Store z base o v) is reads carries = absurd reads
 carries_takes a b (LoadWide d v) is reads carries = writes_takes a b (LoadWide d v) d refl carries
 carries_takes a b Exit is reads carries = absurd is
 
-pub step_takes : (profile : Profile) (a b : AbsState) (insn : Insn) (o : Option AbsState) → IsStraight insn → o ≡ Some b → (ReadsNumbers a insn → IfSome o (λ x. Carries a insn x)) → IfSome o (λ x. LeavesOthers a insn x) → IfSome o (λ x. LeavesMemory a insn x) → ((p count : ℕ) → Stores a insn p count → IfSome o (λ x. StoresSlots p count a.stack x.stack)) → ((i : ℕ) (known : Known) → Spills a insn i known → IfSome o (λ x. SpillsSlot i known a.stack x.stack)) → ((d : ℕ) (fact : Fact) → Yields profile a insn d fact → IfSome o (λ x. Holds fact (register_at x.registers d))) → Takes profile a insn b
-step_takes profile a b insn o straight live carries others memory stores spills rows = record {
+pub step_takes : (profile : Profile) (a b : AbsState) (insn : Insn) (o : Option AbsState) → IsStraight insn → o ≡ Some b → (ReadsNumbers a insn → IfSome o (λ x. Carries a insn x)) → IfSome o (λ x. LeavesOthers a insn x) → IfSome o (λ x. LeavesMemory a insn x) → ((p count : ℕ) → Stores a insn p count → IfSome o (λ x. StoresSlots p count a.stack x.stack)) → ((i : ℕ) (known : Known) → Spills a insn i known → IfSome o (λ x. SpillsSlot i known a.stack x.stack)) → ((d : ℕ) (fact : Fact) → Yields profile a insn d fact → IfSome o (λ x. Holds fact (register_at x.registers d))) → (HasUnset a (read_by insn) → ⊥) → Takes profile a insn b
+step_takes profile a b insn o straight live carries others memory stores spills rows read = record {
+  read = read;
   numbers = λ reads. carries_takes a b insn straight reads (at_some o (λ x. Carries a insn x) b (carries reads) live);
   others = at_some o (λ x. LeavesOthers a insn x) b others live;
   memory = at_some o (λ x. LeavesMemory a insn x) b memory live;
@@ -146,8 +152,9 @@ none_taken a insn none = record {
   kept = λ i was. was;
 }
 
-pub jump_takes : (profile : Profile) (a : AbsState) (insn : Insn) (distance : ℤ) → written_by insn ≡ None → jump_of insn ≡ Some distance → LeavesOthers a insn a → LeavesMemory a insn a → Takes profile a insn a
-jump_takes profile a insn distance none jumps others memory = record {
+pub jump_takes : (profile : Profile) (a : AbsState) (insn : Insn) (distance : ℤ) → written_by insn ≡ None → jump_of insn ≡ Some distance → LeavesOthers a insn a → LeavesMemory a insn a → (HasUnset a (read_by insn) → ⊥) → Takes profile a insn a
+jump_takes profile a insn distance none jumps others memory read = record {
+  read = read;
   numbers = λ reads. none_taken a insn none;
   others = others;
   memory = memory;
@@ -163,8 +170,9 @@ keeps_number (Set (Context p)) y keeps number = absurd number
 keeps_number (Set (Stack p)) y keeps number = absurd number
 keeps_number (Set (Lent p)) y keeps number = absurd number
 
-pub edge_takes : (profile : Profile) (a b : AbsState) (insn : Insn) (width : Width) (comparison : Comparison) (left : ℕ) (right : Operand) (distance : ℤ) (edge : Option AbsState) → insn ≡ Branch width comparison left right distance → edge ≡ Some b → IfSome edge (λ x. LeavesSides left right a x) → IfSome edge (λ x. LengthensMemory a x) → (HasNumberAt a left → HasNumberIn a right → IfSome edge (λ x. KeepsAll a x)) → Takes profile a insn b
-edge_takes profile a b insn width comparison left right distance edge is live leaves memory kinds = record {
+pub edge_takes : (profile : Profile) (a b : AbsState) (insn : Insn) (width : Width) (comparison : Comparison) (left : ℕ) (right : Operand) (distance : ℤ) (edge : Option AbsState) → insn ≡ Branch width comparison left right distance → edge ≡ Some b → IfSome edge (λ x. LeavesSides left right a x) → IfSome edge (λ x. LengthensMemory a x) → (HasNumberAt a left → HasNumberIn a right → IfSome edge (λ x. KeepsAll a x)) → (HasUnset a (left ∷ read_operand right) → ⊥) → Takes profile a insn b
+edge_takes profile a b insn width comparison left right distance edge is live leaves memory kinds read = record {
+  read = subst (λ (i : Insn). HasUnset a (read_by i) → ⊥) (sym is) read;
   numbers = λ reads.
       let both = subst (ReadsNumbers a) is reads in
       let keeps = at_some edge (λ x. KeepsAll a x) b (kinds both.0 both.1) live in

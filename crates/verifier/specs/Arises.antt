@@ -9,26 +9,32 @@ use Rattle.bpf_words.specs.declared.instruction.Insn.TheVariants.{Branch}
 use Rattle.bpf_words.specs.Flow.{StartsAt, jump_of, read_by, written_by, falls_through, slots_of}
 use Rattle.meaning.specs.Step.{Program}
 use Rattle.abstract_state.specs.declared.region.Region.{Region}
-use Rattle.abstract_state.specs.Lent.{bound_of}
+use Rattle.abstract_state.specs.Lent.{bound_of, tail_of}
+use Rattle.abstract_state.specs.declared.place.LentPlace.{LentPlace}
+use Rattle.abstract_state.specs.declared.state.AbsReg.TheVariants.{Unset, Set}
 use Rattle.abstract_state.specs.declared.state.AbsState.{AbsState}
 use Rattle.abstract_state.specs.State.{register_at, slot_at}
 use Rattle.abstract_state.specs.Kinds.{HasNumberAt, IsContextAt, IsStackAt, JoinsReg, JoinsSlot, ReadsNumbers}
 use Rattle.abstract_state.specs.Exact.{Fact, Holds}
-use Rattle.abstract_state.specs.Exact.Fact.{LentIn}
 use Rattle.abstract_state.specs.Guard.{Yields, Stores, Spills, LeavesOthers, LeavesMemory}
 use Rattle.abstract_state.specs.Frame.{StoresSlots, SpillsSlot}
 use Rattle.abstract_state.specs.declared.known.Known.{Known}
+use Rattle.abstract_state.specs.declared.known.Known.TheVariants.{Lent}
 use Rattle.abstract_state.specs.Unset.{HasUnset}
 use Rattle.abstract_state.specs.declared.refusal.Refusal.{Refusal}
 use Rattle.abstract_state.specs.declared.refusal.Refusal.TheVariants.{UnsetRegister}
 use Rattle.verifier.specs.declared.refusal.VerifyError.{VerifyError}
 use Rattle.verifier.specs.declared.refusal.VerifyError.TheVariants.{State as StateRefused, OutOfMemory}
+use Rattle.program_reads.specs.Runs.{ContainsRuns}
 use Rattle.verifier.specs.Waiting.{States, waiting_at}
 use Rattle.verifier.specs.Walk.{Between}
 
 -- a comparison with an address in a lent region up to its end: where it doesn't hold, so many bytes are there
 pub data Guards (a : AbsState) : Insn → Region → ℕ → Type 0 where
-  behind : (region : Region) (left right n high low2 high2 t : ℕ) (tail : Option ℕ) (distance : ℤ) → left ≢ right → Holds (LentIn region n high tail) (register_at a.registers left) → Holds (LentIn region low2 high2 (Some t)) (register_at a.registers right) → Guards a (Branch Full Greater left (Source right) distance) region n
+  behind : (left right t : ℕ) (p q : LentPlace) (distance : ℤ) → left ≢ right
+      → register_at a.registers left ≡ Set (Lent p) → register_at a.registers right ≡ Set (Lent q)
+      → p.region ≡ q.region → tail_of q.offset.tails p.region ≡ Some t
+      → Guards a (Branch Full Greater left (Source right) distance) p.region p.offset.range.low
 
 -- what is never refused: what reads numbers alone, the steps of a guarded read of a region that the profile lends, and loads and
 -- stores in the stack
@@ -44,8 +50,9 @@ pub record TakesNumbers (a : AbsState) (insn : Insn) (b : AbsState) : Type 0 whe
   pub written : (i : ℕ) → written_by insn ≡ Some i → HasNumberAt b i
   pub kept : (i : ℕ) → HasNumberAt a i → HasNumberAt b i
 
--- what is known past an instruction, on each of its edges
+-- what is known past an instruction, on each of its edges: it reads no unset register, and what it writes is set
 pub record Takes (profile : Profile) (a : AbsState) (insn : Insn) (b : AbsState) : Type 0 where
+  pub read : HasUnset a (read_by insn) → ⊥
   pub numbers : ReadsNumbers a insn → TakesNumbers a insn b
   pub others : LeavesOthers a insn b
   pub memory : LeavesMemory a insn b
@@ -74,7 +81,8 @@ pub record IsTarget (program : Program) (slot : ℕ) : Type 0 where
 
 -- in a run of the profile: known before the first slot; past an instruction, by its fall into the next one or by its jump; or joined, where a jump leads
 pub data Arises (profile : Profile) (program : Program) : ℕ → AbsState → Type 0 where
-  first : {a : AbsState} → IsContextAt 0 (register_at a.registers 1) → IsStackAt 512 (register_at a.registers 10) → Arises profile program 0 a
+  first : {a : AbsState} → IsContextAt 0 (register_at a.registers 1) → IsStackAt 512 (register_at a.registers 10)
+      → ((i : ℕ) → i ≢ 1 → i ≢ 10 → register_at a.registers i ≡ Unset) → Arises profile program 0 a
   fell : {slot : ℕ} {a b : AbsState} {insn : Insn} → Arises profile program slot a → StartsAt program slot insn → falls_through insn ≡ true → Takes profile a insn b → IsLongBehind a insn b → Arises profile program (slot + slots_of insn) b
   jumped : {slot n : ℕ} {a b : AbsState} {insn : Insn} → Arises profile program slot a → StartsAt program slot insn → jump_of insn ≡ Some (pos n) → Takes profile a insn b → Arises profile program (slot + 1 + n) b
   joined : {slot : ℕ} {a b c : AbsState} → IsTarget program slot → Arises profile program slot a → Arises profile program slot b → JoinsAll a b c → Arises profile program slot c
@@ -96,12 +104,14 @@ FallsAs profile program slot falling =
     (a : AbsState) → falling ≡ Some a
     → (to : ℕ) × ((next : Insn) × (slot ≤ to) × Between program slot to × StartsAt program to next × Arises profile program to a)
 
--- what arises before some instruction doesn't grant it; the fault is an unset register exactly where the instruction reads one
+-- what arises before some instruction, and contains each state that a run of the profile comes to there, doesn't grant
+-- it; the fault is an unset register exactly where the instruction reads one
 pub record MayRefuse (profile : Profile) (program : Program) : Type 0 where
   pub slot : ℕ
   pub state : AbsState
   pub insn : Insn
   pub arises : Arises profile program slot state
+  pub contains : ContainsRuns profile program slot (Some state)
   pub starts : StartsAt program slot insn
   pub refused : IsGranted profile state insn → ⊥
   pub fault : Refusal

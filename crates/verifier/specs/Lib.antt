@@ -7,3 +7,4 @@ pub mod Guard
 pub mod Reaches
 pub mod Judged
 pub mod Framed
+pub mod Unset

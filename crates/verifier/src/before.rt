@@ -6,7 +6,10 @@ ghost use Rattle.bpf_words.specs.Words.{program_of};
 ghost use Rattle.verifier.specs.Arises.{ArisesAt, RefusesAt};
 ghost use Rattle.abstract_state.specs.declared.refusal.Refusal.{Refusal as TheRefusal};
 ghost use Rattle.verifier.specs.Plain.{IsPlain};
+ghost use Rattle.verifier.specs.Unset.{ReadsUnset};
+ghost use Rattle.verifier.specs.Framed.{IsFramed};
 ghost use Rattle.verifier.specs.Guard.{IsGuard};
+ghost use Rattle.verifier.specs.Judged.{Rejects};
 ghost use Rattle.verifier.specs.Structure.{FirstFault};
 ghost use Rattle.program_reads.specs.Runs.{ContainsRuns, ContainAllRuns};
 ghost use Rattle.verifier.specs.Reaches.{AriseEverywhere, IsBefore};
@@ -34,9 +37,13 @@ pub fn state_before(
     ensures arises { IfOk result (λ known. (insn : Insn) → StartsAt (program_of words.now) slot insn → ArisesAt profile (program_of words.now) slot known) }
     ensures structure { (at : ℕ) (fault : StructureFault) → (result ≡ Err (VerifyError.Structure at fault)) ↔ FirstFault (program_of words.now) at fault }
     ensures refused { (at : ℕ) (fault : TheRefusal) → result ≡ Err (VerifyError.State at fault) → RefusesAt profile (program_of words.now) at fault }
+    ensures unset { (at : ℕ) (fault : TheRefusal) → result ≡ Err (VerifyError.State at fault)
+        → ReadsUnset profile (program_of words.now) at → fault ≡ TheRefusal.UnsetRegister }
     ensures plain { IfErr result (λ e. IsPlain (program_of words.now) → e ≡ VerifyError.OutOfMemory) }
+    ensures framed { IfErr result (λ e. IsFramed (program_of words.now) → e ≡ VerifyError.OutOfMemory) }
     ensures guard { IfErr result (λ e. IsGuard profile (program_of words.now) → e ≡ VerifyError.OutOfMemory) }
     ensures before { IfErr result (IsBefore slot) }
+    ensures rejects { IfErr result (λ e. Rejects profile (program_of words.now) e) }
 {
     if let Err(wrong) = check(words) {
         return Err(VerifyError::Structure {
@@ -59,9 +66,13 @@ pub fn states_before(
     ensures arises { IfOk result (λ states. AriseEverywhere profile (program_of words.now) states.items) }
     ensures structure { (at : ℕ) (fault : StructureFault) → (result ≡ Err (VerifyError.Structure at fault)) ↔ FirstFault (program_of words.now) at fault }
     ensures refused { (at : ℕ) (fault : TheRefusal) → result ≡ Err (VerifyError.State at fault) → RefusesAt profile (program_of words.now) at fault }
+    ensures unset { (at : ℕ) (fault : TheRefusal) → result ≡ Err (VerifyError.State at fault)
+        → ReadsUnset profile (program_of words.now) at → fault ≡ TheRefusal.UnsetRegister }
     ensures plain { IfErr result (λ e. IsPlain (program_of words.now) → e ≡ VerifyError.OutOfMemory) }
+    ensures framed { IfErr result (λ e. IsFramed (program_of words.now) → e ≡ VerifyError.OutOfMemory) }
     ensures guard { IfErr result (λ e. IsGuard profile (program_of words.now) → e ≡ VerifyError.OutOfMemory) }
     ensures before { IfErr result (IsBefore (length (program_of words.now))) }
+    ensures rejects { IfErr result (λ e. Rejects profile (program_of words.now) e) }
 {
     if let Err(wrong) = check(words) {
         return Err(VerifyError::Structure {

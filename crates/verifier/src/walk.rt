@@ -193,7 +193,7 @@ fn visit(
     ensures covers { (program : Program) → IsPaired program → IsStructured program → StartsAt program slot insn.now → Covers profile program slot (after flow state.old) waiting.old → IfOk result (λ next. Covers profile program (slot + 1) (after next state.new) waiting.new) }
     ensures follows { (program : Program) → IsPaired program → IsStructured program → StartsAt program slot insn.now → Follows profile program slot (after flow state.old) waiting.old → IfOk result (λ next. Follows profile program (slot + 1) (after next state.new) waiting.new) }
     ensures lists { (program : Program) → IsStructured program → StartsAt program slot insn.now → Covers profile program slot (after flow state.old) waiting.old → ListsBelow profile program slot reads.old → IfOk result (λ _. ListsBelow profile program (slot + 1) reads.new) }
-    ensures floor { (program : Program) → IsPaired program → IsStructured program → StartsAt program slot insn.now → AllArise profile program waiting.old → FallsAs profile program slot (after flow state.old) → IfErr result (IsCause profile program) × IfOk result (λ next. AllArise profile program waiting.new × FallsAs profile program (slot + 1) (after next state.new)) }
+    ensures floor { (program : Program) → IsPaired program → IsStructured program → StartsAt program slot insn.now → AllArise profile program waiting.old → FallsAs profile program slot (after flow state.old) → Covers profile program slot (after flow state.old) waiting.old → IfErr result (IsCause profile program) × IfOk result (λ next. AllArise profile program waiting.new × FallsAs profile program (slot + 1) (after next state.new)) }
 {
     let Flow::Live = waiting.arrive(slot, flow, state) else {
         return Ok(Flow::Dead);

@@ -1,13 +1,17 @@
-use Rattle.std.proofs.Common.{◌≡◌}
+use Rattle.std.proofs.Common.{◌≡◌, arith}
 use Rattle.bpf_words.specs.Words.{program_of}
 use Rattle.verifier.specs.declared.refusal.VerifyError.TheVariants.{OutOfMemory}
 use Rattle.verifier.specs.Plain.{IsPlain}
+use Rattle.verifier.specs.Framed.{IsFramed}
 use Rattle.verifier.specs.Guard.{IsGuard}
 use Rattle.verifier.specs.Arises.{IsCause}
 use Rattle.verifier.specs.Reaches.{IsStateBelow, IsBefore}
 use Rattle.verifier.proofs.Refusals.{no_fault, named}
 use Rattle.verifier.proofs.Arising.{only_memory, refuses_at}
 use Rattle.verifier.proofs.PlainRuns.{plain_grants}
+use Rattle.verifier.proofs.FramedRuns.{framed_grants}
+use Rattle.verifier.proofs.Rejecting.{walk_refused}
+use Rattle.verifier.proofs.Unsets.{unset_named}
 use Rattle.verifier.proofs.GuardRuns.{guard_structured, guard_grants}
 use Rattle.verifier.proofs.Reaching.{err_more, is_before, none_of_structure}
 use Rattle.verifier.proofs.before.state_before.Goals as goal
@@ -42,3 +46,26 @@ returns-clause-before c = err_more c.walk_before.result (IsStateBelow c.args.slo
 
 pub returns-clause-refused : goal.returns-clause-refused
 returns-clause-refused c = λ at fault is. refuses_at c.args.profile (program_of c.args.words.now) c.walk_before.result at fault c.walk_before.ensures.floor is
+
+pub returns-in-Err-clause-framed : goal.returns-in-Err-clause-framed
+returns-in-Err-clause-framed c = λ framed. absurd (no_fault _ _ _ framed.structured c.in-Err.ensures)
+
+pub returns-clause-framed : goal.returns-clause-framed
+returns-clause-framed c =
+    let program = program_of c.args.words.now in
+    err_more c.walk_before.result (IsCause c.args.profile program) (λ e. IsFramed program → e ≡ OutOfMemory)
+    (λ e cause. only_memory c.args.profile program e (IsFramed program) (framed_grants c.args.profile program) cause)
+    c.walk_before.ensures.floor
+
+pub returns-in-Err-clause-rejects : goal.returns-in-Err-clause-rejects
+returns-in-Err-clause-rejects c = c.in-Err.ensures
+
+pub returns-clause-rejects : goal.returns-clause-rejects
+returns-clause-rejects c =
+    walk_refused c.args.profile (program_of c.args.words.now) c.walk_before.result c.args.slot c.in_default.ensures
+    (omega (arith, c.requires)) c.walk_before.ensures.below c.walk_before.ensures.floor
+
+pub returns-clause-unset : goal.returns-clause-unset
+returns-clause-unset c = λ at fault is reads.
+    unset_named c.args.profile (program_of c.args.words.now) c.walk_before.result at fault
+    c.walk_before.ensures.floor is reads

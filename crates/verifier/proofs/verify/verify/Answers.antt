@@ -16,6 +16,7 @@ use Rattle.verifier.proofs.Reaching.{is_before}
 use Rattle.verifier.proofs.Arising.{passed_on, only_memory, refuses_at, caused}
 use Rattle.verifier.proofs.PlainRuns.{plain_grants}
 use Rattle.verifier.proofs.FramedRuns.{framed_grants}
+use Rattle.verifier.proofs.Unsets.{unset_named}
 use Rattle.verifier.specs.Framed.{IsFramed}
 use Rattle.verifier.proofs.GuardRuns.{guard_structured, guard_grants}
 use Rattle.verifier.specs.Arises.{IsCause}
@@ -105,3 +106,17 @@ returns-in_err-reads-clause-framed c =
 
 pub returns-in-Err-clause-framed : goal.returns-in-Err-clause-framed
 returns-in-Err-clause-framed c = λ framed. absurd (no_fault _ _ _ framed.structured c.in-Err.ensures)
+
+pub returns-in_err-reads-clause-unset : goal.returns-in_err-reads-clause-unset
+returns-in_err-reads-clause-unset c = λ at fault is reads.
+    let program = program_of c.args.words.now in
+    unset_named c.args.profile program c.from_residual.result at fault
+    (passed_on c.from_residual.result c.in_err-reads.field-0.0 (IsCause c.args.profile program)
+    c.from_residual.ensures.1 c.in_err-reads.ensures.floor) is reads
+
+pub returns-in_err-of-clause-unset : goal.returns-in_err-of-clause-unset
+returns-in_err-of-clause-unset c = λ at fault is reads.
+    let program = program_of c.args.words.now in
+    unset_named c.args.profile program c.from_residual-in_err-of.result at fault
+    (passed_on c.from_residual-in_err-of.result OutOfMemory (IsCause c.args.profile program)
+    c.from_residual-in_err-of.ensures.1 (inl refl)) is reads

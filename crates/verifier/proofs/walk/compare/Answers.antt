@@ -41,15 +41,15 @@ returns-clause-arises c = λ program starts from all.
       c.in_ok-record.ensures.arises c.args.profile program all (jump_target program c.args.slot j.0 c.target.result c.args.insn.now _ starts jumps j.1 t)
           (λ b live.
           jump_arises c.args.profile program c.args.slot j.0 c.target.result c.args.insn.now _ c.args.state.now b starts from jumps j.1 t
-          (edge_takes c.args.profile c.args.state.now b c.args.insn.now c.in-Branch.width c.in-Branch.comparison c.in-Branch.left c.in-Branch.right _ c.in_ok-edges.edges.taken c.in-Branch.is live e.taken_others e.taken_memory e.taken_kinds)),
+          (edge_takes c.args.profile c.args.state.now b c.args.insn.now c.in-Branch.width c.in-Branch.comparison c.in-Branch.left c.in-Branch.right _ c.in_ok-edges.edges.taken c.in-Branch.is live e.taken_others e.taken_memory e.taken_kinds e.set)),
       subst (λ o. FallsFrom c.args.profile program c.args.slot c.args.insn.now o) (sym c.go_on.ensures)
           (edge_falls c.args.profile program c.args.slot c.args.insn.now c.args.state.now c.in_ok-edges.edges.untaken starts from (ap falls_through c.in-Branch.is)
           (λ b live. (
-            edge_takes c.args.profile c.args.state.now b c.args.insn.now c.in-Branch.width c.in-Branch.comparison c.in-Branch.left c.in-Branch.right _ c.in_ok-edges.edges.untaken c.in-Branch.is live e.untaken_others e.untaken_memory e.untaken_kinds,
+            edge_takes c.args.profile c.args.state.now b c.args.insn.now c.in-Branch.width c.in-Branch.comparison c.in-Branch.left c.in-Branch.right _ c.in_ok-edges.edges.untaken c.in-Branch.is live e.untaken_others e.untaken_memory e.untaken_kinds e.set,
             λ region n guard.
                 guard_is c.args.state.now c.args.insn.now c.in-Branch.width c.in-Branch.comparison c.in-Branch.left c.in-Branch.right _ (λ at m. m ≤ bound_of b.bounds at) region n c.in-Branch.is
-                (λ at r m high low2 high2 q tail side apart wide greater one two.
-                at_some c.in_ok-edges.edges.untaken (λ x. m ≤ bound_of x.bounds at) b (e.guards at r m high low2 high2 q tail side apart wide greater one two) live)
+                (λ r t p q side apart wide greater one two same tail.
+                at_some c.in_ok-edges.edges.untaken (λ x. p.offset.range.low ≤ bound_of x.bounds p.region) b (e.guards r t p q side apart wide greater one two same tail) live)
                 guard,
           ))),
     )
@@ -59,8 +59,8 @@ returns-in_err-edges-clause-floor c = λ granted.
     absurd (false≢true
     (branch_granted c.args.profile c.args.state.now c.args.insn.now c.in-Branch.width c.in-Branch.comparison c.in-Branch.left c.in-Branch.right _ _ c.in-Branch.is
     c.in_err-edges.ensures.floor
-    (λ region r n high low2 high2 t tail side apart wide greater one two.
-    c.in_err-edges.ensures.regions region r n high low2 high2 tail (Some t) side wide (subst IsOrder (sym greater) tt) one two)
+    (λ r t p q side apart wide greater one two same tail.
+    c.in_err-edges.ensures.regions r p q side wide (subst IsOrder (sym greater) tt) one two same)
     granted))
 
 pub returns-in_err-edges-clause-unset : goal.returns-in_err-edges-clause-unset

@@ -58,7 +58,7 @@ returns-in_ok-step-in_default c = record {
       let is = straight c.args.insn.now c.in_default.not-Jump c.in_default.not-JumpLong c.in_default.not-Branch c.in_default.not-Exit in (
         all,
         step_falls c.args.profile program c.args.slot c.args.insn.now c.args.state.now (after c.in_ok-step-in_default.field-0 c.step.new.self) is starts from
-            (λ b live. step_takes c.args.profile c.args.state.now b c.args.insn.now (after c.in_ok-step-in_default.field-0 c.step.new.self) is live c.in_ok-step-in_default.ensures.carries c.in_ok-step-in_default.ensures.others c.in_ok-step-in_default.ensures.memory (λ p count row. (c.in_ok-step-in_default.ensures.stores p count row).1) (λ i known row. (c.in_ok-step-in_default.ensures.spills i known row).1) (λ d fact row. (c.in_ok-step-in_default.ensures.yields d fact row).1)),
+            (λ b live. step_takes c.args.profile c.args.state.now b c.args.insn.now (after c.in_ok-step-in_default.field-0 c.step.new.self) is live c.in_ok-step-in_default.ensures.carries c.in_ok-step-in_default.ensures.others c.in_ok-step-in_default.ensures.memory (λ p count row. (c.in_ok-step-in_default.ensures.stores p count row).1) (λ i known row. (c.in_ok-step-in_default.ensures.spills i known row).1) (λ d fact row. (c.in_ok-step-in_default.ensures.yields d fact row).1) c.in_ok-step-in_default.ensures.set),
       );
   sound = λ span s which contains.
       lands_advances c.args.insn.now (lengths_of span) c.args.slot _ c.args.waiting.now _
@@ -73,7 +73,7 @@ returns-in_ok-add-in-Jump-clause-arises c = λ program starts from all.
     let t : c.target.result ≡ c.args.slot + 1 + j.0 = c.target.ensures j.0 (jumps ∙ ap Some j.1) in
     let stays = subst (λ (i : Insn). LeavesOthers c.args.state.now i c.args.state.now) (sym c.in-Jump.is) refl in (
       c.in_ok-add-in-Jump.ensures.arises c.args.profile program all (jump_target program c.args.slot j.0 c.target.result c.args.insn.now _ starts jumps j.1 t)
-          (jump_arises c.args.profile program c.args.slot j.0 c.target.result c.args.insn.now _ c.args.state.now c.args.state.now starts from jumps j.1 t (jump_takes c.args.profile c.args.state.now c.args.insn.now _ (ap written_by c.in-Jump.is) jumps stays (subst (λ (i : Insn). LeavesMemory c.args.state.now i c.args.state.now) (sym c.in-Jump.is) (refl, refl)))),
+          (jump_arises c.args.profile program c.args.slot j.0 c.target.result c.args.insn.now _ c.args.state.now c.args.state.now starts from jumps j.1 t (jump_takes c.args.profile c.args.state.now c.args.insn.now _ (ap written_by c.in-Jump.is) jumps stays (subst (λ (i : Insn). LeavesMemory c.args.state.now i c.args.state.now) (sym c.in-Jump.is) (refl, refl)) (subst (λ (i : Insn). HasUnset c.args.state.now (read_by i) → ⊥) (sym c.in-Jump.is) (λ none. none)))),
       no_falls c.args.profile program c.args.slot c.args.insn.now,
     )
 
@@ -84,7 +84,7 @@ returns-in_ok-add-in-JumpLong-clause-arises c = λ program starts from all.
     let t : c.target-in-JumpLong.result ≡ c.args.slot + 1 + j.0 = c.target-in-JumpLong.ensures j.0 (jumps ∙ ap Some j.1) in
     let stays = subst (λ (i : Insn). LeavesOthers c.args.state.now i c.args.state.now) (sym c.in-JumpLong.is) refl in (
       c.in_ok-add-in-JumpLong.ensures.arises c.args.profile program all (jump_target program c.args.slot j.0 c.target-in-JumpLong.result c.args.insn.now _ starts jumps j.1 t)
-          (jump_arises c.args.profile program c.args.slot j.0 c.target-in-JumpLong.result c.args.insn.now _ c.args.state.now c.args.state.now starts from jumps j.1 t (jump_takes c.args.profile c.args.state.now c.args.insn.now _ (ap written_by c.in-JumpLong.is) jumps stays (subst (λ (i : Insn). LeavesMemory c.args.state.now i c.args.state.now) (sym c.in-JumpLong.is) (refl, refl)))),
+          (jump_arises c.args.profile program c.args.slot j.0 c.target-in-JumpLong.result c.args.insn.now _ c.args.state.now c.args.state.now starts from jumps j.1 t (jump_takes c.args.profile c.args.state.now c.args.insn.now _ (ap written_by c.in-JumpLong.is) jumps stays (subst (λ (i : Insn). LeavesMemory c.args.state.now i c.args.state.now) (sym c.in-JumpLong.is) (refl, refl)) (subst (λ (i : Insn). HasUnset c.args.state.now (read_by i) → ⊥) (sym c.in-JumpLong.is) (λ none. none)))),
       no_falls c.args.profile program c.args.slot c.args.insn.now,
     )
 

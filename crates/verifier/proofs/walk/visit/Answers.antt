@@ -24,18 +24,18 @@ returns-in-Ok-clause-follows c = λ program paired structured starts follows.
     c.in-Live.ensures.falls c.in-Live.ensures.arrives c.in-Live.ensures.others follows)
 
 pub returns-in_default-clause-floor : goal.returns-in_default-clause-floor
-returns-in_default-clause-floor c = λ program paired structured starts all falls.
+returns-in_default-clause-floor c = λ program paired structured starts all falls covers.
     let a = c.in_default.ensures.arises c.args.profile program all (falls_here c.args.profile program c.args.slot c.args.insn.now (after c.args.flow c.args.state.now) starts falls) in
     (tt, (a.0, dead_falls c.args.profile program c.args.slot))
 
 pub returns-in-Ok-clause-floor : goal.returns-in-Ok-clause-floor
-returns-in-Ok-clause-floor c = λ program paired structured starts all falls.
+returns-in-Ok-clause-floor c = λ program paired structured starts all falls covers.
     let a = c.in-Live.ensures.arises c.args.profile program all (falls_here c.args.profile program c.args.slot c.args.insn.now (after c.args.flow c.args.state.now) starts falls) in
     let p = c.in-Ok.ensures.arises program starts (a.1 c.arrive.new.state refl) a.0 in
     (tt, (p.0, falls_next c.args.profile program c.args.slot c.args.insn.now (after c.in-Ok.next c.pass.new.state) paired structured starts p.1))
 
 pub returns-in-Err-Refused-clause-floor : goal.returns-in-Err-Refused-clause-floor
-returns-in-Err-Refused-clause-floor c = λ program paired structured starts all falls.
+returns-in-Err-Refused-clause-floor c = λ program paired structured starts all falls covers.
     let a = c.in-Live.ensures.arises c.args.profile program all (falls_here c.args.profile program c.args.slot c.args.insn.now (after c.args.flow c.args.state.now) starts falls) in (
       inr (
         record {
@@ -43,6 +43,9 @@ returns-in-Err-Refused-clause-floor c = λ program paired structured starts all 
           state = c.arrive.new.state;
           insn = c.args.insn.now;
           arises = a.1 c.arrive.new.state refl;
+          contains = all_joined c.args.profile program c.args.slot (after c.args.flow c.args.state.now)
+              (Some c.arrive.new.state) c.args.waiting.now structured c.in-Live.ensures.falls
+              c.in-Live.ensures.arrives covers;
           starts = starts;
           refused = λ granted. let only = c.in-Err-Refused.ensures.floor granted in absurd (cc (only, c.in-Err-Refused.field-0-is));
           fault = c.in-Err-Refused.fault;
@@ -54,7 +57,7 @@ returns-in-Err-Refused-clause-floor c = λ program paired structured starts all 
     )
 
 pub returns-in-Err-OutOfMemory-clause-floor : goal.returns-in-Err-OutOfMemory-clause-floor
-returns-in-Err-OutOfMemory-clause-floor c = λ program paired structured starts all falls. (inl refl, tt)
+returns-in-Err-OutOfMemory-clause-floor c = λ program paired structured starts all falls covers. (inl refl, tt)
 
 pub returns-in_default-clause-covers : goal.returns-in_default-clause-covers
 returns-in_default-clause-covers c = λ program paired structured starts covers.

@@ -26,7 +26,7 @@ loop-slot-init c =
       count = search rules;
       contains = contain_none c.args.profile (program_of c.args.words.now) c.in_ok-states.states.items;
       waits = λ slot a e. let none = c.in_ok-waiting.ensures.nothing slot in absurd (cc);
-      falls = entry_falls c.args.profile (program_of c.args.words.now) c.entry-state.result some (program_of-paired c.args.words.now c.len.ensures.sound) c.entry-state.ensures.context c.entry-state.ensures.frame;
+      falls = entry_falls c.args.profile (program_of c.args.words.now) c.entry-state.result some (program_of-paired c.args.words.now c.len.ensures.sound) c.entry-state.ensures.context c.entry-state.ensures.frame c.entry-state.ensures.unset;
       arises = arise_none c.args.profile (program_of c.args.words.now) c.in_ok-states.states.items;
     }
 
@@ -65,7 +65,7 @@ loop-slot-preserved c =
     elim c.match-insn.branch [
       | in-Some+in_ok-flow w ↦
           let step = w.in_ok-flow.ensures.floor program (program_of-paired c.args.words.now c.len.ensures.sound) c.requires w.in-Some.ensures.value waits
-          (here_falls c.args.profile program slot w.in-Some.insn joined w.in-Some.ensures.value (known w.in-Some.insn w.in-Some.ensures.value)) in
+          (here_falls c.args.profile program slot w.in-Some.insn joined w.in-Some.ensures.value (known w.in-Some.insn w.in-Some.ensures.value)) covers in
           rw (w.waiting-is, w.state-is, w.flow-is)
           (record {
             size = w.in_ok-flow.ensures.size ∙ size;
@@ -111,6 +111,8 @@ returns-in_err-flow-clause-floor c =
     let waits : AllArise c.args.profile program c.arrive-flow.new.self = c.arrive-flow.ensures.waits c.args.profile program c.loop-slot.invariant.waits in
     let known : ArisesAt c.args.profile program c.loop-slot.slot joined =
     (c.arrive-flow.ensures.arises c.args.profile program c.loop-slot.invariant.waits (falls_here c.args.profile program c.loop-slot.slot c.in-Some.insn falling c.in-Some.ensures.value c.loop-slot.invariant.falls)).1 in
+    let covers : Covers c.args.profile program c.loop-slot.slot joined c.arrive-flow.new.self =
+    covers_arrived c.args.profile program c.loop-slot.slot falling joined c.loop-slot.waiting c.arrive-flow.new.self c.arrive-flow.ensures.falls c.arrive-flow.ensures.arrives c.arrive-flow.ensures.others c.loop-slot.invariant.covers in
     passed_on c.from_residual-in_err-flow.result c.in_err-flow.field-0.0 (IsCause c.args.profile program) c.from_residual-in_err-flow.ensures.1
     (c.in_err-flow.ensures.floor program (program_of-paired c.args.words.now c.len.ensures.sound) c.requires c.in-Some.ensures.value waits
-    (here_falls c.args.profile program c.loop-slot.slot c.in-Some.insn joined c.in-Some.ensures.value known)).0
+    (here_falls c.args.profile program c.loop-slot.slot c.in-Some.insn joined c.in-Some.ensures.value known) covers).0

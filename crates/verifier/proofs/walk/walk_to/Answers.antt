@@ -22,7 +22,7 @@ loop-slot-init c =
       covers = covers_begin c.args.profile (program_of c.args.words.now) c.entry-state.result c.in_ok-waiting.waiting c.entry-state.ensures.contains;
       lists = lists_none c.args.profile (program_of c.args.words.now) c.nothing-reads.result;
       waits = λ slot a e. let none = c.in_ok-waiting.ensures.nothing slot in absurd (cc);
-      falls = entry_falls c.args.profile (program_of c.args.words.now) c.entry-state.result some (program_of-paired c.args.words.now c.len.ensures.sound) c.entry-state.ensures.context c.entry-state.ensures.frame;
+      falls = entry_falls c.args.profile (program_of c.args.words.now) c.entry-state.result some (program_of-paired c.args.words.now c.len.ensures.sound) c.entry-state.ensures.context c.entry-state.ensures.frame c.entry-state.ensures.unset;
     }
 
 pub visit-requires-clause-jumps : goal.visit-requires-clause-jumps
@@ -41,7 +41,7 @@ loop-slot-preserved c =
       | in-Some+in_ok-flow w ↦
           let follows : Follows c.args.profile (program_of c.args.words.now) (c.loop-slot.slot + 1) (after w.in_ok-flow.flow w.visit.new.state) w.visit.new.waiting =
           w.in_ok-flow.ensures.follows (program_of c.args.words.now) (program_of-paired c.args.words.now c.len.ensures.sound) c.requires.structured w.in-Some.ensures.value c.loop-slot.invariant.follows in
-          let step = w.in_ok-flow.ensures.floor (program_of c.args.words.now) (program_of-paired c.args.words.now c.len.ensures.sound) c.requires.structured w.in-Some.ensures.value c.loop-slot.invariant.waits c.loop-slot.invariant.falls in
+          let step = w.in_ok-flow.ensures.floor (program_of c.args.words.now) (program_of-paired c.args.words.now c.len.ensures.sound) c.requires.structured w.in-Some.ensures.value c.loop-slot.invariant.waits c.loop-slot.invariant.falls c.loop-slot.invariant.covers in
           rw (w.waiting-is, w.state-is, w.flow-is, w.reads-is)
           (record {
             size = w.in_ok-flow.ensures.size ∙ c.loop-slot.invariant.size;
@@ -81,4 +81,4 @@ returns-clause-lists c =
 pub returns-in_err-flow-clause-floor : goal.returns-in_err-flow-clause-floor
 returns-in_err-flow-clause-floor c =
     passed_on c.from_residual-in_err-flow.result c.in_err-flow.field-0.0 (IsCause c.args.profile (program_of c.args.words.now)) c.from_residual-in_err-flow.ensures.1
-    (c.in_err-flow.ensures.floor (program_of c.args.words.now) (program_of-paired c.args.words.now c.len.ensures.sound) c.requires.structured c.in-Some.ensures.value c.loop-slot.invariant.waits c.loop-slot.invariant.falls).0
+    (c.in_err-flow.ensures.floor (program_of c.args.words.now) (program_of-paired c.args.words.now c.len.ensures.sound) c.requires.structured c.in-Some.ensures.value c.loop-slot.invariant.waits c.loop-slot.invariant.falls c.loop-slot.invariant.covers).0

@@ -10,10 +10,12 @@ use Rattle.abstract_state.proofs.Unsets.{passed}
 use Rattle.abstract_state.proofs.state.AbsState.branch.Goals as goal
 
 pub returns-in_err-holds-clause-regions : goal.returns-in_err-holds-clause-regions
-returns-in_err-holds-clause-regions c = λ region r l1 h1 l2 h2 t1 t2 e w o a b. let bad : false ≡ true = c.in_err-holds.ensures.regions region r l1 h1 l2 h2 t1 t2 e w o a b in absurd (cc)
+returns-in_err-holds-clause-regions c = λ r p q e w o a b region.
+    let bad : false ≡ true = c.in_err-holds.ensures.regions r p q e w o a b region in absurd (cc)
 
 pub returns-in_err-fails-clause-regions : goal.returns-in_err-fails-clause-regions
-returns-in_err-fails-clause-regions c = λ region r l1 h1 l2 h2 t1 t2 e w o a b. let bad : false ≡ true = c.in_err-fails.ensures.regions region r l1 h1 l2 h2 t1 t2 e w o a b in absurd (cc)
+returns-in_err-fails-clause-regions c = λ r p q e w o a b region.
+    let bad : false ≡ true = c.in_err-fails.ensures.regions r p q e w o a b region in absurd (cc)
 
 pub returns-clause-taken : goal.returns-clause-taken
 returns-clause-taken c = subst (λ (o : Option AbsState). Edge c.args.self.now c.args.width c.args.comparison c.args.left c.args.right.now true o) (sym c.live.ensures) c.in_ok-holds.ensures.sound
@@ -22,8 +24,9 @@ pub returns-clause-untaken : goal.returns-clause-untaken
 returns-clause-untaken c = subst (λ (o : Option AbsState). Edge c.args.self.now c.args.width c.args.comparison c.args.left c.args.right.now false o) (sym c.live-2.ensures) c.in_ok-fails.ensures.sound
 
 pub returns-clause-guards : goal.returns-clause-guards
-returns-clause-guards c = λ region r n high l2 h2 t t1 e other w greater a b.
-    subst (λ (o : Option AbsState). IfSome o (λ x. n ≤ bound_of x.bounds region)) (sym c.live-2.ensures) (c.in_ok-fails.ensures.guards region r n high l2 h2 t t1 e other w greater refl a b)
+returns-clause-guards c = λ r t p q e other w greater a b region tail.
+    subst (λ (o : Option AbsState). IfSome o (λ x. p.offset.range.low ≤ bound_of x.bounds p.region))
+    (sym c.live-2.ensures) (c.in_ok-fails.ensures.guards r t p q e other w greater refl a b region tail)
 
 pub returns-in_err-holds-clause-unset : goal.returns-in_err-holds-clause-unset
 returns-in_err-holds-clause-unset c =

@@ -2,7 +2,8 @@ use Rattle.std.proofs.Common.{true, false, ◌≡◌, ◌+◌, ◌*◌, ◌%◌,
 use Rattle.abstract_state.specs.Kinds.{IsNumberField}
 use Rattle.abstract_state.specs.Lent.{begin_field, end_field, limit_of}
 use Rattle.abstract_state.specs.Exact.{LentIn, AnyNumber, Exactly}
-use Rattle.abstract_state.proofs.Exact.{lent_is, any_number}
+use Rattle.abstract_state.specs.declared.known.Known.TheVariants.{Lent}
+use Rattle.abstract_state.proofs.Exact.{any_number, set_exactly}
 use Rattle.abstract_state.proofs.Regions.{begin_low, end_low}
 use Rattle.std.proofs.lemmas.Int.{to_z-of_z}
 use Rattle.std.specs.Int.{cast_unsigned, w16, w64}
@@ -49,7 +50,8 @@ pub returns-in_err-a-clause-end : goal.returns-in_err-a-clause-end
 returns-in_err-a-clause-end c = λ region lends e z p. let bad : false ≡ true = (c.in_err-a.ensures.context 0 p).0 in absurd (cc)
 
 pub returns-in_err-a-clause-lent : goal.returns-in_err-a-clause-lent
-returns-in_err-a-clause-lent c = λ region o low high t e h short within. let bad : false ≡ true = (c.in_err-a.ensures.holds (LentIn region low high t) h).0 in absurd (cc)
+returns-in_err-a-clause-lent c = λ o p e short h within.
+    let bad : false ≡ true = (c.in_err-a.ensures.holds (Exactly (Lent p)) (set_exactly _ _ h)).0 in absurd (cc)
 
 pub returns-in_err-known-clause-begin : goal.returns-in_err-known-clause-begin
 returns-in_err-known-clause-begin c = λ region lends e z p.
@@ -66,12 +68,11 @@ returns-in_err-known-clause-end c = λ region lends e z p.
     let bad : false ≡ true = (c.in_err-known.ensures.end region lends (c.in_ok-a.ensures.context 0 p).1 z (omega arith) at).0 in absurd (cc)
 
 pub returns-in_err-known-clause-lent : goal.returns-in_err-known-clause-lent
-returns-in_err-known-clause-lent c = λ region o low high t e h short within.
+returns-in_err-known-clause-lent c = λ o p e short h within.
     let same : c.displacement.result ≡ cast_unsigned w64 c.args.offset = c.displacement.ensures ∙ ap (cast_unsigned w64) (to_z-of_z w16 c.args.offset c.ranges.offset) in
     let at : c.displacement.result ≡ o = same ∙ ap (cast_unsigned w64) e ∙ omega arith in
-    let place = lent_is region low high t c.in_ok-a.a (c.in_ok-a.ensures.holds (LentIn region low high t) h).1 in
-    let end : place.0.offset.range.high ≡ high = place.3.1 in
-    let bad : false ≡ true = c.in_err-known.ensures.lent region place.0 place.1 place.2 (omega arith) (omega arith) in absurd (cc)
+    let is = (c.in_ok-a.ensures.holds (Exactly (Lent p)) (set_exactly _ _ h)).1 in
+    let bad : false ≡ true = c.in_err-known.ensures.lent p.region p is refl (omega arith) (omega arith) in absurd (cc)
 
 pub returns-clause-begin : goal.returns-clause-begin
 returns-clause-begin c = λ region lends e z p.
@@ -88,9 +89,9 @@ returns-clause-end c = λ region lends e z p.
     (refl, c.write.ensures.holds (LentIn region 0 (limit_of region) (Some 0)) (c.in_ok-known.ensures.end region lends (c.in_ok-a.ensures.context 0 p).1 z (omega arith) at).1)
 
 pub returns-clause-lent : goal.returns-clause-lent
-returns-clause-lent c = λ region o low high t e h short within.
-    let place = lent_is region low high t c.in_ok-a.a (c.in_ok-a.ensures.holds (LentIn region low high t) h).1 in
-    (refl, c.write.ensures.holds AnyNumber (any_number c.in_ok-known.known (c.in_ok-known.ensures.lent_numbers place.0 place.1)))
+returns-clause-lent c = λ o p e short h within.
+    let is = (c.in_ok-a.ensures.holds (Exactly (Lent p)) (set_exactly _ _ h)).1 in
+    (refl, c.write.ensures.holds AnyNumber (any_number c.in_ok-known.known (c.in_ok-known.ensures.lent_numbers p is)))
 
 pub returns-in_err-a-clause-stack : goal.returns-in_err-a-clause-stack
 returns-in_err-a-clause-stack c = λ p h m. let bad : false ≡ true = (c.in_err-a.ensures.frame p _ h).0 in absurd (cc)

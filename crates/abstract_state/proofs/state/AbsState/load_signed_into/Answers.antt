@@ -6,9 +6,10 @@ use Rattle.meaning.specs.Value.{with_sign}
 use Rattle.abstract_state.specs.State.{lengths_of}
 use Rattle.abstract_state.proofs.Steps.{loads_signed, sign_fits}
 use Rattle.abstract_state.specs.declared.state.AbsReg.TheVariants.{Set}
-use Rattle.abstract_state.specs.Exact.{LentIn, AnyNumber}
+use Rattle.abstract_state.specs.Exact.{AnyNumber, Exactly}
 use Rattle.abstract_state.specs.Frame.{IsStackByte}
-use Rattle.abstract_state.proofs.Exact.{lent_is}
+use Rattle.abstract_state.specs.declared.known.Known.TheVariants.{Lent}
+use Rattle.abstract_state.proofs.Exact.{set_exactly}
 use Rattle.abstract_state.specs.declared.refusal.Refusal.TheVariants.{UnsetRegister}
 use Rattle.abstract_state.specs.Unset.{HasUnset}
 use Rattle.abstract_state.proofs.Unsets.{passed, all_unset, none_unset}
@@ -26,15 +27,16 @@ returns-clause-sound c = λ span s held.
     )
 
 pub returns-in_err-a-clause-lent : goal.returns-in_err-a-clause-lent
-returns-in_err-a-clause-lent c = λ region o low high t e h short within. let bad : false ≡ true = (c.in_err-a.ensures.holds (LentIn region low high t) h).0 in absurd (cc)
+returns-in_err-a-clause-lent c = λ o p e short h within.
+    let bad : false ≡ true = (c.in_err-a.ensures.holds (Exactly (Lent p)) (set_exactly _ _ h)).0 in absurd (cc)
 
 pub returns-in_err-load_signed-clause-lent : goal.returns-in_err-load_signed-clause-lent
-returns-in_err-load_signed-clause-lent c = λ region o low high t e h short within.
+returns-in_err-load_signed-clause-lent c = λ o p e short h within.
     let same : c.displacement.result ≡ cast_unsigned w64 c.args.offset = c.displacement.ensures ∙ ap (cast_unsigned w64) (to_z-of_z w16 c.args.offset c.ranges.offset) in
     let at : c.displacement.result ≡ o = same ∙ ap (cast_unsigned w64) e ∙ omega arith in
-    let place = lent_is region low high t c.in_ok-a.a (c.in_ok-a.ensures.holds (LentIn region low high t) h).1 in
-    let end : place.0.offset.range.high ≡ high = place.3.1 in
-    let bad : false ≡ true = c.in_err-load_signed.ensures.lent region place.0 place.1 place.2 (omega arith) (omega arith) in absurd (cc)
+    let is = (c.in_ok-a.ensures.holds (Exactly (Lent p)) (set_exactly _ _ h)).1 in
+    let bad : false ≡ true = c.in_err-load_signed.ensures.lent p.region p is refl (omega arith) (omega arith) in
+    absurd (cc)
 
 pub returns-in_err-a-clause-stack : goal.returns-in_err-a-clause-stack
 returns-in_err-a-clause-stack c = λ p h m. let bad : false ≡ true = (c.in_err-a.ensures.frame p _ h).0 in absurd (cc)
@@ -46,7 +48,7 @@ returns-in_err-load_signed-clause-stack c = λ p h m.
     let bad : false ≡ true = c.in_err-load_signed.ensures.marked p place m in absurd (cc)
 
 pub returns-clause-lent : goal.returns-clause-lent
-returns-clause-lent c = λ region o low high t e h short within. (refl, c.write.ensures.holds AnyNumber tt)
+returns-clause-lent c = λ o p e short h within. (refl, c.write.ensures.holds AnyNumber tt)
 
 pub returns-clause-stack : goal.returns-clause-stack
 returns-clause-stack c = λ p h m. (refl, c.write.ensures.holds AnyNumber tt)

@@ -5,7 +5,7 @@ use Rattle.abstract_state.specs.declared.state.AbsState.{AbsState}
 use Rattle.abstract_state.specs.declared.bounds.Bounds.{Bounds}
 use Rattle.abstract_state.specs.Guard.{LengthensMemory}
 use Rattle.abstract_state.specs.Lent.{bound_of}
-use Rattle.abstract_state.specs.Branch.{LongFrom}
+use Rattle.abstract_state.specs.Branch.{LongFrom, LeavesSides}
 use Rattle.abstract_state.proofs.Options.{where_some, some_is}
 use Rattle.abstract_state.proofs.Registers.{state_at, state_none}
 use Rattle.abstract_state.specs.declared.step.Flow.{Flow}
@@ -14,6 +14,7 @@ use Rattle.abstract_state.specs.Steps.{after}
 use Rattle.abstract_state.specs.Kinds.{KeepsAll, AreBothNumbers, AreNumbersOn}
 use Rattle.abstract_state.proofs.Branches.{pair_left, pair_right}
 use Rattle.abstract_state.proofs.KindLaws.{keeps_on, number_kept}
+use Rattle.abstract_state.proofs.Sides.{leaves_sides}
 use Rattle.abstract_state.proofs.state.AbsState.refine.Goals as goal
 
 pub returns-in-Dead-clause-sound : goal.returns-in-Dead-clause-sound
@@ -61,3 +62,12 @@ returns-in-Live-clause-memory c =
           let more : bound_of c.raise.new.self.bounds region ≤ bound_of b.bounds region = some_is (λ (v : AbsState). bound_of c.raise.new.self.bounds region ≤ bound_of v.bounds region) _ b is (c.raise-in-Live.ensures.grows region) in
           subst (λ (x : Bounds). bound_of x region ≤ bound_of b.bounds region) bounds (omega (arith, first, more)),
     ))
+
+pub returns-in-Live-clause-others : goal.returns-in-Live-clause-others
+returns-in-Live-clause-others c =
+    let old = c.args.self.now in
+    let right = c.args.right.now in
+    after_any c.raise-in-Live.result c.raise-in-Live.new.self (λ (b : AbsState). LeavesSides c.args.left right old b)
+    (leaves_sides c.args.left right old c.keep.new.self c.keep_right.new.self c.raise-in-Live.new.self
+    c.keep.ensures.others c.keep_right.ensures.others c.keep_right.ensures.set
+    (c.raise-in-Live.ensures.same ∙ c.raise.ensures.same))

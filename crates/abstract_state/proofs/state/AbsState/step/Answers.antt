@@ -82,7 +82,7 @@ returns-in-Load-clause-yields c = λ d fact y.
     load_rows c.args.profile c.args.self.now c.args.insn.now d fact c.in-Load.size c.in-Load.destination c.in-Load.base _ c.load_into.result c.load_into.new.self y c.in-Load.is
     (λ region lends e z p. c.load_into.ensures.begin region lends (same ∙ e) z p)
     (λ region lends e z p. c.load_into.ensures.end region lends (same ∙ e) z p)
-    (λ region o low high t e h short within. c.load_into.ensures.lent region o low high t (same ∙ e) h short within)
+    (λ o p e h short within. c.load_into.ensures.lent o p (same ∙ e) short h within)
     (λ p h m. c.load_into.ensures.stack p (subst (λ (z : ℤ). IsStackByte p (cast_unsigned w64 z) (register_at c.args.self.now.registers c.in-Load.base)) (sym same) h) m)
     (λ i known h less z is. c.load_into.ensures.spilled i known (subst (λ (z : ℤ). IsStackByte (8 * i) (cast_unsigned w64 z) (register_at c.args.self.now.registers c.in-Load.base)) (sym same) h) less z is)
 
@@ -95,7 +95,7 @@ returns-in-LoadSigned-clause-yields c = λ d fact y.
     let fits : SFits w16 c.in-LoadSigned.offset = search rules in
     let same = to_z-of_z w16 c.in-LoadSigned.offset fits in
     signed_rows c.args.profile c.args.self.now c.args.insn.now d fact c.in-LoadSigned.size c.in-LoadSigned.destination c.in-LoadSigned.base _ c.load_signed_into.result c.load_signed_into.new.self y c.in-LoadSigned.is
-    (λ region o low high t e h short within. c.load_signed_into.ensures.lent region o low high t (same ∙ e) h short within)
+    (λ o p e h short within. c.load_signed_into.ensures.lent o p (same ∙ e) short h within)
     (λ p h m. c.load_signed_into.ensures.stack p (subst (λ (z : ℤ). IsStackByte p (cast_unsigned w64 z) (register_at c.args.self.now.registers c.in-LoadSigned.base)) (sym same) h) m)
 
 pub returns-in-Store-clause-stores : goal.returns-in-Store-clause-stores

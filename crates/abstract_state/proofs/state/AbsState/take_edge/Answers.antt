@@ -1,8 +1,10 @@
-use Rattle.std.proofs.Common.{◌≡◌, true, false, ℕ, Option, Some, ◌∙◌, sym, ap, subst, ◌↔◌, ◌∷◌}
+use Rattle.std.proofs.Common.{◌≡◌, true, false, ℕ, Option, ◌∙◌, sym, ap, subst, ◌↔◌, ◌∷◌}
 use Rattle.std.specs.Option.{IfSome}
 use Rattle.meaning.specs.Value.{cut, holds_of}
 use Rattle.abstract_state.specs.declared.branch.Pair.{Pair}
-use Rattle.abstract_state.specs.Exact.{LentIn}
+use Rattle.abstract_state.specs.declared.known.Known.TheVariants.{Lent}
+use Rattle.abstract_state.specs.Exact.{Exactly}
+use Rattle.abstract_state.proofs.Exact.{set_exactly}
 use Rattle.abstract_state.specs.Branch.{LongFrom}
 use Rattle.abstract_state.specs.State.{lengths_of}
 use Rattle.abstract_state.specs.declared.refusal.Refusal.TheVariants.{UnsetRegister}
@@ -28,20 +30,28 @@ returns-clause-sound c = λ span s held.
     )
 
 pub returns-in_err-a-clause-regions : goal.returns-in_err-a-clause-regions
-returns-in_err-a-clause-regions c = λ region r l1 h1 l2 h2 t1 t2 e w o a b. let bad : false ≡ true = (c.in_err-a.ensures.holds (LentIn region l1 h1 t1) a).0 in absurd (cc)
+returns-in_err-a-clause-regions c = λ r p q e w o a b region.
+    let bad : false ≡ true = (c.in_err-a.ensures.holds (Exactly (Lent p)) (set_exactly _ _ a)).0 in absurd (cc)
 
 pub returns-in_err-b-clause-regions : goal.returns-in_err-b-clause-regions
-returns-in_err-b-clause-regions c = λ region r l1 h1 l2 h2 t1 t2 e w o a b. let bad : false ≡ true = (c.in_err-b.ensures.holds r (LentIn region l2 h2 t2) e b).0 in absurd (cc)
+returns-in_err-b-clause-regions c = λ r p q e w o a b region.
+    let bad : false ≡ true = (c.in_err-b.ensures.holds r (Exactly (Lent q)) e (set_exactly _ _ b)).0 in absurd (cc)
 
 pub returns-in_err-pair-clause-regions : goal.returns-in_err-pair-clause-regions
-returns-in_err-pair-clause-regions c = λ region r l1 h1 l2 h2 t1 t2 e w o a b.
-    let bad : false ≡ true = c.in_err-pair.ensures.regions region l1 h1 l2 h2 t1 t2 w o (c.in_ok-a.ensures.holds (LentIn region l1 h1 t1) a).1 (c.in_ok-b.ensures.holds r (LentIn region l2 h2 t2) e b).1 in absurd (cc)
+returns-in_err-pair-clause-regions c = λ r p q e w o a b region.
+    let left = (c.in_ok-a.ensures.holds (Exactly (Lent p)) (set_exactly _ _ a)).1 in
+    let right = (c.in_ok-b.ensures.holds r (Exactly (Lent q)) e (set_exactly _ _ b)).1 in
+    let bad : false ≡ true = c.in_err-pair.ensures.regions p q w o left right region in absurd (cc)
 
 pub returns-clause-guards : goal.returns-clause-guards
-returns-clause-guards c = λ region r n high l2 h2 t t1 e other w greater not a b.
+returns-clause-guards c = λ r t p q e other w greater not a b region tail.
+    let left = (c.in_ok-a.ensures.holds (Exactly (Lent p)) (set_exactly _ _ a)).1 in
+    let right = (c.in_ok-b.ensures.holds r (Exactly (Lent q)) e (set_exactly _ _ b)).1 in
     let apart = c.is_one_register-same.ensures r e other in
-    let long = c.in_ok-pair.ensures.guards region n high l2 h2 t t1 w greater not (c.in_ok-a.ensures.holds (LentIn region n high t1) a).1 (c.in_ok-b.ensures.holds r (LentIn region l2 h2 (Some t)) e b).1 in
-    c.refine.ensures.raised region n (subst (λ (o : Option Pair). IfSome o (λ p. LongFrom region n p.left)) (sym (c.unless-pair.ensures.apart apart)) long)
+    let long = c.in_ok-pair.ensures.guards p q t w greater not left right region tail in
+    c.refine.ensures.raised p.region p.offset.range.low
+    (subst (λ (o : Option Pair). IfSome o (λ s. LongFrom p.region p.offset.range.low s.left))
+    (sym (c.unless-pair.ensures.apart apart)) long)
 
 pub returns-in_err-a-clause-unset : goal.returns-in_err-a-clause-unset
 returns-in_err-a-clause-unset c =
