@@ -41,7 +41,8 @@ abbrev pub ReadsAs : State → Operand → ℕ → Type 0
 ReadsAs s (Immediate value) n = Unit {0}
 ReadsAs s (Source register) n = register_of s register ≡ Ok n
 
--- from each contained state both sides are set, and where the comparison holds, or doesn't, as it is taken, the state is in the edge
+-- from each contained state both sides are set, and where the comparison holds, or doesn't, as it is taken, the state
+-- is in the edge
 abbrev pub Edge : AbsState → Width → Comparison → ℕ → Operand → Bool → Option AbsState → Type 0
 Edge a width comparison left right taken edge =
     (span : Span) (s : State) → Contains a (lengths_of span) s

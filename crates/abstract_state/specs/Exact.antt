@@ -26,7 +26,8 @@ HasBits b low high = InBits b low × ((k : ℕ) → (bit b.unknown k ≡ 0) ↔ 
 
 -- a quantity with this interval and its bits, and this tail for the region
 abbrev pub IsIn : Region → Quantity → ℕ → ℕ → Option ℕ → Type 0
-IsIn region q low high tail = (q.range.low ≡ low) × (q.range.high ≡ high) × (tail_of q.tails region ≡ tail) × HasBits q.bits low high
+IsIn region q low high tail =
+    (q.range.low ≡ low) × (q.range.high ≡ high) × (tail_of q.tails region ≡ tail) × HasBits q.bits low high
 
 -- the one number
 abbrev pub IsConstant : Region → Quantity → ℕ → Type 0

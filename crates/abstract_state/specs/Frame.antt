@@ -26,7 +26,8 @@ pub record AreMarked (slots : List Slot) (p count : ℕ) : Type 0 where
   pub within : p + count ≤ 512
   pub marked : (j : ℕ) → j < count → IsMarkedAt slots (p + j)
 
--- slot i after a store of so many bytes of a number from p on: outside it is as it was, the bytes are set, and none is unset
+-- slot i after a store of so many bytes of a number from p on: outside it is as it was, the bytes are set, and none is
+-- unset
 pub record StoresSlot (p count i : ℕ) (a b : Slot) : Type 0 where
   pub before : 8 * i + 8 ≤ p → b ≡ a
   pub behind : p + count ≤ 8 * i → b ≡ a

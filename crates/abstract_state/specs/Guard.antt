@@ -1,8 +1,10 @@
 -- What a step writes, case by case, and what it leaves: all that guarded reads, constants and the frame need.
-use Rattle.std.specs.Prelude.{◌≡◌, ◌≢◌, ℕ, ℤ, pos, ◌+◌, ◌*◌, ◌^◌, ◌<◌, ◌≤◌, Option, Some, None, Result, IsOk, IfOk, IfSome}
+use Rattle.std.specs.Prelude.{◌≡◌, ◌≢◌, ℕ, ℤ, pos, ◌+◌, ◌*◌, ◌^◌, ◌<◌, ◌≤◌, Option, Some, None, Result, IsOk, IfOk}
+use Rattle.std.specs.Prelude.{IfSome}
 use Rattle.bpf_words.specs.declared.profile.Profile.{Profile}
 use Rattle.bpf_words.specs.declared.instruction.Insn.{Insn}
-use Rattle.bpf_words.specs.declared.instruction.Insn.TheVariants.{Compute, Negate, Extend, Convert, Jump, JumpLong, Branch, Load, LoadSigned, Store, LoadWide, Exit}
+use Rattle.bpf_words.specs.declared.instruction.Insn.TheVariants.{Compute, Negate, Extend, Convert, Jump, JumpLong}
+use Rattle.bpf_words.specs.declared.instruction.Insn.TheVariants.{Branch, Load, LoadSigned, Store, LoadWide, Exit}
 use Rattle.bpf_words.specs.declared.instruction.Width.TheVariants.{Full}
 use Rattle.bpf_words.specs.declared.instruction.Arithmetic.{Arithmetic}
 use Rattle.bpf_words.specs.declared.instruction.Arithmetic.TheVariants.{Mov, Add}
@@ -39,13 +41,23 @@ IsOperand region a (Source r) n = Holds (NumberIn region n n None) (register_at 
 
 -- what an instruction writes into a register in a run of the profile, case by case
 pub data Yields (profile : Profile) (a : AbsState) : Insn → ℕ → Fact → Type 0 where
-  lent_begin : (region : Region) (d base : ℕ) → Lends region profile → IsContextAt 0 (register_at a.registers base) → Yields profile a (Load Double d base (pos (begin_field region))) d (LentIn region 0 0 (Some 0))
-  lent_end : (region : Region) (d base : ℕ) → Lends region profile → IsContextAt 0 (register_at a.registers base) → Yields profile a (Load Double d base (pos (end_field region))) d (LentIn region 0 (limit_of region) (Some 0))
-  lent_moved : (region : Region) (d r n : ℕ) (t : Option ℕ) → Holds (LentIn region n n t) (register_at a.registers r) → Yields profile a (Compute Full Mov d (Source r)) d (LentIn region n n t)
-  lent_added : (region : Region) (d k n : ℕ) (t : Option ℕ) → Holds (LentIn region n n t) (register_at a.registers d) → n + k ≤ 2 ^ 20 → Yields profile a (Compute Full Add d (Immediate (pos k))) d (LentIn region (n + k) (n + k) (tail_after t k))
-  copied : (region : Region) (d n : ℕ) (o : Operand) → IsOperand region a o n → Yields profile a (Compute Full Mov d o) d (NumberIn region n n None)
-  moved : (d r : ℕ) (known : Known) → Holds (Exactly known) (register_at a.registers r) → Yields profile a (Compute Full Mov d (Source r)) d (NoLess known)
-  folded : (region : Region) (operation : Arithmetic) (d m n : ℕ) (o : Operand) → Folds operation m n → Holds (NumberIn region m m None) (register_at a.registers d) → IsOperand region a o n → Yields profile a (Compute Full operation d o) d (NumberIn region (value_of operation Full m n) (value_of operation Full m n) None)
+  lent_begin : (region : Region) (d base : ℕ) → Lends region profile → IsContextAt 0 (register_at a.registers base)
+      → Yields profile a (Load Double d base (pos (begin_field region))) d (LentIn region 0 0 (Some 0))
+  lent_end : (region : Region) (d base : ℕ) → Lends region profile → IsContextAt 0 (register_at a.registers base)
+      → Yields profile a (Load Double d base (pos (end_field region))) d (LentIn region 0 (limit_of region) (Some 0))
+  lent_moved : (region : Region) (d r n : ℕ) (t : Option ℕ) → Holds (LentIn region n n t) (register_at a.registers r)
+      → Yields profile a (Compute Full Mov d (Source r)) d (LentIn region n n t)
+  lent_added : (region : Region) (d k n : ℕ) (t : Option ℕ) → Holds (LentIn region n n t) (register_at a.registers d)
+      → n + k ≤ 2 ^ 20
+      → Yields profile a (Compute Full Add d (Immediate (pos k))) d (LentIn region (n + k) (n + k) (tail_after t k))
+  copied : (region : Region) (d n : ℕ) (o : Operand) → IsOperand region a o n
+      → Yields profile a (Compute Full Mov d o) d (NumberIn region n n None)
+  moved : (d r : ℕ) (known : Known) → Holds (Exactly known) (register_at a.registers r)
+      → Yields profile a (Compute Full Mov d (Source r)) d (NoLess known)
+  folded : (region : Region) (operation : Arithmetic) (d m n : ℕ) (o : Operand) → Folds operation m n
+      → Holds (NumberIn region m m None) (register_at a.registers d) → IsOperand region a o n
+      → Yields profile a (Compute Full operation d o) d
+      (NumberIn region (value_of operation Full m n) (value_of operation Full m n) None)
   wide : (region : Region) (d n : ℕ) → Yields profile a (LoadWide d n) d (NumberIn region n n None)
   lent_read : (size : Size) (d r o : ℕ) (p : LentPlace) → register_at a.registers r ≡ Set (Lent p) → o < 2 ^ 15
       → p.offset.range.high + o + bytes_in size ≤ bound_of a.bounds p.region
@@ -53,17 +65,27 @@ pub data Yields (profile : Profile) (a : AbsState) : Insn → ℕ → Fact → T
   lent_read_signed : (size : SignedSize) (d r o : ℕ) (p : LentPlace) → register_at a.registers r ≡ Set (Lent p)
       → o < 2 ^ 15 → p.offset.range.high + o + bytes_in_signed size ≤ bound_of a.bounds p.region
       → Yields profile a (LoadSigned size d r (pos o)) d AnyNumber
-  stack_read : (size : Size) (d base p : ℕ) (offset : ℤ) → IsStackByte p (cast_unsigned w64 offset) (register_at a.registers base) → AreMarked a.stack p (bytes_in size) → Yields profile a (Load size d base offset) d AnyNumber
-  stack_read_signed : (size : SignedSize) (d base p : ℕ) (offset : ℤ) → IsStackByte p (cast_unsigned w64 offset) (register_at a.registers base) → AreMarked a.stack p (bytes_in_signed size) → Yields profile a (LoadSigned size d base offset) d AnyNumber
-  refilled : (d base i : ℕ) (offset : ℤ) (known : Known) → IsStackByte (8 * i) (cast_unsigned w64 offset) (register_at a.registers base) → i < 64 → slot_at a.stack i ≡ Spilled known → Yields profile a (Load Double d base offset) d (Exactly known)
+  stack_read : (size : Size) (d base p : ℕ) (offset : ℤ)
+      → IsStackByte p (cast_unsigned w64 offset) (register_at a.registers base) → AreMarked a.stack p (bytes_in size)
+      → Yields profile a (Load size d base offset) d AnyNumber
+  stack_read_signed : (size : SignedSize) (d base p : ℕ) (offset : ℤ)
+      → IsStackByte p (cast_unsigned w64 offset) (register_at a.registers base)
+      → AreMarked a.stack p (bytes_in_signed size) → Yields profile a (LoadSigned size d base offset) d AnyNumber
+  refilled : (d base i : ℕ) (offset : ℤ) (known : Known)
+      → IsStackByte (8 * i) (cast_unsigned w64 offset) (register_at a.registers base) → i < 64
+      → slot_at a.stack i ≡ Spilled known → Yields profile a (Load Double d base offset) d (Exactly known)
 
 -- a store that isn't refused: of a number, so many bytes from byte p of the stack on
 pub data Stores (a : AbsState) : Insn → ℕ → ℕ → Type 0 where
-  stored : (size : Size) (base p : ℕ) (offset : ℤ) (value : Operand) → IsStackByte p (cast_unsigned w64 offset) (register_at a.registers base) → p + bytes_in size ≤ 512 → HasNumberIn a value → Stores a (Store size base offset value) p (bytes_in size)
+  stored : (size : Size) (base p : ℕ) (offset : ℤ) (value : Operand)
+      → IsStackByte p (cast_unsigned w64 offset) (register_at a.registers base) → p + bytes_in size ≤ 512
+      → HasNumberIn a value → Stores a (Store size base offset value) p (bytes_in size)
 
 -- and of all eight bytes of a register into slot i
 pub data Spills (a : AbsState) : Insn → ℕ → Known → Type 0 where
-  spilled : (base r i : ℕ) (offset : ℤ) (known : Known) → IsStackByte (8 * i) (cast_unsigned w64 offset) (register_at a.registers base) → i < 64 → Holds (Exactly known) (register_at a.registers r) → Spills a (Store Double base offset (Source r)) i known
+  spilled : (base r i : ℕ) (offset : ℤ) (known : Known)
+      → IsStackByte (8 * i) (cast_unsigned w64 offset) (register_at a.registers base) → i < 64
+      → Holds (Exactly known) (register_at a.registers r) → Spills a (Store Double base offset (Source r)) i known
 
 -- all registers but one are as they were
 abbrev pub SameBut : ℕ → AbsState → AbsState → Type 0
@@ -114,4 +136,5 @@ LeavesMemory a Exit b = SameMemory a b
 
 -- the step isn't refused, and past it the register holds the fact
 abbrev pub Keeps : Result Flow Refusal → AbsState → ℕ → Fact → Type 0
-Keeps result b d fact = IsOk result × IfOk result (λ flow. IfSome (after flow b) (λ next. Holds fact (register_at next.registers d)))
+Keeps result b d fact =
+    IsOk result × IfOk result (λ flow. IfSome (after flow b) (λ next. Holds fact (register_at next.registers d)))

@@ -8,7 +8,8 @@ use Rattle.bpf_words.specs.declared.instruction.Operand.TheVariants.{Immediate, 
 use Rattle.bpf_words.specs.declared.instruction.Arithmetic.{Arithmetic}
 use Rattle.bpf_words.specs.declared.instruction.Arithmetic.TheVariants.{Mov}
 use Rattle.bpf_words.specs.declared.instruction.Insn.{Insn}
-use Rattle.bpf_words.specs.declared.instruction.Insn.TheVariants.{Compute, Negate, Extend, Convert, Jump, JumpLong, Branch, Load, LoadSigned, Store, LoadWide, Exit}
+use Rattle.bpf_words.specs.declared.instruction.Insn.TheVariants.{Compute, Negate, Extend, Convert, Jump, JumpLong}
+use Rattle.bpf_words.specs.declared.instruction.Insn.TheVariants.{Branch, Load, LoadSigned, Store, LoadWide, Exit}
 use Rattle.abstract_state.specs.declared.known.Known.TheVariants.{Number, Context, Stack, Lent}
 use Rattle.abstract_state.specs.declared.state.AbsReg.{AbsReg}
 use Rattle.abstract_state.specs.declared.state.AbsReg.TheVariants.{Unset, Set}
@@ -26,7 +27,8 @@ abbrev pub IsNumberReg : AbsReg → Type 0
 IsNumberReg Unset = ⊥
 IsNumberReg (Set k) = IsNumber k
 
--- a number stays a number, an address in the context or the stack stays that one, an address in a lent region stays in it
+-- a number stays a number, an address in the context or the stack stays that one, an address in a lent region stays in
+-- it
 abbrev pub KeepsKind : AbsReg → AbsReg → Type 0
 KeepsKind Unset b = b ≡ Unset
 KeepsKind (Set (Number q)) b = IsNumberReg b
@@ -69,7 +71,8 @@ IsNumberField Half n = ⊥
 IsNumberField Word n = (16 ≤ n) × (n ≤ 44) × (n % 4 ≡ 0)
 IsNumberField Double n = n ≡ 48
 
--- an instruction that reads numbers alone, and of memory a field of the context that is a number, from the context's begin
+-- an instruction that reads numbers alone, and of memory a field of the context that is a number, from the context's
+-- begin
 abbrev pub ReadsNumbers : AbsState → Insn → Type 0
 ReadsNumbers a (Compute w op d o) = ReadsFirst a op d × HasNumberIn a o
 ReadsNumbers a (Negate w d) = HasNumberAt a d
@@ -118,15 +121,17 @@ IsStackAt n (Set (Context p)) = ⊥
 IsStackAt n (Set (Stack p)) = p.place ≡ n
 IsStackAt n (Set (Lent p)) = ⊥
 
--- what is alike in both is so in c: a number, or an address in the context or the stack; of two numbers, and of two addresses in
--- one lent region, nothing that both know is lost; and where one is unset, c is
+-- what is alike in both is so in c: a number, or an address in the context or the stack; of two numbers, and of two
+-- addresses in one lent region, nothing that both know is lost; and where one is unset, c is
 pub record JoinsReg (a b c : AbsReg) : Type 0 where
   pub unset : (a ≡ Unset) ⊎ (b ≡ Unset) → c ≡ Unset
   pub numbers : IsNumberReg a → IsNumberReg b → IsNumberReg c
   pub context : (n : ℕ) → IsContextAt n a → IsContextAt n b → IsContextAt n c
   pub stack : (n : ℕ) → IsStackAt n a → IsStackAt n b → IsStackAt n c
-  pub values : (p q : Quantity) → a ≡ Set (Number p) → b ≡ Set (Number q) → (r : Quantity) × (c ≡ Set (Number r)) × JoinsNumber p q r
-  pub lent : (p q : LentPlace) → a ≡ Set (Lent p) → b ≡ Set (Lent q) → p.region ≡ q.region → (r : LentPlace) × (c ≡ Set (Lent r)) × (r.region ≡ p.region) × JoinsNumber p.offset q.offset r.offset
+  pub values : (p q : Quantity) → a ≡ Set (Number p) → b ≡ Set (Number q)
+      → (r : Quantity) × (c ≡ Set (Number r)) × JoinsNumber p q r
+  pub lent : (p q : LentPlace) → a ≡ Set (Lent p) → b ≡ Set (Lent q) → p.region ≡ q.region
+      → (r : LentPlace) × (c ≡ Set (Lent r)) × (r.region ≡ p.region) × JoinsNumber p.offset q.offset r.offset
 
 -- what is spilled in a slot
 abbrev pub spilled_in : Slot → AbsReg

@@ -47,16 +47,20 @@ KnowsHigh b low high = (k : ℕ) → low / 2 ^ k ≡ high / 2 ^ k → known.bit 
 
 -- each known bit stays known, as the same
 abbrev pub KeepsBits : Option Quantity → Bits → Type 0
-KeepsBits o bits = IfSome o (λ q. (k : ℕ) → known.bit bits.unknown k ≡ 0 → (known.bit q.bits.unknown k ≡ 0) × (known.bit q.bits.value k ≡ known.bit bits.value k))
+KeepsBits o bits =
+    IfSome o (λ q. (k : ℕ) → known.bit bits.unknown k ≡ 0
+    → (known.bit q.bits.unknown k ≡ 0) × (known.bit q.bits.value k ≡ known.bit bits.value k))
 
 -- the interval lies between the least and the greatest number of the bits
 abbrev pub LiesInBits : Quantity → Type 0
 LiesInBits q = (q.bits.value ≤ q.range.low) × (q.range.high ≤ known.most q.bits)
 
--- nothing that both know is lost: the interval reaches no further than both, a bit that both know as the same is known, and for
--- each region the lesser of two tails stays
+-- nothing that both know is lost: the interval reaches no further than both, a bit that both know as the same is known,
+-- and for each region the lesser of two tails stays
 pub record JoinsNumber (a b c : Quantity) : Type 0 where
   pub low : min a.range.low b.range.low ≤ c.range.low
   pub high : c.range.high ≤ max a.range.high b.range.high
-  pub bits : (k : ℕ) → known.bit a.bits.unknown k ≡ 0 → known.bit b.bits.unknown k ≡ 0 → known.bit a.bits.value k ≡ known.bit b.bits.value k → known.bit c.bits.unknown k ≡ 0
-  pub tails : (region : Region) (t u : ℕ) → tail_of a.tails region ≡ Some t → tail_of b.tails region ≡ Some u → (v : ℕ) × (tail_of c.tails region ≡ Some v) × (min t u ≤ v)
+  pub bits : (k : ℕ) → known.bit a.bits.unknown k ≡ 0 → known.bit b.bits.unknown k ≡ 0
+      → known.bit a.bits.value k ≡ known.bit b.bits.value k → known.bit c.bits.unknown k ≡ 0
+  pub tails : (region : Region) (t u : ℕ) → tail_of a.tails region ≡ Some t → tail_of b.tails region ≡ Some u
+      → (v : ℕ) × (tail_of c.tails region ≡ Some v) × (min t u ≤ v)

@@ -1,5 +1,6 @@
 -- Which machine states an abstract state contains.
-use Rattle.std.specs.Prelude.{◌≡◌, ℕ, ℤ, ◌+◌, ◌*◌, ◌/◌, ◌%◌, ◌^◌, ◌<◌, ◌≤◌, true, false, Option, Some, None, Ok, List, [], length, slice_index_or, slice_set}
+use Rattle.std.specs.Prelude.{◌≡◌, ℕ, ℤ, ◌+◌, ◌*◌, ◌/◌, ◌%◌, ◌^◌, ◌<◌, ◌≤◌, true, false, Option, Some, None, Ok, List}
+use Rattle.std.specs.Prelude.{[], length, slice_index_or, slice_set}
 use Rattle.bpf_words.specs.Context.{SpanBytes}
 use Rattle.bpf_words.specs.declared.instruction.Insn.{Insn}
 use Rattle.bpf_words.specs.declared.profile.Profile.{Profile}
@@ -70,7 +71,8 @@ abbrev pub Fills : ℕ → ℕ → Bytes → Type 0
 Fills place count new = (k : ℕ) → place ≤ k → k < place + count → HasByte new k
 
 abbrev pub ContainsSlot : Slot → Lengths → Bytes → ℕ → Type 0
-ContainsSlot (Marks marks) lengths bytes i = (j : ℕ) → j < 8 → slice_index_or marks j false ≡ true → HasByte bytes (8 * i + j)
+ContainsSlot (Marks marks) lengths bytes i =
+    (j : ℕ) → j < 8 → slice_index_or marks j false ≡ true → HasByte bytes (8 * i + j)
 ContainsSlot (Spilled k) lengths bytes i = (n : ℕ) × ContainsKnown k lengths n × HasNumber bytes (8 * i) n
 
 abbrev pub slot_at : List Slot → ℕ → Slot
@@ -84,7 +86,8 @@ pub record Contains (a : AbsState) (lengths : Lengths) (s : State) : Type 0 wher
   pub eleven : length s.registers ≡ 11
   pub long : length s.stack ≡ 512
   pub bounds : IsLong a.bounds lengths
-  pub registers : (i : ℕ) → i < 11 → ContainsRegister (register_at a.registers i) lengths (slice_index_or s.registers i None)
+  pub registers : (i : ℕ) → i < 11
+      → ContainsRegister (register_at a.registers i) lengths (slice_index_or s.registers i None)
   pub stack : ContainsStack a.stack lengths (bytes_of s.stack)
 
 -- the abstract state is there and contains the machine's
@@ -98,8 +101,8 @@ with_register s register n = record s { registers = slice_set s.registers regist
 abbrev pub does : Span → State → Insn → Moved
 does span s insn = perform span.bytes s insn
 
--- from each contained state of a run of the profile the instruction goes on by the distance, without a fault, to a contained one;
--- where there is none, no state was contained
+-- from each contained state of a run of the profile the instruction goes on by the distance, without a fault, to a
+-- contained one; where there is none, no state was contained
 abbrev pub StepsIn : Profile → AbsState → Insn → ℤ → Option AbsState → Type 0
 StepsIn profile a insn distance o =
     (span : Span) (s : State) → span.profile ≡ profile → Contains a (lengths_of span) s
@@ -111,11 +114,12 @@ StepsBy a insn distance o =
     (span : Span) (s : State) → Contains a (lengths_of span) s
     → (next : State) × (does span s insn ≡ Ok (On next distance)) × WithinState o (lengths_of span) next
 
--- from each contained state of a run of the profile, a load of so many bytes at an offset from an address of the base gives a number of
--- which P holds
+-- from each contained state of a run of the profile, a load of so many bytes at an offset from an address of the base
+-- gives a number of which P holds
 abbrev pub LoadsIn : Profile → AbsState → Known → ℕ → ℕ → (Lengths → ℕ → Type 0) → Type 0
 LoadsIn profile a base offset count P =
-    (span : Span) (s : State) (n : ℕ) → span.profile ≡ profile → Contains a (lengths_of span) s → ContainsKnown base (lengths_of span) n
+    (span : Span) (s : State) (n : ℕ) → span.profile ≡ profile → Contains a (lengths_of span) s
+    → ContainsKnown base (lengths_of span) n
     → (v : ℕ) × (load span.bytes s.stack ((n + offset) % 2 ^ 64) count ≡ Ok v) × P (lengths_of span) v
 
 -- the same of a run of any profile
@@ -127,8 +131,11 @@ LoadsAs a base offset count P =
 abbrev pub with_stack : State → List (Option ℕ) → State
 with_stack s stack = record s { stack = stack }
 
--- from each contained state, a store of so many bytes of a number of the value, at an address of the base, leads to one that b contains
+-- from each contained state, a store of so many bytes of a number of the value, at an address of the base, leads to one
+-- that b contains
 abbrev pub StoresAs : AbsState → Known → ℕ → ℕ → Known → AbsState → Type 0
 StoresAs a base offset count value b =
-    (span : Span) (s : State) (n v : ℕ) → Contains a (lengths_of span) s → ContainsKnown base (lengths_of span) n → ContainsKnown value (lengths_of span) v
-    → (stack : List (Option ℕ)) × (store span.bytes s.stack ((n + offset) % 2 ^ 64) count v ≡ Ok stack) × Contains b (lengths_of span) (with_stack s stack)
+    (span : Span) (s : State) (n v : ℕ) → Contains a (lengths_of span) s → ContainsKnown base (lengths_of span) n
+    → ContainsKnown value (lengths_of span) v
+    → (stack : List (Option ℕ)) × (store span.bytes s.stack ((n + offset) % 2 ^ 64) count v ≡ Ok stack)
+    × Contains b (lengths_of span) (with_stack s stack)

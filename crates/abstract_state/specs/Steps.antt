@@ -2,7 +2,8 @@
 use Rattle.std.specs.Prelude.{◌≡◌, ◌≢◌, ℤ, pos, Option, Some, None, Ok, Err}
 use Rattle.bpf_words.specs.declared.profile.Profile.{Profile}
 use Rattle.bpf_words.specs.declared.instruction.Insn.{Insn}
-use Rattle.bpf_words.specs.declared.instruction.Insn.TheVariants.{Compute, Negate, Extend, Convert, Jump, JumpLong, Branch, Load, LoadSigned, Store, LoadWide, Exit}
+use Rattle.bpf_words.specs.declared.instruction.Insn.TheVariants.{Compute, Negate, Extend, Convert, Jump, JumpLong}
+use Rattle.bpf_words.specs.declared.instruction.Insn.TheVariants.{Branch, Load, LoadSigned, Store, LoadWide, Exit}
 use Rattle.meaning.specs.State.{State}
 use Rattle.meaning.specs.Step.{Moved, On, Returns}
 use Rattle.abstract_state.specs.declared.state.AbsState.{AbsState}
@@ -50,7 +51,8 @@ Lands o lengths distance (Err kind) = ⊥
 -- from each contained state of a run of the profile; so where the answer is dead, no state was contained
 abbrev pub StepsTo : Profile → AbsState → Insn → Option AbsState → Type 0
 StepsTo profile a insn o =
-    (span : Span) (s : State) → span.profile ≡ profile → Contains a (lengths_of span) s → Lands o (lengths_of span) (distance_of insn) (does span s insn)
+    (span : Span) (s : State) → span.profile ≡ profile → Contains a (lengths_of span) s
+    → Lands o (lengths_of span) (distance_of insn) (does span s insn)
 
 -- the state after a step, if a run can come there
 abbrev pub after : Flow → AbsState → Option AbsState

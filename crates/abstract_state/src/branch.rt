@@ -1,5 +1,6 @@
 //! Comparisons: what is known on either edge.
-ghost use Rattle.std.specs.Prelude.{◌≡◌, ◌≢◌, ◌⊎◌, IfErr, [], ◌∷◌, ℕ, true, false, ◌+◌, ◌%◌, ◌^◌, ◌<◌, ◌≤◌, Option, Some, Ok, IfSome, IfOk, IsOk, IsTrue, ◌↔◌};
+ghost use Rattle.std.specs.Prelude.{◌≡◌, ◌≢◌, ◌⊎◌, IfErr, [], ◌∷◌, ℕ, true, false, ◌+◌, ◌%◌, ◌^◌, ◌<◌, ◌≤◌, Option};
+ghost use Rattle.std.specs.Prelude.{Some, Ok, IfSome, IfOk, IsOk, IsTrue, ◌↔◌};
 ghost use Rattle.bpf_words.specs.declared.instruction.Width.TheVariants.{Narrow, Full};
 ghost use Rattle.meaning.specs.State.{State, register_of, operand_in};
 ghost use Rattle.meaning.specs.Value.{cut, holds_of};
@@ -66,7 +67,8 @@ fn numbers_on(
     x: Quantity,
     y: Quantity,
 ) -> Option<Pair>
-    ensures sound { (lengths : Lengths) (m n : ℕ) → ContainsNumber x lengths m → ContainsNumber y lengths n → holds_of comparison width (cut width m) (cut width n) ≡ taken → WithinPair result lengths m n }
+    ensures sound { (lengths : Lengths) (m n : ℕ) → ContainsNumber x lengths m → ContainsNumber y lengths n
+        → holds_of comparison width (cut width m) (cut width n) ≡ taken → WithinPair result lengths m n }
     ensures numbers { AreNumbersOn result }
 {
     let Some(sides) = edge(width, comparison, taken, x, y) else {
@@ -81,7 +83,8 @@ fn numbers_on(
 /// A place of which more is known.
 fn narrowed(place: LentPlace, offset: Quantity) -> Known
     requires { offset.range.high ≤ place.offset.range.high }
-    ensures sound { (lengths : Lengths) (n x : ℕ) → n ≡ base_of place.region + x → ContainsNumber offset lengths x → ContainsKnown result lengths n }
+    ensures sound { (lengths : Lengths) (n x : ℕ) → n ≡ base_of place.region + x → ContainsNumber offset lengths x
+        → ContainsKnown result lengths n }
     ensures ends { (region : Region) (n : ℕ) → EndsFrom region n offset → LongFrom region n result }
 {
     Known::Lent(LentPlace {
@@ -94,8 +97,11 @@ fn narrowed(place: LentPlace, offset: Quantity) -> Known
 fn places_on(comparison: Comparison, taken: bool, x: LentPlace, y: LentPlace) -> Option<Pair>
     requires order { IsOrder comparison }
     requires region { x.region ≡ y.region }
-    ensures sound { (lengths : Lengths) (m n : ℕ) → ContainsKnown (Known.Lent x) lengths m → ContainsKnown (Known.Lent y) lengths n → holds_of comparison Full (cut Full m) (cut Full n) ≡ taken → WithinPair result lengths m n }
-    ensures guards { (region : Region) → comparison ≡ Comparison.Greater → taken ≡ false → (t : ℕ) → tail_of y.offset.tails region ≡ Some t → IfSome result (λ p. LongFrom region x.offset.range.low p.left) }
+    ensures sound { (lengths : Lengths) (m n : ℕ) → ContainsKnown (Known.Lent x) lengths m
+        → ContainsKnown (Known.Lent y) lengths n → holds_of comparison Full (cut Full m) (cut Full n) ≡ taken
+        → WithinPair result lengths m n }
+    ensures guards { (region : Region) → comparison ≡ Comparison.Greater → taken ≡ false → (t : ℕ)
+        → tail_of y.offset.tails region ≡ Some t → IfSome result (λ p. LongFrom region x.offset.range.low p.left) }
 {
     let Some(sides) = edge(Width::Full, comparison, taken, x.offset, y.offset) else {
         return None;
@@ -114,7 +120,9 @@ fn pair_on(
     a: Known,
     b: Known,
 ) -> Result<Option<Pair>, Refusal>
-    ensures sound { IfOk result (λ o. (lengths : Lengths) (m n : ℕ) → ContainsKnown a lengths m → ContainsKnown b lengths n → holds_of comparison width (cut width m) (cut width n) ≡ taken → WithinPair o lengths m n) }
+    ensures sound { IfOk result (λ o. (lengths : Lengths) (m n : ℕ) → ContainsKnown a lengths m
+        → ContainsKnown b lengths n → holds_of comparison width (cut width m) (cut width n) ≡ taken
+        → WithinPair o lengths m n) }
     ensures regions { (p q : LentPlace) → width ≡ Full → IsOrder comparison → a ≡ Known.Lent p → b ≡ Known.Lent q
         → p.region ≡ q.region → IsOk result }
     ensures guards { (p q : LentPlace) (t : ℕ) → width ≡ Full → comparison ≡ Comparison.Greater → taken ≡ false
@@ -149,7 +157,8 @@ fn is_one_register(left: Register, right: &Operand) -> bool
 
 /// What is known before the comparison, where that is to stay.
 fn unless(same: bool, pair: Option<Pair>, a: Known, b: Known) -> Option<Pair>
-    ensures sound { (lengths : Lengths) (m n : ℕ) → ContainsKnown a lengths m → ContainsKnown b lengths n → WithinPair pair lengths m n → WithinPair result lengths m n }
+    ensures sound { (lengths : Lengths) (m n : ℕ) → ContainsKnown a lengths m → ContainsKnown b lengths n
+        → WithinPair pair lengths m n → WithinPair result lengths m n }
     ensures apart { same ≡ false → result ≡ pair }
     ensures numbers { IsNumber a → IsNumber b → AreNumbersOn pair → AreNumbersOn result }
 {
@@ -161,7 +170,8 @@ fn unless(same: bool, pair: Option<Pair>, a: Known, b: Known) -> Option<Pair>
 
 /// An immediate as a comparison of the width reads it.
 fn compared(width: Width, value: i32) -> Quantity
-    ensures { (lengths : Lengths) → (n : ℕ) × (cut width n ≡ cut width (cast_unsigned w64 value)) × ContainsNumber result lengths n }
+    ensures { (lengths : Lengths) → (n : ℕ) × (cut width n ≡ cut width (cast_unsigned w64 value))
+        × ContainsNumber result lengths n }
 {
     let value = extended(value);
     match width {
@@ -183,8 +193,12 @@ fn live(flow: Flow, state: &AbsState) -> Option<AbsState>
 impl AbsState {
     /// The right side of a comparison.
     fn right_side(&self, width: Width, right: &Operand) -> Result<Known, Refusal>
-        ensures sound { IfOk result (λ k. (lengths : Lengths) (s : State) → Contains self.now lengths s → (n : ℕ) × ((r : ℕ) × (operand_in s right.now ≡ Ok n) × (cut width r ≡ cut width n) × ReadsAs s right.now r × ContainsKnown k lengths r)) }
-        ensures holds { (r : ℕ) (fact : Fact) → right.now ≡ Operand.Source r → Holds fact (register_at self.now.registers r) → IsOk result × IfOk result (λ k. Says fact k) }
+        ensures sound { IfOk result (λ k. (lengths : Lengths) (s : State) → Contains self.now lengths s
+            → (n : ℕ)
+            × ((r : ℕ) × (operand_in s right.now ≡ Ok n) × (cut width r ≡ cut width n) × ReadsAs s right.now r
+            × ContainsKnown k lengths r)) }
+        ensures holds { (r : ℕ) (fact : Fact) → right.now ≡ Operand.Source r
+            → Holds fact (register_at self.now.registers r) → IsOk result × IfOk result (λ k. Says fact k) }
         ensures floor { HasNumberIn self.now right.now → IsOk result }
         ensures numbers { HasNumberIn self.now right.now → IfOk result (λ k. IsNumber k) }
         ensures unset { IfErr result (λ e. (e ≡ Refusal.UnsetRegister) × HasUnset self.now (read_operand right.now)) }
@@ -198,7 +212,8 @@ impl AbsState {
 
     /// Notes what more is known of a register.
     fn keep(&mut self, register: Register, known: Known)
-        ensures sound { (lengths : Lengths) (s : State) (n : ℕ) → Contains self.old lengths s → register_of s register ≡ Ok n → ContainsKnown known lengths n → Contains self.new lengths s }
+        ensures sound { (lengths : Lengths) (s : State) (n : ℕ) → Contains self.old lengths s
+            → register_of s register ≡ Ok n → ContainsKnown known lengths n → Contains self.new lengths s }
         ensures others { Writes register self.old self.new }
         ensures memory { SameMemory self.old self.new }
         ensures kinds { HasNumberAt self.old register → IsNumber known → KeepsAll self.old self.new }
@@ -208,8 +223,10 @@ impl AbsState {
 
     /// Notes what more is known of a right side.
     fn keep_right(&mut self, right: &Operand, known: Known)
-        ensures sound { (lengths : Lengths) (s : State) (n : ℕ) → Contains self.old lengths s → ReadsAs s right.now n → ContainsKnown known lengths n → Contains self.new lengths s }
-        ensures others { (i : ℕ) → (right.now ≡ Operand.Source i → ⊥) → register_at self.new.registers i ≡ register_at self.old.registers i }
+        ensures sound { (lengths : Lengths) (s : State) (n : ℕ) → Contains self.old lengths s → ReadsAs s right.now n
+            → ContainsKnown known lengths n → Contains self.new lengths s }
+        ensures others { (i : ℕ) → (right.now ≡ Operand.Source i → ⊥)
+            → register_at self.new.registers i ≡ register_at self.old.registers i }
         ensures set { (i : ℕ) → (right.now ≡ Operand.Source i) ⊎ (register_at self.old.registers i ≢ Unset)
             → register_at self.new.registers i ≢ Unset }
         ensures memory { SameMemory self.old self.new }
@@ -222,11 +239,14 @@ impl AbsState {
 
     /// Notes that lent regions are as long as a side says.
     fn raise(&mut self, known: Known) -> Flow
-        ensures sound { (lengths : Lengths) (s : State) (n : ℕ) → Contains self.old lengths s → ContainsKnown known lengths n → WithinState (after result self.new) lengths s }
+        ensures sound { (lengths : Lengths) (s : State) (n : ℕ) → Contains self.old lengths s
+            → ContainsKnown known lengths n → WithinState (after result self.new) lengths s }
         ensures same { self.new.registers ≡ self.old.registers }
         ensures stack { IfSome (after result self.new) (λ b. b.stack ≡ self.old.stack) }
-        ensures raised { (region : Region) (n : ℕ) → LongFrom region n known → IfSome (after result self.new) (λ b. n ≤ bound_of b.bounds region) }
-        ensures grows { (region : Region) → IfSome (after result self.new) (λ b. bound_of self.old.bounds region ≤ bound_of b.bounds region) }
+        ensures raised { (region : Region) (n : ℕ) → LongFrom region n known
+            → IfSome (after result self.new) (λ b. n ≤ bound_of b.bounds region) }
+        ensures grows { (region : Region) → IfSome (after result self.new)
+            (λ b. bound_of self.old.bounds region ≤ bound_of b.bounds region) }
     {
         match known {
             Known::Number(quantity) => self.lengthen(quantity),
@@ -238,11 +258,14 @@ impl AbsState {
 
     /// Notes that lent regions are as long as a quantity says.
     fn lengthen(&mut self, quantity: Quantity) -> Flow
-        ensures sound { (lengths : Lengths) (s : State) (x : ℕ) → Contains self.old lengths s → ContainsNumber quantity lengths x → WithinState (after result self.new) lengths s }
+        ensures sound { (lengths : Lengths) (s : State) (x : ℕ) → Contains self.old lengths s
+            → ContainsNumber quantity lengths x → WithinState (after result self.new) lengths s }
         ensures same { self.new.registers ≡ self.old.registers }
         ensures stack { IfSome (after result self.new) (λ b. b.stack ≡ self.old.stack) }
-        ensures raised { (region : Region) (n : ℕ) → EndsFrom region n quantity → IfSome (after result self.new) (λ b. n ≤ bound_of b.bounds region) }
-        ensures grows { (region : Region) → IfSome (after result self.new) (λ b. bound_of self.old.bounds region ≤ bound_of b.bounds region) }
+        ensures raised { (region : Region) (n : ℕ) → EndsFrom region n quantity
+            → IfSome (after result self.new) (λ b. n ≤ bound_of b.bounds region) }
+        ensures grows { (region : Region) → IfSome (after result self.new)
+            (λ b. bound_of self.old.bounds region ≤ bound_of b.bounds region) }
     {
         let Some(bounds) = self.bounds.raise(quantity) else {
             return Flow::Dead;
@@ -253,11 +276,15 @@ impl AbsState {
 
     /// Notes what is known on an edge.
     fn refine(&mut self, left: Register, right: &Operand, pair: Option<Pair>) -> Flow
-        ensures sound { (lengths : Lengths) (s : State) (m n : ℕ) → Contains self.old lengths s → register_of s left ≡ Ok m → ReadsAs s right.now n → WithinPair pair lengths m n → WithinState (after result self.new) lengths s }
+        ensures sound { (lengths : Lengths) (s : State) (m n : ℕ) → Contains self.old lengths s
+            → register_of s left ≡ Ok m → ReadsAs s right.now n → WithinPair pair lengths m n
+            → WithinState (after result self.new) lengths s }
         ensures others { IfSome (after result self.new) (λ b. LeavesSides left right.now self.old b) }
         ensures memory { IfSome (after result self.new) (λ b. LengthensMemory self.old b) }
-        ensures raised { (region : Region) (n : ℕ) → IfSome pair (λ p. LongFrom region n p.left) → IfSome (after result self.new) (λ b. n ≤ bound_of b.bounds region) }
-        ensures kinds { HasNumberAt self.old left → HasNumberIn self.old right.now → AreNumbersOn pair → IfSome (after result self.new) (λ b. KeepsAll self.old b) }
+        ensures raised { (region : Region) (n : ℕ) → IfSome pair (λ p. LongFrom region n p.left)
+            → IfSome (after result self.new) (λ b. n ≤ bound_of b.bounds region) }
+        ensures kinds { HasNumberAt self.old left → HasNumberIn self.old right.now → AreNumbersOn pair
+            → IfSome (after result self.new) (λ b. KeepsAll self.old b) }
     {
         let Some(pair) = pair else {
             return Flow::Dead;
@@ -279,8 +306,10 @@ impl AbsState {
         right: &Operand,
         taken: bool,
     ) -> Result<Flow, Refusal>
-        ensures sound { IfOk result (λ flow. Edge self.old width comparison left right.now taken (after flow self.new)) }
-        ensures others { IfOk result (λ flow. IfSome (after flow self.new) (λ b. LeavesSides left right.now self.old b)) }
+        ensures sound { IfOk result (λ flow. Edge self.old width comparison left right.now taken
+            (after flow self.new)) }
+        ensures others { IfOk result (λ flow. IfSome (after flow self.new)
+            (λ b. LeavesSides left right.now self.old b)) }
         ensures memory { IfOk result (λ flow. IfSome (after flow self.new) (λ b. LengthensMemory self.old b)) }
         ensures regions { (r : ℕ) (p q : LentPlace) → right.now ≡ Operand.Source r → width ≡ Full → IsOrder comparison
             → register_at self.old.registers left ≡ Set (Known.Lent p)
@@ -293,8 +322,10 @@ impl AbsState {
             → IfOk result (λ flow.
             IfSome (after flow self.new) (λ b. p.offset.range.low ≤ bound_of b.bounds p.region)) }
         ensures floor { HasNumberAt self.old left → HasNumberIn self.old right.now → IsOk result }
-        ensures kinds { HasNumberAt self.old left → HasNumberIn self.old right.now → IfOk result (λ flow. IfSome (after flow self.new) (λ b. KeepsAll self.old b)) }
-        ensures unset { IfErr result (λ e. (e ≡ Refusal.UnsetRegister) ↔ HasUnset self.old (left ∷ read_operand right.now)) }
+        ensures kinds { HasNumberAt self.old left → HasNumberIn self.old right.now
+            → IfOk result (λ flow. IfSome (after flow self.new) (λ b. KeepsAll self.old b)) }
+        ensures unset { IfErr result (λ e. (e ≡ Refusal.UnsetRegister)
+            ↔ HasUnset self.old (left ∷ read_operand right.now)) }
         ensures set { IfOk result (λ _. HasUnset self.old (left ∷ read_operand right.now) → ⊥) }
     {
         let a = self.read(left)?;
@@ -316,7 +347,8 @@ impl AbsState {
         ensures taken { IfOk result (λ edges. Edge self.now width comparison left right.now true edges.taken) }
         ensures untaken { IfOk result (λ edges. Edge self.now width comparison left right.now false edges.untaken) }
         ensures taken_others { IfOk result (λ edges. IfSome edges.taken (λ b. LeavesSides left right.now self.now b)) }
-        ensures untaken_others { IfOk result (λ edges. IfSome edges.untaken (λ b. LeavesSides left right.now self.now b)) }
+        ensures untaken_others { IfOk result (λ edges. IfSome edges.untaken
+            (λ b. LeavesSides left right.now self.now b)) }
         ensures taken_memory { IfOk result (λ edges. IfSome edges.taken (λ b. LengthensMemory self.now b)) }
         ensures untaken_memory { IfOk result (λ edges. IfSome edges.untaken (λ b. LengthensMemory self.now b)) }
         ensures regions { (r : ℕ) (p q : LentPlace) → right.now ≡ Operand.Source r → width ≡ Full → IsOrder comparison
@@ -328,9 +360,12 @@ impl AbsState {
             → tail_of q.offset.tails p.region ≡ Some t
             → IfOk result (λ edges. IfSome edges.untaken (λ b. p.offset.range.low ≤ bound_of b.bounds p.region)) }
         ensures floor { HasNumberAt self.now left → HasNumberIn self.now right.now → IsOk result }
-        ensures taken_kinds { HasNumberAt self.now left → HasNumberIn self.now right.now → IfOk result (λ edges. IfSome edges.taken (λ b. KeepsAll self.now b)) }
-        ensures untaken_kinds { HasNumberAt self.now left → HasNumberIn self.now right.now → IfOk result (λ edges. IfSome edges.untaken (λ b. KeepsAll self.now b)) }
-        ensures unset { IfErr result (λ e. (e ≡ Refusal.UnsetRegister) ↔ HasUnset self.now (left ∷ read_operand right.now)) }
+        ensures taken_kinds { HasNumberAt self.now left → HasNumberIn self.now right.now
+            → IfOk result (λ edges. IfSome edges.taken (λ b. KeepsAll self.now b)) }
+        ensures untaken_kinds { HasNumberAt self.now left → HasNumberIn self.now right.now
+            → IfOk result (λ edges. IfSome edges.untaken (λ b. KeepsAll self.now b)) }
+        ensures unset { IfErr result (λ e. (e ≡ Refusal.UnsetRegister)
+            ↔ HasUnset self.now (left ∷ read_operand right.now)) }
         ensures set { IfOk result (λ _. HasUnset self.now (left ∷ read_operand right.now) → ⊥) }
     {
         let mut taken = *self;

@@ -12,8 +12,10 @@ use crate::state::{AbsReg, AbsState};
 
 /// What either register holds.
 fn join_register(a: AbsReg, b: AbsReg) -> AbsReg
-    ensures left { (lengths : Lengths) (o : Option ℕ) → ContainsRegister a lengths o → ContainsRegister result lengths o }
-    ensures right { (lengths : Lengths) (o : Option ℕ) → ContainsRegister b lengths o → ContainsRegister result lengths o }
+    ensures left { (lengths : Lengths) (o : Option ℕ) → ContainsRegister a lengths o
+        → ContainsRegister result lengths o }
+    ensures right { (lengths : Lengths) (o : Option ℕ) → ContainsRegister b lengths o
+        → ContainsRegister result lengths o }
     ensures kinds { JoinsReg a b result }
 {
     let (AbsReg::Set(x), AbsReg::Set(y)) = (a, b) else {
@@ -27,8 +29,10 @@ fn join_register(a: AbsReg, b: AbsReg) -> AbsReg
 
 /// Takes in what the other registers hold, for all of them.
 fn join_registers(a: &mut [AbsReg; 11], b: &[AbsReg; 11])
-    ensures left { (i : ℕ) (lengths : Lengths) (o : Option ℕ) → i < 11 → ContainsRegister (register_at a.old i) lengths o → ContainsRegister (register_at a.new i) lengths o }
-    ensures right { (i : ℕ) (lengths : Lengths) (o : Option ℕ) → i < 11 → ContainsRegister (register_at b.now i) lengths o → ContainsRegister (register_at a.new i) lengths o }
+    ensures left { (i : ℕ) (lengths : Lengths) (o : Option ℕ) → i < 11
+        → ContainsRegister (register_at a.old i) lengths o → ContainsRegister (register_at a.new i) lengths o }
+    ensures right { (i : ℕ) (lengths : Lengths) (o : Option ℕ) → i < 11
+        → ContainsRegister (register_at b.now i) lengths o → ContainsRegister (register_at a.new i) lengths o }
     ensures kinds { (i : ℕ) → i < 11 → JoinsReg (register_at a.old i) (register_at b.now i) (register_at a.new i) }
 {
     for i in 0..11 {
@@ -56,9 +60,12 @@ impl AbsState {
     pub fn join(&mut self, other: &AbsState)
         ensures left { (lengths : Lengths) (s : State) → Contains self.old lengths s → Contains self.new lengths s }
         ensures right { (lengths : Lengths) (s : State) → Contains other.now lengths s → Contains self.new lengths s }
-        ensures kinds { (i : ℕ) → i < 11 → JoinsReg (register_at self.old.registers i) (register_at other.now.registers i) (register_at self.new.registers i) }
-        ensures slots { (i : ℕ) → i < 64 → JoinsSlot (slot_at self.old.stack i) (slot_at other.now.stack i) (slot_at self.new.stack i) }
-        ensures bounds { (region : Region) → bound_of self.new.bounds region ≡ min (bound_of self.old.bounds region) (bound_of other.now.bounds region) }
+        ensures kinds { (i : ℕ) → i < 11 → JoinsReg (register_at self.old.registers i)
+            (register_at other.now.registers i) (register_at self.new.registers i) }
+        ensures slots { (i : ℕ) → i < 64 → JoinsSlot (slot_at self.old.stack i) (slot_at other.now.stack i)
+            (slot_at self.new.stack i) }
+        ensures bounds { (region : Region) → bound_of self.new.bounds region
+            ≡ min (bound_of self.old.bounds region) (bound_of other.now.bounds region) }
     {
         join_registers(&mut self.registers, &other.registers);
         join_slots(&mut self.stack, &other.stack);

@@ -1,4 +1,5 @@
-ghost use Rattle.std.specs.Prelude.{◌≡◌, ◌≢◌, IfErr, ℕ, ◌+◌, ◌-◌, ◌%◌, ◌^◌, ◌<◌, ◌≤◌, Option, Some, None, Ok, IsSome, IfSome, IfOk, IsOk, IsTrue, ◌↔◌};
+ghost use Rattle.std.specs.Prelude.{◌≡◌, ◌≢◌, IfErr, ℕ, ◌+◌, ◌-◌, ◌%◌, ◌^◌, ◌<◌, ◌≤◌, Option, Some, None, Ok, IsSome};
+ghost use Rattle.std.specs.Prelude.{IfSome, IfOk, IsOk, IsTrue, ◌↔◌};
 ghost use Rattle.abstract_state.specs.Lent.{Lengths, HasTails, base_of};
 ghost use Rattle.abstract_state.specs.Quantity.{Contains, Within, JoinsNumber};
 ghost use Rattle.abstract_state.specs.Known.{ContainsKnown, WithinKnown, IsNumber, AreNumbers};
@@ -34,7 +35,8 @@ pub fn number(quantity: Option<Quantity>) -> Option<Known>
     ensures numbers { AreNumbers result }
     ensures none { quantity ≡ None → result ≡ None }
     ensures some { (q : Quantity) → quantity ≡ Some q → result ≡ Some (Known.Number q) }
-    ensures same { (at : TheRegion) (low high : ℕ) (t : Option ℕ) → IfSome quantity (λ q. IsIn at q low high t) → IfSome result (λ k. IsNumberIn at low high t k) }
+    ensures same { (at : TheRegion) (low high : ℕ) (t : Option ℕ) → IfSome quantity (λ q. IsIn at q low high t)
+        → IfSome result (λ k. IsNumberIn at low high t k) }
 {
     let Some(quantity) = quantity else {
         return None;
@@ -44,10 +46,14 @@ pub fn number(quantity: Option<Quantity>) -> Option<Known>
 
 /// An address in a lent region, if it is near enough.
 pub fn lent(region: Region, offset: Option<Quantity>) -> Result<Option<Known>, Refusal>
-    ensures sound { IfOk result (λ o. (lengths : Lengths) (x : ℕ) → Within offset lengths x → WithinKnown o lengths ((base_of region + x) % 2 ^ 64)) }
+    ensures sound { IfOk result (λ o. (lengths : Lengths) (x : ℕ) → Within offset lengths x
+        → WithinKnown o lengths ((base_of region + x) % 2 ^ 64)) }
     ensures none { offset ≡ None → result ≡ Ok None }
-    ensures some { (q : Quantity) → offset ≡ Some q → q.range.high ≤ 2 ^ 20 → (p : LentPlace) × (result ≡ Ok (Some (Known.Lent p))) × (p.region ≡ region) × (p.offset ≡ q) }
-    ensures there { (at : TheRegion) (low high : ℕ) (t : Option ℕ) → region ≡ at → IfSome offset (λ q. IsIn at q low high t) → high ≤ 2 ^ 20 → IsOk result × IfOk result (λ o. IfSome o (λ k. IsLentIn at low high t k)) }
+    ensures some { (q : Quantity) → offset ≡ Some q → q.range.high ≤ 2 ^ 20
+        → (p : LentPlace) × (result ≡ Ok (Some (Known.Lent p))) × (p.region ≡ region) × (p.offset ≡ q) }
+    ensures there { (at : TheRegion) (low high : ℕ) (t : Option ℕ) → region ≡ at
+        → IfSome offset (λ q. IsIn at q low high t) → high ≤ 2 ^ 20
+        → IsOk result × IfOk result (λ o. IfSome o (λ k. IsLentIn at low high t k)) }
     ensures not_unset { IfErr result (λ e. e ≢ Refusal.UnsetRegister) }
 {
     let Some(offset) = offset else {
@@ -61,7 +67,8 @@ pub fn lent(region: Region, offset: Option<Quantity>) -> Result<Option<Known>, R
 
 /// A place moved by a constant, modulo 2^64.
 fn displaced(operation: Arithmetic, width: Width, place: u64, by: Quantity) -> Option<u64>
-    ensures { IfSome result (λ r. (lengths : Lengths) (base y : ℕ) → Contains by lengths y → value_of operation width (cut width (base + place)) (cut width y) ≡ (base + r) % 2 ^ 64) }
+    ensures { IfSome result (λ r. (lengths : Lengths) (base y : ℕ) → Contains by lengths y
+        → value_of operation width (cut width (base + place)) (cut width y) ≡ (base + r) % 2 ^ 64) }
 {
     let c = by.only()?;
     match (width, operation) {
@@ -78,7 +85,8 @@ fn from_context(
     place: ContextPlace,
     by: Quantity,
 ) -> Result<Known, Refusal>
-    ensures sound { IfOk result (λ k. (lengths : Lengths) (x y : ℕ) → ContainsKnown (Known.Context place) lengths x → Contains by lengths y → ContainsKnown k lengths (value_of operation width (cut width x) (cut width y))) }
+    ensures sound { IfOk result (λ k. (lengths : Lengths) (x y : ℕ) → ContainsKnown (Known.Context place) lengths x
+        → Contains by lengths y → ContainsKnown k lengths (value_of operation width (cut width x) (cut width y))) }
     ensures not_unset { IfErr result (λ e. e ≢ Refusal.UnsetRegister) }
 {
     match displaced(operation, width, place.place, by) {
@@ -95,7 +103,8 @@ fn from_stack(
     place: StackPlace,
     by: Quantity,
 ) -> Result<Known, Refusal>
-    ensures sound { IfOk result (λ k. (lengths : Lengths) (x y : ℕ) → ContainsKnown (Known.Stack place) lengths x → Contains by lengths y → ContainsKnown k lengths (value_of operation width (cut width x) (cut width y))) }
+    ensures sound { IfOk result (λ k. (lengths : Lengths) (x y : ℕ) → ContainsKnown (Known.Stack place) lengths x
+        → Contains by lengths y → ContainsKnown k lengths (value_of operation width (cut width x) (cut width y))) }
     ensures not_unset { IfErr result (λ e. e ≢ Refusal.UnsetRegister) }
 {
     match displaced(operation, width, place.place, by) {
@@ -110,8 +119,11 @@ fn from_lent(
     place: LentPlace,
     by: Quantity,
 ) -> Result<Option<Known>, Refusal>
-    ensures sound { IfOk result (λ o. (lengths : Lengths) (x y : ℕ) → ContainsKnown (Known.Lent place) lengths x → Contains by lengths y → WithinKnown o lengths (value_of operation width (cut width x) (cut width y))) }
-    ensures adds { (at : TheRegion) → operation ≡ Arithmetic.Add → width ≡ Width.Full → place.region ≡ at → (m n : ℕ) (t : Option ℕ) → IsIn at place.offset m m t → IsIn at by n n None → m + n ≤ 2 ^ 20 → IsOk result × IfOk result (λ o. IfSome o (λ k. IsLentIn at (m + n) (m + n) (tail_after t n) k)) }
+    ensures sound { IfOk result (λ o. (lengths : Lengths) (x y : ℕ) → ContainsKnown (Known.Lent place) lengths x
+        → Contains by lengths y → WithinKnown o lengths (value_of operation width (cut width x) (cut width y))) }
+    ensures adds { (at : TheRegion) → operation ≡ Arithmetic.Add → width ≡ Width.Full → place.region ≡ at
+        → (m n : ℕ) (t : Option ℕ) → IsIn at place.offset m m t → IsIn at by n n None → m + n ≤ 2 ^ 20
+        → IsOk result × IfOk result (λ o. IfSome o (λ k. IsLentIn at (m + n) (m + n) (tail_after t n) k)) }
     ensures not_unset { IfErr result (λ e. e ≢ Refusal.UnsetRegister) }
 {
     match (width, operation) {
@@ -127,7 +139,9 @@ fn onto_lent(
     by: Quantity,
     place: LentPlace,
 ) -> Result<Option<Known>, Refusal>
-    ensures sound { IfOk result (λ o. (lengths : Lengths) (x y : ℕ) → Contains by lengths x → ContainsKnown (Known.Lent place) lengths y → WithinKnown o lengths (value_of operation width (cut width x) (cut width y))) }
+    ensures sound { IfOk result (λ o. (lengths : Lengths) (x y : ℕ) → Contains by lengths x
+        → ContainsKnown (Known.Lent place) lengths y
+        → WithinKnown o lengths (value_of operation width (cut width x) (cut width y))) }
     ensures not_unset { IfErr result (λ e. e ≢ Refusal.UnsetRegister) }
 {
     match (width, operation) {
@@ -155,9 +169,18 @@ impl Known {
         width: Width,
         other: Known,
     ) -> Result<Option<Known>, Refusal>
-        ensures sound { IfOk result (λ o. (lengths : Lengths) (x y : ℕ) → ContainsKnown self lengths x → ContainsKnown other lengths y → WithinKnown o lengths (value_of operation width (cut width x) (cut width y))) }
-        ensures adds { (at : TheRegion) → operation ≡ Arithmetic.Add → width ≡ Width.Full → (m n : ℕ) (t : Option ℕ) → IsLentIn at m m t self → IsNumberIn at n n None other → m + n ≤ 2 ^ 20 → IsOk result × IfOk result (λ o. IfSome o (λ k. IsLentIn at (m + n) (m + n) (tail_after t n) k)) }
-        ensures folds { (at : TheRegion) → width ≡ Width.Full → (m n : ℕ) → Folds operation m n → IsNumberIn at m m None self → IsNumberIn at n n None other → IsOk result × IfOk result (λ o. IfSome o (λ k. IsNumberIn at (value_of operation Width.Full m n) (value_of operation Width.Full m n) None k)) }
+        ensures sound { IfOk result (λ o. (lengths : Lengths) (x y : ℕ) → ContainsKnown self lengths x
+            → ContainsKnown other lengths y
+            → WithinKnown o lengths (value_of operation width (cut width x) (cut width y))) }
+        ensures adds { (at : TheRegion) → operation ≡ Arithmetic.Add → width ≡ Width.Full → (m n : ℕ) (t : Option ℕ)
+            → IsLentIn at m m t self → IsNumberIn at n n None other → m + n ≤ 2 ^ 20
+            → IsOk result × IfOk result (λ o. IfSome o (λ k. IsLentIn at (m + n) (m + n) (tail_after t n) k)) }
+        ensures folds { (at : TheRegion) → width ≡ Width.Full → (m n : ℕ) → Folds operation m n
+            → IsNumberIn at m m None self → IsNumberIn at n n None other
+            → IsOk result
+            × IfOk result
+            (λ o. IfSome o
+            (λ k. IsNumberIn at (value_of operation Width.Full m n) (value_of operation Width.Full m n) None k)) }
         ensures floor { IsNumber self → IsNumber other → IsOk result }
         ensures numbers { IsNumber self → IsNumber other → IfOk result (λ o. AreNumbers o) }
         ensures not_unset { IfErr result (λ e. e ≢ Refusal.UnsetRegister) }
@@ -176,10 +199,13 @@ impl Known {
 
     /// What a move gives: of 32 bits, of a number alone.
     pub fn moved(self, width: Width) -> Result<Option<Known>, Refusal>
-        ensures sound { IfOk result (λ o. (lengths : Lengths) (x : ℕ) → ContainsKnown self lengths x → WithinKnown o lengths (cut width x)) }
-        ensures lent { (at : TheRegion) → width ≡ Width.Full → (n : ℕ) (t : Option ℕ) → IsLentIn at n n t self → IsOk result × IfOk result (λ o. IfSome o (λ k. IsLentIn at n n t k)) }
+        ensures sound { IfOk result (λ o. (lengths : Lengths) (x : ℕ) → ContainsKnown self lengths x
+            → WithinKnown o lengths (cut width x)) }
+        ensures lent { (at : TheRegion) → width ≡ Width.Full → (n : ℕ) (t : Option ℕ) → IsLentIn at n n t self
+            → IsOk result × IfOk result (λ o. IfSome o (λ k. IsLentIn at n n t k)) }
         ensures whole { width ≡ Width.Full → IsOk result × IfOk result (λ o. IfSome o (λ k. IsNoLess self k)) }
-        ensures constant { (at : TheRegion) → width ≡ Width.Full → (n : ℕ) (t : Option ℕ) → IsNumberIn at n n t self → IfOk result (λ o. IfSome o (λ k. IsNumberIn at n n t k)) }
+        ensures constant { (at : TheRegion) → width ≡ Width.Full → (n : ℕ) (t : Option ℕ) → IsNumberIn at n n t self
+            → IfOk result (λ o. IfSome o (λ k. IsNumberIn at n n t k)) }
         ensures floor { IsNumber self → IsOk result }
         ensures numbers { IsNumber self → IfOk result (λ o. AreNumbers o) }
         ensures not_unset { IfErr result (λ e. e ≢ Refusal.UnsetRegister) }
@@ -195,13 +221,20 @@ impl Known {
 
     /// What either is; `None` where they are of different kinds or places.
     pub fn join(self, other: Known) -> Option<Known>
-        ensures left { IfSome result (λ k. (lengths : Lengths) (x : ℕ) → ContainsKnown self lengths x → ContainsKnown k lengths x) }
-        ensures right { IfSome result (λ k. (lengths : Lengths) (x : ℕ) → ContainsKnown other lengths x → ContainsKnown k lengths x) }
+        ensures left { IfSome result (λ k. (lengths : Lengths) (x : ℕ) → ContainsKnown self lengths x
+            → ContainsKnown k lengths x) }
+        ensures right { IfSome result (λ k. (lengths : Lengths) (x : ℕ) → ContainsKnown other lengths x
+            → ContainsKnown k lengths x) }
         ensures numbers { IsNumber self → IsNumber other → IsSome result × AreNumbers result }
-        ensures values { (p q : Quantity) → self ≡ Known.Number p → other ≡ Known.Number q → (r : Quantity) × (result ≡ Some (Known.Number r)) × JoinsNumber p q r }
-        ensures lent { (p q : LentPlace) → self ≡ Known.Lent p → other ≡ Known.Lent q → p.region ≡ q.region → (r : LentPlace) × (result ≡ Some (Known.Lent r)) × (r.region ≡ p.region) × JoinsNumber p.offset q.offset r.offset }
-        ensures context { (n : ℕ) → IsContextAt n (TheRegs.Set self) → IsContextAt n (TheRegs.Set other) → IsSome result × IfSome result (λ k. IsContextAt n (TheRegs.Set k)) }
-        ensures stack { (n : ℕ) → IsStackAt n (TheRegs.Set self) → IsStackAt n (TheRegs.Set other) → IsSome result × IfSome result (λ k. IsStackAt n (TheRegs.Set k)) }
+        ensures values { (p q : Quantity) → self ≡ Known.Number p → other ≡ Known.Number q
+            → (r : Quantity) × (result ≡ Some (Known.Number r)) × JoinsNumber p q r }
+        ensures lent { (p q : LentPlace) → self ≡ Known.Lent p → other ≡ Known.Lent q → p.region ≡ q.region
+            → (r : LentPlace) × (result ≡ Some (Known.Lent r)) × (r.region ≡ p.region)
+            × JoinsNumber p.offset q.offset r.offset }
+        ensures context { (n : ℕ) → IsContextAt n (TheRegs.Set self) → IsContextAt n (TheRegs.Set other)
+            → IsSome result × IfSome result (λ k. IsContextAt n (TheRegs.Set k)) }
+        ensures stack { (n : ℕ) → IsStackAt n (TheRegs.Set self) → IsStackAt n (TheRegs.Set other)
+            → IsSome result × IfSome result (λ k. IsStackAt n (TheRegs.Set k)) }
     {
         match (self, other) {
             (Known::Number(a), Known::Number(b)) => Some(Known::Number(a.join(b))),
@@ -215,9 +248,12 @@ impl Known {
 
 /// What either place may be.
 fn join_lent(a: LentPlace, b: LentPlace) -> Option<Known>
-    ensures left { IfSome result (λ k. (lengths : Lengths) (x : ℕ) → ContainsKnown (Known.Lent a) lengths x → ContainsKnown k lengths x) }
-    ensures right { IfSome result (λ k. (lengths : Lengths) (x : ℕ) → ContainsKnown (Known.Lent b) lengths x → ContainsKnown k lengths x) }
-    ensures joins { a.region ≡ b.region → (r : LentPlace) × (result ≡ Some (Known.Lent r)) × (r.region ≡ a.region) × JoinsNumber a.offset b.offset r.offset }
+    ensures left { IfSome result (λ k. (lengths : Lengths) (x : ℕ) → ContainsKnown (Known.Lent a) lengths x
+        → ContainsKnown k lengths x) }
+    ensures right { IfSome result (λ k. (lengths : Lengths) (x : ℕ) → ContainsKnown (Known.Lent b) lengths x
+        → ContainsKnown k lengths x) }
+    ensures joins { a.region ≡ b.region → (r : LentPlace) × (result ≡ Some (Known.Lent r)) × (r.region ≡ a.region)
+        × JoinsNumber a.offset b.offset r.offset }
 {
     if a.region != b.region {
         return None;
@@ -231,8 +267,10 @@ fn join_lent(a: LentPlace, b: LentPlace) -> Option<Known>
 
 /// The one place, where both are it.
 fn join_context(a: ContextPlace, b: ContextPlace) -> Option<Known>
-    ensures left { IfSome result (λ k. (lengths : Lengths) (x : ℕ) → ContainsKnown (Known.Context a) lengths x → ContainsKnown k lengths x) }
-    ensures right { IfSome result (λ k. (lengths : Lengths) (x : ℕ) → ContainsKnown (Known.Context b) lengths x → ContainsKnown k lengths x) }
+    ensures left { IfSome result (λ k. (lengths : Lengths) (x : ℕ) → ContainsKnown (Known.Context a) lengths x
+        → ContainsKnown k lengths x) }
+    ensures right { IfSome result (λ k. (lengths : Lengths) (x : ℕ) → ContainsKnown (Known.Context b) lengths x
+        → ContainsKnown k lengths x) }
     ensures same { a.place ≡ b.place → result ≡ Some (Known.Context a) }
 {
     if a.place != b.place {
@@ -243,8 +281,10 @@ fn join_context(a: ContextPlace, b: ContextPlace) -> Option<Known>
 
 /// The one place, where both are it.
 fn join_stack(a: StackPlace, b: StackPlace) -> Option<Known>
-    ensures left { IfSome result (λ k. (lengths : Lengths) (x : ℕ) → ContainsKnown (Known.Stack a) lengths x → ContainsKnown k lengths x) }
-    ensures right { IfSome result (λ k. (lengths : Lengths) (x : ℕ) → ContainsKnown (Known.Stack b) lengths x → ContainsKnown k lengths x) }
+    ensures left { IfSome result (λ k. (lengths : Lengths) (x : ℕ) → ContainsKnown (Known.Stack a) lengths x
+        → ContainsKnown k lengths x) }
+    ensures right { IfSome result (λ k. (lengths : Lengths) (x : ℕ) → ContainsKnown (Known.Stack b) lengths x
+        → ContainsKnown k lengths x) }
     ensures same { a.place ≡ b.place → result ≡ Some (Known.Stack a) }
 {
     if a.place != b.place {

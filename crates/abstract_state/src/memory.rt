@@ -1,9 +1,11 @@
 //! Loads and stores.
-ghost use Rattle.std.specs.Prelude.{◌≡◌, ◌≢◌, IfErr, ℕ, ◌+◌, ◌-◌, ◌*◌, ◌/◌, ◌%◌, ◌^◌, ◌<◌, ◌≤◌, Option, Some, Ok, IfSome, IfOk, IsOk, IsTrue, ◌↔◌, List, length, drop};
+ghost use Rattle.std.specs.Prelude.{◌≡◌, ◌≢◌, IfErr, ℕ, ◌+◌, ◌-◌, ◌*◌, ◌/◌, ◌%◌, ◌^◌, ◌<◌, ◌≤◌, Option, Some, Ok};
+ghost use Rattle.std.specs.Prelude.{IfSome, IfOk, IsOk, IsTrue, ◌↔◌, List, length, drop};
 ghost use Rattle.byteorder.specs.Endian.{little_number};
 ghost use Rattle.meaning.specs.State.{State};
 ghost use Rattle.meaning.specs.Memory.{address_of, bytes_in, bytes_in_signed, load as load_of, store as store_of};
-ghost use Rattle.abstract_state.specs.Lent.{Lengths, base_of, length_of, limit_of, bound_of, begin_field, end_field, Lends};
+ghost use Rattle.abstract_state.specs.Lent.{Lengths, base_of, length_of, limit_of, bound_of, begin_field, end_field};
+ghost use Rattle.abstract_state.specs.Lent.{Lends};
 ghost use Rattle.abstract_state.specs.declared.region.Region.{Region as TheRegion};
 ghost use Rattle.abstract_state.specs.declared.region.Region.TheVariants.{Text, Link};
 ghost use Rattle.abstract_state.specs.Quantity.{Contains as ContainsNumber, Within as WithinNumber};
@@ -36,7 +38,8 @@ use meaning::sizes::{count, count_signed};
 fn moved(place: u64, offset: u64) -> Option<u64>
     requires { place ≤ 2 ^ 20 }
     ensures small { IfSome result (λ a. a ≤ place + 2 ^ 16) }
-    ensures at { IfSome result (λ a. (base x : ℕ) → place ≤ x → base + x < 2 ^ 63 → (base + x + offset) % 2 ^ 64 ≡ base + (a + (x - place))) }
+    ensures at { IfSome result (λ a. (base x : ℕ) → place ≤ x → base + x < 2 ^ 63
+        → (base + x + offset) % 2 ^ 64 ≡ base + (a + (x - place))) }
     ensures there { offset ≤ 2 ^ 16 → result ≡ Some (place + offset) }
     ensures near { (a : ℕ) → (place + offset) % 2 ^ 64 ≡ a → a ≤ 2 ^ 16 → result ≡ Some a }
 {
@@ -62,9 +65,13 @@ fn loaded(size: Size) -> Quantity
 /// What a field of the first 56 bytes of the context holds, where nothing is known of the link.
 fn text_field(field: ContextField) -> Result<Option<Known>, Refusal>
     ensures within { IfOk result (λ _. offset_of field + bytes_in (size_of field) ≤ 56) }
-    ensures sound { IfOk result (λ o. (span : Span) → WithinKnown o (lengths_of span) (little_number (bytes_in (size_of field)) (drop (offset_of field) span.bytes.context))) }
-    ensures begin { offset_of field ≡ 0 → IsOk result × IfOk result (λ o. IfSome o (λ k. IsLentIn Text 0 0 (Some 0) k)) }
-    ensures end { offset_of field ≡ 8 → IsOk result × IfOk result (λ o. IfSome o (λ k. IsLentIn Text 0 131072 (Some 0) k)) }
+    ensures sound { IfOk result (λ o. (span : Span)
+        → WithinKnown o (lengths_of span)
+        (little_number (bytes_in (size_of field)) (drop (offset_of field) span.bytes.context))) }
+    ensures begin { offset_of field ≡ 0 → IsOk result
+        × IfOk result (λ o. IfSome o (λ k. IsLentIn Text 0 0 (Some 0) k)) }
+    ensures end { offset_of field ≡ 8 → IsOk result
+        × IfOk result (λ o. IfSome o (λ k. IsLentIn Text 0 131072 (Some 0) k)) }
     ensures floor { IsNumberField (size_of field) (offset_of field) → IsOk result }
     ensures numbers { IsNumberField (size_of field) (offset_of field) → IfOk result (λ o. AreNumbers o) }
     ensures not_unset { IfErr result (λ e. e ≢ Refusal.UnsetRegister) }
@@ -91,11 +98,17 @@ fn text_field(field: ContextField) -> Result<Option<Known>, Refusal>
 /// What a field of the whole context holds.
 fn link_field(field: ContextField) -> Result<Option<Known>, Refusal>
     ensures within { IfOk result (λ _. offset_of field + bytes_in (size_of field) ≤ 72) }
-    ensures sound { IfOk result (λ o. (span : Span) → span.profile ≡ Two → WithinKnown o (lengths_of span) (little_number (bytes_in (size_of field)) (drop (offset_of field) span.bytes.context))) }
-    ensures begin { offset_of field ≡ 0 → IsOk result × IfOk result (λ o. IfSome o (λ k. IsLentIn Text 0 0 (Some 0) k)) }
-    ensures end { offset_of field ≡ 8 → IsOk result × IfOk result (λ o. IfSome o (λ k. IsLentIn Text 0 131072 (Some 0) k)) }
-    ensures link_begin { offset_of field ≡ 56 → IsOk result × IfOk result (λ o. IfSome o (λ k. IsLentIn Link 0 0 (Some 0) k)) }
-    ensures link_end { offset_of field ≡ 64 → IsOk result × IfOk result (λ o. IfSome o (λ k. IsLentIn Link 0 1024 (Some 0) k)) }
+    ensures sound { IfOk result (λ o. (span : Span) → span.profile ≡ Two
+        → WithinKnown o (lengths_of span)
+        (little_number (bytes_in (size_of field)) (drop (offset_of field) span.bytes.context))) }
+    ensures begin { offset_of field ≡ 0 → IsOk result
+        × IfOk result (λ o. IfSome o (λ k. IsLentIn Text 0 0 (Some 0) k)) }
+    ensures end { offset_of field ≡ 8 → IsOk result
+        × IfOk result (λ o. IfSome o (λ k. IsLentIn Text 0 131072 (Some 0) k)) }
+    ensures link_begin { offset_of field ≡ 56
+        → IsOk result × IfOk result (λ o. IfSome o (λ k. IsLentIn Link 0 0 (Some 0) k)) }
+    ensures link_end { offset_of field ≡ 64
+        → IsOk result × IfOk result (λ o. IfSome o (λ k. IsLentIn Link 0 1024 (Some 0) k)) }
     ensures floor { IsNumberField (size_of field) (offset_of field) → IsOk result }
     ensures numbers { IsNumberField (size_of field) (offset_of field) → IfOk result (λ o. AreNumbers o) }
     ensures not_unset { IfErr result (λ e. e ≢ Refusal.UnsetRegister) }
@@ -114,9 +127,13 @@ fn link_field(field: ContextField) -> Result<Option<Known>, Refusal>
 /// What a field holds that a program of the profile may read.
 fn lent_field(profile: Profile, field: ContextField) -> Result<Option<Known>, Refusal>
     ensures within { IfOk result (λ _. offset_of field + bytes_in (size_of field) ≤ context_length profile) }
-    ensures sound { IfOk result (λ o. (span : Span) → span.profile ≡ profile → WithinKnown o (lengths_of span) (little_number (bytes_in (size_of field)) (drop (offset_of field) span.bytes.context))) }
-    ensures begin { (at : TheRegion) → Lends at profile → offset_of field ≡ begin_field at → IsOk result × IfOk result (λ o. IfSome o (λ k. IsLentIn at 0 0 (Some 0) k)) }
-    ensures end { (at : TheRegion) → Lends at profile → offset_of field ≡ end_field at → IsOk result × IfOk result (λ o. IfSome o (λ k. IsLentIn at 0 (limit_of at) (Some 0) k)) }
+    ensures sound { IfOk result (λ o. (span : Span) → span.profile ≡ profile
+        → WithinKnown o (lengths_of span)
+        (little_number (bytes_in (size_of field)) (drop (offset_of field) span.bytes.context))) }
+    ensures begin { (at : TheRegion) → Lends at profile → offset_of field ≡ begin_field at
+        → IsOk result × IfOk result (λ o. IfSome o (λ k. IsLentIn at 0 0 (Some 0) k)) }
+    ensures end { (at : TheRegion) → Lends at profile → offset_of field ≡ end_field at
+        → IsOk result × IfOk result (λ o. IfSome o (λ k. IsLentIn at 0 (limit_of at) (Some 0) k)) }
     ensures floor { IsNumberField (size_of field) (offset_of field) → IsOk result }
     ensures numbers { IsNumberField (size_of field) (offset_of field) → IfOk result (λ o. AreNumbers o) }
     ensures not_unset { IfErr result (λ e. e ≢ Refusal.UnsetRegister) }
@@ -130,9 +147,12 @@ fn lent_field(profile: Profile, field: ContextField) -> Result<Option<Known>, Re
 /// What so many bytes of the context hold, where they are a field that a program of the profile may read.
 fn field(profile: Profile, place: u64, size: Size) -> Result<Option<Known>, Refusal>
     ensures within { IfOk result (λ _. place + bytes_in size ≤ context_length profile) }
-    ensures sound { IfOk result (λ o. (span : Span) → span.profile ≡ profile → WithinKnown o (lengths_of span) (little_number (bytes_in size) (drop place span.bytes.context))) }
-    ensures begin { (at : TheRegion) → Lends at profile → size ≡ Size.Double → place ≡ begin_field at → IsOk result × IfOk result (λ o. IfSome o (λ k. IsLentIn at 0 0 (Some 0) k)) }
-    ensures end { (at : TheRegion) → Lends at profile → size ≡ Size.Double → place ≡ end_field at → IsOk result × IfOk result (λ o. IfSome o (λ k. IsLentIn at 0 (limit_of at) (Some 0) k)) }
+    ensures sound { IfOk result (λ o. (span : Span) → span.profile ≡ profile
+        → WithinKnown o (lengths_of span) (little_number (bytes_in size) (drop place span.bytes.context))) }
+    ensures begin { (at : TheRegion) → Lends at profile → size ≡ Size.Double → place ≡ begin_field at
+        → IsOk result × IfOk result (λ o. IfSome o (λ k. IsLentIn at 0 0 (Some 0) k)) }
+    ensures end { (at : TheRegion) → Lends at profile → size ≡ Size.Double → place ≡ end_field at
+        → IsOk result × IfOk result (λ o. IfSome o (λ k. IsLentIn at 0 (limit_of at) (Some 0) k)) }
     ensures floor { IsNumberField size place → IsOk result }
     ensures numbers { IsNumberField size place → IfOk result (λ o. AreNumbers o) }
     ensures not_unset { IfErr result (λ e. e ≢ Refusal.UnsetRegister) }
@@ -146,8 +166,12 @@ fn field(profile: Profile, place: u64, size: Size) -> Result<Option<Known>, Refu
 /// Whether so many bytes at a place in a lent region lie in it.
 fn reaches(bounds: Bounds, place: LentPlace, offset: u64, count: usize) -> bool
     requires { count ≤ 8 }
-    ensures sound { IsTrue result → (lengths : Lengths) (x : ℕ) → IsLong bounds lengths → ContainsNumber place.offset lengths x → (a : ℕ) × ((base_of place.region + x + offset) % 2 ^ 64 ≡ base_of place.region + a) × (a + count ≤ length_of lengths place.region) }
-    ensures floor { offset ≤ 2 ^ 15 → (at : TheRegion) (bound : ℕ) → place.region ≡ at → bound_of bounds at ≡ bound → place.offset.range.high + offset + count ≤ bound → IsTrue result }
+    ensures sound { IsTrue result → (lengths : Lengths) (x : ℕ) → IsLong bounds lengths
+        → ContainsNumber place.offset lengths x
+        → (a : ℕ) × ((base_of place.region + x + offset) % 2 ^ 64 ≡ base_of place.region + a)
+        × (a + count ≤ length_of lengths place.region) }
+    ensures floor { offset ≤ 2 ^ 15 → (at : TheRegion) (bound : ℕ) → place.region ≡ at → bound_of bounds at ≡ bound
+        → place.offset.range.high + offset + count ≤ bound → IsTrue result }
 {
     let range = place.offset.range;
     let Some(least) = moved(range.low, offset) else {
@@ -188,8 +212,10 @@ impl AbsState {
     fn bytes(&self, base: Known, offset: u64, count: usize) -> Result<(), Refusal>
         requires { count ≤ 8 }
         ensures sound { IfOk result (λ _. LoadsAs self.now base offset count (λ lengths v. v < 256 ^ count)) }
-        ensures lent { (at : TheRegion) (p : LentPlace) → base ≡ Known.Lent p → p.region ≡ at → offset ≤ 2 ^ 15 → p.offset.range.high + offset + count ≤ bound_of self.now.bounds at → IsOk result }
-        ensures stack { (p : ℕ) → IsStackByte p offset (TheRegs.Set base) → AreMarked self.now.stack p count → IsOk result }
+        ensures lent { (at : TheRegion) (p : LentPlace) → base ≡ Known.Lent p → p.region ≡ at → offset ≤ 2 ^ 15
+            → p.offset.range.high + offset + count ≤ bound_of self.now.bounds at → IsOk result }
+        ensures stack { (p : ℕ) → IsStackByte p offset (TheRegs.Set base) → AreMarked self.now.stack p count
+            → IsOk result }
         ensures not_unset { IfErr result (λ e. e ≢ Refusal.UnsetRegister) }
     {
         match base {
@@ -221,9 +247,13 @@ impl AbsState {
         offset: u64,
         size: Size,
     ) -> Result<Option<Known>, Refusal>
-        ensures sound { IfOk result (λ o. LoadsIn profile self.now (Known.Context place) offset (bytes_in size) (λ lengths v. WithinKnown o lengths v)) }
-        ensures begin { (at : TheRegion) → Lends at profile → place.place ≡ 0 → size ≡ Size.Double → offset ≤ 64 → offset ≡ begin_field at → IsOk result × IfOk result (λ o. IfSome o (λ k. IsLentIn at 0 0 (Some 0) k)) }
-        ensures end { (at : TheRegion) → Lends at profile → place.place ≡ 0 → size ≡ Size.Double → offset ≤ 64 → offset ≡ end_field at → IsOk result × IfOk result (λ o. IfSome o (λ k. IsLentIn at 0 (limit_of at) (Some 0) k)) }
+        ensures sound { IfOk result (λ o. LoadsIn profile self.now (Known.Context place) offset (bytes_in size)
+            (λ lengths v. WithinKnown o lengths v)) }
+        ensures begin { (at : TheRegion) → Lends at profile → place.place ≡ 0 → size ≡ Size.Double → offset ≤ 64
+            → offset ≡ begin_field at → IsOk result × IfOk result (λ o. IfSome o (λ k. IsLentIn at 0 0 (Some 0) k)) }
+        ensures end { (at : TheRegion) → Lends at profile → place.place ≡ 0 → size ≡ Size.Double → offset ≤ 64
+            → offset ≡ end_field at
+            → IsOk result × IfOk result (λ o. IfSome o (λ k. IsLentIn at 0 (limit_of at) (Some 0) k)) }
         ensures floor { place.place ≡ 0 → IsNumberField size offset → IsOk result }
         ensures numbers { place.place ≡ 0 → IsNumberField size offset → IfOk result (λ o. AreNumbers o) }
         ensures not_unset { IfErr result (λ e. e ≢ Refusal.UnsetRegister) }
@@ -237,10 +267,13 @@ impl AbsState {
 
     /// What was spilled at a place, where a load takes all of it.
     fn fill(&self, base: Known, offset: u64, size: Size) -> Option<Known>
-        ensures sound { IfSome result (λ k. LoadsAs self.now base offset (bytes_in size) (λ lengths v. ContainsKnown k lengths v)) }
+        ensures sound { IfSome result (λ k. LoadsAs self.now base offset (bytes_in size)
+            (λ lengths v. ContainsKnown k lengths v)) }
         ensures stack_alone { IfSome result (λ _. (p : LentPlace) → base ≡ Known.Lent p → ⊥) }
-        ensures spilled { (i : ℕ) (known : Known) → IsStackByte (8 * i) offset (TheRegs.Set base) → i < 64 → size ≡ Size.Double → slot_at self.now.stack i ≡ Slot.Spilled known → result ≡ Some known }
-        ensures marked { (p : ℕ) → IsStackByte p offset (TheRegs.Set base) → AreMarked self.now.stack p (bytes_in size) → AreNumbers result }
+        ensures spilled { (i : ℕ) (known : Known) → IsStackByte (8 * i) offset (TheRegs.Set base) → i < 64
+            → size ≡ Size.Double → slot_at self.now.stack i ≡ Slot.Spilled known → result ≡ Some known }
+        ensures marked { (p : ℕ) → IsStackByte p offset (TheRegs.Set base)
+            → AreMarked self.now.stack p (bytes_in size) → AreNumbers result }
     {
         let (Known::Stack(place), Size::Double) = (base, size) else {
             return None;
@@ -262,15 +295,24 @@ impl AbsState {
         offset: u64,
         size: Size,
     ) -> Result<Option<Known>, Refusal>
-        ensures sound { IfOk result (λ o. LoadsIn profile self.now base offset (bytes_in size) (λ lengths v. WithinKnown o lengths v)) }
-        ensures begin { (at : TheRegion) → Lends at profile → IsContextAt 0 (TheRegs.Set base) → size ≡ Size.Double → offset ≤ 64 → offset ≡ begin_field at → IsOk result × IfOk result (λ o. IfSome o (λ k. IsLentIn at 0 0 (Some 0) k)) }
-        ensures end { (at : TheRegion) → Lends at profile → IsContextAt 0 (TheRegs.Set base) → size ≡ Size.Double → offset ≤ 64 → offset ≡ end_field at → IsOk result × IfOk result (λ o. IfSome o (λ k. IsLentIn at 0 (limit_of at) (Some 0) k)) }
+        ensures sound { IfOk result (λ o. LoadsIn profile self.now base offset (bytes_in size)
+            (λ lengths v. WithinKnown o lengths v)) }
+        ensures begin { (at : TheRegion) → Lends at profile → IsContextAt 0 (TheRegs.Set base) → size ≡ Size.Double
+            → offset ≤ 64 → offset ≡ begin_field at
+            → IsOk result × IfOk result (λ o. IfSome o (λ k. IsLentIn at 0 0 (Some 0) k)) }
+        ensures end { (at : TheRegion) → Lends at profile → IsContextAt 0 (TheRegs.Set base) → size ≡ Size.Double
+            → offset ≤ 64 → offset ≡ end_field at
+            → IsOk result × IfOk result (λ o. IfSome o (λ k. IsLentIn at 0 (limit_of at) (Some 0) k)) }
         ensures floor { IsContextAt 0 (TheRegs.Set base) → IsNumberField size offset → IsOk result }
-        ensures numbers { IsContextAt 0 (TheRegs.Set base) → IsNumberField size offset → IfOk result (λ o. AreNumbers o) }
-        ensures lent { (at : TheRegion) (p : LentPlace) → base ≡ Known.Lent p → p.region ≡ at → offset ≤ 2 ^ 15 → p.offset.range.high + offset + bytes_in size ≤ bound_of self.now.bounds at → IsOk result }
+        ensures numbers { IsContextAt 0 (TheRegs.Set base) → IsNumberField size offset
+            → IfOk result (λ o. AreNumbers o) }
+        ensures lent { (at : TheRegion) (p : LentPlace) → base ≡ Known.Lent p → p.region ≡ at → offset ≤ 2 ^ 15
+            → p.offset.range.high + offset + bytes_in size ≤ bound_of self.now.bounds at → IsOk result }
         ensures lent_numbers { (p : LentPlace) → base ≡ Known.Lent p → IfOk result (λ o. AreNumbers o) }
-        ensures spilled { (i : ℕ) (known : Known) → IsStackByte (8 * i) offset (TheRegs.Set base) → i < 64 → size ≡ Size.Double → slot_at self.now.stack i ≡ Slot.Spilled known → result ≡ Ok (Some known) }
-        ensures marked { (p : ℕ) → IsStackByte p offset (TheRegs.Set base) → AreMarked self.now.stack p (bytes_in size) → IsOk result × IfOk result (λ o. AreNumbers o) }
+        ensures spilled { (i : ℕ) (known : Known) → IsStackByte (8 * i) offset (TheRegs.Set base) → i < 64
+            → size ≡ Size.Double → slot_at self.now.stack i ≡ Slot.Spilled known → result ≡ Ok (Some known) }
+        ensures marked { (p : ℕ) → IsStackByte p offset (TheRegs.Set base)
+            → AreMarked self.now.stack p (bytes_in size) → IsOk result × IfOk result (λ o. AreNumbers o) }
         ensures not_unset { IfErr result (λ e. e ≢ Refusal.UnsetRegister) }
     {
         if let Known::Context(place) = base {
@@ -285,9 +327,12 @@ impl AbsState {
 
     /// Checks that a sign-extending load finds its bytes.
     pub fn load_signed(&self, base: Known, offset: u64, size: SignedSize) -> Result<(), Refusal>
-        ensures sound { IfOk result (λ _. LoadsAs self.now base offset (bytes_in_signed size) (λ lengths v. v < 256 ^ bytes_in_signed size)) }
-        ensures lent { (at : TheRegion) (p : LentPlace) → base ≡ Known.Lent p → p.region ≡ at → offset ≤ 2 ^ 15 → p.offset.range.high + offset + bytes_in_signed size ≤ bound_of self.now.bounds at → IsOk result }
-        ensures marked { (p : ℕ) → IsStackByte p offset (TheRegs.Set base) → AreMarked self.now.stack p (bytes_in_signed size) → IsOk result }
+        ensures sound { IfOk result (λ _. LoadsAs self.now base offset (bytes_in_signed size)
+            (λ lengths v. v < 256 ^ bytes_in_signed size)) }
+        ensures lent { (at : TheRegion) (p : LentPlace) → base ≡ Known.Lent p → p.region ≡ at → offset ≤ 2 ^ 15
+            → p.offset.range.high + offset + bytes_in_signed size ≤ bound_of self.now.bounds at → IsOk result }
+        ensures marked { (p : ℕ) → IsStackByte p offset (TheRegs.Set base)
+            → AreMarked self.now.stack p (bytes_in_signed size) → IsOk result }
         ensures not_unset { IfErr result (λ e. e ≢ Refusal.UnsetRegister) }
     {
         self.bytes(base, offset, count_signed(size))
@@ -304,8 +349,10 @@ impl AbsState {
         ensures sound { IfOk result (λ _. StoresAs self.old base offset (bytes_in size) value self.new) }
         ensures registers { self.new.registers ≡ self.old.registers }
         ensures bounds { self.new.bounds ≡ self.old.bounds }
-        ensures stores { (p : ℕ) → IsStackByte p offset (TheRegs.Set base) → p + bytes_in size ≤ 512 → IsNumber value → IsOk result × IfOk result (λ _. StoresSlots p (bytes_in size) self.old.stack self.new.stack) }
-        ensures spills { (i : ℕ) → IsStackByte (8 * i) offset (TheRegs.Set base) → i < 64 → size ≡ Size.Double → IsOk result × IfOk result (λ _. SpillsSlot i value self.old.stack self.new.stack) }
+        ensures stores { (p : ℕ) → IsStackByte p offset (TheRegs.Set base) → p + bytes_in size ≤ 512 → IsNumber value
+            → IsOk result × IfOk result (λ _. StoresSlots p (bytes_in size) self.old.stack self.new.stack) }
+        ensures spills { (i : ℕ) → IsStackByte (8 * i) offset (TheRegs.Set base) → i < 64 → size ≡ Size.Double
+            → IsOk result × IfOk result (λ _. SpillsSlot i value self.old.stack self.new.stack) }
         ensures not_unset { IfErr result (λ e. e ≢ Refusal.UnsetRegister) }
     {
         if base.is_number() {

@@ -1,7 +1,9 @@
-ghost use Rattle.std.specs.Prelude.{◌≡◌, ℕ, ◌+◌, ◌-◌, ◌*◌, ◌/◌, ◌%◌, ◌^◌, ◌<◌, ◌≤◌, Option, Some, None, IfSome, bit_and, bit_or, bit_xor};
+ghost use Rattle.std.specs.Prelude.{◌≡◌, ℕ, ◌+◌, ◌-◌, ◌*◌, ◌/◌, ◌%◌, ◌^◌, ◌<◌, ◌≤◌, Option, Some, None, IfSome};
+ghost use Rattle.std.specs.Prelude.{bit_and, bit_or, bit_xor};
 ghost use Rattle.abstract_state.specs.Lent.{Lengths, length_of, limit_of, tail_of, HasTails, InRange, InRanges};
 ghost use Rattle.abstract_state.specs.declared.region.Region.{Region as TheRegion};
-ghost use Rattle.abstract_state.specs.Quantity.{InBits, Contains, Within, Fits, Maps, MapsBoth, Narrows, KeepsBits, KnowsHigh, JoinsNumber, LiesInBits};
+ghost use Rattle.abstract_state.specs.Quantity.{InBits, Contains, Within, Fits, Maps, MapsBoth, Narrows, KeepsBits};
+ghost use Rattle.abstract_state.specs.Quantity.{KnowsHigh, JoinsNumber, LiesInBits};
 ghost use Rattle.known_bits.specs.Bits.{most};
 ghost use Rattle.abstract_state.specs.Exact.{IsIn};
 ghost use Rattle.meaning.specs.Value.{cut, value_of};
@@ -48,12 +50,15 @@ impl Quantity {
 
     /// The normal form, in which bits and interval have narrowed one another; `None` where nothing is left.
     pub fn normal(bits: Bits, range: Range, tails: Tails) -> Option<Quantity>
-        ensures contains { (lengths : Lengths) (x : ℕ) → InBits bits x → InRange range x → HasTails tails lengths x → Within result lengths x }
+        ensures contains { (lengths : Lengths) (x : ℕ) → InBits bits x → InRange range x → HasTails tails lengths x
+            → Within result lengths x }
         ensures narrows { Narrows result range tails }
         ensures bits { KeepsBits result bits }
         ensures lies { IfSome result (λ q. LiesInBits q) }
-        ensures high_bits { (region : TheRegion) (t : ℕ) → tail_of tails region ≡ Some t → IfSome result (λ q. KnowsHigh q.bits range.low (limit_of region - t)) }
-        ensures limits { (region : TheRegion) (t : ℕ) → tail_of tails region ≡ Some t → IfSome result (λ q. q.range.high + t ≤ limit_of region) }
+        ensures high_bits { (region : TheRegion) (t : ℕ) → tail_of tails region ≡ Some t
+            → IfSome result (λ q. KnowsHigh q.bits range.low (limit_of region - t)) }
+        ensures limits { (region : TheRegion) (t : ℕ) → tail_of tails region ≡ Some t
+            → IfSome result (λ q. q.range.high + t ≤ limit_of region) }
     {
         let first = narrow(bits, range, tails)?;
         let high_bits = Bits::between(first.low, first.high);
@@ -68,7 +73,8 @@ impl Quantity {
 
     /// The normal form of a result cut to the width.
     pub(crate) fn finish(width: Width, bits: Bits, range: Range, tails: Tails) -> Option<Quantity>
-        ensures contains { (lengths : Lengths) (x : ℕ) → InBits bits x → InRange range x → HasTails tails lengths x → Within result lengths (cut width x) }
+        ensures contains { (lengths : Lengths) (x : ℕ) → InBits bits x → InRange range x → HasTails tails lengths x
+            → Within result lengths (cut width x) }
         ensures narrows { width ≡ Width.Full → Narrows result range tails }
         ensures bits { width ≡ Width.Full → KeepsBits result bits }
         ensures lies { IfSome result (λ q. LiesInBits q) }
@@ -82,10 +88,12 @@ impl Quantity {
 
 /// The interval cut to what the bits and the tails allow.
 fn narrow(bits: Bits, range: Range, tails: Tails) -> Option<Range>
-    ensures contains { (lengths : Lengths) (x : ℕ) → InBits bits x → InRange range x → HasTails tails lengths x → InRanges result x }
+    ensures contains { (lengths : Lengths) (x : ℕ) → InBits bits x → InRange range x → HasTails tails lengths x
+        → InRanges result x }
     ensures within { IfSome result (λ r. (range.low ≤ r.low) × (r.high ≤ range.high)) }
     ensures bits { IfSome result (λ r. (bits.value ≤ r.low) × (r.high ≤ most bits)) }
-    ensures limits { (region : TheRegion) (t : ℕ) → tail_of tails region ≡ Some t → IfSome result (λ r. r.high + t ≤ limit_of region) }
+    ensures limits { (region : TheRegion) (t : ℕ) → tail_of tails region ≡ Some t
+        → IfSome result (λ r. r.high + t ≤ limit_of region) }
 {
     let above = range.at_least(bits.least())?;
     let between = above.at_most(bits.greatest())?;
@@ -126,7 +134,8 @@ impl Quantity {
 
     /// The numbers up to `high` and up to the region's length.
     pub fn up_to_end(region: Region, high: u64) -> Option<Quantity>
-        ensures contains { (lengths : Lengths) (x : ℕ) → x ≤ high → x ≤ length_of lengths region → Within result lengths x }
+        ensures contains { (lengths : Lengths) (x : ℕ) → x ≤ high → x ≤ length_of lengths region
+            → Within result lengths x }
         ensures is { limit_of region ≤ high → IfSome result (λ q. IsIn region q 0 (limit_of region) (Some 0)) }
     {
         Quantity::normal(

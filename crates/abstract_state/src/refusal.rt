@@ -1,14 +1,15 @@
 /// Why an instruction is refused. Of several reasons the first stands, in this order: an unset register, then what the
-/// instruction does with addresses, then what a load or a store meets (not an address, a store to what is read only, a field of
-/// the context, the stack, the text).
+/// instruction does with addresses, then what a load or a store meets (not an address, a store to what is read only, a
+/// field of the context, the stack, the text).
 #[derive(Clone, Copy)]
 pub enum Refusal {
     /// A register that is read may be unset.
     UnsetRegister,
-    /// Arithmetic with an address that is none of: a 64-bit move, a number added to or taken from an address in the text, a constant
-    /// added to or taken from one in the context or the stack that stays there.
+    /// Arithmetic with an address that is none of: a 64-bit move, a number added to or taken from an address in the
+    /// text, a constant added to or taken from one in the context or the stack that stays there.
     PointerArithmetic,
-    /// A comparison with an address that isn't one of two addresses in the text by 64 bits, for equality or order without sign.
+    /// A comparison with an address that isn't one of two addresses in the text by 64 bits, for equality or order
+    /// without sign.
     PointerCompare,
     /// A load from the context that isn't of a whole field at its own size.
     ContextField,

@@ -1,5 +1,6 @@
 ghost use Rattle.std.specs.Prelude.{◌≡◌, ℕ, ◌+◌, ◌≤◌, min, Option, Some, None, IfSome};
-ghost use Rattle.abstract_state.specs.Lent.{Lengths, HasTail, HasTails, base_of, limit_of, length_of, tail_of, InRange, InRanges};
+ghost use Rattle.abstract_state.specs.Lent.{Lengths, HasTail, HasTails, base_of, limit_of, length_of, tail_of, InRange};
+ghost use Rattle.abstract_state.specs.Lent.{InRanges};
 ghost use Rattle.abstract_state.specs.declared.region.Region.{Region as TheRegion};
 ghost use Rattle.abstract_state.specs.Exact.{tail_after};
 
@@ -88,7 +89,8 @@ impl Tails {
     pub fn narrow(self, range: Range) -> Option<Range>
         ensures contains { (lengths : Lengths) (x : ℕ) → InRange range x → HasTails self lengths x → InRanges result x }
         ensures within { IfSome result (λ r. (range.low ≤ r.low) × (r.high ≤ range.high)) }
-        ensures limits { (region : TheRegion) (t : ℕ) → tail_of self region ≡ Some t → IfSome result (λ r. r.high + t ≤ limit_of region) }
+        ensures limits { (region : TheRegion) (t : ℕ) → tail_of self region ≡ Some t
+            → IfSome result (λ r. r.high + t ≤ limit_of region) }
     {
         let by_text = tail::narrow(self.text, Region::Text.limit(), range)?;
         tail::narrow(self.link, Region::Link.limit(), by_text)
@@ -97,8 +99,10 @@ impl Tails {
     /// The tails of the sum of a number with these tails and one with the others, where the others' number is
     /// up to `added`, and this number is up to `high`.
     pub fn sum(self, high: u64, other: Tails, added: u64) -> Tails
-        ensures contains { (lengths : Lengths) (x y : ℕ) → HasTails self lengths x → x ≤ high → HasTails other lengths y → y ≤ added → HasTails result lengths (x + y) }
-        ensures alone { (region : TheRegion) → tail_of other region ≡ None → tail_of result region ≡ tail_after (tail_of self region) added }
+        ensures contains { (lengths : Lengths) (x y : ℕ) → HasTails self lengths x → x ≤ high
+            → HasTails other lengths y → y ≤ added → HasTails result lengths (x + y) }
+        ensures alone { (region : TheRegion) → tail_of other region ≡ None
+            → tail_of result region ≡ tail_after (tail_of self region) added }
     {
         Tails {
             text: tail::sum(self.text, high, other.text, added),
@@ -108,7 +112,8 @@ impl Tails {
 
     /// The tails of the difference, where at least `taken` is taken away.
     pub fn difference(self, taken: u64) -> Tails
-        ensures { (lengths : Lengths) (x y : ℕ) → HasTails self lengths (x + y) → taken ≤ y → HasTails result lengths x }
+        ensures { (lengths : Lengths) (x y : ℕ) → HasTails self lengths (x + y) → taken ≤ y
+            → HasTails result lengths x }
     {
         Tails {
             text: tail::difference(self.text, taken),
@@ -118,8 +123,10 @@ impl Tails {
 
     /// The tails of a number that is less by at least so much.
     pub fn raised(self, by: u64) -> Tails
-        ensures contains { (lengths : Lengths) (x y : ℕ) → HasTails self lengths y → x + by ≤ y → HasTails result lengths x }
-        ensures there { (region : TheRegion) (t : ℕ) → tail_of self region ≡ Some t → (u : ℕ) × (tail_of result region ≡ Some u) }
+        ensures contains { (lengths : Lengths) (x y : ℕ) → HasTails self lengths y → x + by ≤ y
+            → HasTails result lengths x }
+        ensures there { (region : TheRegion) (t : ℕ) → tail_of self region ≡ Some t
+            → (u : ℕ) × (tail_of result region ≡ Some u) }
     {
         Tails {
             text: tail::raised(self.text, by),
@@ -129,9 +136,12 @@ impl Tails {
 
     /// The tails of a number that is no greater than either.
     pub fn greater(self, other: Tails) -> Tails
-        ensures contains { (lengths : Lengths) (x y z : ℕ) → HasTails self lengths x → HasTails other lengths y → z ≤ x → z ≤ y → HasTails result lengths z }
-        ensures there { (region : TheRegion) (u : ℕ) → tail_of other region ≡ Some u → (t : ℕ) × (tail_of result region ≡ Some t) }
-        ensures none { (region : TheRegion) → tail_of self region ≡ None → tail_of other region ≡ None → tail_of result region ≡ None }
+        ensures contains { (lengths : Lengths) (x y z : ℕ) → HasTails self lengths x → HasTails other lengths y
+            → z ≤ x → z ≤ y → HasTails result lengths z }
+        ensures there { (region : TheRegion) (u : ℕ) → tail_of other region ≡ Some u
+            → (t : ℕ) × (tail_of result region ≡ Some t) }
+        ensures none { (region : TheRegion) → tail_of self region ≡ None → tail_of other region ≡ None
+            → tail_of result region ≡ None }
     {
         Tails {
             text: tail::greater(self.text, other.text),
@@ -143,7 +153,8 @@ impl Tails {
     pub fn lesser(self, other: Tails) -> Tails
         ensures left { (lengths : Lengths) (x : ℕ) → HasTails self lengths x → HasTails result lengths x }
         ensures right { (lengths : Lengths) (x : ℕ) → HasTails other lengths x → HasTails result lengths x }
-        ensures lesser { (region : TheRegion) (t u : ℕ) → tail_of self region ≡ Some t → tail_of other region ≡ Some u → tail_of result region ≡ Some (min t u) }
+        ensures lesser { (region : TheRegion) (t u : ℕ) → tail_of self region ≡ Some t → tail_of other region ≡ Some u
+            → tail_of result region ≡ Some (min t u) }
     {
         Tails {
             text: tail::lesser(self.text, other.text),

@@ -1,5 +1,6 @@
 //! What a comparison that holds, or doesn't, says of two quantities.
-ghost use Rattle.std.specs.Prelude.{◌≡◌, ◌≢◌, ℕ, ◌+◌, ◌-◌, ◌*◌, ◌%◌, ◌^◌, ◌<◌, ◌≤◌, Option, Some, IfSome, IsTrue, false, ◌↔◌};
+ghost use Rattle.std.specs.Prelude.{◌≡◌, ◌≢◌, ℕ, ◌+◌, ◌-◌, ◌*◌, ◌%◌, ◌^◌, ◌<◌, ◌≤◌, Option, Some, IfSome, IsTrue};
+ghost use Rattle.std.specs.Prelude.{false, ◌↔◌};
 ghost use Rattle.bpf_words.specs.declared.instruction.Width.{Width as Wide};
 ghost use Rattle.abstract_state.specs.Lent.{Lengths, tail_of, HasTails, InRange, InRanges};
 ghost use Rattle.abstract_state.specs.declared.region.Region.{Region};
@@ -30,9 +31,11 @@ pub struct Sides {
     pub right: Quantity,
 }
 
-/// The relation of the two sides where the comparison is taken, or where it isn't, `None` where it says nothing of the kind.
+/// The relation of the two sides where the comparison is taken, or where it isn't, `None` where it says nothing of the
+/// kind.
 fn relation_on(comparison: Comparison, taken: bool) -> Option<Relation>
-    ensures stands { IfSome result (λ r. (width : Wide) (m n : ℕ) → SignsAgree comparison width m n → holds_of comparison width m n ≡ taken → Stands r m n) }
+    ensures stands { IfSome result (λ r. (width : Wide) (m n : ℕ) → SignsAgree comparison width m n
+        → holds_of comparison width m n ≡ taken → Stands r m n) }
     ensures not_greater { comparison ≡ Comparison.Greater → taken ≡ false → result ≡ Some Relation.AtMost }
 {
     match comparison {
@@ -57,9 +60,11 @@ fn relation_on(comparison: Comparison, taken: bool) -> Option<Relation>
 impl Quantity {
     /// The numbers x with x + by <= y for some y of the other.
     fn below(self, other: Quantity, by: u64) -> Option<Quantity>
-        ensures contains { (lengths : Lengths) (m n : ℕ) → Contains self lengths m → Contains other lengths n → m + by ≤ n → Within result lengths m }
+        ensures contains { (lengths : Lengths) (m n : ℕ) → Contains self lengths m → Contains other lengths n
+            → m + by ≤ n → Within result lengths m }
         ensures within { IfSome result (λ q. (self.range.low ≤ q.range.low) × (q.range.high ≤ self.range.high)) }
-        ensures tail { (region : Region) (t : ℕ) → tail_of other.tails region ≡ Some t → IfSome result (λ q. (u : ℕ) × (tail_of q.tails region ≡ Some u)) }
+        ensures tail { (region : Region) (t : ℕ) → tail_of other.tails region ≡ Some t
+            → IfSome result (λ q. (u : ℕ) × (tail_of q.tails region ≡ Some u)) }
     {
         if other.range.high < by {
             return None;
@@ -70,7 +75,8 @@ impl Quantity {
 
     /// The numbers y with x + by <= y for some x of the other.
     fn above(self, other: Quantity, by: u64) -> Option<Quantity>
-        ensures contains { (lengths : Lengths) (m n : ℕ) → Contains self lengths n → Contains other lengths m → m + by ≤ n → Within result lengths n }
+        ensures contains { (lengths : Lengths) (m n : ℕ) → Contains self lengths n → Contains other lengths m
+            → m + by ≤ n → Within result lengths n }
         ensures within { IfSome result (λ q. q.range.high ≤ self.range.high) }
     {
         let low = other.range.low.checked_add(by)?;
@@ -80,7 +86,8 @@ impl Quantity {
 
     /// What both contain.
     fn same(self, other: Quantity) -> Option<Quantity>
-        ensures contains { (lengths : Lengths) (m : ℕ) → Contains self lengths m → Contains other lengths m → Within result lengths m }
+        ensures contains { (lengths : Lengths) (m : ℕ) → Contains self lengths m → Contains other lengths m
+            → Within result lengths m }
         ensures within { IfSome result (λ q. (q.range.high ≤ self.range.high) × (q.range.high ≤ other.range.high)) }
     {
         let bits = self.bits.meet(other.bits)?;
@@ -90,7 +97,8 @@ impl Quantity {
 
     /// The numbers that differ from the other's.
     fn apart(self, other: Quantity) -> Option<Quantity>
-        ensures contains { (lengths : Lengths) (m n : ℕ) → Contains self lengths m → Contains other lengths n → m ≢ n → Within result lengths m }
+        ensures contains { (lengths : Lengths) (m n : ℕ) → Contains self lengths m → Contains other lengths n → m ≢ n
+            → Within result lengths m }
         ensures within { IfSome result (λ q. q.range.high ≤ self.range.high) }
     {
         let Some(n) = other.only() else {
@@ -117,10 +125,12 @@ fn without(range: Range, n: u64) -> Option<Range>
 
 /// Both sides where the left one, and as much more, is at most the right one.
 fn ordered(x: Quantity, y: Quantity, by: u64) -> Option<Sides>
-    ensures contains { (lengths : Lengths) (m n : ℕ) → Contains x lengths m → Contains y lengths n → m + by ≤ n → WithinBoth result lengths m n }
+    ensures contains { (lengths : Lengths) (m n : ℕ) → Contains x lengths m → Contains y lengths n → m + by ≤ n
+        → WithinBoth result lengths m n }
     ensures within { NarrowsBoth result x y }
     ensures low { IfSome result (λ s. x.range.low ≤ s.left.range.low) }
-    ensures tail { (region : Region) (t : ℕ) → tail_of y.tails region ≡ Some t → IfSome result (λ s. (u : ℕ) × (tail_of s.left.tails region ≡ Some u)) }
+    ensures tail { (region : Region) (t : ℕ) → tail_of y.tails region ≡ Some t
+        → IfSome result (λ s. (u : ℕ) × (tail_of s.left.tails region ≡ Some u)) }
 {
     let left = x.below(y, by)?;
     let right = y.above(x, by)?;
@@ -143,7 +153,8 @@ fn turned(sides: Option<Sides>) -> Option<Sides>
 
 /// Both sides where they are equal.
 fn equal(x: Quantity, y: Quantity) -> Option<Sides>
-    ensures contains { (lengths : Lengths) (m : ℕ) → Contains x lengths m → Contains y lengths m → WithinBoth result lengths m m }
+    ensures contains { (lengths : Lengths) (m : ℕ) → Contains x lengths m → Contains y lengths m
+        → WithinBoth result lengths m m }
     ensures within { NarrowsBoth result x y }
 {
     let both = x.same(y)?;
@@ -155,7 +166,8 @@ fn equal(x: Quantity, y: Quantity) -> Option<Sides>
 
 /// Both sides where they differ.
 fn different(x: Quantity, y: Quantity) -> Option<Sides>
-    ensures contains { (lengths : Lengths) (m n : ℕ) → Contains x lengths m → Contains y lengths n → m ≢ n → WithinBoth result lengths m n }
+    ensures contains { (lengths : Lengths) (m n : ℕ) → Contains x lengths m → Contains y lengths n → m ≢ n
+        → WithinBoth result lengths m n }
     ensures within { NarrowsBoth result x y }
 {
     let left = x.apart(y)?;
@@ -165,9 +177,11 @@ fn different(x: Quantity, y: Quantity) -> Option<Sides>
 
 /// Both sides where the relation stands.
 fn refine(relation: Relation, x: Quantity, y: Quantity) -> Option<Sides>
-    ensures contains { (lengths : Lengths) (m n : ℕ) → Contains x lengths m → Contains y lengths n → Stands relation m n → WithinBoth result lengths m n }
+    ensures contains { (lengths : Lengths) (m n : ℕ) → Contains x lengths m → Contains y lengths n
+        → Stands relation m n → WithinBoth result lengths m n }
     ensures within { NarrowsBoth result x y }
-    ensures ends { (region : Region) → relation ≡ Relation.AtMost → (t : ℕ) → tail_of y.tails region ≡ Some t → IfSome result (λ s. EndsFrom region x.range.low s.left) }
+    ensures ends { (region : Region) → relation ≡ Relation.AtMost → (t : ℕ) → tail_of y.tails region ≡ Some t
+        → IfSome result (λ s. EndsFrom region x.range.low s.left) }
 {
     match relation {
         Relation::Less => ordered(x, y, 1),
@@ -212,9 +226,11 @@ pub fn edge(
     x: Quantity,
     y: Quantity,
 ) -> Option<Sides>
-    ensures contains { (lengths : Lengths) (m n : ℕ) → Contains x lengths m → Contains y lengths n → holds_of comparison width (cut width m) (cut width n) ≡ taken → WithinBoth result lengths m n }
+    ensures contains { (lengths : Lengths) (m n : ℕ) → Contains x lengths m → Contains y lengths n
+        → holds_of comparison width (cut width m) (cut width n) ≡ taken → WithinBoth result lengths m n }
     ensures within { NarrowsBoth result x y }
-    ensures ends { (region : Region) → width ≡ Width.Full → comparison ≡ Comparison.Greater → taken ≡ false → (t : ℕ) → tail_of y.tails region ≡ Some t → IfSome result (λ s. EndsFrom region x.range.low s.left) }
+    ensures ends { (region : Region) → width ≡ Width.Full → comparison ≡ Comparison.Greater → taken ≡ false → (t : ℕ)
+        → tail_of y.tails region ≡ Some t → IfSome result (λ s. EndsFrom region x.range.low s.left) }
 {
     let reach = reach(width, comparison);
     if x.range.high > reach || y.range.high > reach {

@@ -1,8 +1,10 @@
 //! What is known of the stack's slots.
-ghost use Rattle.std.specs.Prelude.{◌≡◌, ◌≢◌, ℕ, ◌+◌, ◌-◌, ◌*◌, ◌/◌, ◌%◌, ◌^◌, ◌<◌, ◌≤◌, Option, Some, None, true, false, IfSome, IfOk, IsTrue, length, slice_index_or, nat_le, nat_lt, ◌&&◌, ◌||◌};
+ghost use Rattle.std.specs.Prelude.{◌≡◌, ◌≢◌, ℕ, ◌+◌, ◌-◌, ◌*◌, ◌/◌, ◌%◌, ◌^◌, ◌<◌, ◌≤◌, Option, Some, None, true};
+ghost use Rattle.std.specs.Prelude.{false, IfSome, IfOk, IsTrue, length, slice_index_or, nat_le, nat_lt, ◌&&◌, ◌||◌};
 ghost use Rattle.abstract_state.specs.Lent.{Lengths};
 ghost use Rattle.abstract_state.specs.Known.{ContainsKnown};
-ghost use Rattle.abstract_state.specs.State.{Bytes, HasByte, HasNumber, ContainsSlot, ContainsStack, slot_at, Spares, Fills};
+ghost use Rattle.abstract_state.specs.State.{Bytes, HasByte, HasNumber, ContainsSlot, ContainsStack, slot_at, Spares};
+ghost use Rattle.abstract_state.specs.State.{Fills};
 ghost use Rattle.abstract_state.specs.Kinds.{IsMarked, JoinsSlot};
 ghost use Rattle.abstract_state.specs.Frame.{IsMarkedAt, StoresSlot, StoresSlots, SpillsSlot};
 
@@ -11,7 +13,8 @@ use crate::slot::Slot;
 
 /// Which of a slot's bytes are set for sure; those of a spilled address count as unset.
 fn marks(slot: Slot) -> [bool; 8]
-    ensures contains { (lengths : Lengths) (bytes : Bytes) (i : ℕ) → ContainsSlot slot lengths bytes i → ContainsSlot (Slot.Marks result) lengths bytes i }
+    ensures contains { (lengths : Lengths) (bytes : Bytes) (i : ℕ) → ContainsSlot slot lengths bytes i
+        → ContainsSlot (Slot.Marks result) lengths bytes i }
     ensures marked { (j : ℕ) → j < 8 → IsMarked slot j → slice_index_or result j false ≡ true }
 {
     match slot {
@@ -37,7 +40,8 @@ fn all_set() -> [bool; 8]
 fn both(a: &[bool; 8], b: &[bool; 8]) -> [bool; 8]
     ensures left { (j : ℕ) → j < 8 → slice_index_or result j false ≡ true → slice_index_or a.now j false ≡ true }
     ensures right { (j : ℕ) → j < 8 → slice_index_or result j false ≡ true → slice_index_or b.now j false ≡ true }
-    ensures all { (j : ℕ) → j < 8 → slice_index_or a.now j false ≡ true → slice_index_or b.now j false ≡ true → slice_index_or result j false ≡ true }
+    ensures all { (j : ℕ) → j < 8 → slice_index_or a.now j false ≡ true → slice_index_or b.now j false ≡ true
+        → slice_index_or result j false ≡ true }
 {
     let mut marks = *a;
     for j in 0..8 {
@@ -48,8 +52,10 @@ fn both(a: &[bool; 8], b: &[bool; 8]) -> [bool; 8]
 
 /// What either slot holds.
 pub fn join(a: Slot, b: Slot) -> Slot
-    ensures left { (lengths : Lengths) (bytes : Bytes) (i : ℕ) → ContainsSlot a lengths bytes i → ContainsSlot result lengths bytes i }
-    ensures right { (lengths : Lengths) (bytes : Bytes) (i : ℕ) → ContainsSlot b lengths bytes i → ContainsSlot result lengths bytes i }
+    ensures left { (lengths : Lengths) (bytes : Bytes) (i : ℕ) → ContainsSlot a lengths bytes i
+        → ContainsSlot result lengths bytes i }
+    ensures right { (lengths : Lengths) (bytes : Bytes) (i : ℕ) → ContainsSlot b lengths bytes i
+        → ContainsSlot result lengths bytes i }
     ensures joins { JoinsSlot a b result }
 {
     if let (Slot::Spilled(x), Slot::Spilled(y)) = (a, b) {
@@ -65,8 +71,10 @@ pub fn join(a: Slot, b: Slot) -> Slot
 
 /// Takes in what another stack holds.
 pub fn join_slots(a: &mut [Slot; 64], b: &[Slot; 64])
-    ensures left { (lengths : Lengths) (bytes : Bytes) → ContainsStack a.old lengths bytes → ContainsStack a.new lengths bytes }
-    ensures right { (lengths : Lengths) (bytes : Bytes) → ContainsStack b.now lengths bytes → ContainsStack a.new lengths bytes }
+    ensures left { (lengths : Lengths) (bytes : Bytes) → ContainsStack a.old lengths bytes
+        → ContainsStack a.new lengths bytes }
+    ensures right { (lengths : Lengths) (bytes : Bytes) → ContainsStack b.now lengths bytes
+        → ContainsStack a.new lengths bytes }
     ensures joins { (i : ℕ) → i < 64 → JoinsSlot (slot_at a.old i) (slot_at b.now i) (slot_at a.new i) }
 {
     for i in 0..64 {
@@ -78,7 +86,8 @@ pub fn join_slots(a: &mut [Slot; 64], b: &[Slot; 64])
 fn with_store(marks: &[bool; 8], first: usize, place: usize, count: usize) -> [bool; 8]
     requires first { first ≤ 504 }
     requires place { place + count ≤ 512 }
-    ensures { (j : ℕ) → j < 8 → slice_index_or result j false ≡ (slice_index_or marks.now j false || (nat_le place (first + j) && nat_lt (first + j) (place + count))) }
+    ensures { (j : ℕ) → j < 8 → slice_index_or result j false
+        ≡ (slice_index_or marks.now j false || (nat_le place (first + j) && nat_lt (first + j) (place + count))) }
 {
     let mut result = *marks;
     for j in 0..8 {
@@ -92,7 +101,8 @@ fn is_marked(marks: &[bool; 8], j: usize, first: usize, place: usize, count: usi
     requires j { j < 8 }
     requires first { first ≤ 504 }
     requires place { place + count ≤ 512 }
-    ensures { result ≡ (slice_index_or marks.now j false || (nat_le place (first + j) && nat_lt (first + j) (place + count))) }
+    ensures { result ≡ (slice_index_or marks.now j false
+        || (nat_le place (first + j) && nat_lt (first + j) (place + count))) }
 {
     marks[j] || (place <= first + j && first + j < place + count)
 }
@@ -102,7 +112,8 @@ fn rewritten(slot: Slot, first: usize, place: usize, count: usize) -> Slot
     requires first { first ≤ 504 }
     requires place { place + count ≤ 512 }
     ensures stores { (i : ℕ) → first ≡ 8 * i → StoresSlot place count i slot result }
-    ensures contains { (lengths : Lengths) (old new : Bytes) (i : ℕ) → first ≡ 8 * i → ContainsSlot slot lengths old i → Spares place count old new → Fills place count new → ContainsSlot result lengths new i }
+    ensures contains { (lengths : Lengths) (old new : Bytes) (i : ℕ) → first ≡ 8 * i → ContainsSlot slot lengths old i
+        → Spares place count old new → Fills place count new → ContainsSlot result lengths new i }
 {
     if first + 8 <= place {
         return slot;
@@ -118,7 +129,8 @@ fn rewritten(slot: Slot, first: usize, place: usize, count: usize) -> Slot
 pub fn overwrite(slots: &mut [Slot; 64], place: usize, count: usize)
     requires { place + count ≤ 512 }
     ensures stores { StoresSlots place count slots.old slots.new }
-    ensures contains { (lengths : Lengths) (old new : Bytes) → ContainsStack slots.old lengths old → Spares place count old new → Fills place count new → ContainsStack slots.new lengths new }
+    ensures contains { (lengths : Lengths) (old new : Bytes) → ContainsStack slots.old lengths old
+        → Spares place count old new → Fills place count new → ContainsStack slots.new lengths new }
 {
     for i in 0..64 {
         slots[i] = rewritten(slots[i], 8 * i, place, count);
@@ -129,7 +141,9 @@ pub fn overwrite(slots: &mut [Slot; 64], place: usize, count: usize)
 pub fn spill(slots: &mut [Slot; 64], slot: usize, known: Known)
     requires { slot < 64 }
     ensures spills { SpillsSlot slot known slots.old slots.new }
-    ensures contains { (lengths : Lengths) (old new : Bytes) (n : ℕ) → ContainsStack slots.old lengths old → ContainsKnown known lengths n → HasNumber new (8 * slot) n → Spares (8 * slot) 8 old new → ContainsStack slots.new lengths new }
+    ensures contains { (lengths : Lengths) (old new : Bytes) (n : ℕ) → ContainsStack slots.old lengths old
+        → ContainsKnown known lengths n → HasNumber new (8 * slot) n → Spares (8 * slot) 8 old new
+        → ContainsStack slots.new lengths new }
 {
     slots[slot] = Slot::Spilled(known);
 }
@@ -139,7 +153,8 @@ pub fn filled(slots: &[Slot; 64], slot: usize) -> Option<Known>
     requires { slot < 64 }
     ensures there { (known : Known) → slot_at slots.now slot ≡ Slot.Spilled known → result ≡ Some known }
     ensures spilled { IfSome result (λ k. slot_at slots.now slot ≡ Slot.Spilled k) }
-    ensures contains { IfSome result (λ k. (lengths : Lengths) (bytes : Bytes) → ContainsStack slots.now lengths bytes → (n : ℕ) × ContainsKnown k lengths n × HasNumber bytes (8 * slot) n) }
+    ensures contains { IfSome result (λ k. (lengths : Lengths) (bytes : Bytes) → ContainsStack slots.now lengths bytes
+        → (n : ℕ) × ContainsKnown k lengths n × HasNumber bytes (8 * slot) n) }
 {
     match slots[slot] {
         Slot::Spilled(known) => Some(known),
@@ -151,7 +166,8 @@ pub fn filled(slots: &[Slot; 64], slot: usize) -> Option<Known>
 fn is_set(slots: &[Slot; 64], place: usize) -> bool
     requires { place < 512 }
     ensures marked { IsMarkedAt slots.now place → IsTrue result }
-    ensures contains { IsTrue result → (lengths : Lengths) (bytes : Bytes) → ContainsStack slots.now lengths bytes → HasByte bytes place }
+    ensures contains { IsTrue result → (lengths : Lengths) (bytes : Bytes) → ContainsStack slots.now lengths bytes
+        → HasByte bytes place }
 {
     let marks = marks(slots[place / 8]);
     marks[place % 8]
@@ -161,7 +177,8 @@ fn is_set(slots: &[Slot; 64], place: usize) -> bool
 pub fn are_set(slots: &[Slot; 64], place: usize, count: usize) -> bool
     requires { place + count ≤ 512 }
     ensures marked { ((j : ℕ) → j < count → IsMarkedAt slots.now (place + j)) → IsTrue result }
-    ensures contains { IsTrue result → (lengths : Lengths) (bytes : Bytes) → ContainsStack slots.now lengths bytes → (j : ℕ) → j < count → HasByte bytes (place + j) }
+    ensures contains { IsTrue result → (lengths : Lengths) (bytes : Bytes) → ContainsStack slots.now lengths bytes
+        → (j : ℕ) → j < count → HasByte bytes (place + j) }
 {
     for j in 0..count {
         if !is_set(slots, place + j) {

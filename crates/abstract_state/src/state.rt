@@ -1,9 +1,12 @@
-ghost use Rattle.std.specs.Prelude.{◌≡◌, ◌≢◌, IfErr, [], ◌∷◌, ℕ, ◌+◌, ◌-◌, ◌*◌, ◌/◌, ◌%◌, ◌^◌, ◌<◌, ◌≤◌, Option, Some, Ok, IfSome, IfOk, IsOk, IsTrue, None, length, slice_set, slice_index_or, pos};
+ghost use Rattle.std.specs.Prelude.{◌≡◌, ◌≢◌, IfErr, [], ◌∷◌, ℕ, ◌+◌, ◌-◌, ◌*◌, ◌/◌, ◌%◌, ◌^◌, ◌<◌, ◌≤◌, Option, Some};
+ghost use Rattle.std.specs.Prelude.{Ok, IfSome, IfOk, IsOk, IsTrue, None, length, slice_set, slice_index_or, pos};
 ghost use Rattle.abstract_state.specs.Lent.{Lengths, length_of, bound_of, HasTail};
 ghost use Rattle.abstract_state.specs.declared.region.Region.{Region as TheRegion};
 ghost use Rattle.abstract_state.specs.Quantity.{Contains as ContainsNumber, Within as WithinNumber};
 ghost use Rattle.abstract_state.specs.Known.{ContainsKnown, WithinKnown, IsNumber, AreNumbers};
-ghost use Rattle.abstract_state.specs.State.{Span, lengths_of, IsLong, WithinLong, Contains, WithinState, with_register, register_at, ContainsRegister, Bytes, ContainsStack, ContainsSlot};
+ghost use Rattle.abstract_state.specs.State.{Span, lengths_of, IsLong, WithinLong, Contains, WithinState};
+ghost use Rattle.abstract_state.specs.State.{with_register, register_at, ContainsRegister, Bytes, ContainsStack};
+ghost use Rattle.abstract_state.specs.State.{ContainsSlot};
 ghost use Rattle.std.specs.Int.{cast_unsigned, w64};
 ghost use Rattle.abstract_state.specs.Kinds.{HasNumberAt, HasNumberIn, WritesNumber, IsContextAt, IsStackAt};
 ghost use Rattle.abstract_state.specs.Exact.{Fact, Says, Holds, IsNumberIn};
@@ -57,7 +60,8 @@ impl Bounds {
 
     /// The bounds where a number of the quantity stands; `None` where no region is so long.
     pub fn raise(self, q: Quantity) -> Option<Bounds>
-        ensures sound { (lengths : Lengths) (x : ℕ) → IsLong self lengths → ContainsNumber q lengths x → WithinLong result lengths }
+        ensures sound { (lengths : Lengths) (x : ℕ) → IsLong self lengths → ContainsNumber q lengths x
+            → WithinLong result lengths }
         ensures text { (t : ℕ) → q.tails.text ≡ Some t → IfSome result (λ b. q.range.low + t ≤ b.text) }
         ensures link { (t : ℕ) → q.tails.link ≡ Some t → IfSome result (λ b. q.range.low + t ≤ b.link) }
         ensures grows { IfSome result (λ b. (self.text ≤ b.text) × (self.link ≤ b.link)) }
@@ -72,7 +76,8 @@ impl Bounds {
 fn bound_raised(bound: u64, low: u64, tail: Option<u32>, limit: u64) -> Option<u64>
     requires { bound ≤ limit }
     ensures short { IfSome result (λ b. b ≤ limit) }
-    ensures sound { (long x : ℕ) → long ≤ limit → bound ≤ long → low ≤ x → HasTail tail long x → (b : ℕ) × (result ≡ Some b) × (b ≤ long) }
+    ensures sound { (long x : ℕ) → long ≤ limit → bound ≤ long → low ≤ x → HasTail tail long x
+        → (b : ℕ) × (result ≡ Some b) × (b ≤ long) }
     ensures raised { (t : ℕ) → tail ≡ Some t → IfSome result (λ b. low + t ≤ b) }
     ensures grows { IfSome result (λ b. bound ≤ b) }
 {
@@ -104,11 +109,15 @@ impl AbsState {
 
     /// What is known of a register that is read.
     pub fn read(&self, register: Register) -> Result<Known, Refusal>
-        ensures sound { IfOk result (λ k. (lengths : Lengths) (s : State) → Contains self.now lengths s → (n : ℕ) × (register_of s register ≡ Ok n) × ContainsKnown k lengths n) }
-        ensures holds { (fact : Fact) → Holds fact (register_at self.now.registers register) → IsOk result × IfOk result (λ k. Says fact k) }
+        ensures sound { IfOk result (λ k. (lengths : Lengths) (s : State) → Contains self.now lengths s
+            → (n : ℕ) × (register_of s register ≡ Ok n) × ContainsKnown k lengths n) }
+        ensures holds { (fact : Fact) → Holds fact (register_at self.now.registers register)
+            → IsOk result × IfOk result (λ k. Says fact k) }
         ensures floor { HasNumberAt self.now register → IsOk result }
-        ensures context { (n : ℕ) → IsContextAt n (register_at self.now.registers register) → IsOk result × IfOk result (λ k. IsContextAt n (AbsReg.Set k)) }
-        ensures frame { (p offset : ℕ) → IsStackByte p offset (register_at self.now.registers register) → IsOk result × IfOk result (λ k. IsStackByte p offset (AbsReg.Set k)) }
+        ensures context { (n : ℕ) → IsContextAt n (register_at self.now.registers register)
+            → IsOk result × IfOk result (λ k. IsContextAt n (AbsReg.Set k)) }
+        ensures frame { (p offset : ℕ) → IsStackByte p offset (register_at self.now.registers register)
+            → IsOk result × IfOk result (λ k. IsStackByte p offset (AbsReg.Set k)) }
         ensures numbers { HasNumberAt self.now register → IfOk result (λ k. IsNumber k) }
         ensures unset { IfErr result (λ e. (e ≡ Refusal.UnsetRegister) × HasUnset self.now (register ∷ [])) }
         ensures set { IfOk result (λ _. HasUnset self.now (register ∷ []) → ⊥) }
@@ -121,10 +130,14 @@ impl AbsState {
 
     /// What is known of an operand.
     pub fn operand(&self, operand: Operand) -> Result<Known, Refusal>
-        ensures sound { IfOk result (λ k. (lengths : Lengths) (s : State) → Contains self.now lengths s → (n : ℕ) × (operand_in s operand ≡ Ok n) × ContainsKnown k lengths n) }
-        ensures holds { (r : ℕ) (fact : Fact) → operand ≡ Operand.Source r → Holds fact (register_at self.now.registers r) → IsOk result × IfOk result (λ k. Says fact k) }
-        ensures constant { (region : TheRegion) (k : ℕ) → operand ≡ Operand.Immediate (pos k) → k < 2 ^ 31 → IsOk result × IfOk result (λ v. IsNumberIn region k k None v) }
-        ensures one { (region : TheRegion) (n : ℕ) → IsOperand region self.now operand n → IsOk result × IfOk result (λ k. IsNumberIn region n n None k) }
+        ensures sound { IfOk result (λ k. (lengths : Lengths) (s : State) → Contains self.now lengths s
+            → (n : ℕ) × (operand_in s operand ≡ Ok n) × ContainsKnown k lengths n) }
+        ensures holds { (r : ℕ) (fact : Fact) → operand ≡ Operand.Source r
+            → Holds fact (register_at self.now.registers r) → IsOk result × IfOk result (λ k. Says fact k) }
+        ensures constant { (region : TheRegion) (k : ℕ) → operand ≡ Operand.Immediate (pos k) → k < 2 ^ 31
+            → IsOk result × IfOk result (λ v. IsNumberIn region k k None v) }
+        ensures one { (region : TheRegion) (n : ℕ) → IsOperand region self.now operand n
+            → IsOk result × IfOk result (λ k. IsNumberIn region n n None k) }
         ensures floor { HasNumberIn self.now operand → IsOk result }
         ensures numbers { HasNumberIn self.now operand → IfOk result (λ k. IsNumber k) }
         ensures unset { IfErr result (λ e. (e ≡ Refusal.UnsetRegister) × HasUnset self.now (read_operand operand)) }
@@ -138,7 +151,8 @@ impl AbsState {
 
     /// Writes a register.
     pub fn put(&mut self, register: Register, known: Known)
-        ensures contains { (lengths : Lengths) (s : State) (n : ℕ) → Contains self.old lengths s → ContainsKnown known lengths n → Contains self.new lengths (with_register s register n) }
+        ensures contains { (lengths : Lengths) (s : State) (n : ℕ) → Contains self.old lengths s
+            → ContainsKnown known lengths n → Contains self.new lengths (with_register s register n) }
         ensures others { SameBut register self.old self.new }
         ensures there { register_at self.new.registers register ≡ AbsReg.Set known }
         ensures memory { SameMemory self.old self.new }
@@ -148,10 +162,12 @@ impl AbsState {
 
     /// Writes a register, if there is something to write.
     pub fn write(&mut self, register: Register, known: Option<Known>) -> Flow
-        ensures sound { (lengths : Lengths) (s : State) (n : ℕ) → Contains self.old lengths s → WithinKnown known lengths n → WithinState (after result self.new) lengths (with_register s register n) }
+        ensures sound { (lengths : Lengths) (s : State) (n : ℕ) → Contains self.old lengths s
+            → WithinKnown known lengths n → WithinState (after result self.new) lengths (with_register s register n) }
         ensures others { IfSome (after result self.new) (λ b. Writes register self.old b) }
         ensures memory { IfSome (after result self.new) (λ b. SameMemory self.old b) }
-        ensures holds { (fact : Fact) → IfSome known (λ k. Says fact k) → IfSome (after result self.new) (λ b. Holds fact (register_at b.registers register)) }
+        ensures holds { (fact : Fact) → IfSome known (λ k. Says fact k)
+            → IfSome (after result self.new) (λ b. Holds fact (register_at b.registers register)) }
         ensures numbers { AreNumbers known → IfSome (after result self.new) (λ b. WritesNumber self.old register b) }
     {
         let Some(known) = known else {
@@ -164,7 +180,8 @@ impl AbsState {
 
 /// What is known of the registers at first.
 fn first_registers() -> [AbsReg; 11]
-    ensures contains { (lengths : Lengths) (i : ℕ) → i < 11 → ContainsRegister (register_at result i) lengths (slice_index_or start.registers i None) }
+    ensures contains { (lengths : Lengths) (i : ℕ) → i < 11
+        → ContainsRegister (register_at result i) lengths (slice_index_or start.registers i None) }
     ensures context { IsContextAt 0 (register_at result 1) }
     ensures frame { IsStackAt 512 (register_at result 10) }
     ensures unset { (i : ℕ) → i ≢ 1 → i ≢ 10 → register_at result i ≡ AbsReg.Unset }

@@ -1,15 +1,18 @@
 //! Instructions after which a run goes on at one slot of the program.
-ghost use Rattle.std.specs.Prelude.{◌≡◌, ◌≢◌, ◌↔◌, ◌++◌, IfErr, [], ◌∷◌, ℕ, pos, ◌+◌, ◌*◌, ◌%◌, ◌^◌, ◌<◌, ◌≤◌, Option, Some, None, Ok, IfSome, IfOk, IsOk};
+ghost use Rattle.std.specs.Prelude.{◌≡◌, ◌≢◌, ◌↔◌, ◌++◌, IfErr, [], ◌∷◌, ℕ, pos, ◌+◌, ◌*◌, ◌%◌, ◌^◌, ◌<◌, ◌≤◌, Option};
+ghost use Rattle.std.specs.Prelude.{Some, None, Ok, IfSome, IfOk, IsOk};
 ghost use Rattle.std.specs.Int.{cast_unsigned, w64};
 ghost use Rattle.meaning.specs.State.{State, register_of};
 ghost use Rattle.meaning.specs.Step.{Returns};
 ghost use Rattle.abstract_state.specs.State.{Span, lengths_of, Contains, StepsIn, StepsBy, does, register_at, slot_at};
-ghost use Rattle.abstract_state.specs.Kinds.{HasNumberAt, HasNumberIn, ReadsFirst, ReadsNumbers, WritesNumber, Carries, IsNumberField, IsContextAt};
+ghost use Rattle.abstract_state.specs.Kinds.{HasNumberAt, HasNumberIn, ReadsFirst, ReadsNumbers, WritesNumber, Carries};
+ghost use Rattle.abstract_state.specs.Kinds.{IsNumberField, IsContextAt};
 ghost use Rattle.abstract_state.specs.Steps.{MayStep, StepsTo, after};
 ghost use Rattle.abstract_state.specs.Exact.{Fact, Folds, Holds, tail_after};
 ghost use Rattle.abstract_state.specs.declared.region.Region.{Region};
 ghost use Rattle.abstract_state.specs.Lent.{begin_field, end_field, limit_of, bound_of, Lends};
-ghost use Rattle.abstract_state.specs.Guard.{Yields, Stores, Spills, Keeps, IsOperand, Writes, LeavesOthers, SameMemory, LeavesMemory};
+ghost use Rattle.abstract_state.specs.Guard.{Yields, Stores, Spills, Keeps, IsOperand, Writes, LeavesOthers};
+ghost use Rattle.abstract_state.specs.Guard.{SameMemory, LeavesMemory};
 ghost use Rattle.meaning.specs.Value.{value_of};
 ghost use Rattle.abstract_state.specs.Unset.{HasUnset};
 ghost use Rattle.bpf_words.specs.Flow.{read_by, read_first, read_operand};
@@ -51,14 +54,21 @@ impl AbsState {
         operand: Operand,
     ) -> Result<Flow, Refusal>
         requires { destination ≢ 10 }
-        ensures sound { IfOk result (λ flow. StepsBy self.old (Insn.Compute width Arithmetic.Mov destination operand) (pos 0) (after flow self.new)) }
+        ensures sound { IfOk result (λ flow. StepsBy self.old (Insn.Compute width Arithmetic.Mov destination operand)
+            (pos 0) (after flow self.new)) }
         ensures others { IfOk result (λ flow. IfSome (after flow self.new) (λ b. Writes destination self.old b)) }
         ensures memory { IfOk result (λ flow. IfSome (after flow self.new) (λ b. SameMemory self.old b)) }
-        ensures lent { (region : Region) (r n : ℕ) (t : Option ℕ) → width ≡ Width.Full → operand ≡ Operand.Source r → Holds (Fact.LentIn region n n t) (register_at self.old.registers r) → Keeps result self.new destination (Fact.LentIn region n n t) }
-        ensures moves { (r : ℕ) (known : Known) → width ≡ Width.Full → operand ≡ Operand.Source r → Holds (Fact.Exactly known) (register_at self.old.registers r) → Keeps result self.new destination (Fact.NoLess known) }
-        ensures copies { (region : Region) (n : ℕ) → width ≡ Width.Full → IsOperand region self.old operand n → Keeps result self.new destination (Fact.NumberIn region n n None) }
+        ensures lent { (region : Region) (r n : ℕ) (t : Option ℕ) → width ≡ Width.Full → operand ≡ Operand.Source r
+            → Holds (Fact.LentIn region n n t) (register_at self.old.registers r)
+            → Keeps result self.new destination (Fact.LentIn region n n t) }
+        ensures moves { (r : ℕ) (known : Known) → width ≡ Width.Full → operand ≡ Operand.Source r
+            → Holds (Fact.Exactly known) (register_at self.old.registers r)
+            → Keeps result self.new destination (Fact.NoLess known) }
+        ensures copies { (region : Region) (n : ℕ) → width ≡ Width.Full → IsOperand region self.old operand n
+            → Keeps result self.new destination (Fact.NumberIn region n n None) }
         ensures floor { HasNumberIn self.old operand → IsOk result }
-        ensures numbers { HasNumberIn self.old operand → IfOk result (λ flow. IfSome (after flow self.new) (λ b. WritesNumber self.old destination b)) }
+        ensures numbers { HasNumberIn self.old operand
+            → IfOk result (λ flow. IfSome (after flow self.new) (λ b. WritesNumber self.old destination b)) }
         ensures unset { IfErr result (λ e. (e ≡ Refusal.UnsetRegister) ↔ HasUnset self.old (read_operand operand)) }
         ensures set { IfOk result (λ _. HasUnset self.old (read_operand operand) → ⊥) }
     {
@@ -77,14 +87,24 @@ impl AbsState {
     ) -> Result<Flow, Refusal>
         requires frame { destination ≢ 10 }
         requires reads { operation ≢ Arithmetic.Mov }
-        ensures sound { IfOk result (λ flow. StepsBy self.old (Insn.Compute width operation destination operand) (pos 0) (after flow self.new)) }
+        ensures sound { IfOk result (λ flow. StepsBy self.old (Insn.Compute width operation destination operand)
+            (pos 0) (after flow self.new)) }
         ensures others { IfOk result (λ flow. IfSome (after flow self.new) (λ b. Writes destination self.old b)) }
         ensures memory { IfOk result (λ flow. IfSome (after flow self.new) (λ b. SameMemory self.old b)) }
-        ensures adds { (region : Region) (k n : ℕ) (t : Option ℕ) → width ≡ Width.Full → operation ≡ Arithmetic.Add → operand ≡ Operand.Immediate (pos k) → Holds (Fact.LentIn region n n t) (register_at self.old.registers destination) → n + k ≤ 2 ^ 20 → Keeps result self.new destination (Fact.LentIn region (n + k) (n + k) (tail_after t k)) }
-        ensures folds { (region : Region) (m n : ℕ) → width ≡ Width.Full → Folds operation m n → Holds (Fact.NumberIn region m m None) (register_at self.old.registers destination) → IsOperand region self.old operand n → Keeps result self.new destination (Fact.NumberIn region (value_of operation Width.Full m n) (value_of operation Width.Full m n) None) }
+        ensures adds { (region : Region) (k n : ℕ) (t : Option ℕ) → width ≡ Width.Full → operation ≡ Arithmetic.Add
+            → operand ≡ Operand.Immediate (pos k)
+            → Holds (Fact.LentIn region n n t) (register_at self.old.registers destination) → n + k ≤ 2 ^ 20
+            → Keeps result self.new destination (Fact.LentIn region (n + k) (n + k) (tail_after t k)) }
+        ensures folds { (region : Region) (m n : ℕ) → width ≡ Width.Full → Folds operation m n
+            → Holds (Fact.NumberIn region m m None) (register_at self.old.registers destination)
+            → IsOperand region self.old operand n
+            → Keeps result self.new destination
+            (Fact.NumberIn region (value_of operation Width.Full m n) (value_of operation Width.Full m n) None) }
         ensures floor { HasNumberAt self.old destination → HasNumberIn self.old operand → IsOk result }
-        ensures numbers { HasNumberAt self.old destination → HasNumberIn self.old operand → IfOk result (λ flow. IfSome (after flow self.new) (λ b. WritesNumber self.old destination b)) }
-        ensures unset { IfErr result (λ e. (e ≡ Refusal.UnsetRegister) ↔ HasUnset self.old (destination ∷ read_operand operand)) }
+        ensures numbers { HasNumberAt self.old destination → HasNumberIn self.old operand
+            → IfOk result (λ flow. IfSome (after flow self.new) (λ b. WritesNumber self.old destination b)) }
+        ensures unset { IfErr result (λ e. (e ≡ Refusal.UnsetRegister)
+            ↔ HasUnset self.old (destination ∷ read_operand operand)) }
         ensures set { IfOk result (λ _. HasUnset self.old (destination ∷ read_operand operand) → ⊥) }
     {
         let a = self.read(destination)?;
@@ -95,11 +115,13 @@ impl AbsState {
 
     fn negate(&mut self, width: Width, destination: Register) -> Result<Flow, Refusal>
         requires { destination ≢ 10 }
-        ensures sound { IfOk result (λ flow. StepsBy self.old (Insn.Negate width destination) (pos 0) (after flow self.new)) }
+        ensures sound { IfOk result (λ flow. StepsBy self.old (Insn.Negate width destination) (pos 0)
+            (after flow self.new)) }
         ensures others { IfOk result (λ flow. IfSome (after flow self.new) (λ b. Writes destination self.old b)) }
         ensures memory { IfOk result (λ flow. IfSome (after flow self.new) (λ b. SameMemory self.old b)) }
         ensures floor { HasNumberAt self.old destination → IsOk result }
-        ensures numbers { HasNumberAt self.old destination → IfOk result (λ flow. IfSome (after flow self.new) (λ b. WritesNumber self.old destination b)) }
+        ensures numbers { HasNumberAt self.old destination
+            → IfOk result (λ flow. IfSome (after flow self.new) (λ b. WritesNumber self.old destination b)) }
         ensures unset { IfErr result (λ e. (e ≡ Refusal.UnsetRegister) ↔ HasUnset self.old (destination ∷ [])) }
         ensures set { IfOk result (λ _. HasUnset self.old (destination ∷ []) → ⊥) }
     {
@@ -115,11 +137,13 @@ impl AbsState {
         source: Register,
     ) -> Result<Flow, Refusal>
         requires { destination ≢ 10 }
-        ensures sound { IfOk result (λ flow. StepsBy self.old (Insn.Extend extension destination source) (pos 0) (after flow self.new)) }
+        ensures sound { IfOk result (λ flow. StepsBy self.old (Insn.Extend extension destination source) (pos 0)
+            (after flow self.new)) }
         ensures others { IfOk result (λ flow. IfSome (after flow self.new) (λ b. Writes destination self.old b)) }
         ensures memory { IfOk result (λ flow. IfSome (after flow self.new) (λ b. SameMemory self.old b)) }
         ensures floor { HasNumberAt self.old source → IsOk result }
-        ensures numbers { HasNumberAt self.old source → IfOk result (λ flow. IfSome (after flow self.new) (λ b. WritesNumber self.old destination b)) }
+        ensures numbers { HasNumberAt self.old source
+            → IfOk result (λ flow. IfSome (after flow self.new) (λ b. WritesNumber self.old destination b)) }
         ensures unset { IfErr result (λ e. (e ≡ Refusal.UnsetRegister) ↔ HasUnset self.old (source ∷ [])) }
         ensures set { IfOk result (λ _. HasUnset self.old (source ∷ []) → ⊥) }
     {
@@ -135,11 +159,13 @@ impl AbsState {
         destination: Register,
     ) -> Result<Flow, Refusal>
         requires { destination ≢ 10 }
-        ensures sound { IfOk result (λ flow. StepsBy self.old (Insn.Convert conversion bits destination) (pos 0) (after flow self.new)) }
+        ensures sound { IfOk result (λ flow. StepsBy self.old (Insn.Convert conversion bits destination) (pos 0)
+            (after flow self.new)) }
         ensures others { IfOk result (λ flow. IfSome (after flow self.new) (λ b. Writes destination self.old b)) }
         ensures memory { IfOk result (λ flow. IfSome (after flow self.new) (λ b. SameMemory self.old b)) }
         ensures floor { HasNumberAt self.old destination → IsOk result }
-        ensures numbers { HasNumberAt self.old destination → IfOk result (λ flow. IfSome (after flow self.new) (λ b. WritesNumber self.old destination b)) }
+        ensures numbers { HasNumberAt self.old destination
+            → IfOk result (λ flow. IfSome (after flow self.new) (λ b. WritesNumber self.old destination b)) }
         ensures unset { IfErr result (λ e. (e ≡ Refusal.UnsetRegister) ↔ HasUnset self.old (destination ∷ [])) }
         ensures set { IfOk result (λ _. HasUnset self.old (destination ∷ []) → ⊥) }
     {
@@ -157,19 +183,31 @@ impl AbsState {
         offset: i16,
     ) -> Result<Flow, Refusal>
         requires { destination ≢ 10 }
-        ensures sound { IfOk result (λ flow. StepsIn profile self.old (Insn.Load size destination base offset) (pos 0) (after flow self.new)) }
+        ensures sound { IfOk result (λ flow. StepsIn profile self.old (Insn.Load size destination base offset) (pos 0)
+            (after flow self.new)) }
         ensures others { IfOk result (λ flow. IfSome (after flow self.new) (λ b. Writes destination self.old b)) }
         ensures memory { IfOk result (λ flow. IfSome (after flow self.new) (λ b. SameMemory self.old b)) }
-        ensures begin { (region : Region) → Lends region profile → offset ≡ pos (begin_field region) → size ≡ Size.Double → IsContextAt 0 (register_at self.old.registers base) → Keeps result self.new destination (Fact.LentIn region 0 0 (Some 0)) }
-        ensures end { (region : Region) → Lends region profile → offset ≡ pos (end_field region) → size ≡ Size.Double → IsContextAt 0 (register_at self.old.registers base) → Keeps result self.new destination (Fact.LentIn region 0 (limit_of region) (Some 0)) }
-        ensures stack { (p : ℕ) → IsStackByte p (cast_unsigned w64 offset) (register_at self.old.registers base) → AreMarked self.old.stack p (bytes_in size) → Keeps result self.new destination Fact.AnyNumber }
-        ensures spilled { (i : ℕ) (known : Known) → IsStackByte (8 * i) (cast_unsigned w64 offset) (register_at self.old.registers base) → i < 64 → size ≡ Size.Double → slot_at self.old.stack i ≡ Slot.Spilled known → Keeps result self.new destination (Fact.Exactly known) }
+        ensures begin { (region : Region) → Lends region profile → offset ≡ pos (begin_field region)
+            → size ≡ Size.Double → IsContextAt 0 (register_at self.old.registers base)
+            → Keeps result self.new destination (Fact.LentIn region 0 0 (Some 0)) }
+        ensures end { (region : Region) → Lends region profile → offset ≡ pos (end_field region) → size ≡ Size.Double
+            → IsContextAt 0 (register_at self.old.registers base)
+            → Keeps result self.new destination (Fact.LentIn region 0 (limit_of region) (Some 0)) }
+        ensures stack { (p : ℕ) → IsStackByte p (cast_unsigned w64 offset) (register_at self.old.registers base)
+            → AreMarked self.old.stack p (bytes_in size) → Keeps result self.new destination Fact.AnyNumber }
+        ensures spilled { (i : ℕ) (known : Known)
+            → IsStackByte (8 * i) (cast_unsigned w64 offset) (register_at self.old.registers base) → i < 64
+            → size ≡ Size.Double → slot_at self.old.stack i ≡ Slot.Spilled known
+            → Keeps result self.new destination (Fact.Exactly known) }
         ensures lent { (o : ℕ) (p : LentPlace) → offset ≡ pos o → o < 2 ^ 15
             → register_at self.old.registers base ≡ Set (Known.Lent p)
             → p.offset.range.high + o + bytes_in size ≤ bound_of self.old.bounds p.region
             → Keeps result self.new destination Fact.AnyNumber }
-        ensures floor { IsContextAt 0 (register_at self.old.registers base) → IsNumberField size (cast_unsigned w64 offset) → IsOk result }
-        ensures numbers { IsContextAt 0 (register_at self.old.registers base) → IsNumberField size (cast_unsigned w64 offset) → IfOk result (λ flow. IfSome (after flow self.new) (λ b. WritesNumber self.old destination b)) }
+        ensures floor { IsContextAt 0 (register_at self.old.registers base)
+            → IsNumberField size (cast_unsigned w64 offset) → IsOk result }
+        ensures numbers { IsContextAt 0 (register_at self.old.registers base)
+            → IsNumberField size (cast_unsigned w64 offset)
+            → IfOk result (λ flow. IfSome (after flow self.new) (λ b. WritesNumber self.old destination b)) }
         ensures unset { IfErr result (λ e. (e ≡ Refusal.UnsetRegister) ↔ HasUnset self.old (base ∷ [])) }
         ensures set { IfOk result (λ _. HasUnset self.old (base ∷ []) → ⊥) }
     {
@@ -186,14 +224,16 @@ impl AbsState {
         offset: i16,
     ) -> Result<Flow, Refusal>
         requires { destination ≢ 10 }
-        ensures sound { IfOk result (λ flow. StepsBy self.old (Insn.LoadSigned size destination base offset) (pos 0) (after flow self.new)) }
+        ensures sound { IfOk result (λ flow. StepsBy self.old (Insn.LoadSigned size destination base offset) (pos 0)
+            (after flow self.new)) }
         ensures others { IfOk result (λ flow. IfSome (after flow self.new) (λ b. Writes destination self.old b)) }
         ensures memory { IfOk result (λ flow. IfSome (after flow self.new) (λ b. SameMemory self.old b)) }
         ensures lent { (o : ℕ) (p : LentPlace) → offset ≡ pos o → o < 2 ^ 15
             → register_at self.old.registers base ≡ Set (Known.Lent p)
             → p.offset.range.high + o + bytes_in_signed size ≤ bound_of self.old.bounds p.region
             → Keeps result self.new destination Fact.AnyNumber }
-        ensures stack { (p : ℕ) → IsStackByte p (cast_unsigned w64 offset) (register_at self.old.registers base) → AreMarked self.old.stack p (bytes_in_signed size) → Keeps result self.new destination Fact.AnyNumber }
+        ensures stack { (p : ℕ) → IsStackByte p (cast_unsigned w64 offset) (register_at self.old.registers base)
+            → AreMarked self.old.stack p (bytes_in_signed size) → Keeps result self.new destination Fact.AnyNumber }
         ensures unset { IfErr result (λ e. (e ≡ Refusal.UnsetRegister) ↔ HasUnset self.old (base ∷ [])) }
         ensures set { IfOk result (λ _. HasUnset self.old (base ∷ []) → ⊥) }
     {
@@ -210,12 +250,23 @@ impl AbsState {
         offset: i16,
         value: Operand,
     ) -> Result<Flow, Refusal>
-        ensures sound { IfOk result (λ flow. StepsBy self.old (Insn.Store size base offset value) (pos 0) (after flow self.new)) }
+        ensures sound { IfOk result (λ flow. StepsBy self.old (Insn.Store size base offset value) (pos 0)
+            (after flow self.new)) }
         ensures others { IfOk result (λ _. self.new.registers ≡ self.old.registers) }
         ensures bounds { IfOk result (λ _. self.new.bounds ≡ self.old.bounds) }
-        ensures stores { (p : ℕ) → IsStackByte p (cast_unsigned w64 offset) (register_at self.old.registers base) → p + bytes_in size ≤ 512 → HasNumberIn self.old value → IsOk result × IfOk result (λ flow. IfSome (after flow self.new) (λ b. StoresSlots p (bytes_in size) self.old.stack b.stack)) }
-        ensures spills { (i r : ℕ) (known : Known) → IsStackByte (8 * i) (cast_unsigned w64 offset) (register_at self.old.registers base) → i < 64 → size ≡ Size.Double → value ≡ Operand.Source r → Holds (Fact.Exactly known) (register_at self.old.registers r) → IsOk result × IfOk result (λ flow. IfSome (after flow self.new) (λ b. SpillsSlot i known self.old.stack b.stack)) }
-        ensures unset { IfErr result (λ e. (e ≡ Refusal.UnsetRegister) ↔ HasUnset self.old (base ∷ read_operand value)) }
+        ensures stores { (p : ℕ) → IsStackByte p (cast_unsigned w64 offset) (register_at self.old.registers base)
+            → p + bytes_in size ≤ 512 → HasNumberIn self.old value
+            → IsOk result
+            × IfOk result
+            (λ flow. IfSome (after flow self.new) (λ b. StoresSlots p (bytes_in size) self.old.stack b.stack)) }
+        ensures spills { (i r : ℕ) (known : Known)
+            → IsStackByte (8 * i) (cast_unsigned w64 offset) (register_at self.old.registers base) → i < 64
+            → size ≡ Size.Double → value ≡ Operand.Source r
+            → Holds (Fact.Exactly known) (register_at self.old.registers r)
+            → IsOk result
+            × IfOk result (λ flow. IfSome (after flow self.new) (λ b. SpillsSlot i known self.old.stack b.stack)) }
+        ensures unset { IfErr result (λ e. (e ≡ Refusal.UnsetRegister)
+            ↔ HasUnset self.old (base ∷ read_operand value)) }
         ensures set { IfOk result (λ _. HasUnset self.old (base ∷ read_operand value) → ⊥) }
     {
         let a = self.read(base)?;
@@ -229,7 +280,8 @@ impl AbsState {
         ensures sound { StepsBy self.old (Insn.LoadWide destination value) (pos 1) (after result self.new) }
         ensures others { IfSome (after result self.new) (λ b. Writes destination self.old b) }
         ensures memory { IfSome (after result self.new) (λ b. SameMemory self.old b) }
-        ensures yields { (region : Region) → IfSome (after result self.new) (λ b. Holds (Fact.NumberIn region value value None) (register_at b.registers destination)) }
+        ensures yields { (region : Region) → IfSome (after result self.new)
+            (λ b. Holds (Fact.NumberIn region value value None) (register_at b.registers destination)) }
         ensures numbers { IfSome (after result self.new) (λ b. WritesNumber self.old destination b) }
     {
         let known = Known::Number(Quantity::constant(value));
@@ -245,14 +297,20 @@ impl AbsState {
         operand: Operand,
     ) -> Result<Flow, Refusal>
         requires { destination ≢ 10 }
-        ensures sound { IfOk result (λ flow. StepsBy self.old (Insn.Compute width operation destination operand) (pos 0) (after flow self.new)) }
+        ensures sound { IfOk result (λ flow. StepsBy self.old (Insn.Compute width operation destination operand)
+            (pos 0) (after flow self.new)) }
         ensures others { IfOk result (λ flow. IfSome (after flow self.new) (λ b. Writes destination self.old b)) }
         ensures memory { IfOk result (λ flow. IfSome (after flow self.new) (λ b. SameMemory self.old b)) }
-        ensures yields { (d : ℕ) (fact : Fact) → Yields profile self.old (Insn.Compute width operation destination operand) d fact → Keeps result self.new d fact }
+        ensures yields { (d : ℕ) (fact : Fact)
+            → Yields profile self.old (Insn.Compute width operation destination operand) d fact
+            → Keeps result self.new d fact }
         ensures floor { ReadsFirst self.old operation destination → HasNumberIn self.old operand → IsOk result }
-        ensures numbers { ReadsFirst self.old operation destination → HasNumberIn self.old operand → IfOk result (λ flow. IfSome (after flow self.new) (λ b. WritesNumber self.old destination b)) }
-        ensures unset { IfErr result (λ e. (e ≡ Refusal.UnsetRegister) ↔ HasUnset self.old (read_first operation destination ++ read_operand operand)) }
-        ensures set { IfOk result (λ _. HasUnset self.old (read_first operation destination ++ read_operand operand) → ⊥) }
+        ensures numbers { ReadsFirst self.old operation destination → HasNumberIn self.old operand
+            → IfOk result (λ flow. IfSome (after flow self.new) (λ b. WritesNumber self.old destination b)) }
+        ensures unset { IfErr result (λ e. (e ≡ Refusal.UnsetRegister)
+            ↔ HasUnset self.old (read_first operation destination ++ read_operand operand)) }
+        ensures set { IfOk result (λ _. HasUnset self.old (read_first operation destination ++ read_operand operand)
+            → ⊥) }
     {
         match operation {
             Arithmetic::Mov => self.move_to(width, destination, operand),
@@ -262,7 +320,8 @@ impl AbsState {
 
     /// Checks that a run may end here.
     pub fn exit(&self) -> Result<(), Refusal>
-        ensures sound { IfOk result (λ _. (span : Span) (s : State) → Contains self.now (lengths_of span) s → (v : ℕ) × (does span s Insn.Exit ≡ Ok (Returns v))) }
+        ensures sound { IfOk result (λ _. (span : Span) (s : State) → Contains self.now (lengths_of span) s
+            → (v : ℕ) × (does span s Insn.Exit ≡ Ok (Returns v))) }
         ensures floor { HasNumberAt self.now 0 → IsOk result }
         ensures unset { IfErr result (λ e. (e ≡ Refusal.UnsetRegister) ↔ HasUnset self.now (0 ∷ [])) }
         ensures set { IfOk result (λ _. HasUnset self.now (0 ∷ []) → ⊥) }
@@ -282,11 +341,17 @@ impl AbsState {
         ensures sound { IfOk result (λ flow. StepsTo profile self.old insn.now (after flow self.new)) }
         ensures others { IfOk result (λ flow. IfSome (after flow self.new) (λ b. LeavesOthers self.old insn.now b)) }
         ensures memory { IfOk result (λ flow. IfSome (after flow self.new) (λ b. LeavesMemory self.old insn.now b)) }
-        ensures yields { (d : ℕ) (fact : Fact) → Yields profile self.old insn.now d fact → Keeps result self.new d fact }
-        ensures stores { (p count : ℕ) → Stores self.old insn.now p count → IsOk result × IfOk result (λ flow. IfSome (after flow self.new) (λ b. StoresSlots p count self.old.stack b.stack)) }
-        ensures spills { (i : ℕ) (known : Known) → Spills self.old insn.now i known → IsOk result × IfOk result (λ flow. IfSome (after flow self.new) (λ b. SpillsSlot i known self.old.stack b.stack)) }
+        ensures yields { (d : ℕ) (fact : Fact) → Yields profile self.old insn.now d fact
+            → Keeps result self.new d fact }
+        ensures stores { (p count : ℕ) → Stores self.old insn.now p count
+            → IsOk result
+            × IfOk result (λ flow. IfSome (after flow self.new) (λ b. StoresSlots p count self.old.stack b.stack)) }
+        ensures spills { (i : ℕ) (known : Known) → Spills self.old insn.now i known
+            → IsOk result
+            × IfOk result (λ flow. IfSome (after flow self.new) (λ b. SpillsSlot i known self.old.stack b.stack)) }
         ensures floor { ReadsNumbers self.old insn.now → IsOk result }
-        ensures carries { ReadsNumbers self.old insn.now → IfOk result (λ flow. IfSome (after flow self.new) (λ b. Carries self.old insn.now b)) }
+        ensures carries { ReadsNumbers self.old insn.now
+            → IfOk result (λ flow. IfSome (after flow self.new) (λ b. Carries self.old insn.now b)) }
         ensures unset { IfErr result (λ e. (e ≡ Refusal.UnsetRegister) ↔ HasUnset self.old (read_by insn.now)) }
         ensures set { IfOk result (λ _. HasUnset self.old (read_by insn.now) → ⊥) }
     {

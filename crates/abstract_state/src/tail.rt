@@ -34,7 +34,8 @@ pub fn after(tail: Option<u32>, added: u64) -> Option<u32>
 
 /// The tail of the sum of a number up to `high` with this tail and of a number up to `added` with the other.
 pub fn sum(tail: Option<u32>, high: u64, other: Option<u32>, added: u64) -> Option<u32>
-    ensures contains { (long x y : ℕ) → HasTail tail long x → x ≤ high → HasTail other long y → y ≤ added → HasTail result long (x + y) }
+    ensures contains { (long x y : ℕ) → HasTail tail long x → x ≤ high → HasTail other long y → y ≤ added
+        → HasTail result long (x + y) }
     ensures alone { other ≡ None → result ≡ tail_after tail added }
 {
     match after(tail, added) {
@@ -43,7 +44,8 @@ pub fn sum(tail: Option<u32>, high: u64, other: Option<u32>, added: u64) -> Opti
     }
 }
 
-/// A tail that is greater by so much, or the greatest of 32 bits. That is past each region's limit, so that no number has it.
+/// A tail that is greater by so much, or the greatest of 32 bits. That is past each region's limit, so that no number
+/// has it.
 fn more(tail: u32, by: u64) -> u32
     ensures { result ≤ tail + by }
 {

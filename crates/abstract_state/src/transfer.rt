@@ -1,5 +1,6 @@
 //! What an operation makes of quantities.
-ghost use Rattle.std.specs.Prelude.{◌≡◌, ℕ, ◌+◌, ◌-◌, ◌*◌, ◌/◌, ◌%◌, ◌^◌, ◌<◌, ◌≤◌, Option, Some, None, IfSome, bit_and, bit_or, bit_xor};
+ghost use Rattle.std.specs.Prelude.{◌≡◌, ℕ, ◌+◌, ◌-◌, ◌*◌, ◌/◌, ◌%◌, ◌^◌, ◌<◌, ◌≤◌, Option, Some, None, IfSome};
+ghost use Rattle.std.specs.Prelude.{bit_and, bit_or, bit_xor};
 ghost use Rattle.abstract_state.specs.Lent.{Lengths, HasTails, InRange, InRanges};
 ghost use Rattle.abstract_state.specs.declared.region.Region.{Region};
 ghost use Rattle.abstract_state.specs.Quantity.{InBits, Contains, Within, Fits, Maps, MapsBoth, Narrows, KeepsBits};
@@ -75,8 +76,10 @@ impl Quantity {
 
     /// The bits of the sum.
     fn sum_bits(self, other: Quantity) -> Bits
-        ensures contains { (lengths : Lengths) (x y : ℕ) → Contains self lengths x → Contains other lengths y → InBits result ((x + y) % 2 ^ 64) }
-        ensures constants { (region : Region) (m n : ℕ) (t u : Option ℕ) → IsIn region self m m t → IsIn region other n n u → m + n < 2 ^ 64 → HasBits result (m + n) (m + n) }
+        ensures contains { (lengths : Lengths) (x y : ℕ) → Contains self lengths x → Contains other lengths y
+            → InBits result ((x + y) % 2 ^ 64) }
+        ensures constants { (region : Region) (m n : ℕ) (t u : Option ℕ) → IsIn region self m m t
+            → IsIn region other n n u → m + n < 2 ^ 64 → HasBits result (m + n) (m + n) }
     {
         if self.bits.greatest() & other.bits.greatest() != 0 {
             if let (Some(a), Some(b)) = (self.only(), other.only()) {
@@ -89,7 +92,9 @@ impl Quantity {
     /// The sum: bits, interval, tails.
     fn plus(self, other: Quantity, width: Width) -> Option<Quantity>
         ensures contains { MapsBoth width self other result (λ x y. value_of Arithmetic.Add width x y) }
-        ensures constants { (region : Region) → width ≡ Width.Full → (m n : ℕ) (t : Option ℕ) → IsIn region self m m t → IsIn region other n n None → m + n < 2 ^ 64 → IfSome result (λ q. IsIn region q (m + n) (m + n) (tail_after t n)) }
+        ensures constants { (region : Region) → width ≡ Width.Full → (m n : ℕ) (t : Option ℕ) → IsIn region self m m t
+            → IsIn region other n n None → m + n < 2 ^ 64
+            → IfSome result (λ q. IsIn region q (m + n) (m + n) (tail_after t n)) }
     {
         Quantity::finish(
             width,
@@ -102,7 +107,8 @@ impl Quantity {
 
     /// The bits of the difference.
     fn difference_bits(self, other: Quantity) -> Bits
-        ensures { (lengths : Lengths) (x y : ℕ) → Contains self lengths x → Contains other lengths y → InBits result ((x + (2 ^ 64 - y)) % 2 ^ 64) }
+        ensures { (lengths : Lengths) (x y : ℕ) → Contains self lengths x → Contains other lengths y
+            → InBits result ((x + (2 ^ 64 - y)) % 2 ^ 64) }
     {
         let most = other.bits.greatest();
         if most & self.bits.least() != most {
@@ -115,7 +121,8 @@ impl Quantity {
 
     /// The tails of the difference.
     fn difference_tails(self, other: Quantity) -> Tails
-        ensures { (lengths : Lengths) (x y : ℕ) → Contains self lengths x → Contains other lengths y → HasTails result lengths ((x + (2 ^ 64 - y)) % 2 ^ 64) }
+        ensures { (lengths : Lengths) (x y : ℕ) → Contains self lengths x → Contains other lengths y
+            → HasTails result lengths ((x + (2 ^ 64 - y)) % 2 ^ 64) }
     {
         if self.range.low < other.range.high {
             return Tails::none();
@@ -137,7 +144,8 @@ impl Quantity {
 
     /// The amount that is taken away where a great constant is added, and the other way round.
     fn complement(self, width: Width) -> Option<Quantity>
-        ensures contains { IfSome result (λ q. (lengths : Lengths) (x : ℕ) → Contains self lengths x → Fits width x → (0 < x) × Contains q lengths (2 ^ bits_of width - x)) }
+        ensures contains { IfSome result (λ q. (lengths : Lengths) (x : ℕ) → Contains self lengths x → Fits width x
+            → (0 < x) × Contains q lengths (2 ^ bits_of width - x)) }
         ensures great { IfSome result (λ _. 2 ^ bits_of width ≤ 2 * self.range.high) }
     {
         match self.only() {
@@ -151,7 +159,9 @@ impl Quantity {
     /// The sum; a great constant is taken away as what it lacks to the width, so that the interval stays.
     pub fn add(self, other: Quantity, width: Width) -> Option<Quantity>
         ensures contains { MapsBoth width self other result (λ x y. value_of Arithmetic.Add width x y) }
-        ensures constants { (region : Region) → width ≡ Width.Full → (m n : ℕ) (t : Option ℕ) → IsIn region self m m t → IsIn region other n n None → m < 2 ^ 62 → n < 2 ^ 62 → IfSome result (λ q. IsIn region q (m + n) (m + n) (tail_after t n)) }
+        ensures constants { (region : Region) → width ≡ Width.Full → (m n : ℕ) (t : Option ℕ) → IsIn region self m m t
+            → IsIn region other n n None → m < 2 ^ 62 → n < 2 ^ 62
+            → IfSome result (λ q. IsIn region q (m + n) (m + n) (tail_after t n)) }
     {
         match other.complement(width) {
             Some(taken) => self.minus(taken, width),
@@ -172,7 +182,8 @@ impl Quantity {
     /// The bits that both have.
     pub fn and(self, other: Quantity, width: Width) -> Option<Quantity>
         ensures contains { MapsBoth width self other result (λ x y. value_of Arithmetic.And width x y) }
-        ensures constants { (region : Region) → width ≡ Width.Full → (m n : ℕ) → IsConstant region self m → IsConstant region other n → IfSome result (λ q. IsConstant region q (bit_and m n)) }
+        ensures constants { (region : Region) → width ≡ Width.Full → (m n : ℕ) → IsConstant region self m
+            → IsConstant region other n → IfSome result (λ q. IsConstant region q (bit_and m n)) }
     {
         Quantity::finish(
             width,
@@ -185,7 +196,8 @@ impl Quantity {
     /// The bits that either has.
     pub fn or(self, other: Quantity, width: Width) -> Option<Quantity>
         ensures contains { MapsBoth width self other result (λ x y. value_of Arithmetic.Or width x y) }
-        ensures constants { (region : Region) → width ≡ Width.Full → (m n : ℕ) → IsConstant region self m → IsConstant region other n → IfSome result (λ q. IsConstant region q (bit_or m n)) }
+        ensures constants { (region : Region) → width ≡ Width.Full → (m n : ℕ) → IsConstant region self m
+            → IsConstant region other n → IfSome result (λ q. IsConstant region q (bit_or m n)) }
     {
         Quantity::finish(
             width,
@@ -198,7 +210,8 @@ impl Quantity {
     /// The bits that one has and the other has not.
     pub fn xor(self, other: Quantity, width: Width) -> Option<Quantity>
         ensures contains { MapsBoth width self other result (λ x y. value_of Arithmetic.Xor width x y) }
-        ensures constants { (region : Region) → width ≡ Width.Full → (m n : ℕ) → IsConstant region self m → IsConstant region other n → IfSome result (λ q. IsConstant region q (bit_xor m n)) }
+        ensures constants { (region : Region) → width ≡ Width.Full → (m n : ℕ) → IsConstant region self m
+            → IsConstant region other n → IfSome result (λ q. IsConstant region q (bit_xor m n)) }
     {
         Quantity::finish(
             width,
@@ -279,7 +292,8 @@ impl Quantity {
 
     /// A shift to the right by some count.
     fn shrunk(self, width: Width) -> Option<Quantity>
-        ensures { (lengths : Lengths) (x z : ℕ) → Contains self lengths x → Fits width x → z ≤ x → Within result lengths z }
+        ensures { (lengths : Lengths) (x z : ℕ) → Contains self lengths x → Fits width x → z ≤ x
+            → Within result lengths z }
     {
         let range = Range {
             low: 0,
@@ -345,7 +359,9 @@ fn mask(width: Width) -> u64
 /// What an operation gives on operands of the width.
 fn apply(operation: Arithmetic, width: Width, a: Quantity, b: Quantity) -> Option<Quantity>
     ensures contains { MapsBoth width a b result (λ x y. value_of operation width x y) }
-    ensures constants { (region : Region) → width ≡ Width.Full → (m n : ℕ) → Folds operation m n → IsConstant region a m → IsConstant region b n → IfSome result (λ q. IsConstant region q (value_of operation Width.Full m n)) }
+    ensures constants { (region : Region) → width ≡ Width.Full → (m n : ℕ) → Folds operation m n
+        → IsConstant region a m → IsConstant region b n
+        → IfSome result (λ q. IsConstant region q (value_of operation Width.Full m n)) }
 {
     match operation {
         Arithmetic::Add => a.add(b, width),
@@ -367,8 +383,11 @@ fn apply(operation: Arithmetic, width: Width, a: Quantity, b: Quantity) -> Optio
 
 /// What an operation gives of two registers' numbers.
 pub fn transfer(operation: Arithmetic, width: Width, a: Quantity, b: Quantity) -> Option<Quantity>
-    ensures contains { (lengths : Lengths) (x y : ℕ) → Contains a lengths x → Contains b lengths y → Within result lengths (value_of operation width (cut width x) (cut width y)) }
-    ensures constants { (region : Region) → width ≡ Width.Full → (m n : ℕ) → Folds operation m n → IsConstant region a m → IsConstant region b n → IfSome result (λ q. IsConstant region q (value_of operation Width.Full m n)) }
+    ensures contains { (lengths : Lengths) (x y : ℕ) → Contains a lengths x → Contains b lengths y
+        → Within result lengths (value_of operation width (cut width x) (cut width y)) }
+    ensures constants { (region : Region) → width ≡ Width.Full → (m n : ℕ) → Folds operation m n
+        → IsConstant region a m → IsConstant region b n
+        → IfSome result (λ q. IsConstant region q (value_of operation Width.Full m n)) }
 {
     let a = a.cut_to(width)?;
     let b = b.cut_to(width)?;

@@ -35,7 +35,8 @@ fn width_of(extension: Extension) -> Width
 impl Known {
     /// Any number of the width, where this is a number of which something is left when it is cut.
     fn replaced(self, width: Width) -> Result<Option<Known>, Refusal>
-        ensures sound { IfOk result (λ o. (lengths : Lengths) (x y : ℕ) → ContainsKnown self lengths x → Fits width y → WithinKnown o lengths y) }
+        ensures sound { IfOk result (λ o. (lengths : Lengths) (x y : ℕ) → ContainsKnown self lengths x → Fits width y
+            → WithinKnown o lengths y) }
         ensures floor { IsNumber self → IsOk result }
         ensures numbers { IfOk result (λ o. AreNumbers o) }
         ensures not_unset { IfErr result (λ e. e ≢ Refusal.UnsetRegister) }
@@ -51,7 +52,8 @@ impl Known {
 
     /// The negated number.
     pub fn negate(self, width: Width) -> Result<Option<Known>, Refusal>
-        ensures sound { IfOk result (λ o. (lengths : Lengths) (x : ℕ) → ContainsKnown self lengths x → WithinKnown o lengths (negated width (cut width x))) }
+        ensures sound { IfOk result (λ o. (lengths : Lengths) (x : ℕ) → ContainsKnown self lengths x
+            → WithinKnown o lengths (negated width (cut width x))) }
         ensures floor { IsNumber self → IsOk result }
         ensures numbers { IfOk result (λ o. AreNumbers o) }
         ensures not_unset { IfErr result (λ e. e ≢ Refusal.UnsetRegister) }
@@ -62,7 +64,8 @@ impl Known {
 
     /// The low bits with their sign.
     pub fn extend(self, extension: Extension) -> Result<Option<Known>, Refusal>
-        ensures sound { IfOk result (λ o. (lengths : Lengths) (x : ℕ) → ContainsKnown self lengths x → WithinKnown o lengths (extended extension x)) }
+        ensures sound { IfOk result (λ o. (lengths : Lengths) (x : ℕ) → ContainsKnown self lengths x
+            → WithinKnown o lengths (extended extension x)) }
         ensures floor { IsNumber self → IsOk result }
         ensures numbers { IfOk result (λ o. AreNumbers o) }
         ensures not_unset { IfErr result (λ e. e ≢ Refusal.UnsetRegister) }
@@ -73,7 +76,8 @@ impl Known {
 
     /// The low bytes, in one order or the other.
     pub fn convert(self, conversion: Conversion, bits: ConvertedBits) -> Result<Known, Refusal>
-        ensures sound { IfOk result (λ k. (lengths : Lengths) (x : ℕ) → ContainsKnown self lengths x → ContainsKnown k lengths (converted conversion bits x)) }
+        ensures sound { IfOk result (λ k. (lengths : Lengths) (x : ℕ) → ContainsKnown self lengths x
+            → ContainsKnown k lengths (converted conversion bits x)) }
         ensures floor { IsNumber self → IsOk result }
         ensures numbers { IfOk result (λ k. IsNumber k) }
         ensures not_unset { IfErr result (λ e. e ≢ Refusal.UnsetRegister) }

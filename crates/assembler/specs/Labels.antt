@@ -1,5 +1,6 @@
 -- What a table of labels holds.
-use Rattle.std.specs.Prelude.{◌≡◌, ℕ, nat_lt, if◌then◌else◌, Bool, false, List, take, Option, Some, None, option_map, Ok, Err}
+use Rattle.std.specs.Prelude.{◌≡◌, ℕ, nat_lt, if◌then◌else◌, Bool, false, List, take, Option, Some, None, option_map}
+use Rattle.std.specs.Prelude.{Ok, Err}
 use Rattle.std.specs.Str.{bytes_eq}
 use Rattle.assembler_lines.specs.Shapes.{either}
 use Rattle.std.specs.Borrow.{Bor}
@@ -25,11 +26,13 @@ defined_at lines k = record { index = k; slot = place lines k }
 
 -- a table of the labels of the first lines: at each name, the line that defines it and its place
 abbrev pub HoldsLabels : List (List ℕ) → ℕ → Table → Type 0
-HoldsLabels lines count labels = (name : List ℕ) → held labels name ≡ option_map (defined_at lines) (definition (take count lines) name)
+HoldsLabels lines count labels =
+    (name : List ℕ) → held labels name ≡ option_map (defined_at lines) (definition (take count lines) name)
 
 -- a table that has a label more, unless it has it before
 abbrev pub Defines : Table → Table → List ℕ → Definition → Type 0
-Defines old new name defined = (other : List ℕ) → held new other ≡ either (held old other) (if bytes_eq name other then Some defined else None)
+Defines old new name defined =
+    (other : List ℕ) → held new other ≡ either (held old other) (if bytes_eq name other then Some defined else None)
 
 -- a table that has the same labels
 abbrev pub HoldsSame : Table → Table → Type 0

@@ -61,8 +61,10 @@ fn at_label<'a>(
 ) -> Result<Option<Insn>, AsmError>
     requires { index + 1 < 2 ^ 64 }
     ensures same { OnOk result (labels.new.source ≡ labels.old.source) }
-    ensures insn { IfOk result (λ insn. Ok insn ≡ resolved (lines_of labels.old.source.now) index (Ok (Label name.now))) }
-    ensures fault { IfErr result (IsFault index (resolved (lines_of labels.old.source.now) index (Ok (Label name.now)))) }
+    ensures insn { IfOk result (λ insn. Ok insn
+        ≡ resolved (lines_of labels.old.source.now) index (Ok (Label name.now))) }
+    ensures fault { IfErr result (IsFault index
+        (resolved (lines_of labels.old.source.now) index (Ok (Label name.now)))) }
 {
     if labels.is_taken(name, index)? {
         Err(fault_at(index, LineFault::LabelTwice))
@@ -82,8 +84,10 @@ fn at_jump<'a>(
     requires slot { slot ≡ place (lines_of labels.old.source.now) index }
     requires room { index + 1 < 2 ^ 64 }
     ensures same { OnOk result (labels.new.source ≡ labels.old.source) }
-    ensures insn { IfOk result (λ insn. Ok insn ≡ resolved (lines_of labels.old.source.now) index (Ok (Onto jump name.now))) }
-    ensures fault { IfErr result (IsFault index (resolved (lines_of labels.old.source.now) index (Ok (Onto jump name.now)))) }
+    ensures insn { IfOk result (λ insn. Ok insn
+        ≡ resolved (lines_of labels.old.source.now) index (Ok (Onto jump name.now))) }
+    ensures fault { IfErr result (IsFault index
+        (resolved (lines_of labels.old.source.now) index (Ok (Onto jump name.now)))) }
 {
     let definition = labels.find(name)?;
     match onto(jump, slot, definition) {
@@ -138,7 +142,8 @@ fn append_line<'a>(
     requires room { index + 1 < 2 ^ 64 }
     ensures same { OnOk result (labels.new.source ≡ labels.old.source) }
     ensures right { OnOk result (IsOk (insn_at (lines_of labels.old.source.now) index)) }
-    ensures appended { OnOk result (bytes.new.items ≡ bytes.old.items ++ bytes_of (insn_at (lines_of labels.old.source.now) index)) }
+    ensures appended { OnOk result (bytes.new.items ≡ bytes.old.items
+        ++ bytes_of (insn_at (lines_of labels.old.source.now) index)) }
     ensures fault { IfErr result (IsFault index (insn_at (lines_of labels.old.source.now) index)) }
 {
     match instruction_at(labels, line, index, slot) {
@@ -148,7 +153,8 @@ fn append_line<'a>(
 }
 
 /// The bytes of a program's text: 8 for each instruction, 16 for a wide load (RFC 9669, section 3).
-/// Refused, it names the first line at fault. Behind that line are read only lines up to a label that a jump before it names.
+/// Refused, it names the first line at fault. Behind that line are read only lines up to a label that a jump before it
+/// names.
 pub fn assemble(alloc: Global, source: &str) -> Result<Vec<u8>, AsmError>
     ensures text { IfOk result (λ bytes. AsmText source.now bytes.items) }
     ensures fault { IfErr result (AsmFault source.now) }

@@ -5,7 +5,8 @@ use assembler_lines::fault::LineFault;
 use std::alloc::AllocError;
 use thiserror::Error;
 
-/// Why a text isn't assembled: its first line at fault, counted from 1, or want of memory. What `Display` shows is compared as that of
+/// Why a text isn't assembled: its first line at fault, counted from 1, or want of memory. What `Display` shows is
+/// compared as that of
 /// `LineFault` is.
 #[derive(Clone, Copy, Debug, PartialEq, Eq, Error)]
 pub enum AsmError {

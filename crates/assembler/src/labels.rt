@@ -175,7 +175,9 @@ impl<'a> Labels<'a> {
     /// Where a label is defined. Lines are read on until one defines it.
     pub(crate) fn find(&mut self, name: &'a [u8]) -> Result<Option<Definition>, AllocError>
         ensures same { OnOk result (self.new.source ≡ self.old.source) }
-        ensures found { IfOk result (λ found. found ≡ option_map (defined_at (lines_of self.old.source.now)) (definition (lines_of self.old.source.now) name.now)) }
+        ensures found { IfOk result (λ found. found
+            ≡ option_map (defined_at (lines_of self.old.source.now))
+            (definition (lines_of self.old.source.now) name.now)) }
     {
         loop {
             let found = definition_of(&self.known, name);
@@ -189,7 +191,8 @@ impl<'a> Labels<'a> {
     /// Whether a line before that of an index is a label of the name. The lines before it are read.
     pub(crate) fn is_taken(&mut self, name: &'a [u8], index: usize) -> Result<bool, AllocError>
         ensures same { OnOk result (self.new.source ≡ self.old.source) }
-        ensures found { IfOk result (λ is_taken. is_taken ≡ list_any (has_label name.now) (take index (lines_of self.old.source.now))) }
+        ensures found { IfOk result (λ is_taken. is_taken
+            ≡ list_any (has_label name.now) (take index (lines_of self.old.source.now))) }
     {
         while self.count < index {
             let Some(text) = self.rest else {

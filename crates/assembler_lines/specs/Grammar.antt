@@ -4,7 +4,9 @@ use Rattle.assembler_lines.specs.declared.token.Sign.TheVariants.{Comma, Open, C
 use Rattle.assembler_lines.specs.declared.token.Numeral.{Numeral}
 use Rattle.assembler_lines.specs.declared.token.SignedNumeral.{SignedNumeral}
 use Rattle.assembler_lines.specs.Terms.{Term, Symbol, Name, Number}
-use Rattle.assembler_lines.specs.Shapes.{Value, Named, Constant, Target, AtLabel, Distance, Address, lone_name, two_names, name_and_value, name_and_wide, name_and_address, address_and_constant, address_and_name, lone_target, name_value_and_target}
+use Rattle.assembler_lines.specs.Shapes.{Value, Named, Constant, Target, AtLabel, Distance, Address, lone_name}
+use Rattle.assembler_lines.specs.Shapes.{two_names, name_and_value, name_and_wide, name_and_address}
+use Rattle.assembler_lines.specs.Shapes.{address_and_constant, address_and_name, lone_target, name_value_and_target}
 
 -- a number that has its sign
 abbrev pub written_signed : SignedNumeral → List Term
@@ -12,7 +14,8 @@ written_signed number = Symbol (if number.negative then Minus else Plus) ∷ Num
 
 -- an immediate has a sign only where it is negative, and then isn't hexadecimal
 abbrev pub written_immediate : SignedNumeral → List Term
-written_immediate number = if number.negative then Symbol Minus ∷ Number number.numeral ∷ [] else Number number.numeral ∷ []
+written_immediate number =
+    if number.negative then Symbol Minus ∷ Number number.numeral ∷ [] else Number number.numeral ∷ []
 
 abbrev pub IsImmediate : SignedNumeral → Type 0
 IsImmediate number = (number.negative && number.numeral.hexadecimal) ≡ false
@@ -49,25 +52,33 @@ TwoNames terms = (d s : List ℕ) → (two_names terms ≡ Some (d, s)) ↔ (ter
 -- `rD, rS` and `rD, N`
 abbrev pub NameAndValue : List Term → Type 0
 NameAndValue terms =
-    (d : List ℕ) (v : Value) → (name_and_value terms ≡ Some (d, v)) ↔ ((terms ≡ Name d ∷ Symbol Comma ∷ written_value v) × IsValue v)
+    (d : List ℕ) (v : Value)
+    → (name_and_value terms ≡ Some (d, v)) ↔ ((terms ≡ Name d ∷ Symbol Comma ∷ written_value v) × IsValue v)
 
 -- `rD, N` of a wide load
 abbrev pub NameAndWide : List Term → Type 0
 NameAndWide terms =
-    (d : List ℕ) (n : Option ℕ) → (name_and_wide terms ≡ Some (d, n)) ↔ ((ts : List Term) × (terms ≡ Name d ∷ Symbol Comma ∷ ts) × IsWide ts n)
+    (d : List ℕ) (n : Option ℕ)
+    → (name_and_wide terms ≡ Some (d, n)) ↔ ((ts : List Term) × (terms ≡ Name d ∷ Symbol Comma ∷ ts) × IsWide ts n)
 
 -- `rD, [rS+N]`
 abbrev pub NameAndAddress : List Term → Type 0
-NameAndAddress terms = (d : List ℕ) (a : Address) → (name_and_address terms ≡ Some (d, a)) ↔ (terms ≡ Name d ∷ Symbol Comma ∷ written_address a)
+NameAndAddress terms =
+    (d : List ℕ) (a : Address)
+    → (name_and_address terms ≡ Some (d, a)) ↔ (terms ≡ Name d ∷ Symbol Comma ∷ written_address a)
 
 -- `[rD+N], N`
 abbrev pub AddressAndConstant : List Term → Type 0
 AddressAndConstant terms =
-    (a : Address) (n : SignedNumeral) → (address_and_constant terms ≡ Some (a, n)) ↔ ((terms ≡ written_address a ++ Symbol Comma ∷ written_immediate n) × IsImmediate n)
+    (a : Address) (n : SignedNumeral)
+    → (address_and_constant terms ≡ Some (a, n))
+    ↔ ((terms ≡ written_address a ++ Symbol Comma ∷ written_immediate n) × IsImmediate n)
 
 -- `[rD+N], rS`
 abbrev pub AddressAndName : List Term → Type 0
-AddressAndName terms = (a : Address) (s : List ℕ) → (address_and_name terms ≡ Some (a, s)) ↔ (terms ≡ written_address a ++ Symbol Comma ∷ Name s ∷ [])
+AddressAndName terms =
+    (a : Address) (s : List ℕ)
+    → (address_and_name terms ≡ Some (a, s)) ↔ (terms ≡ written_address a ++ Symbol Comma ∷ Name s ∷ [])
 
 -- `T`
 abbrev pub LoneTarget : List Term → Type 0
@@ -76,4 +87,6 @@ LoneTarget terms = (t : Target) → (lone_target terms ≡ Some t) ↔ (terms �
 -- `rD, rS, T` and `rD, N, T`
 abbrev pub NameValueAndTarget : List Term → Type 0
 NameValueAndTarget terms =
-    (d : List ℕ) (v : Value) (t : Target) → (name_value_and_target terms ≡ Some (d, v, t)) ↔ ((terms ≡ Name d ∷ Symbol Comma ∷ written_value v ++ Symbol Comma ∷ written_target t) × IsValue v)
+    (d : List ℕ) (v : Value) (t : Target)
+    → (name_value_and_target terms ≡ Some (d, v, t))
+    ↔ ((terms ≡ Name d ∷ Symbol Comma ∷ written_value v ++ Symbol Comma ∷ written_target t) × IsValue v)

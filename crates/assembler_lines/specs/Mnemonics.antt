@@ -5,21 +5,28 @@ use Rattle.std.specs.Str.{bytes_eq}
 use Rattle.bpf_words.specs.declared.instruction.Width.{Width}
 use Rattle.bpf_words.specs.declared.instruction.Width.TheVariants.{Narrow, Full}
 use Rattle.bpf_words.specs.declared.instruction.Arithmetic.{Arithmetic}
-use Rattle.bpf_words.specs.declared.instruction.Arithmetic.TheVariants.{Add, Sub, Mul, Div, Or, And, Lsh, Rsh, Mod, Xor, Mov, Arsh, SignedDiv, SignedMod}
+use Rattle.bpf_words.specs.declared.instruction.Arithmetic.TheVariants.{Add, Sub, Mul, Div, Or, And, Lsh, Rsh, Mod, Xor}
+use Rattle.bpf_words.specs.declared.instruction.Arithmetic.TheVariants.{Mov, Arsh, SignedDiv, SignedMod}
 use Rattle.bpf_words.specs.declared.instruction.Extension.{Extension}
-use Rattle.bpf_words.specs.declared.instruction.Extension.TheVariants.{FromByte, FromHalf, FromWord, NarrowFromByte, NarrowFromHalf}
+use Rattle.bpf_words.specs.declared.instruction.Extension.TheVariants.{FromByte, FromHalf, FromWord, NarrowFromByte}
+use Rattle.bpf_words.specs.declared.instruction.Extension.TheVariants.{NarrowFromHalf}
 use Rattle.bpf_words.specs.declared.instruction.Conversion.{Conversion}
 use Rattle.bpf_words.specs.declared.instruction.Conversion.TheVariants.{ToLittleEndian, ToBigEndian, Swap}
 use Rattle.bpf_words.specs.declared.instruction.ConvertedBits.{ConvertedBits}
 use Rattle.bpf_words.specs.declared.instruction.ConvertedBits.TheVariants.{Bits16, Bits32, Bits64}
 use Rattle.bpf_words.specs.declared.instruction.Comparison.{Comparison}
-use Rattle.bpf_words.specs.declared.instruction.Comparison.TheVariants.{Equal, Greater, GreaterOrEqual, AnyBit, NotEqual, SignedGreater, SignedGreaterOrEqual, Less, LessOrEqual, SignedLess, SignedLessOrEqual}
+use Rattle.bpf_words.specs.declared.instruction.Comparison.TheVariants.{Equal, Greater, GreaterOrEqual, AnyBit}
+use Rattle.bpf_words.specs.declared.instruction.Comparison.TheVariants.{NotEqual, SignedGreater, SignedGreaterOrEqual}
+use Rattle.bpf_words.specs.declared.instruction.Comparison.TheVariants.{Less, LessOrEqual, SignedLess}
+use Rattle.bpf_words.specs.declared.instruction.Comparison.TheVariants.{SignedLessOrEqual}
 use Rattle.bpf_words.specs.declared.instruction.Size.{Size}
 use Rattle.bpf_words.specs.declared.instruction.Size.TheVariants.{Byte, Half, Word, Double}
 use Rattle.bpf_words.specs.declared.instruction.SignedSize.{SignedSize}
 use Rattle.bpf_words.specs.declared.instruction.SignedSize.TheVariants.{SignedByte, SignedHalf, SignedWord}
 use Rattle.assembler_lines.specs.declared.form.Form.{Form}
-use Rattle.assembler_lines.specs.declared.form.Form.TheVariants.{Compute, Negate, Extend, Convert, Jump, JumpLong, Branch, Load, LoadSigned, StoreImmediate, StoreRegister, LoadWide, Exit}
+use Rattle.assembler_lines.specs.declared.form.Form.TheVariants.{Compute, Negate, Extend, Convert, Jump, JumpLong}
+use Rattle.assembler_lines.specs.declared.form.Form.TheVariants.{Branch, Load, LoadSigned, StoreImmediate}
+use Rattle.assembler_lines.specs.declared.form.Form.TheVariants.{StoreRegister, LoadWide, Exit}
 
 -- an instruction on 32 bits has `32` behind its name
 abbrev pub width_suffix : Width → List ℕ
@@ -106,7 +113,9 @@ abbrev pub arithmetics : List Arithmetic
 arithmetics = Add ∷ Sub ∷ Mul ∷ Div ∷ Or ∷ And ∷ Lsh ∷ Rsh ∷ Mod ∷ Xor ∷ Mov ∷ Arsh ∷ SignedDiv ∷ SignedMod ∷ []
 
 abbrev pub comparisons : List Comparison
-comparisons = Equal ∷ Greater ∷ GreaterOrEqual ∷ AnyBit ∷ NotEqual ∷ SignedGreater ∷ SignedGreaterOrEqual ∷ Less ∷ LessOrEqual ∷ SignedLess ∷ SignedLessOrEqual ∷ []
+comparisons =
+    Equal ∷ Greater ∷ GreaterOrEqual ∷ AnyBit ∷ NotEqual ∷ SignedGreater ∷ SignedGreaterOrEqual ∷ Less ∷ LessOrEqual
+    ∷ SignedLess ∷ SignedLessOrEqual ∷ []
 
 abbrev pub extensions : List Extension
 extensions = FromByte ∷ FromHalf ∷ FromWord ∷ NarrowFromByte ∷ NarrowFromHalf ∷ []

@@ -1,5 +1,6 @@
 -- Where the lines and labels of a text stand, and what each line of it is.
-use Rattle.std.specs.Prelude.{ℕ, suc, ◌+◌, nat_lt, ◌==◌, if◌then◌else◌, Bool, true, false, List, [], ◌∷◌, take, slice_index_or, sum_by, Option, Some, None, Ok, Err, ℤ, pos, negsuc, ◌-ℤ◌, option_map}
+use Rattle.std.specs.Prelude.{ℕ, suc, ◌+◌, nat_lt, ◌==◌, if◌then◌else◌, Bool, true, false, List, [], ◌∷◌, take}
+use Rattle.std.specs.Prelude.{slice_index_or, sum_by, Option, Some, None, Ok, Err, ℤ, pos, negsuc, ◌-ℤ◌, option_map}
 use Rattle.std.specs.List.{slice_split, list_any}
 use Rattle.std.specs.Str.{bytes_eq}
 use Rattle.bpf_words.specs.declared.instruction.Insn.{Insn}
@@ -9,7 +10,8 @@ use Rattle.assembler_lines.specs.declared.statement.Jump.{Jump}
 use Rattle.assembler_lines.specs.declared.form.Form.TheVariants.{LoadWide}
 use Rattle.assembler_lines.specs.Mnemonics.{name_of}
 use Rattle.assembler_lines.specs.Tokens.{Lexeme, Mark, Word, Stray, tokens_of}
-use Rattle.assembler_lines.specs.Statements.{Statement, Blank, Label, Plain, Onto, Judged, reach, jump_by, reading_of, ◌>>=◌}
+use Rattle.assembler_lines.specs.Statements.{Statement, Blank, Label, Plain, Onto, Judged, reach, jump_by, reading_of}
+use Rattle.assembler_lines.specs.Statements.{◌>>=◌}
 
 -- lines are parted by LF alone
 abbrev pub lines_of : List ℕ → List (List ℕ)

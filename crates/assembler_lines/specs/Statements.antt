@@ -1,6 +1,7 @@
--- What a line says. In a line the order of faults is: a character or number of no token, the first word, the shape, registers,
--- numbers, and a distance that is out of its jump's range.
-use Rattle.std.specs.Prelude.{ℕ, zero, suc, ◌-◌, ◌^◌, nat_lt, nat_le, ◌==◌, ◌&&◌, if◌then◌else◌, Bool, true, false, List, [], ◌∷◌, Option, Some, None, Result, Ok, Err, ℤ, pos, negsuc}
+-- What a line says. In a line the order of faults is: a character or number of no token, the first word, the shape,
+-- registers, numbers, and a distance that is out of its jump's range.
+use Rattle.std.specs.Prelude.{ℕ, zero, suc, ◌-◌, ◌^◌, nat_lt, nat_le, ◌==◌, ◌&&◌, if◌then◌else◌, Bool, true, false}
+use Rattle.std.specs.Prelude.{List, [], ◌∷◌, Option, Some, None, Result, Ok, Err, ℤ, pos, negsuc}
 use Rattle.bpf_words.specs.declared.instruction.Operand.{Operand}
 use Rattle.bpf_words.specs.declared.instruction.Operand.TheVariants.{Immediate, Source}
 use Rattle.bpf_words.specs.declared.instruction.Insn.{Insn}
@@ -16,7 +17,9 @@ use Rattle.assembler_lines.specs.declared.token.SignedNumeral.{SignedNumeral}
 use Rattle.assembler_lines.specs.Tokens.{tokens_of}
 use Rattle.assembler_lines.specs.Terms.{Term, Symbol, Name, Number, terms_of}
 use Rattle.assembler_lines.specs.Mnemonics.{form_named}
-use Rattle.assembler_lines.specs.Shapes.{Value, Named, Constant, Target, AtLabel, Distance, lone_name, two_names, name_and_value, name_and_wide, name_and_address, address_and_constant, address_and_name, lone_target, name_value_and_target}
+use Rattle.assembler_lines.specs.Shapes.{Value, Named, Constant, Target, AtLabel, Distance, lone_name, two_names}
+use Rattle.assembler_lines.specs.Shapes.{name_and_value, name_and_wide, name_and_address, address_and_constant}
+use Rattle.assembler_lines.specs.Shapes.{address_and_name, lone_target, name_value_and_target}
 
 -- what a line says: nothing, a label, an instruction, or a jump to a label
 pub data Statement : Type 0 where
@@ -78,7 +81,8 @@ hexadecimal_value (Some n) = if nat_lt n (2 ^ 32) then Some (as_signed n) else N
 -- an immediate of 32 bits: a signed decimal number, or the bits in hexadecimal
 unfoldable pub immediate : SignedNumeral → Judged ℤ
 immediate number =
-    demand NumberRange (if number.numeral.hexadecimal then hexadecimal_value number.numeral.value else within (2 ^ 31) number)
+    demand NumberRange (if number.numeral.hexadecimal then hexadecimal_value number.numeral.value
+    else within (2 ^ 31) number)
 
 unfoldable pub operand : Value → Judged Operand
 operand (Named word) = do

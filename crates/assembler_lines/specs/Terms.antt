@@ -1,5 +1,6 @@
 -- Names and numbers: what the words of a line are.
-use Rattle.std.specs.Prelude.{ℕ, ◌^◌, nat_lt, nat_eq, ◌&&◌, not, ◌==◌, if◌then◌else◌, Bool, true, false, List, [], ◌∷◌, length, drop, Option, Some, None, codes, option_map, option_and_then}
+use Rattle.std.specs.Prelude.{ℕ, ◌^◌, nat_lt, nat_eq, ◌&&◌, not, ◌==◌, if◌then◌else◌, Bool, true, false, List, [], ◌∷◌}
+use Rattle.std.specs.Prelude.{length, drop, Option, Some, None, codes, option_map, option_and_then}
 use Rattle.std.specs.List.{list_all, starts_with}
 use Rattle.std.specs.Char.{is_digit}
 use Rattle.std.specs.Str.Parse.{digits_value}
@@ -27,11 +28,13 @@ are_digits base word = not (length word == 0) && list_all (λ b. is_digit b base
 
 abbrev pub numeral_in : ℕ → Bool → List ℕ → Option Numeral
 numeral_in base hexadecimal digits =
-    if are_digits base digits then Some (record { hexadecimal = hexadecimal; value = bounded (digits_value base digits) }) else None
+    if are_digits base digits
+    then Some (record { hexadecimal = hexadecimal; value = bounded (digits_value base digits) }) else None
 
 -- the number that a word spells: `0x` and hexadecimal digits, or decimal digits
 unfoldable pub numeral_of : List ℕ → Option Numeral
-numeral_of word = if starts_with nat_eq word (codes "0x") then numeral_in 16 true (drop 2 word) else numeral_in 10 false word
+numeral_of word =
+    if starts_with nat_eq word (codes "0x") then numeral_in 16 true (drop 2 word) else numeral_in 10 false word
 
 abbrev pub begins_digit : List ℕ → Bool
 begins_digit [] = false

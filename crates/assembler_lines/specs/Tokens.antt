@@ -1,6 +1,7 @@
--- Assembler text is a form of this project, for the instructions of RFC 9669, sections 3 to 5. Here: the tokens of a line,
--- from its end backwards: a word byte joins the word behind it.
-use Rattle.std.specs.Prelude.{ℕ, nat_lt, ◌==◌, ◌&&◌, ◌||◌, not, if◌then◌else◌, Bool, false, List, [], ◌∷◌, Option, Some, None}
+-- Assembler text is a form of this project, for the instructions of RFC 9669, sections 3 to 5. Here: the tokens of a
+-- line, from its end backwards: a word byte joins the word behind it.
+use Rattle.std.specs.Prelude.{ℕ, nat_lt, ◌==◌, ◌&&◌, ◌||◌, not, if◌then◌else◌, Bool, false, List, [], ◌∷◌, Option, Some}
+use Rattle.std.specs.Prelude.{None}
 use Rattle.std.specs.List.{find}
 use Rattle.assembler_lines.specs.declared.token.Sign.{Sign}
 use Rattle.assembler_lines.specs.declared.token.Sign.TheVariants.{Comma, Open, Close, Plus, Minus, Colon}

@@ -1,6 +1,7 @@
 use thiserror::Error;
 
-/// Why a line isn't assembler text. No clause says which number and name `Display` shows: those of docs/REFUSALS.md, which a test of
+/// Why a line isn't assembler text. No clause says which number and name `Display` shows: those of docs/REFUSALS.md,
+/// which a test of
 /// `program_tests` compares.
 #[derive(Clone, Copy, Debug, PartialEq, Eq, Error)]
 pub enum LineFault {

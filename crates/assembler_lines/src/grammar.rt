@@ -1,6 +1,7 @@
 ghost use Rattle.std.specs.Prelude.{List};
 ghost use Rattle.assembler_lines.specs.Terms.{Term};
-ghost use Rattle.assembler_lines.specs.Grammar.{LoneName, TwoNames, NameAndValue, NameAndWide, NameAndAddress, AddressAndConstant, AddressAndName, LoneTarget, NameValueAndTarget};
+ghost use Rattle.assembler_lines.specs.Grammar.{LoneName, TwoNames, NameAndValue, NameAndWide, NameAndAddress};
+ghost use Rattle.assembler_lines.specs.Grammar.{AddressAndConstant, AddressAndName, LoneTarget, NameValueAndTarget};
 
 /// The shapes of instructions are read from just the terms that their grammar writes. It is a law, and does nothing.
 pub fn shapes_as_written()

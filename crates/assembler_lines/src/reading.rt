@@ -1,7 +1,9 @@
 ghost use Rattle.std.specs.Prelude.{◌≡◌, ℕ, ◌≤◌, ◌^◌, IsTrue, pos, negsuc, ℤ};
 ghost use Rattle.assembler_lines.specs.Scanning.{terms_seen};
 ghost use Rattle.assembler_lines.specs.Lending.{value_seen, target_seen, judged_seen, behind_seen};
-ghost use Rattle.assembler_lines.specs.Statements.{register_named, register, within, offset, immediate, operand, hexadecimal_value, reach, jump_by, jump_over, jump_to, instruction_of, name_first, statement_of, colon_at, reading_of};
+ghost use Rattle.assembler_lines.specs.Statements.{register_named, register, within, offset, immediate, operand};
+ghost use Rattle.assembler_lines.specs.Statements.{hexadecimal_value, reach, jump_by, jump_over, jump_to};
+ghost use Rattle.assembler_lines.specs.Statements.{instruction_of, name_first, statement_of, colon_at, reading_of};
 ghost use Rattle.assembler_lines.specs.Places.{is_reached};
 ghost use Rattle.assembler_lines.specs.declared.form.Form.TheVariants as form;
 

@@ -1,7 +1,12 @@
 ghost use Rattle.std.specs.Prelude.{◌≡◌, option_map};
 ghost use Rattle.assembler_lines.specs.Scanning.{terms_seen};
-ghost use Rattle.assembler_lines.specs.Lending.{bytes_seen, value_seen, target_seen, address_seen, behind_seen, taken_seen};
-ghost use Rattle.assembler_lines.specs.Shapes.{comma_at, open_at, close_at, end_at, name_at, number_at, signed_at, constant_at, wide_at, value_at, target_at, address_at, lone_name, two_names, name_and_value, name_and_wide, name_and_address, address_and_constant, address_and_name, lone_target, name_value_and_target};
+ghost use Rattle.assembler_lines.specs.Lending.{bytes_seen, value_seen, target_seen, address_seen, behind_seen};
+ghost use Rattle.assembler_lines.specs.Lending.{taken_seen};
+ghost use Rattle.assembler_lines.specs.Shapes.{comma_at, open_at, close_at, end_at, name_at, number_at, signed_at};
+ghost use Rattle.assembler_lines.specs.Shapes.{constant_at, wide_at, value_at, target_at, address_at, lone_name};
+ghost use Rattle.assembler_lines.specs.Shapes.{two_names, name_and_value, name_and_wide, name_and_address};
+ghost use Rattle.assembler_lines.specs.Shapes.{address_and_constant, address_and_name, lone_target};
+ghost use Rattle.assembler_lines.specs.Shapes.{name_value_and_target};
 
 use crate::statement::{Address, Target, Value};
 use crate::token::{Numeral, Sign, SignedNumeral, Term};
@@ -233,7 +238,8 @@ pub(crate) fn only_target<'a>(terms: &[Term<'a>]) -> Option<Target<'a>>
 pub(crate) fn name_value_then_target<'a>(
     terms: &[Term<'a>],
 ) -> Option<(&'a [u8], Value<'a>, Target<'a>)>
-    ensures { option_map (λ x. (bytes_seen x.0, value_seen x.1, target_seen x.2)) result ≡ name_value_and_target (terms_seen terms.now) }
+    ensures { option_map (λ x. (bytes_seen x.0, value_seen x.1, target_seen x.2)) result
+        ≡ name_value_and_target (terms_seen terms.now) }
 {
     let (word, behind) = name(terms)?;
     let (value, behind) = value(comma(behind)?)?;

@@ -70,7 +70,8 @@ fn term_of(token: Token<'_>) -> Option<Term<'_>>
 /// Appends the first terms of a line: whether every token of it is right.
 pub(crate) fn read_terms<'a>(line: &'a [u8], found: &mut ArrayVec<Term<'a>, MOST_TERMS>) -> bool
     requires { found.old.items ≡ [] }
-    ensures { (if result then Some (terms_seen found.new.items) else None) ≡ option_map (take 10) (terms_of (tokens_of line.now)) }
+    ensures { (if result then Some (terms_seen found.new.items) else None)
+        ≡ option_map (take 10) (terms_of (tokens_of line.now)) }
 {
     let mut rest = line;
     loop {

@@ -10,7 +10,8 @@ use meaning::Outcome;
 use std::alloc::Global;
 use verifier::verify::{Verified, verify};
 
-/// The context of a span of this text, without a link. Each round has one of its own, so that no run can stand for another.
+/// The context of a span of this text, without a link. Each round has one of its own, so that no run can stand for
+/// another.
 fn context_of(text: &[u8], round: u32) -> Context
     requires { length text.now ≤ 131072 }
     ensures { Fits (span_bytes result text.now []) }
@@ -77,8 +78,8 @@ fn sum_of_checked_runs(words: &Words<'_>, text: &[u8], rounds: u32) -> u64
     sum
 }
 
-/// Verifies a program once and runs it so many times, each time with a new context. It answers the sum of the verdicts, 0 where the
-/// program isn't accepted.
+/// Verifies a program once and runs it so many times, each time with a new context. It answers the sum of the verdicts,
+/// 0 where the program isn't accepted.
 #[unsafe(no_mangle)]
 pub extern "C" fn bench_run(alloc: Global, program: &[u8], text: &[u8], rounds: u32) -> u64 {
     if text.len() > TEXT_LIMIT {

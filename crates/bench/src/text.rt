@@ -73,8 +73,8 @@ pub extern "C" fn bench_read(alloc: Global, text: &[u8], count: u32) -> u64 {
     rest.len() as u64
 }
 
-/// Takes in so many changes of a text, and then so many more, each of these with its version. It answers how many spans the
-/// last version has.
+/// Takes in so many changes of a text, and then so many more, each of these with its version. It answers how many spans
+/// the last version has.
 #[unsafe(no_mangle)]
 pub extern "C" fn bench_accept(alloc: Global, text: &[u8], alone: u32, followed: u32) -> u64 {
     let Ok(text) = std::str::from_utf8(text) else {
@@ -87,7 +87,8 @@ pub extern "C" fn bench_accept(alloc: Global, text: &[u8], alone: u32, followed:
     }
 }
 
-/// Takes in so many changes of a text, and then makes its version so many times. It answers how many spans the version has.
+/// Takes in so many changes of a text, and then makes its version so many times. It answers how many spans the version
+/// has.
 #[unsafe(no_mangle)]
 pub extern "C" fn bench_version(alloc: Global, text: &[u8], count: u32, rounds: u32) -> u64 {
     let Ok(text) = std::str::from_utf8(text) else {

@@ -3,7 +3,9 @@ use Rattle.std.specs.Prelude.{ℕ, ◌≡◌, ◌+◌, List, [], ◌∷◌, ◌+
 use Rattle.byteorder.specs.Endian.{little_bytes}
 use Rattle.bpf_words.specs.declared.context.Facts.{Facts}
 use Rattle.bpf_words.specs.declared.context_field.ContextField.{ContextField}
-use Rattle.bpf_words.specs.declared.context_field.ContextField.TheVariants.{Text, End, Length, Characters, Flags, Color, LinkLength, Comments, Index, Count, Version, Link, LinkEnd}
+use Rattle.bpf_words.specs.declared.context_field.ContextField.TheVariants.{Text, End, Length, Characters, Flags, Color}
+use Rattle.bpf_words.specs.declared.context_field.ContextField.TheVariants.{LinkLength, Comments, Index, Count, Version}
+use Rattle.bpf_words.specs.declared.context_field.ContextField.TheVariants.{Link, LinkEnd}
 use Rattle.bpf_words.specs.declared.instruction.Size.{Size}
 use Rattle.bpf_words.specs.declared.instruction.Size.TheVariants.{Word, Double}
 use Rattle.bpf_words.specs.Context.{text_base, link_base, context_bytes}
@@ -86,13 +88,18 @@ value_of facts LinkEnd = link_base + facts.link_len
 
 -- the fields by rising offset
 abbrev pub every_field : List ContextField
-every_field = Text ∷ End ∷ Length ∷ Characters ∷ Flags ∷ Color ∷ LinkLength ∷ Comments ∷ Index ∷ Count ∷ Version ∷ Link ∷ LinkEnd ∷ []
+every_field =
+    Text ∷ End ∷ Length ∷ Characters ∷ Flags ∷ Color ∷ LinkLength ∷ Comments ∷ Index ∷ Count ∷ Version ∷ Link ∷ LinkEnd
+    ∷ []
 
 -- at its offset stand the bytes of its value
 abbrev pub StandsIn : Facts → ContextField → Type 0
-StandsIn facts field = take (bytes_of field) (drop (offset_of field) (context_bytes facts)) ≡ little_bytes (bytes_of field) (value_of facts field)
+StandsIn facts field =
+    take (bytes_of field) (drop (offset_of field) (context_bytes facts))
+    ≡ little_bytes (bytes_of field) (value_of facts field)
 
 -- the bytes of the values of some fields, one after another
 unfoldable pub bytes_of_fields : Facts → List ContextField → List ℕ
 bytes_of_fields facts [] = []
-bytes_of_fields facts (field ∷ rest) = little_bytes (bytes_of field) (value_of facts field) ++ bytes_of_fields facts rest
+bytes_of_fields facts (field ∷ rest) =
+    little_bytes (bytes_of field) (value_of facts field) ++ bytes_of_fields facts rest

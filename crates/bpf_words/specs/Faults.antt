@@ -1,12 +1,16 @@
 -- The faults of a slot, each said apart, and which of them is named: the first of six.
-use Rattle.std.specs.Prelude.{ℕ, ◌+◌, ◌%◌, ◌^◌, ◌==◌, not, ◌||◌, if◌then◌else◌, Bool, true, false, List, Option, Some, None}
+use Rattle.std.specs.Prelude.{ℕ, ◌+◌, ◌%◌, ◌^◌, ◌==◌, not, ◌||◌, if◌then◌else◌, Bool, true, false, List, Option, Some}
+use Rattle.std.specs.Prelude.{None}
 use Rattle.bpf_words.specs.declared.fields.Fields.{Fields}
 use Rattle.bpf_words.specs.declared.opcode.Opcode.{Opcode}
-use Rattle.bpf_words.specs.declared.opcode.Opcode.TheVariants.{Computing, Negating, Converting, Jumping, JumpingLong, Branching, Loading, LoadingSigned, Storing, LoadingWide, Exiting, LeftOut, Undefined}
+use Rattle.bpf_words.specs.declared.opcode.Opcode.TheVariants.{Computing, Negating, Converting, Jumping, JumpingLong}
+use Rattle.bpf_words.specs.declared.opcode.Opcode.TheVariants.{Branching, Loading, LoadingSigned, Storing, LoadingWide}
+use Rattle.bpf_words.specs.declared.opcode.Opcode.TheVariants.{Exiting, LeftOut, Undefined}
 use Rattle.bpf_words.specs.declared.instruction.Width.TheVariants.{Narrow, Full}
 use Rattle.bpf_words.specs.declared.instruction.Arithmetic.TheVariants.{Div, Mod, Mov}
 use Rattle.bpf_words.specs.declared.refusal.SlotFault.{SlotFault}
-use Rattle.bpf_words.specs.declared.refusal.SlotFault.TheVariants.{UnknownOpcode, OutOfProfile, UnusedField, BadRegister, BadWidth, TruncatedWide}
+use Rattle.bpf_words.specs.declared.refusal.SlotFault.TheVariants.{UnknownOpcode, OutOfProfile, UnusedField}
+use Rattle.bpf_words.specs.declared.refusal.SlotFault.TheVariants.{BadRegister, BadWidth, TruncatedWide}
 use Rattle.bpf_words.specs.Opcodes.{opcode_of}
 use Rattle.bpf_words.specs.Slots.{slot_at, fields_of}
 use Rattle.bpf_words.specs.Reading.{is_set, no_register, no_operand, other_is_set}
@@ -30,10 +34,12 @@ is_truncated opcode next = false
 
 -- a register above r10
 abbrev pub has_bad_register : Opcode → Fields → Bool
-has_bad_register (Computing width operation by_register) fields = no_register fields.destination || no_operand by_register fields
+has_bad_register (Computing width operation by_register) fields =
+    no_register fields.destination || no_operand by_register fields
 has_bad_register (Negating width) fields = no_register fields.destination
 has_bad_register (Converting conversion) fields = no_register fields.destination
-has_bad_register (Branching width comparison by_register) fields = no_register fields.destination || no_operand by_register fields
+has_bad_register (Branching width comparison by_register) fields =
+    no_register fields.destination || no_operand by_register fields
 has_bad_register (Loading size) fields = no_register fields.destination || no_register fields.source
 has_bad_register (LoadingSigned size) fields = no_register fields.destination || no_register fields.source
 has_bad_register (Storing size by_register) fields = no_register fields.destination || no_operand by_register fields
@@ -47,7 +53,8 @@ has_bad_width (Computing width Mod by_register) fields = not (fields.offset == 0
 has_bad_width (Computing Full Mov true) fields =
     not (fields.offset == 0 || fields.offset == 8 || fields.offset == 16 || fields.offset == 32)
 has_bad_width (Computing Narrow Mov true) fields = not (fields.offset == 0 || fields.offset == 8 || fields.offset == 16)
-has_bad_width (Converting conversion) fields = not (fields.immediate == 16 || fields.immediate == 32 || fields.immediate == 64)
+has_bad_width (Converting conversion) fields =
+    not (fields.immediate == 16 || fields.immediate == 32 || fields.immediate == 64)
 has_bad_width opcode fields = false
 
 -- a field is set that the instruction doesn't use
@@ -55,7 +62,8 @@ abbrev pub has_unused_field : Opcode → Fields → Option ℕ → Bool
 has_unused_field (Computing width Div by_register) fields next = other_is_set by_register fields
 has_unused_field (Computing width Mod by_register) fields next = other_is_set by_register fields
 has_unused_field (Computing width Mov true) fields next = other_is_set true fields
-has_unused_field (Computing width operation by_register) fields next = is_set fields.offset || other_is_set by_register fields
+has_unused_field (Computing width operation by_register) fields next =
+    is_set fields.offset || other_is_set by_register fields
 has_unused_field (Negating width) fields next = is_set fields.source || is_set fields.offset || is_set fields.immediate
 has_unused_field (Converting conversion) fields next = is_set fields.source || is_set fields.offset
 has_unused_field Jumping fields next = is_set fields.destination || is_set fields.source || is_set fields.immediate
@@ -83,4 +91,5 @@ first_fault opcode fields next =
 -- of the slot at an index, taken as an instruction's first
 abbrev pub first_fault_at : List ℕ → ℕ → Option SlotFault
 first_fault_at bytes index =
-    let fields = fields_of (slot_at bytes index) in first_fault (opcode_of fields.opcode) fields (next_slot bytes (index + 1))
+    let fields =
+    fields_of (slot_at bytes index) in first_fault (opcode_of fields.opcode) fields (next_slot bytes (index + 1))

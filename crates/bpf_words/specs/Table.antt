@@ -1,9 +1,11 @@
 -- The opcode bytes as a map: a row for each high digit, a letter for each low digit (RFC 9669, sections 3 to 5).
--- a arithmetic, n negation, c conversion of the order of bytes, j jump, J long jump, b branch, x exit, l load, s sign-extending load,
--- t store, w wide load, o left out, . nothing
+-- a arithmetic, n negation, c conversion of the order of bytes, j jump, J long jump, b branch, x exit, l load, s
+-- sign-extending load, t store, w wide load, o left out, . nothing
 use Rattle.std.specs.Prelude.{◌≡◌, ℕ, List, ◌++◌, codes, slice_index}
 use Rattle.bpf_words.specs.declared.opcode.Opcode.{Opcode}
-use Rattle.bpf_words.specs.declared.opcode.Opcode.TheVariants.{Computing, Negating, Converting, Jumping, JumpingLong, Branching, Loading, LoadingSigned, Storing, LoadingWide, Exiting, LeftOut, Undefined}
+use Rattle.bpf_words.specs.declared.opcode.Opcode.TheVariants.{Computing, Negating, Converting, Jumping, JumpingLong}
+use Rattle.bpf_words.specs.declared.opcode.Opcode.TheVariants.{Branching, Loading, LoadingSigned, Storing, LoadingWide}
+use Rattle.bpf_words.specs.declared.opcode.Opcode.TheVariants.{Exiting, LeftOut, Undefined}
 
 unfoldable pub opcode_map : List ℕ
 opcode_map =

@@ -87,7 +87,8 @@ fn link_end(facts: &Facts) -> u64
 /// Writes a field of 4 bytes.
 fn put_word(bytes: &mut [u8; 72], field: ContextField, value: u32)
     requires { bytes_of field ≡ 4 }
-    ensures { bytes.new ≡ take (offset_of field) bytes.old ++ little_bytes 4 value ++ drop (offset_of field + 4) bytes.old }
+    ensures { bytes.new ≡ take (offset_of field) bytes.old ++ little_bytes 4 value
+        ++ drop (offset_of field + 4) bytes.old }
 {
     let start = field.offset() as usize;
     LittleEndian::write_u32(&mut bytes[start..start + 4], value);
@@ -96,7 +97,8 @@ fn put_word(bytes: &mut [u8; 72], field: ContextField, value: u32)
 /// Writes a field of 8 bytes.
 fn put_double(bytes: &mut [u8; 72], field: ContextField, value: u64)
     requires { bytes_of field ≡ 8 }
-    ensures { bytes.new ≡ take (offset_of field) bytes.old ++ little_bytes 8 value ++ drop (offset_of field + 8) bytes.old }
+    ensures { bytes.new ≡ take (offset_of field) bytes.old ++ little_bytes 8 value
+        ++ drop (offset_of field + 8) bytes.old }
 {
     let start = field.offset() as usize;
     LittleEndian::write_u64(&mut bytes[start..start + 8], value);

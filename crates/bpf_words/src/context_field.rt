@@ -2,7 +2,8 @@
 ghost use Rattle.std.specs.Prelude.{◌≡◌, ◌+◌, ◌≤◌, Some, IfSome, IsTrue, ◌↔◌};
 ghost use Rattle.bpf_words.specs.declared.context.Facts.{Facts};
 ghost use Rattle.bpf_words.specs.Context.{context_bytes};
-ghost use Rattle.bpf_words.specs.ContextField.{offset_of, bytes_of, size_of, name_of, every_field, StandsIn, bytes_of_fields};
+ghost use Rattle.bpf_words.specs.ContextField.{offset_of, bytes_of, size_of, name_of, every_field, StandsIn};
+ghost use Rattle.bpf_words.specs.ContextField.{bytes_of_fields};
 
 use crate::instruction::Size;
 

@@ -1,5 +1,8 @@
 ghost use Rattle.std.specs.Prelude.{◌≡◌, ℕ, ◌+◌, ◌<◌, ◌≤◌, ◌%◌, ◌^◌, length, Option};
-ghost use Rattle.bpf_words.specs.Encoding.{code_of, offset_for, comparison_code, arithmetic_byte, jump_byte, store_byte, width_of, bits_taken, conversion_byte, bits_kept, modifier_of, signed_modifier, is_source, source_in, immediate_in, fields_for, slot_of, second_slot, encoded, bytes_of, IsInsn};
+ghost use Rattle.bpf_words.specs.Encoding.{code_of, offset_for, comparison_code, arithmetic_byte, jump_byte};
+ghost use Rattle.bpf_words.specs.Encoding.{store_byte, width_of, bits_taken, conversion_byte, bits_kept, modifier_of};
+ghost use Rattle.bpf_words.specs.Encoding.{signed_modifier, is_source, source_in, immediate_in, fields_for, slot_of};
+ghost use Rattle.bpf_words.specs.Encoding.{second_slot, encoded, bytes_of, IsInsn};
 ghost use Rattle.bpf_words.specs.RoundTrip.{ReadsBack};
 
 use crate::fields::Fields;

@@ -94,7 +94,8 @@ pub enum Operand {
 }
 
 /// An instruction of the groups base32, base64, divmul32 and divmul64 (RFC 9669, sections 3 to 5), without
-/// calls and wide loads of maps and variables, and no other. A distance counts slots from the slot after the instruction.
+/// calls and wide loads of maps and variables, and no other. A distance counts slots from the slot after the
+/// instruction.
 #[derive(Clone, Copy)]
 pub enum Insn {
     Compute {

@@ -1,5 +1,7 @@
 ghost use Rattle.std.specs.Prelude.{◌≡◌, ℕ, ◌<◌, ◌/◌, ◌%◌};
-ghost use Rattle.bpf_words.specs.Opcodes.{arithmetic_of, comparison_of, size_of, computing, branching, arithmetic_class, jump_class, wide_class, load_class, store_class, register_store_class};
+ghost use Rattle.bpf_words.specs.Opcodes.{arithmetic_of, comparison_of, size_of, computing, branching};
+ghost use Rattle.bpf_words.specs.Opcodes.{arithmetic_class, jump_class, wide_class, load_class, store_class};
+ghost use Rattle.bpf_words.specs.Opcodes.{register_store_class};
 
 use crate::instruction::{Arithmetic, Comparison, Conversion, SignedSize, Size, Width};
 

@@ -1,7 +1,10 @@
 ghost use Rattle.std.specs.Prelude.{◌≡◌, ◌<◌, ◌≤◌, nat_le, if◌then◌else◌, true, false, IfOk};
 ghost use Rattle.bpf_words.specs.Encoding.{offset_for, fields_for};
 ghost use Rattle.bpf_words.specs.RoundTrip.{IsByteOf, IsOperandIn, Follows};
-ghost use Rattle.bpf_words.specs.Reading.{reading, operand_of, no_operand, no_register, other_is_set, is_set, converted_bits, arithmetic_in, negation_in, conversion_in, jump_in, long_jump_in, branch_in, load_in, signed_load_in, store_in, wide_load_in, exit_in};
+ghost use Rattle.bpf_words.specs.Reading.{reading, operand_of, no_operand, no_register, other_is_set, is_set};
+ghost use Rattle.bpf_words.specs.Reading.{converted_bits, arithmetic_in, negation_in, conversion_in, jump_in};
+ghost use Rattle.bpf_words.specs.Reading.{long_jump_in, branch_in, load_in, signed_load_in, store_in, wide_load_in};
+ghost use Rattle.bpf_words.specs.Reading.{exit_in};
 
 use crate::fields::Fields;
 use crate::instruction::{
@@ -265,7 +268,8 @@ fn read_store(size: Size, by_register: bool, fields: &Fields) -> Result<Insn, Sl
 
 fn read_wide_load(fields: &Fields, next: Option<u64>) -> Result<Insn, SlotFault>
     requires { IsByteOf fields.now.opcode Opcode.LoadingWide }
-    ensures value { result ≡ (if is_set fields.now.source then Err SlotFault.OutOfProfile else wide_load_in fields.now next) }
+    ensures value { result ≡ (if is_set fields.now.source then Err SlotFault.OutOfProfile
+        else wide_load_in fields.now next) }
     ensures back { IfOk result (λ insn. fields_for insn ≡ fields.now) }
     ensures follows { IfOk result (λ insn. Follows insn next) }
 {

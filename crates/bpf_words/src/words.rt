@@ -1,4 +1,5 @@
-ghost use Rattle.std.specs.Prelude.{◌≡◌, ℕ, ◌<◌, ◌≤◌, ◌*◌, ◌/◌, ◌+◌, List, false, length, MatchResult, IfOk, OnOk, IfErr, IfSome, slice_get};
+ghost use Rattle.std.specs.Prelude.{◌≡◌, ℕ, ◌<◌, ◌≤◌, ◌*◌, ◌/◌, ◌+◌, List, false, length, MatchResult, IfOk, OnOk};
+ghost use Rattle.std.specs.Prelude.{IfErr, IfSome, slice_get};
 ghost use Rattle.bpf_words.specs.Slots.{slot_at};
 ghost use Rattle.bpf_words.specs.Encoding.{encoded, IsInsn};
 ghost use Rattle.bpf_words.specs.RoundTrip.{StandsAt, AllStand};
@@ -93,14 +94,15 @@ fn check(bytes: &[u8]) -> Result<(), WordError>
 }
 
 impl<'a> Words<'a> {
-    /// Lends the bytes of a program: 1 to 4,096 slots, each an instruction or the second of a wide load. Else the first fault, with its
-    /// slot where it is one slot's (RFC 9669, sections 3 to 5).
+    /// Lends the bytes of a program: 1 to 4,096 slots, each an instruction or the second of a wide load. Else the first
+    /// fault, with its slot where it is one slot's (RFC 9669, sections 3 to 5).
     #[tactic(auto, using(crate::proofs::Refused::refusals, crate::proofs::Faults::orders))]
     pub fn new(bytes: &'a [u8]) -> Result<Words<'a>, WordError>
         ensures value { MatchResult result (λ words. (words ≡ bytes.now) × IsProgram bytes.now) (IsRefused bytes.now) }
         ensures first { IfErr result (λ error. (other : WordError) → IsRefused bytes.now other → other ≡ error) }
         ensures program { (error : WordError) → IsRefused bytes.now error → IsProgram bytes.now → ⊥ }
-        ensures order { (slot : ℕ) → is_second bytes.now slot ≡ false → fault_at bytes.now slot ≡ first_fault_at bytes.now slot }
+        ensures order { (slot : ℕ) → is_second bytes.now slot ≡ false
+            → fault_at bytes.now slot ≡ first_fault_at bytes.now slot }
     {
         check(bytes)?;
         Ok(Words { bytes })

@@ -26,7 +26,8 @@ abbrev pub MayNotFollow : List Op → Op → Refusal → Type 0
 MayNotFollow ops op StaleCounter = IsStale ops op
 MayNotFollow ops op UnknownRef = (IsStale ops op → ⊥) × IsUnknown ops op
 MayNotFollow ops op DocumentFull = (IsStale ops op → ⊥) × (IsUnknown ops op → ⊥) × IsFull ops op
-MayNotFollow ops op MarksFull = (IsStale ops op → ⊥) × (IsUnknown ops op → ⊥) × (IsFull ops op → ⊥) × IsMarkTooMany ops op
+MayNotFollow ops op MarksFull =
+    (IsStale ops op → ⊥) × (IsUnknown ops op → ⊥) × (IsFull ops op → ⊥) × IsMarkTooMany ops op
 
 -- the operations of changes, one after the other
 unfoldable pub operations_of : List Edit → List Op
@@ -35,7 +36,8 @@ operations_of (change ∷ changes) = operations change ++ operations_of changes
 
 -- each of the first operations of several is accepted after the ones before it
 abbrev pub AllFollow : List Op → List Op → ℕ → Type 0
-AllFollow ops added count = (i : ℕ) (op : Op) → i < count → slice_get added i ≡ Some op → MayFollow (ops ++ take i added) op
+AllFollow ops added count =
+    (i : ℕ) (op : Op) → i < count → slice_get added i ≡ Some op → MayFollow (ops ++ take i added) op
 
 -- the first operation that is refused, by its place among them
 pub record IsFirstRefused (ops added : List Op) (place : ℕ) (refusal : Refusal) : Type 0 where

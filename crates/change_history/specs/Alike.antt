@@ -13,7 +13,9 @@ IsRefusedFor changes change refusal = (index : ℕ) × IsRefused changes change 
 pub record AreAlike (changes : List Edit) (a b : Edit) : Type 0 where
   pub accepted : IsAccepted changes a ↔ IsAccepted changes b
   pub refused : (refusal : Refusal) → IsRefusedFor changes a refusal ↔ IsRefusedFor changes b refusal
-  pub version : (number : ℕ) (version : Snapshot) → IsVersion (operations_of (changes ++ a ∷ [])) number version ↔ IsVersion (operations_of (changes ++ b ∷ [])) number version
+  pub version : (number : ℕ) (version : Snapshot)
+      → IsVersion (operations_of (changes ++ a ∷ [])) number version
+      ↔ IsVersion (operations_of (changes ++ b ∷ [])) number version
 
 abbrev pub FormsAreAlike : Type 0
 FormsAreAlike = (changes : List Edit) (a b : Edit) → operations a ≡ operations b → AreAlike changes a b

@@ -1,5 +1,6 @@
 -- What is kept of accepted operations, beside the operations themselves.
-use Rattle.std.specs.Prelude.{◌≡◌, ℕ, ◌+◌, ◌-◌, List, ◌++◌, ◌∷◌, [], length, take, slice_get, Option, Some, Result, IfOk}
+use Rattle.std.specs.Prelude.{◌≡◌, ℕ, ◌+◌, ◌-◌, List, ◌++◌, ◌∷◌, [], length, take, slice_get, Option, Some, Result}
+use Rattle.std.specs.Prelude.{IfOk}
 use Rattle.std.specs.List.{filter}
 use Rattle.change_ops.specs.declared.operation.Op.{Op}
 use Rattle.change_ops.specs.Operations.{is_edit, is_mark}
@@ -17,7 +18,8 @@ use Rattle.change_history.specs.declared.refusal.ApplyError.TheVariants as apply
 use Rattle.change_history.specs.declared.refusal.SubmitError.{SubmitError}
 use Rattle.change_history.specs.declared.refusal.SubmitError.TheVariants.{HistoryFull, Refused, OutOfMemory}
 
--- the sequence is that of all operations, and holds those that are edits; the marks are the others, and the newest counters all peers'
+-- the sequence is that of all operations, and holds those that are edits; the marks are the others, and the newest
+-- counters all peers'
 pub record Keeps (ops : List Op) (parts : Parts) : Type 0 where
   pub shows : Shows parts.sequence.elements ops
   pub held : Holds parts.sequence (filter is_edit ops)
@@ -50,11 +52,14 @@ pub record IsApplied (ops added : List Op) (count : ℕ) (parts : Parts) : Type 
 
 -- the operations are the next ones of several that are accepted
 abbrev pub AreAcceptedNext : List Op → Parts → Type 0
-AreAcceptedNext next parts = (ops : List Op) × ((added : List Op) × ((from : ℕ) × IsApplied ops added from parts × StandAt added from next))
+AreAcceptedNext next parts =
+    (ops : List Op) × ((added : List Op) × ((from : ℕ) × IsApplied ops added from parts × StandAt added from next))
 
 -- they are applied, whatever stands before and behind them
 abbrev pub Applies : {E : Type 0} → List Op → Parts → Parts → Result (Unit {0}) E → Type 0
-Applies next old new result = (ops added : List Op) (from : ℕ) → IsApplied ops added from old → StandAt added from next → IfOk result (λ _. IsApplied ops added (from + length next) new)
+Applies next old new result =
+    (ops added : List Op) (from : ℕ) → IsApplied ops added from old → StandAt added from next
+    → IfOk result (λ _. IsApplied ops added (from + length next) new)
 
 -- the changes were accepted one after another, and these are the parts of their operations
 pub record IsHistory (changes : List Edit) (parts : Parts) : Type 0 where
@@ -63,7 +68,8 @@ pub record IsHistory (changes : List Edit) (parts : Parts) : Type 0 where
 
 -- spare parts are those of all changes but the last
 abbrev pub IsSpare : List Edit → Option Parts → Type 0
-IsSpare changes spare = (parts : Parts) → spare ≡ Some parts → Keeps (operations_of (take (length changes - 1) changes)) parts
+IsSpare changes spare =
+    (parts : Parts) → spare ≡ Some parts → Keeps (operations_of (take (length changes - 1) changes)) parts
 
 -- the draft is of this change, which is accepted after these, and has the parts of them all
 pub record IsDraft (changes : List Edit) (change : Edit) (draft : Draft) : Type 0 where

@@ -36,15 +36,20 @@ pub record IsAdmitted (ops added : List Op) (count node : ℕ) (parts : Parts) (
 
 -- the operations are the next ones of a peer
 abbrev pub AreNext : List Op → Parts → Tally → Type 0
-AreNext next parts tally = (ops : List Op) × ((added : List Op) × ((from : ℕ) × ((node : ℕ) × IsAdmitted ops added from node parts tally × StandAt added from next)))
+AreNext next parts tally =
+    (ops : List Op)
+    × ((added : List Op)
+    × ((from : ℕ) × ((node : ℕ) × IsAdmitted ops added from node parts tally × StandAt added from next)))
 
 -- what the count of so many operations, of a peer's those from this place on, answers, and leaves
 abbrev pub StretchAdmitted : List Op → List Op → ℕ → ℕ → ℕ → Parts → Tally → Result (Unit {0}) ApplyError → Type 0
 StretchAdmitted ops added from count node parts new (Ok done) = IsAdmitted ops added (from + count) node parts new
-StretchAdmitted ops added from count node parts new (Err (apply.Refused refusal)) = (place : ℕ) × (place < count) × IsFirstRefused ops added (from + place) refusal
+StretchAdmitted ops added from count node parts new (Err (apply.Refused refusal)) =
+    (place : ℕ) × (place < count) × IsFirstRefused ops added (from + place) refusal
 StretchAdmitted ops added from count node parts new (Err apply.OutOfMemory) = Unit {0}
 
 -- the same of the next ones, whatever stands before and behind them
 abbrev pub Admits : List Op → Parts → Tally → Tally → Result (Unit {0}) ApplyError → Type 0
 Admits next parts old new result =
-    (ops added : List Op) (from node : ℕ) → IsAdmitted ops added from node parts old → StandAt added from next → StretchAdmitted ops added from (length next) node parts new result
+    (ops added : List Op) (from node : ℕ) → IsAdmitted ops added from node parts old → StandAt added from next
+    → StretchAdmitted ops added from (length next) node parts new result

@@ -53,7 +53,8 @@ pub(crate) fn admit_all(
 ) -> Result<(), SubmitError>
     requires kept { (ops : List Op) × Keeps ops parts.now }
     requires own { AreOf node (ops_of_lines lines.now) }
-    ensures { (ops : List Op) → Keeps ops parts.now → MatchResult result (λ _. AreAllAccepted ops lines.now) (IsNotAccepted ops lines.now) }
+    ensures { (ops : List Op) → Keeps ops parts.now
+        → MatchResult result (λ _. AreAllAccepted ops lines.now) (IsNotAccepted ops lines.now) }
 {
     let mut tally = parts.tally(alloc, node);
     for index in 0..lines.len() {

@@ -1,4 +1,5 @@
-ghost use Rattle.std.specs.Prelude.{◌≡◌, ◌≤◌, ◌+◌, ◌-◌, List, [], ◌++◌, ◌∷◌, length, take, MatchResult, MatchOption, IfOk};
+ghost use Rattle.std.specs.Prelude.{◌≡◌, ◌≤◌, ◌+◌, ◌-◌, List, [], ◌++◌, ◌∷◌, length, take, MatchResult, MatchOption};
+ghost use Rattle.std.specs.Prelude.{IfOk};
 ghost use Rattle.change_ops.specs.Changes.{Edit, operations};
 ghost use Rattle.change_ops.specs.Runs.{inserts_of};
 ghost use Rattle.change_ops.specs.Lines.{ops_of, ops_of_lines};
@@ -88,7 +89,8 @@ fn apply_line(parts: &mut Parts, line: &Line) -> Result<(), AllocError>
 /// Applies lines whose operations are accepted; after an error the parts are of no use.
 fn apply_all(parts: &mut Parts, lines: &[Line]) -> Result<(), AllocError>
     requires { (ops : List Op) × Keeps ops parts.old × AreAllAccepted ops lines.now }
-    ensures { (ops : List Op) → Keeps ops parts.old → AreAllAccepted ops lines.now → IfOk result (λ _. Keeps (ops ++ ops_of_lines lines.now) parts.new) }
+    ensures { (ops : List Op) → Keeps ops parts.old → AreAllAccepted ops lines.now
+        → IfOk result (λ _. Keeps (ops ++ ops_of_lines lines.now) parts.new) }
 {
     for index in 0..lines.len() {
         apply_line(parts, &lines[index])?;
@@ -209,7 +211,8 @@ impl History {
 
     /// Takes a change in after those before it, whole; where it is refused the history stays as it was.
     pub fn accept(&mut self, change: Change) -> Result<(), SubmitError>
-        ensures { MatchResult result (λ _. (self.new ≡ self.old ++ change ∷ []) × IsAccepted self.old change) (λ error. (self.new ≡ self.old) × IsRefused self.old change error) }
+        ensures { MatchResult result (λ _. (self.new ≡ self.old ++ change ∷ []) × IsAccepted self.old change)
+            (λ error. (self.new ≡ self.old) × IsRefused self.old change error) }
     {
         let draft = self.draft(change)?;
         self.put(draft);
@@ -219,7 +222,8 @@ impl History {
     /// The version that the changes make with the one of a draft.
     pub fn draft_version(&self, alloc: Global, draft: &Draft) -> Result<Version, AllocError>
         requires { (change : Edit) × IsDraft self.now change draft.now }
-        ensures { IfOk result (λ version. (change : Edit) → IsDraft self.now change draft.now → IsVersion (operations_of (self.now ++ change ∷ [])) (length self.now + 1) version) }
+        ensures { IfOk result (λ version. (change : Edit) → IsDraft self.now change draft.now
+            → IsVersion (operations_of (self.now ++ change ∷ [])) (length self.now + 1) version) }
     {
         draft.parts.version(alloc, self.len() as u64 + 1)
     }
@@ -233,7 +237,8 @@ impl History {
 
     /// The format of a character, a removed one too; None where no accepted operation inserted it.
     pub fn format_at(&self, alloc: Global, id: OpId) -> Result<Option<Format>, AllocError>
-        ensures { IfOk result (λ format. MatchOption format (Present (operations_of self.now) id → ⊥) (IsFormat (operations_of self.now) id)) }
+        ensures { IfOk result (λ format. MatchOption format (Present (operations_of self.now) id
+            → ⊥) (IsFormat (operations_of self.now) id)) }
     {
         self.parts.format_at(alloc, id)
     }
@@ -248,14 +253,15 @@ impl History {
     /// The law that replicas converge: histories of one set of operations have equal spans, in whatever
     /// order and in however many changes the operations were accepted.
     pub fn same_set_same_spans(&self, other: &History)
-        ensures { (spans others : List Span) → SameSet (operations_of self.now) (operations_of other.now) → AreSpans (operations_of self.now) spans → AreSpans (operations_of other.now) others → spans ≡ others }
+        ensures { (spans others : List Span) → SameSet (operations_of self.now) (operations_of other.now)
+            → AreSpans (operations_of self.now) spans → AreSpans (operations_of other.now) others → spans ≡ others }
     {
         self.parts.same_set_same_spans();
     }
 }
 
-/// The law of the two forms: changes of the same operations are accepted alike, refused alike, and make the same version, in
-/// whatever lines the operations stand.
+/// The law of the two forms: changes of the same operations are accepted alike, refused alike, and make the same
+/// version, in whatever lines the operations stand.
 pub fn forms_are_alike()
     ensures { FormsAreAlike }
 {}

@@ -1,4 +1,5 @@
-ghost use Rattle.std.specs.Prelude.{◌≡◌, ◌↔◌, ◌<◌, ℕ, List, [], ◌++◌, ◌∷◌, true, false, length, Contains, Some, IsTrue, MatchResult, MatchOption, IfOk};
+ghost use Rattle.std.specs.Prelude.{◌≡◌, ◌↔◌, ◌<◌, ℕ, List, [], ◌++◌, ◌∷◌, true, false, length, Contains, Some, IsTrue};
+ghost use Rattle.std.specs.Prelude.{MatchResult, MatchOption, IfOk};
 ghost use Rattle.change_ops.specs.Operations.{id_of, is_mark, Names};
 ghost use Rattle.change_ops.specs.declared.operation.Op.{Op};
 ghost use Rattle.char_sequence.specs.Order.{SameSet};
@@ -84,14 +85,17 @@ impl Parts {
 
     /// Whether an operation inserts the character.
     fn has(&self, tally: &Tally, id: OpId) -> bool
-        ensures { (ops own : List Op) (node : ℕ) → Keeps ops self.now → IsTally ops own node tally.now → IsTrue result ↔ Present (ops ++ own) id }
+        ensures { (ops own : List Op) (node : ℕ) → Keeps ops self.now → IsTally ops own node tally.now
+            → IsTrue result ↔ Present (ops ++ own) id }
     {
         tally.has(id) || self.sequence.has(id)
     }
 
     fn is_there(&self, tally: &Tally, named: Option<OpId>) -> bool
-        ensures yes { (ops own : List Op) (node : ℕ) → Keeps ops self.now → IsTally ops own node tally.now → result ≡ true → (x : OpId) → named ≡ Some x → Present (ops ++ own) x }
-        ensures no { (ops own : List Op) (node : ℕ) → Keeps ops self.now → IsTally ops own node tally.now → result ≡ false → (x : OpId) × (named ≡ Some x) × (Present (ops ++ own) x → ⊥) }
+        ensures yes { (ops own : List Op) (node : ℕ) → Keeps ops self.now → IsTally ops own node tally.now
+            → result ≡ true → (x : OpId) → named ≡ Some x → Present (ops ++ own) x }
+        ensures no { (ops own : List Op) (node : ℕ) → Keeps ops self.now → IsTally ops own node tally.now
+            → result ≡ false → (x : OpId) × (named ≡ Some x) × (Present (ops ++ own) x → ⊥) }
     {
         match named {
             Some(id) => self.has(tally, id),
@@ -101,8 +105,10 @@ impl Parts {
 
     /// Whether a character that the operation names is not there.
     fn is_unknown(&self, tally: &Tally, op: &Op) -> bool
-        ensures yes { (ops own : List Op) (node : ℕ) → Keeps ops self.now → IsTally ops own node tally.now → result ≡ true → IsUnknown (ops ++ own) op.now }
-        ensures no { (ops own : List Op) (node : ℕ) → Keeps ops self.now → IsTally ops own node tally.now → result ≡ false → (x : OpId) → Names op.now x → Present (ops ++ own) x }
+        ensures yes { (ops own : List Op) (node : ℕ) → Keeps ops self.now → IsTally ops own node tally.now
+            → result ≡ true → IsUnknown (ops ++ own) op.now }
+        ensures no { (ops own : List Op) (node : ℕ) → Keeps ops self.now → IsTally ops own node tally.now
+            → result ≡ false → (x : OpId) → Names op.now x → Present (ops ++ own) x }
     {
         let Named { first, second } = op.named();
         !self.is_there(tally, first) || !self.is_there(tally, second)
@@ -110,7 +116,9 @@ impl Parts {
 
     /// Whether a peer's operation is accepted after those applied and those counted since.
     fn check(&self, tally: &Tally, op: &Op) -> Result<(), Refusal>
-        ensures { (ops own : List Op) (node : ℕ) → Keeps ops self.now → IsTally ops own node tally.now → (id_of op.now).node ≡ node → MatchResult result (λ _. MayFollow (ops ++ own) op.now) (MayNotFollow (ops ++ own) op.now) }
+        ensures { (ops own : List Op) (node : ℕ) → Keeps ops self.now → IsTally ops own node tally.now
+            → (id_of op.now).node ≡ node
+            → MatchResult result (λ _. MayFollow (ops ++ own) op.now) (MayNotFollow (ops ++ own) op.now) }
     {
         if tally.is_stale(op) {
             return Err(Refusal::StaleCounter);
@@ -144,7 +152,8 @@ impl Parts {
     /// Adds an accepted operation to the parts that it belongs to; after an error they are of no use.
     pub fn add(&mut self, op: &Op) -> Result<(), AllocError>
         requires { (ops : List Op) × Keeps ops self.old × MayFollow ops op.now }
-        ensures { (ops : List Op) → Keeps ops self.old → MayFollow ops op.now → IfOk result (λ _. Keeps (ops ++ op.now ∷ []) self.new) }
+        ensures { (ops : List Op) → Keeps ops self.old → MayFollow ops op.now
+            → IfOk result (λ _. Keeps (ops ++ op.now ∷ []) self.new) }
     {
         self.newest.note(op.id())?;
         match op {
@@ -166,7 +175,8 @@ impl Parts {
     /// The format of a character, a removed one too, if it is there.
     pub fn format_at(&self, alloc: Global, id: OpId) -> Result<Option<Format>, AllocError>
         requires { (ops : List Op) × Keeps ops self.now }
-        ensures { IfOk result (λ format. (ops : List Op) → Keeps ops self.now → MatchOption format (Present ops id → ⊥) (IsFormat ops id)) }
+        ensures { IfOk result (λ format. (ops : List Op) → Keeps ops self.now
+            → MatchOption format (Present ops id → ⊥) (IsFormat ops id)) }
     {
         match self.sequence.place_of(id) {
             Some(_) => Ok(Some(self.marks.format_at(alloc, &self.sequence, id)?)),
@@ -183,7 +193,8 @@ impl Parts {
 
     /// One set of operations has one list of spans.
     pub fn same_set_same_spans(&self)
-        ensures { (ops others : List Op) (spans more : List Span) → Keeps ops self.now → SameSet ops others → AreSpans ops spans → AreSpans others more → spans ≡ more }
+        ensures { (ops others : List Op) (spans more : List Span) → Keeps ops self.now → SameSet ops others
+            → AreSpans ops spans → AreSpans others more → spans ≡ more }
     {
         same_set_same_spans(&self.sequence);
     }

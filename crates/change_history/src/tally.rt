@@ -1,5 +1,6 @@
 //! What acceptance asks of the operations before a peer's next one.
-ghost use Rattle.std.specs.Prelude.{◌≡◌, ◌↔◌, ◌++◌, ◌∷◌, [], ◌&&◌, ℕ, List, Contains, true, false, IsTrue, IfOk, nat_le};
+ghost use Rattle.std.specs.Prelude.{◌≡◌, ◌↔◌, ◌++◌, ◌∷◌, [], ◌&&◌, ℕ, List, Contains, true, false, IsTrue, IfOk};
+ghost use Rattle.std.specs.Prelude.{nat_le};
 ghost use Rattle.std.specs.List.Sorted.{IsStrictlyIncreasing};
 ghost use Rattle.change_ops.specs.Operations.{id_of, is_insert, is_mark};
 ghost use Rattle.change_ops.specs.declared.operation.Op.{Op};
@@ -39,8 +40,10 @@ fn is_among(numbers: &[u64], number: u64) -> bool
 impl Tally {
     /// Whether the counter of the peer's next operation is not above each that it has to be above.
     pub fn is_stale(&self, op: &Op) -> bool
-        ensures yes { (ops own : List Op) (node : ℕ) → IsTally ops own node self.now → (id_of op.now).node ≡ node → result ≡ true → IsStale (ops ++ own) op.now }
-        ensures no { (ops own : List Op) (node : ℕ) → IsTally ops own node self.now → (id_of op.now).node ≡ node → result ≡ false → IsStale (ops ++ own) op.now → ⊥ }
+        ensures yes { (ops own : List Op) (node : ℕ) → IsTally ops own node self.now → (id_of op.now).node ≡ node
+            → result ≡ true → IsStale (ops ++ own) op.now }
+        ensures no { (ops own : List Op) (node : ℕ) → IsTally ops own node self.now → (id_of op.now).node ≡ node
+            → result ≡ false → IsStale (ops ++ own) op.now → ⊥ }
     {
         op.id().counter() <= self.last || !is_above_named(op)
     }
@@ -68,8 +71,10 @@ impl Tally {
 
     /// Counts the peer's next operation, which is accepted; after an error the tally is of no use.
     pub fn note(&mut self, op: &Op) -> Result<(), AllocError>
-        requires { (ops : List Op) × ((own : List Op) × ((node : ℕ) × IsTally ops own node self.old × MayFollow (ops ++ own) op.now)) }
-        ensures { (ops own : List Op) (node : ℕ) → IsTally ops own node self.old → (id_of op.now).node ≡ node → MayFollow (ops ++ own) op.now → IfOk result (λ _. IsTally ops (own ++ op.now ∷ []) node self.new) }
+        requires { (ops : List Op) × ((own : List Op)
+            × ((node : ℕ) × IsTally ops own node self.old × MayFollow (ops ++ own) op.now)) }
+        ensures { (ops own : List Op) (node : ℕ) → IsTally ops own node self.old → (id_of op.now).node ≡ node
+            → MayFollow (ops ++ own) op.now → IfOk result (λ _. IsTally ops (own ++ op.now ∷ []) node self.new) }
     {
         let counter = op.id().counter();
         self.last = counter;

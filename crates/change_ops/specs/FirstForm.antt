@@ -37,6 +37,9 @@ pub record ArePlainOps (node : ℕ) (ops : List Op) : Type 0 where
 
 -- The changes of the first form are those that spell such operations out, with a line for each.
 pub record FirstFormIsPlain : Type 0 where
-  pub each : (change : Edit) → IsChange change → change.form ≡ First → ArePlainOps change.node (operations change) × (change ≡ spelled_out change.node (operations change))
-  pub all : (node : ℕ) (ops : List Op) → ArePlainOps node ops → IsChange (spelled_out node ops) × (operations (spelled_out node ops) ≡ ops)
-  pub text : (node : ℕ) (ops : List Op) → change_text (spelled_out node ops) ≡ (codes "change" ␣ decimal node ␣ decimal (length ops)) ++ 10 ∷ ops_text ops
+  pub each : (change : Edit) → IsChange change → change.form ≡ First
+      → ArePlainOps change.node (operations change) × (change ≡ spelled_out change.node (operations change))
+  pub all : (node : ℕ) (ops : List Op) → ArePlainOps node ops
+      → IsChange (spelled_out node ops) × (operations (spelled_out node ops) ≡ ops)
+  pub text : (node : ℕ) (ops : List Op)
+      → change_text (spelled_out node ops) ≡ (codes "change" ␣ decimal node ␣ decimal (length ops)) ++ 10 ∷ ops_text ops

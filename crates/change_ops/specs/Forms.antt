@@ -1,5 +1,6 @@
 -- The grammar of a change's lines, of numbers of any size: which words and lines have a form, whatever reads them.
-use Rattle.std.specs.Prelude.{◌≡◌, ℕ, ◌+◌, ◌*◌, ◌^◌, ◌<◌, ◌≤◌, false, List, [], ◌∷◌, ◌++◌, map, length, Option, Some, None, codes, ⊤, ◌↔◌, IsTrue}
+use Rattle.std.specs.Prelude.{◌≡◌, ℕ, ◌+◌, ◌*◌, ◌^◌, ◌<◌, ◌≤◌, false, List, [], ◌∷◌, ◌++◌, map, length, Option, Some}
+use Rattle.std.specs.Prelude.{None, codes, ⊤, ◌↔◌, IsTrue}
 use Rattle.std.specs.List.{AllByRecursion}
 use Rattle.std.specs.Fmt.{digit_glyph}
 use Rattle.change_ops.specs.Ids.{Id}
@@ -116,7 +117,8 @@ ValueForm (attribute.Comment number) = Word (codes "-")
 abbrev pub OpForm : Op → List ℕ → Type 0
 OpForm (Insert id parent character) = Word (codes "i") ⎵ IdForm id ⎵ PlaceForm parent ⎵ CodeForm character
 OpForm (Remove id target) = Word (codes "d") ⎵ IdForm id ⎵ IdForm target
-OpForm (AddMark id attribute start end) = Word (codes "m") ⎵ IdForm id ⎵ KeyForm (key_of attribute) ⎵ ValueForm attribute ⎵ AnchorForm start ⎵ AnchorForm end
+OpForm (AddMark id attribute start end) =
+    Word (codes "m") ⎵ IdForm id ⎵ KeyForm (key_of attribute) ⎵ ValueForm attribute ⎵ AnchorForm start ⎵ AnchorForm end
 OpForm (RemoveMark id key start end) = Word (codes "u") ⎵ IdForm id ⎵ KeyForm key ⎵ AnchorForm start ⎵ AnchorForm end
 
 -- characters' codes with a space between them, at least one
@@ -128,7 +130,8 @@ CharactersForm (character ∷ next ∷ characters) = CodeForm character ⎵ Char
 -- how many they are, and their codes
 abbrev pub CountedForm : List ℕ → List ℕ → Type 0
 CountedForm [] = Word (codes "0")
-CountedForm (character ∷ characters) = Numeral 10 (length (character ∷ characters)) ⎵ CharactersForm (character ∷ characters)
+CountedForm (character ∷ characters) =
+    Numeral 10 (length (character ∷ characters)) ⎵ CharactersForm (character ∷ characters)
 
 -- a run's line, without its LF
 abbrev pub RunForm : RunView → List ℕ → Type 0
@@ -156,4 +159,6 @@ abbrev pub LinesAreForms : Type 0
 LinesAreForms = (form : Form) (text : List ℕ) (line : Line) → (line_in form text ≡ Some line) ↔ LineForm form line text
 
 abbrev pub HeadersAreForms : Type 0
-HeadersAreForms = (line : List ℕ) (form : Form) (node count : ℕ) → (header_at line ≡ Some (form, node, count)) ↔ HeaderForm form node count line
+HeadersAreForms =
+    (line : List ℕ) (form : Form) (node count : ℕ)
+    → (header_at line ≡ Some (form, node, count)) ↔ HeaderForm form node count line

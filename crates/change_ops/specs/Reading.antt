@@ -1,5 +1,7 @@
 -- What a line spells, and the first fault of a line.
-use Rattle.std.specs.Prelude.{◌≡◌, ◌⊎◌, ℕ, zero, suc, nat_lt, nat_le, ◌==◌, ◌+◌, ◌^◌, ◌&&◌, ◌||◌, not, Bool, false, if◌then◌else◌, List, [], ◌∷◌, ◌++◌, length, Option, Some, None, Result, Ok, Err, option_and_then, codes}
+use Rattle.std.specs.Prelude.{◌≡◌, ◌⊎◌, ℕ, zero, suc, nat_lt, nat_le, ◌==◌, ◌+◌, ◌^◌, ◌&&◌, ◌||◌, not, Bool, false}
+use Rattle.std.specs.Prelude.{if◌then◌else◌, List, [], ◌∷◌, ◌++◌, length, Option, Some, None, Result, Ok, Err}
+use Rattle.std.specs.Prelude.{option_and_then, codes}
 use Rattle.std.specs.List.{list_all}
 use Rattle.std.specs.Str.{bytes_eq}
 use Rattle.std.specs.Borrow.{Bor}
@@ -335,7 +337,10 @@ given (Some x) test = test x
 -- the line of a mark, or of a removal of one, that names the key code
 unfoldable pub is_of_code : List ℕ → Bool
 is_of_code line =
-    given (split 32 line) (λ first. given (split 32 first.1) (λ second. given (split 32 second.1) (λ third. (bytes_eq first.0 (codes "m") || bytes_eq first.0 (codes "u")) && bytes_eq third.0 (codes "code"))))
+    given (split 32 line)
+    (λ first. given (split 32 first.1)
+    (λ second. given (split 32 second.1) (λ third. (bytes_eq first.0 (codes "m") || bytes_eq first.0 (codes "u"))
+    && bytes_eq third.0 (codes "code"))))
 
 -- a line that a change of this form has not, though it may be one of an operation
 abbrev pub lacks_line : Form → List ℕ → Bool
@@ -361,7 +366,8 @@ unless_formless (Err OutOfMemory) = OutOfMemory
 -- an id and a place of a run of so many characters, where there is room for so many operations
 abbrev pub within_run : ℕ → ℕ → Result (Id × Option Id) LineFault → Result (Id × Option Id) LineFault
 within_run count room (Err fault) = Err fault
-within_run count room (Ok named) = if nat_le 2 count && nat_le count room && nat_le (named.0.counter + count) (2 ^ 48) then Ok named else Err Limit
+within_run count room (Ok named) =
+    if nat_le 2 count && nat_le count room && nat_le (named.0.counter + count) (2 ^ 48) then Ok named else Err Limit
 
 abbrev pub limited_run : ℕ → ℕ → Option Id → Option (Option Id) → Result (Id × Option Id) LineFault
 limited_run count room id place = within_run count room (both (within within_limits id) (within place_within place))
@@ -373,7 +379,8 @@ encoded_all (Some codes) = if list_all is_character codes then Ok codes else Err
 
 -- the peer's own run of what was read as its characters
 abbrev pub made_verdict : ℕ → Id → Option Id → Result (List ℕ) LineFault → Result RunView LineFault
-made_verdict peer id parent (Ok characters) = own_run peer (record { id = id; parent = parent; characters = characters })
+made_verdict peer id parent (Ok characters) =
+    own_run peer (record { id = id; parent = parent; characters = characters })
 made_verdict peer id parent (Err fault) = Err fault
 
 -- what was read before, and what is still read
@@ -391,9 +398,12 @@ pub record NextCode (fields : List ℕ) (found : ℕ) (rest : List ℕ) : Type 0
 
 abbrev pub IsNextCode : List ℕ → Result (ℕ × Bor (List ℕ)) LineFault → Type 0
 IsNextCode fields (Ok x) = NextCode fields x.0 x.1.now
-IsNextCode fields (Err fault) = (fault ≡ BadLine) × ((word rest : List ℕ) → split 32 fields ≡ Some (word, rest) → hex_at word ≡ None)
+IsNextCode fields (Err fault) =
+    (fault ≡ BadLine) × ((word rest : List ℕ) → split 32 fields ≡ Some (word, rest) → hex_at word ≡ None)
 
 -- What was found is the first character, with so many others in what follows it; or the fault of them all.
 abbrev pub IsFirst : ℕ → List ℕ → Result (ℕ × Bor (List ℕ)) LineFault → Type 0
-IsFirst others fields (Ok x) = encoded_all (characters_at (others + 1) fields) ≡ with_characters (x.0 ∷ []) (encoded_all (characters_at others x.1.now))
+IsFirst others fields (Ok x) =
+    encoded_all (characters_at (others + 1) fields)
+    ≡ with_characters (x.0 ∷ []) (encoded_all (characters_at others x.1.now))
 IsFirst others fields (Err fault) = encoded_all (characters_at (others + 1) fields) ≡ Err fault

@@ -1,5 +1,6 @@
 -- Why a text begins with no change: the first fault by line, and in a line by order, told by the grammar.
-use Rattle.std.specs.Prelude.{◌≡◌, ◌≢◌, ℕ, ◌+◌, ◌-◌, ◌<◌, ◌⊎◌, nat_le, ◌&&◌, List, [], ◌∷◌, ◌++◌, length, IsTrue, IsFalse}
+use Rattle.std.specs.Prelude.{◌≡◌, ◌≢◌, ℕ, ◌+◌, ◌-◌, ◌<◌, ◌⊎◌, nat_le, ◌&&◌, List, [], ◌∷◌, ◌++◌, length, IsTrue}
+use Rattle.std.specs.Prelude.{IsFalse}
 use Rattle.std.specs.List.{AllByRecursion}
 use Rattle.change_ops.specs.Lines.{ops_of_lines, count_of, first_id, line_within, line_has_characters}
 use Rattle.change_ops.specs.Changes.{is_header}
@@ -9,7 +10,8 @@ use Rattle.change_ops.specs.declared.line.Line.{Line as Spelled}
 use Rattle.change_ops.specs.declared.refusal.LineFault.{LineFault}
 use Rattle.change_ops.specs.declared.refusal.LineFault.TheVariants as why
 use Rattle.change_ops.specs.declared.refusal.ChangeError.{ChangeError}
-use Rattle.change_ops.specs.declared.refusal.ChangeError.TheVariants.{BadLine, Truncated, Limit, CharRefused, WrongPeer, OutOfMemory}
+use Rattle.change_ops.specs.declared.refusal.ChangeError.TheVariants.{BadLine, Truncated, Limit, CharRefused, WrongPeer}
+use Rattle.change_ops.specs.declared.refusal.ChangeError.TheVariants.{OutOfMemory}
 
 -- no LF, so no line that ends
 abbrev pub IsUnended : List ℕ → Type 0
@@ -20,21 +22,25 @@ pub record Line (text line rest : List ℕ) : Type 0 where
   pub whole : text ≡ line ++ 10 ∷ rest
   pub one : IsUnended line
 
--- A line of this peer's change is refused so, where the change has this form and room for so many operations: of no form, past the
--- limits or the room, no character, another's.
+-- A line of this peer's change is refused so, where the change has this form and room for so many operations: of no
+-- form, past the limits or the room, no character, another's.
 abbrev pub IsFaulty : Form → ℕ → ℕ → List ℕ → LineFault → Type 0
 IsFaulty form peer room text why.BadLine = (line : Spelled) → LineForm form line text → ⊥
-IsFaulty form peer room text why.Limit = (line : Spelled) × LineForm form line text × IsFalse (line_within line && nat_le (count_of line) room)
+IsFaulty form peer room text why.Limit =
+    (line : Spelled) × LineForm form line text × IsFalse (line_within line && nat_le (count_of line) room)
 IsFaulty form peer room text why.CharRefused =
-    (line : Spelled) × LineForm form line text × IsTrue (line_within line && nat_le (count_of line) room) × IsFalse (line_has_characters line)
+    (line : Spelled) × LineForm form line text × IsTrue (line_within line && nat_le (count_of line) room)
+    × IsFalse (line_has_characters line)
 IsFaulty form peer room text why.WrongPeer =
-    (line : Spelled) × LineForm form line text × IsTrue (line_within line && nat_le (count_of line) room) × IsTrue (line_has_characters line) × ((first_id line).node ≢ peer)
+    (line : Spelled) × LineForm form line text × IsTrue (line_within line && nat_le (count_of line) room)
+    × IsTrue (line_has_characters line) × ((first_id line).node ≢ peer)
 IsFaulty form peer room text why.OutOfMemory = ⊥
 
 -- a change's first line is refused so
 abbrev pub IsFaultyHeader : List ℕ → LineFault → Type 0
 IsFaultyHeader line why.BadLine = (form : Form) (node count : ℕ) → HeaderForm form node count line → ⊥
-IsFaultyHeader line why.Limit = (form : Form) × (node : ℕ) × (count : ℕ) × HeaderForm form node count line × IsFalse (is_header (form, node, count))
+IsFaultyHeader line why.Limit =
+    (form : Form) × (node : ℕ) × (count : ℕ) × HeaderForm form node count line × IsFalse (is_header (form, node, count))
 IsFaultyHeader line why.CharRefused = ⊥
 IsFaultyHeader line why.WrongPeer = ⊥
 IsFaultyHeader line why.OutOfMemory = ⊥
@@ -52,10 +58,11 @@ pub record Accepted (form : Form) (peer room : ℕ) (found : Spelled) (text rest
 abbrev pub AcceptedLines : Form → ℕ → ℕ → List Spelled → List ℕ → List ℕ → Type 0
 AcceptedLines form peer room [] text rest = text ≡ rest
 AcceptedLines form peer room (found ∷ others) text rest =
-    (behind : List ℕ) × Accepted form peer room found text behind × AcceptedLines form peer (room - count_of found) others behind rest
+    (behind : List ℕ) × Accepted form peer room found text behind
+    × AcceptedLines form peer (room - count_of found) others behind rest
 
--- A change's line of this number is wanted, and all before it are accepted; what remains begins with it, and there is room for so many
--- operations of 256.
+-- A change's line of this number is wanted, and all before it are accepted; what remains begins with it, and there is
+-- room for so many operations of 256.
 pub record Reached (text : List ℕ) (number : ℕ) (form : Form) (node room : ℕ) (remains : List ℕ) : Type 0 where
   pub header : List ℕ
   pub rest : List ℕ
@@ -79,7 +86,10 @@ IsFaultAt text number fault =
 -- the refusal of a text that begins with no change
 abbrev pub IsRefused : List ℕ → ChangeError → Type 0
 IsRefused text (BadLine number) = IsFaultAt text number why.BadLine
-IsRefused text Truncated = IsUnended text ⊎ ((number : ℕ) × (form : Form) × (node : ℕ) × (room : ℕ) × (remains : List ℕ) × Reached text number form node room remains × IsUnended remains)
+IsRefused text Truncated =
+    IsUnended text
+    ⊎ ((number : ℕ) × (form : Form) × (node : ℕ) × (room : ℕ) × (remains : List ℕ)
+    × Reached text number form node room remains × IsUnended remains)
 IsRefused text (Limit number) = IsFaultAt text number why.Limit
 IsRefused text (CharRefused number) = IsFaultAt text number why.CharRefused
 IsRefused text (WrongPeer number) = IsFaultAt text number why.WrongPeer

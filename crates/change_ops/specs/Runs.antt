@@ -16,10 +16,12 @@ pub record RunView : Type 0 where
 abbrev pub next_id : Id → Id
 next_id id = record { counter = id.counter + 1; node = id.node }
 
--- an insert for each character: the first with the id and after the place, each next with the next id and after the one before it
+-- an insert for each character: the first with the id and after the place, each next with the next id and after the one
+-- before it
 unfoldable pub inserts_from : Id → Option Id → List ℕ → List Op
 inserts_from id parent [] = []
-inserts_from id parent (character ∷ characters) = Insert id parent character ∷ inserts_from (next_id id) (Some id) characters
+inserts_from id parent (character ∷ characters) =
+    Insert id parent character ∷ inserts_from (next_id id) (Some id) characters
 
 abbrev pub inserts_of : RunView → List Op
 inserts_of run = inserts_from run.id run.parent run.characters
@@ -27,7 +29,9 @@ inserts_of run = inserts_from run.id run.parent run.characters
 -- 2 to 256 characters, of which the last has a counter below 2^48
 abbrev pub run_within : RunView → Bool
 run_within run =
-    (within_limits run.id && place_within run.parent) && (nat_le 2 (length run.characters) && nat_le (length run.characters) 256 && nat_le (run.id.counter + length run.characters) (2 ^ 48))
+    (within_limits run.id && place_within run.parent)
+    && (nat_le 2 (length run.characters) && nat_le (length run.characters) 256
+    && nat_le (run.id.counter + length run.characters) (2 ^ 48))
 
 abbrev pub run_has_characters : RunView → Bool
 run_has_characters run = list_all is_character run.characters

@@ -1,5 +1,6 @@
 -- The text of a change, a form of this project's own: how each of its parts is spelled.
-use Rattle.std.specs.Prelude.{◌≡◌, ℕ, zero, suc, ◌/◌, ◌%◌, false, List, [], ◌∷◌, ◌++◌, length, Option, Some, None, Result, Ok, Err, codes}
+use Rattle.std.specs.Prelude.{◌≡◌, ℕ, zero, suc, ◌/◌, ◌%◌, false, List, [], ◌∷◌, ◌++◌, length, Option, Some, None}
+use Rattle.std.specs.Prelude.{Result, Ok, Err, codes}
 use Rattle.std.specs.Fmt.{decimal, digits, digit_glyph}
 use Rattle.change_ops.specs.Ids.{Id}
 use Rattle.change_ops.specs.Runs.{RunView}
@@ -17,7 +18,8 @@ use Rattle.change_ops.specs.declared.line.Form.TheVariants.{First, Second}
 use Rattle.change_ops.specs.declared.line.Line.{Line}
 use Rattle.change_ops.specs.declared.line.Line.TheVariants.{Operation, Run}
 use Rattle.change_ops.specs.declared.refusal.ChangeError.{ChangeError}
-use Rattle.change_ops.specs.declared.refusal.ChangeError.TheVariants.{BadLine, Truncated, Limit, CharRefused, WrongPeer, OutOfMemory}
+use Rattle.change_ops.specs.declared.refusal.ChangeError.TheVariants.{BadLine, Truncated, Limit, CharRefused, WrongPeer}
+use Rattle.change_ops.specs.declared.refusal.ChangeError.TheVariants.{OutOfMemory}
 
 -- a word, a space, and what follows
 infixr 5 ◌␣◌
@@ -67,7 +69,8 @@ attribute_text (attribute.Comment number) = (codes "comment" ++ 58 ∷ decimal n
 abbrev pub op_text : Op → List ℕ
 op_text (Insert id parent character) = codes "i" ␣ id_text id ␣ place_text parent ␣ hexadecimal character
 op_text (Remove id target) = codes "d" ␣ id_text id ␣ id_text target
-op_text (AddMark id attribute start end) = codes "m" ␣ id_text id ␣ attribute_text attribute ␣ anchor_text start ␣ anchor_text end
+op_text (AddMark id attribute start end) =
+    codes "m" ␣ id_text id ␣ attribute_text attribute ␣ anchor_text start ␣ anchor_text end
 op_text (RemoveMark id key start end) = codes "u" ␣ id_text id ␣ key_text key ␣ anchor_text start ␣ anchor_text end
 
 -- characters' codes, each behind a space
@@ -77,7 +80,8 @@ codes_text (character ∷ characters) = 32 ∷ hexadecimal character ++ codes_te
 
 -- a run's line: how many characters it has, and these
 abbrev pub run_text : RunView → List ℕ
-run_text run = codes "r" ␣ id_text run.id ␣ place_text run.parent ␣ decimal (length run.characters) ++ codes_text run.characters
+run_text run =
+    codes "r" ␣ id_text run.id ␣ place_text run.parent ␣ decimal (length run.characters) ++ codes_text run.characters
 
 abbrev pub line_text : Line → List ℕ
 line_text (Operation op) = op_text op
@@ -113,4 +117,5 @@ Answers (Err (WrongPeer n)) view wanted = ⊥
 
 -- Texts of changes can stand one behind the other: none is another's beginning.
 abbrev pub NoneBeginsAnother : Type 0
-NoneBeginsAnother = (a b : Edit) (x y : List ℕ) → IsChange a → IsChange b → change_text a ++ x ≡ change_text b ++ y → (a ≡ b) × (x ≡ y)
+NoneBeginsAnother =
+    (a b : Edit) (x y : List ℕ) → IsChange a → IsChange b → change_text a ++ x ≡ change_text b ++ y → (a ≡ b) × (x ≡ y)

@@ -1,5 +1,6 @@
 -- Words of a line, and the numbers that they spell.
-use Rattle.std.specs.Prelude.{ℕ, ◌+◌, ◌*◌, ◌-◌, ◌^◌, nat_lt, ◌==◌, min, if◌then◌else◌, Bool, true, false, List, [], ◌∷◌, length, Option, Some, None}
+use Rattle.std.specs.Prelude.{ℕ, ◌+◌, ◌*◌, ◌-◌, ◌^◌, nat_lt, ◌==◌, min, if◌then◌else◌, Bool, true, false, List, [], ◌∷◌}
+use Rattle.std.specs.Prelude.{length, Option, Some, None}
 use Rattle.std.specs.List.{position_or_len, before_first, after_first}
 use Rattle.std.specs.Borrow.{Bor}
 
@@ -21,7 +22,9 @@ seen (Some x) = Some (x.0.now, x.1.now)
 
 -- the value of a digit, 0 to 9 and a to f; that of another byte is past every base
 abbrev pub digit_of : ℕ → ℕ
-digit_of b = if nat_lt b 48 then 255 else if nat_lt b 58 then b - 48 else if nat_lt b 97 then 255 else if nat_lt b 103 then b - 87 else 255
+digit_of b =
+    if nat_lt b 48 then 255 else if nat_lt b 58 then b - 48 else if nat_lt b 97 then 255 else if nat_lt b 103
+    then b - 87 else 255
 
 -- the number that digits spell behind those of n
 unfoldable pub digits_after : ℕ → ℕ → List ℕ → Option ℕ

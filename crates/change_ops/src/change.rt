@@ -8,7 +8,8 @@ ghost use Rattle.change_ops.specs.FirstForm.{FirstFormIsPlain};
 ghost use Rattle.change_ops.specs.Refusals.{IsRefused};
 ghost use Rattle.change_ops.specs.declared.refusal.ChangeError.TheVariants.{OutOfMemory};
 ghost use Rattle.change_ops.specs.Spelling.{Spells, Answers, NoneBeginsAnother};
-ghost use Rattle.change_ops.specs.Changes.{Edit, Gives, OwnLines, at_line as fault_at, header_verdict, next_at, lines_at, change_at};
+ghost use Rattle.change_ops.specs.Changes.{Edit, Gives, OwnLines, at_line as fault_at, header_verdict, next_at};
+ghost use Rattle.change_ops.specs.Changes.{lines_at, change_at};
 
 use crate::line::{Form, Line};
 use crate::lines::line_of_change;
@@ -185,7 +186,8 @@ fn change_of(alloc: Global, text: &str) -> Result<(Change, &str), ChangeError>
 /// order, and in a line a missing LF comes before the form, the limits, the character and the peer.
 pub fn read_change(alloc: Global, text: &str) -> Result<(Change, &str), ChangeError>
     ensures spelled { IfOk result (λ x. Spells text.now x.0 x.1.now) }
-    ensures complete { (change : Edit) (rest : List ℕ) → Spells text.now change rest → Answers result (λ x. (x.0, x.1.now)) (change, rest) }
+    ensures complete { (change : Edit) (rest : List ℕ) → Spells text.now change rest
+        → Answers result (λ x. (x.0, x.1.now)) (change, rest) }
     ensures refused { IfErr result (λ e. (e ≡ OutOfMemory) ⊎ IsRefused text.now e) }
     ensures first { (e : ChangeError) → IsRefused text.now e → (result ≡ Err e) ⊎ (result ≡ Err OutOfMemory) }
     ensures text { IfOk result (λ x. IsUtf8 x.1.now) }

@@ -6,7 +6,9 @@ ghost use Rattle.change_ops.specs.Attributes.{is_color, is_comment_number, is_li
 ghost use Rattle.change_ops.specs.Limits.{place_within, anchor_within, anchors_within, key_within, attribute_within};
 ghost use Rattle.std.specs.Option.{option_map};
 ghost use Rattle.change_ops.specs.Words.{saturated};
-ghost use Rattle.change_ops.specs.Reading.{id_at, hex_at, place_at, anchor_at, comment_at, key_at, color_at, link_at, attribute_at, anchors_at, formed, within, unvalued, encoded, both as both_parts, Reads};
+ghost use Rattle.change_ops.specs.Reading.{id_at, hex_at, place_at, anchor_at, comment_at, key_at, color_at, link_at};
+ghost use Rattle.change_ops.specs.Reading.{attribute_at, anchors_at, formed, within, unvalued, encoded};
+ghost use Rattle.change_ops.specs.Reading.{both as both_parts, Reads};
 
 use crate::attribute::{Attribute, Color, CommentNumber, Key, Link, are_target_bytes};
 use crate::character::Character;

@@ -1,6 +1,9 @@
 //! The lines of a change.
 ghost use Rattle.std.specs.Prelude.{◌≡◌, ◌≤◌};
-ghost use Rattle.change_ops.specs.Reading.{insert_at, remove_at, mark_at, unmark_at, op_at, owned as owned_verdict, op_verdict, op_verdict_in, unless_formless, is_of_code as is_of_code_line, lacks_line as is_lacking, run_at, run_verdict_in, line_in, line_verdict, Reads};
+ghost use Rattle.change_ops.specs.Reading.{insert_at, remove_at, mark_at, unmark_at, op_at, owned as owned_verdict};
+ghost use Rattle.change_ops.specs.Reading.{op_verdict, op_verdict_in, unless_formless, is_of_code as is_of_code_line};
+ghost use Rattle.change_ops.specs.Reading.{lacks_line as is_lacking, run_at, run_verdict_in, line_in, line_verdict};
+ghost use Rattle.change_ops.specs.Reading.{Reads};
 
 use crate::fields::{anchors_of, attribute_of, both, character_of, id_of, key_of, place_of};
 use crate::line::{Form, Line};
@@ -107,7 +110,8 @@ fn op_of(alloc: Global, peer: u16, line: &str) -> Result<Op, LineFault>
     }
 }
 
-/// What was read of an operation, where there is no room for it: a fault of its form comes before this one, others behind it.
+/// What was read of an operation, where there is no room for it: a fault of its form comes before this one, others
+/// behind it.
 fn without_room(read: Result<Op, LineFault>) -> LineFault
     ensures { result ≡ unless_formless read }
 {

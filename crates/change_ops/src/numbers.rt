@@ -2,7 +2,8 @@
 ghost use Rattle.std.specs.Prelude.{IfSome, MatchOption, Some, None, ◌≡◌, ◌<◌, ◌≤◌};
 ghost use Rattle.std.specs.Str.{IsUtf8};
 ghost use Rattle.std.specs.Option.{option_map};
-ghost use Rattle.change_ops.specs.Words.{digit_of as digit_value, digits_after, number_in, saturated, split, behind, seen};
+ghost use Rattle.change_ops.specs.Words.{digit_of as digit_value, digits_after, number_in, saturated, split, behind};
+ghost use Rattle.change_ops.specs.Words.{seen};
 ghost use Rattle.change_ops.specs.Reading.{formed, Found};
 
 use crate::refusal::LineFault;

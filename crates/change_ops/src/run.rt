@@ -32,7 +32,9 @@ impl Model for Run {
 
     ghost view = { λ r. record { id = r.id; parent = r.parent; characters = r.characters.items } };
 
-    ghost invariant = { λ r. IsTrue (run_within (record { id = r.id; parent = r.parent; characters = r.characters.items }) && run_has_characters (record { id = r.id; parent = r.parent; characters = r.characters.items })) };
+    ghost invariant = { λ r. IsTrue (run_within
+        (record { id = r.id; parent = r.parent; characters = r.characters.items })
+        && run_has_characters (record { id = r.id; parent = r.parent; characters = r.characters.items })) };
 }
 
 impl Run {

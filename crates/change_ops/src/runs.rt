@@ -4,7 +4,8 @@ ghost use Rattle.std.specs.Str.{IsUtf8};
 ghost use Rattle.change_ops.specs.Ids.{within_limits};
 ghost use Rattle.change_ops.specs.Limits.{place_within};
 ghost use Rattle.change_ops.specs.Words.{saturated};
-ghost use Rattle.change_ops.specs.Reading.{id_at, place_at, characters_at, run_parts, run_at, own_run, run_verdict, IsNextCode, IsFirst, limited_run, encoded_all, made_verdict, ReadsAs, Reads};
+ghost use Rattle.change_ops.specs.Reading.{id_at, place_at, characters_at, run_parts, run_at, own_run, run_verdict};
+ghost use Rattle.change_ops.specs.Reading.{IsNextCode, IsFirst, limited_run, encoded_all, made_verdict, ReadsAs, Reads};
 
 use crate::character::Character;
 use crate::fields::{both, character_of, code_of, id_of, place_of};
@@ -100,7 +101,8 @@ fn named_of(
 
 /// The fault of a run of no character.
 fn fault_of_none(id: &str, parent: &str) -> LineFault
-    ensures { (peer room : ℕ) → run_verdict peer room (run_parts (id_at id.now) (place_at parent.now) (Some [])) ≡ Err result }
+    ensures { (peer room : ℕ) → run_verdict peer room (run_parts (id_at id.now) (place_at parent.now) (Some []))
+        ≡ Err result }
 {
     match both(id_of(id), place_of(parent)) {
         Err(LineFault::BadLine) => LineFault::BadLine,
@@ -156,7 +158,9 @@ fn typed_of(
     codes: &str,
 ) -> Result<Run, LineFault>
     requires { room ≤ 256 }
-    ensures { (n : ℕ) → count ≡ saturated n → Reads result (run_verdict peer room (run_parts (id_at id.now) (place_at parent.now) (characters_at n codes.now))) }
+    ensures { (n : ℕ) → count ≡ saturated n
+        → Reads result
+        (run_verdict peer room (run_parts (id_at id.now) (place_at parent.now) (characters_at n codes.now))) }
 {
     match named_of(count, room, id, parent) {
         Ok(named) => made_of(alloc, peer, named.0, named.1, count as usize, codes),
@@ -165,7 +169,8 @@ fn typed_of(
     }
 }
 
-/// The run that a line spells behind its first word, in a peer's change that has room for so many operations, or the first fault.
+/// The run that a line spells behind its first word, in a peer's change that has room for so many operations, or the
+/// first fault.
 #[tactic(auto, unfolding(crate::specs::Reading::run_at, crate::specs::Reading::counted_at))]
 pub fn run_of(alloc: Global, peer: u16, room: usize, fields: &str) -> Result<Run, LineFault>
     requires { room ≤ 256 }

@@ -1,7 +1,9 @@
 //! Writing the text of a change.
 ghost use Rattle.std.specs.Prelude.{◌≡◌, ◌++◌, [], ◌∷◌, OnOk, OnErr};
 ghost use Rattle.std.specs.String.{string_bytes};
-ghost use Rattle.change_ops.specs.Spelling.{◌␣◌, id_text, place_text, anchor_text, key_text, attribute_text, op_text, codes_text, run_text, line_text, lines_text, form_text, header_text, change_text};
+ghost use Rattle.change_ops.specs.Spelling.{◌␣◌, id_text, place_text, anchor_text, key_text, attribute_text, op_text};
+ghost use Rattle.change_ops.specs.Spelling.{codes_text, run_text, line_text, lines_text, form_text, header_text};
+ghost use Rattle.change_ops.specs.Spelling.{change_text};
 
 use crate::attribute::{Attribute, Key};
 use crate::change::Change;
@@ -114,7 +116,8 @@ fn write_mark(
     end: Anchor,
     out: &mut String,
 ) -> Result<(), AllocError>
-    ensures { OnOk result (string_bytes out.new ≡ string_bytes out.old ++ op_text (Op.AddMark id attribute.now start end)) }
+    ensures { OnOk result (string_bytes out.new ≡ string_bytes out.old
+        ++ op_text (Op.AddMark id attribute.now start end)) }
 {
     write_front("m", id, out)?;
     write_attribute(attribute, out)?;

@@ -17,7 +17,8 @@ joined (chunk ∷ chunks) = chunk ++ joined chunks
 abbrev pub start_of : List (List Element) → ℕ → ℕ
 start_of chunks position = length (joined (take position chunks))
 
--- the elements stand in so many chunks, each of 1 to 64 of them, of which the longest has so many, 0 where there is none
+-- the elements stand in so many chunks, each of 1 to 64 of them, of which the longest has so many, 0 where there is
+-- none
 pub record AreInChunks (elements : List Element) (count longest : ℕ) : Type 0 where
   pub chunks : List (List Element)
   pub whole : joined chunks ≡ elements
@@ -53,8 +54,10 @@ pub record IsIndexed (chunks : List (List Element)) (names : List ℕ) (index : 
   pub counted : length names ≡ length chunks
   pub below : (i n : ℕ) → slice_get names i ≡ Some n → n < length names
   pub apart : (i j n : ℕ) → slice_get names i ≡ Some n → slice_get names j ≡ Some n → i ≡ j
-  pub behind : (id : OpId) (n : ℕ) → lookup (same_id id) index ≡ Some n → (i : ℕ) × ((c : List Element) × (slice_get names i ≡ Some n) × (slice_get chunks i ≡ Some c) × HasId c id)
-  pub listed : (i : ℕ) (c : List Element) → slice_get chunks i ≡ Some c → (k : ℕ) (e : Element) → slice_get c k ≡ Some e → lookup (same_id e.id) index ≡ None → ⊥
+  pub behind : (id : OpId) (n : ℕ) → lookup (same_id id) index ≡ Some n
+      → (i : ℕ) × ((c : List Element) × (slice_get names i ≡ Some n) × (slice_get chunks i ≡ Some c) × HasId c id)
+  pub listed : (i : ℕ) (c : List Element) → slice_get chunks i ≡ Some c → (k : ℕ) (e : Element) → slice_get c k ≡ Some e
+      → lookup (same_id e.id) index ≡ None → ⊥
 
 -- chunks, and for how many more of them there is room
 pub record Chunked : Type 0 where

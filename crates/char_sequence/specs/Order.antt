@@ -35,8 +35,10 @@ Ordered ops es =
 -- the elements are the inserted characters in order, the removed ones among them, with what is visible of them
 pub record IsText (ops : List Op) (es : List Element) : Type 0 where
   pub ordered : Ordered ops es
-  pub listed : (x : OpId) (p : Option OpId) (c : ℕ) → Contains ops (Insert x p c) → (i : ℕ) × ((e : Element) × (slice_get es i ≡ Some e) × (e.id ≡ x) × (e.character ≡ c))
-  pub inserted : (i : ℕ) (e : Element) → slice_get es i ≡ Some e → (p : Option OpId) × Contains ops (Insert e.id p e.character)
+  pub listed : (x : OpId) (p : Option OpId) (c : ℕ) → Contains ops (Insert x p c)
+      → (i : ℕ) × ((e : Element) × (slice_get es i ≡ Some e) × (e.id ≡ x) × (e.character ≡ c))
+  pub inserted : (i : ℕ) (e : Element) → slice_get es i ≡ Some e
+      → (p : Option OpId) × Contains ops (Insert e.id p e.character)
   pub shown : (i : ℕ) (e : Element) → slice_get es i ≡ Some e → e.visible ≡ true → Removed ops e.id → ⊥
   pub hidden : (i : ℕ) (e : Element) → slice_get es i ≡ Some e → e.visible ≡ false → Removed ops e.id
 

@@ -10,7 +10,8 @@ use Rattle.char_sequence.specs.Chunks.{joined, start_of}
 -- by each chunk's name its position, and how many elements stand before it
 abbrev pub AreStarts : List (List Element) → List ℕ → List ChunkStart → Type 0
 AreStarts chunks names starts =
-    (position name : ℕ) → slice_get names position ≡ Some name → slice_get starts name ≡ Some (record { position = position; start = start_of chunks position })
+    (position name : ℕ) → slice_get names position ≡ Some name
+    → slice_get starts name ≡ Some (record { position = position; start = start_of chunks position })
 
 -- a chunk that stands there has the id
 pub record IsStartOf (chunks : List (List Element)) (id : OpId) (at : ChunkStart) : Type 0 where
@@ -20,8 +21,10 @@ pub record IsStartOf (chunks : List (List Element)) (id : OpId) (at : ChunkStart
   pub start : at.start ≡ start_of chunks at.position
 
 -- what the type of a table keeps
-pub record IsPlaceTable (chunks : List (List Element)) (index : List (OpId × ℕ)) (starts : List ChunkStart) (count : ℕ) : Type 0 where
-  pub found : (id : OpId) (name : ℕ) → lookup (same_id id) index ≡ Some name → (at : ChunkStart) × (slice_get starts name ≡ Some at) × IsStartOf chunks id at
+pub record IsPlaceTable (chunks : List (List Element)) (index : List (OpId × ℕ)) (starts : List ChunkStart)
+    (count : ℕ) : Type 0 where
+  pub found : (id : OpId) (name : ℕ) → lookup (same_id id) index ≡ Some name
+      → (at : ChunkStart) × (slice_get starts name ≡ Some at) × IsStartOf chunks id at
   pub missing : (id : OpId) → lookup (same_id id) index ≡ None → HasId (joined chunks) id → ⊥
   pub counted : count ≡ length (joined chunks)
   pub few : length (joined chunks) ≤ 32768

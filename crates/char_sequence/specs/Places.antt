@@ -9,7 +9,8 @@ use Rattle.char_sequence.specs.Order.{Before, IsAt}
 -- the places from this one on are those after the parent
 pub record IsStart (ops : List Op) (es : List Element) (p : Option OpId) (start : ℕ) : Type 0 where
   pub after : (i : ℕ) (y : Element) → start ≤ i → slice_get es i ≡ Some y → Before ops p y.id
-  pub upto : (i : ℕ) (x : Element) → i < start → slice_get es i ≡ Some x → (m : OpId) × (p ≡ Some m) × ((x.id ≡ m) ⊎ Before ops (Some x.id) m)
+  pub upto : (i : ℕ) (x : Element) → i < start → slice_get es i ≡ Some x
+      → (m : OpId) × (p ≡ Some m) × ((x.id ≡ m) ⊎ Before ops (Some x.id) m)
 
 -- the places from the parent's on that hold greater ids, up to the first that does not
 pub record IsPast (es : List Element) (e : OpId) (start k : ℕ) : Type 0 where

@@ -1,4 +1,5 @@
-ghost use Rattle.std.specs.Prelude.{vec_capacity, string_bytes, false, ◌≡◌, ℕ, ◌<◌, ◌≤◌, ◌∷◌, [], Some, cond, length, take, drop, set, insert, slice_get, MatchOption, IfSome};
+ghost use Rattle.std.specs.Prelude.{vec_capacity, string_bytes, false, ◌≡◌, ℕ, ◌<◌, ◌≤◌, ◌∷◌, [], Some, cond, length};
+ghost use Rattle.std.specs.Prelude.{take, drop, set, insert, slice_get, MatchOption, IfSome};
 ghost use Rattle.std.specs.String.{string_capacity};
 ghost use Rattle.std.specs.String.Boundary.{IsSplitPoint};
 ghost use Rattle.change_ops.specs.Ids.{Less};
@@ -27,7 +28,8 @@ const TEXT_LIMIT: usize = 256;
 pub(crate) struct Blank {
     items: Vec<Element>,
     text: String,
-    ghost ready: { (items.items ≡ []) × (64 ≤ vec_capacity items) × (string_bytes text ≡ []) × (256 ≤ string_capacity text) },
+    ghost ready: { (items.items ≡ []) × (64 ≤ vec_capacity items) × (string_bytes text ≡ [])
+        × (256 ≤ string_capacity text) },
 }
 
 impl Blank {
@@ -98,7 +100,9 @@ impl Model for Chunk {
 
     ghost view = { λ c. c.items.items };
 
-    ghost invariant = { λ c. IsChunk c.items.items (vec_capacity c.items) × IsTextOf c.items.items (string_bytes c.text) (string_capacity c.text) × IsFloor c.items.items c.floor × (c.shown ≡ visible_count c.items.items) };
+    ghost invariant = { λ c. IsChunk c.items.items (vec_capacity c.items)
+        × IsTextOf c.items.items (string_bytes c.text) (string_capacity c.text) × IsFloor c.items.items c.floor
+        × (c.shown ≡ visible_count c.items.items) };
 }
 
 impl Chunk {
@@ -172,7 +176,8 @@ impl Chunk {
 
     /// The first index from `start` on whose id is not greater.
     pub(crate) fn past_greater(&self, start: usize, id: OpId) -> Option<usize>
-        ensures { MatchOption result ((i : ℕ) (x : Element) → start ≤ i → slice_get self.now i ≡ Some x → Less id x.id) (IsNext self.now id start) }
+        ensures { MatchOption result ((i : ℕ) (x : Element) → start ≤ i → slice_get self.now i ≡ Some x
+            → Less id x.id) (IsNext self.now id start) }
     {
         if id.is_below(self.floor) {
             return None;
@@ -181,7 +186,8 @@ impl Chunk {
     }
 
     fn first_not_greater(&self, start: usize, id: OpId) -> Option<usize>
-        ensures { MatchOption result ((i : ℕ) (x : Element) → start ≤ i → slice_get self.now i ≡ Some x → Less id x.id) (IsNext self.now id start) }
+        ensures { MatchOption result ((i : ℕ) (x : Element) → start ≤ i → slice_get self.now i ≡ Some x
+            → Less id x.id) (IsNext self.now id start) }
     {
         for place in start..self.items.len() {
             if !id.is_below(self.items[place].id) {
@@ -222,7 +228,8 @@ impl Chunk {
     /// Makes the element at an index a tombstone.
     pub(crate) fn hide(&mut self, place: usize)
         requires { place < length self.old }
-        ensures { (x : Element) → slice_get self.old place ≡ Some x → self.new ≡ set self.old place (record { id = x.id; character = x.character; visible = false }) }
+        ensures { (x : Element) → slice_get self.old place ≡ Some x
+            → self.new ≡ set self.old place (record { id = x.id; character = x.character; visible = false }) }
     {
         self.items[place].visible = false;
         write_text(&self.items, &mut self.text);

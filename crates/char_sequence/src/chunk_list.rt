@@ -1,4 +1,6 @@
-ghost use Rattle.std.specs.Prelude.{◌≡◌, ℕ, ◌<◌, ◌≤◌, ◌+◌, ◌-◌, ◌^◌, ◌⊎◌, ◌∷◌, ◌++◌, List, [], true, false, length, take, drop, slice_get, set, insert, OnErr, MatchOption, IfSome, OnOk, IfOk, Some, None};
+ghost use Rattle.std.specs.Prelude.{◌≡◌, ℕ, ◌<◌, ◌≤◌, ◌+◌, ◌-◌, ◌^◌, ◌⊎◌, ◌∷◌, ◌++◌, List, [], true, false, length};
+ghost use Rattle.std.specs.Prelude.{take, drop, slice_get, set, insert, OnErr, MatchOption, IfSome, OnOk, IfOk, Some};
+ghost use Rattle.std.specs.Prelude.{None};
 ghost use Rattle.std.specs.Map.{lookup};
 ghost use Rattle.char_sequence.specs.declared.sequence.Element.{Element};
 ghost use Rattle.char_sequence.specs.Order.{IsAt};
@@ -34,7 +36,8 @@ impl Spot {
     /// The spot once the elements from `at` on are in the chunk after this one.
     fn after_split(self, at: usize) -> Spot
         requires { self.position < usize.MAX }
-        ensures { ((self.at < at) × (result.position ≡ self.position) × (result.at ≡ self.at)) ⊎ ((at ≤ self.at) × (result.position ≡ self.position + 1) × (result.at ≡ self.at - at)) }
+        ensures { ((self.at < at) × (result.position ≡ self.position) × (result.at ≡ self.at))
+            ⊎ ((at ≤ self.at) × (result.position ≡ self.position + 1) × (result.at ≡ self.at - at)) }
     {
         if self.at < at {
             self
@@ -47,8 +50,8 @@ impl Spot {
     }
 }
 
-/// Where a full chunk is split for an element at a place: in the middle, but where the element goes to the end, as in text
-/// that is typed on, before the last element, so that chunks stay nearly full.
+/// Where a full chunk is split for an element at a place: in the middle, but where the element goes to the end, as in
+/// text that is typed on, before the last element, so that chunks stay nearly full.
 fn split_point(at: usize) -> usize
     ensures { (0 < result) × (result < 64) }
 {
@@ -85,7 +88,10 @@ impl Model for ChunkList {
 
     ghost Value = { Chunked };
 
-    ghost view = { λ l. record { chunks = l.chunks.items; room = min (vec_capacity l.chunks - vec_len l.chunks) (vec_capacity l.names - vec_len l.names) } };
+    ghost view = { λ l. record {
+      chunks = l.chunks.items;
+      room = min (vec_capacity l.chunks - vec_len l.chunks) (vec_capacity l.names - vec_len l.names);
+    } };
 
     ghost invariant = { λ l. IsKept l.chunks.items l.names.items l.index.entries l.count };
 }
@@ -95,7 +101,8 @@ ghost use Rattle.char_sequence.specs.Rooms.{IsRoom};
 
 /// The position of a name. In text that is typed on, it is the name itself, so this is tried first.
 fn position_of(names: &[usize], name: usize) -> Option<usize>
-    ensures { MatchOption result ((i : ℕ) → slice_get names.now i ≡ Some name → ⊥) (λ i. slice_get names.now i ≡ Some name) }
+    ensures { MatchOption result ((i : ℕ) → slice_get names.now i ≡ Some name
+        → ⊥) (λ i. slice_get names.now i ≡ Some name) }
 {
     if name < names.len() && names[name] == name {
         return Some(name);
@@ -124,7 +131,9 @@ fn start(chunks: &[Chunk], position: usize) -> usize
 /// The spot past the greater ids, from this one on.
 fn past_greater(chunks: &[Chunk], from: Spot, id: OpId) -> Spot
     requires { (place : ℕ) × IsSpot chunks.now from.position from.at place }
-    ensures { (start : ℕ) → IsSpot chunks.now from.position from.at start → (place : ℕ) × IsSpot chunks.now result.position result.at place × IsPast (joined chunks.now) id start place }
+    ensures { (start : ℕ) → IsSpot chunks.now from.position from.at start
+        → (place : ℕ) × IsSpot chunks.now result.position result.at place
+        × IsPast (joined chunks.now) id start place }
 {
     let mut at = from.at;
     for position in from.position..chunks.len() {
@@ -142,9 +151,12 @@ fn past_greater(chunks: &[Chunk], from: Spot, id: OpId) -> Spot
 
 /// Gives the elements, which have names, a new one.
 fn rename(index: &mut BTreeMap<OpId, usize>, elements: &[Element], name: usize)
-    requires { (k : ℕ) (e : Element) → slice_get elements.now k ≡ Some e → lookup (same_id e.id) index.old.entries ≡ None → ⊥ }
-    ensures renamed { (k : ℕ) (e : Element) → slice_get elements.now k ≡ Some e → lookup (same_id e.id) index.new.entries ≡ Some name }
-    ensures kept { (q : OpId) → (HasId elements.now q → ⊥) → lookup (same_id q) index.new.entries ≡ lookup (same_id q) index.old.entries }
+    requires { (k : ℕ) (e : Element) → slice_get elements.now k ≡ Some e
+        → lookup (same_id e.id) index.old.entries ≡ None → ⊥ }
+    ensures renamed { (k : ℕ) (e : Element) → slice_get elements.now k ≡ Some e
+        → lookup (same_id e.id) index.new.entries ≡ Some name }
+    ensures kept { (q : OpId) → (HasId elements.now q → ⊥)
+        → lookup (same_id q) index.new.entries ≡ lookup (same_id q) index.old.entries }
 {
     for element in elements {
         // Only an id that is not there wants memory.
@@ -162,7 +174,8 @@ fn enter(
 ) -> Result<(), AllocError>
     requires { (ops : List Op) × IsNewest ops newest.old × (Used ops id → ⊥) }
     ensures updates { OnOk result (Updates id_cmp index.old index.new id (Some name)) }
-    ensures noted { (ops : List Op) (op : Op) → id_of op ≡ id → IsNewest ops newest.old → IfOk result (λ _. IsNewest (ops ++ op ∷ []) newest.new) }
+    ensures noted { (ops : List Op) (op : Op) → id_of op ≡ id → IsNewest ops newest.old
+        → IfOk result (λ _. IsNewest (ops ++ op ∷ []) newest.new) }
     ensures unchanged { OnErr result (IsUnchanged index.old index.new) }
     ensures same { OnErr result (newest.new ≡ newest.old) }
 {
@@ -218,7 +231,8 @@ impl ChunkList {
     /// The spot of an element of this id.
     fn spot_of(&self, id: OpId) -> Option<Spot>
         ensures within { IfSome result (λ s. s.at < 64) }
-        ensures found { MatchOption result (HasId (joined self.now.chunks) id → ⊥) (λ s. IsSpotOf self.now.chunks id s.position s.at) }
+        ensures found { MatchOption result (HasId (joined self.now.chunks) id
+            → ⊥) (λ s. IsSpotOf self.now.chunks id s.position s.at) }
     {
         let name = *self.index.get(&id)?;
         let position = position_of(&self.names, name).unwrap();
@@ -228,7 +242,8 @@ impl ChunkList {
 
     /// The element of this id.
     pub(crate) fn element_of(&self, id: OpId) -> Option<Element>
-        ensures { MatchOption result (HasId (joined self.now.chunks) id → ⊥) (λ e. (k : ℕ) × (slice_get (joined self.now.chunks) k ≡ Some e) × (e.id ≡ id)) }
+        ensures { MatchOption result (HasId (joined self.now.chunks) id
+            → ⊥) (λ e. (k : ℕ) × (slice_get (joined self.now.chunks) k ≡ Some e) × (e.id ≡ id)) }
     {
         let spot = self.spot_of(id)?;
         Some(self.chunks[spot.position].as_slice()[spot.at])
@@ -253,7 +268,8 @@ impl ChunkList {
     fn spot_for(&self, parent: Option<OpId>, id: OpId) -> Spot
         requires some { 0 < length self.now.chunks }
         requires there { (m : OpId) → parent ≡ Some m → HasId (joined self.now.chunks) m }
-        ensures { (start : ℕ) × ((place : ℕ) × IsAfter (joined self.now.chunks) parent start × IsPast (joined self.now.chunks) id start place × IsSpot self.now.chunks result.position result.at place) }
+        ensures { (start : ℕ) × ((place : ℕ) × IsAfter (joined self.now.chunks) parent start
+            × IsPast (joined self.now.chunks) id start place × IsSpot self.now.chunks result.position result.at place) }
     {
         let from = match parent {
             Some(parent) => {
@@ -270,8 +286,11 @@ impl ChunkList {
 
     /// Moves the elements of a chunk from a place on into a chunk of their own after it.
     fn split_chunk(&mut self, position: usize, at: usize) -> Result<(), AllocError>
-        requires { (chunk : List Element) × (slice_get self.old.chunks position ≡ Some chunk) × (0 < at) × (at < length chunk) }
-        ensures split { (chunk : List Element) → slice_get self.old.chunks position ≡ Some chunk → OnOk result (self.new.chunks ≡ insert (set self.old.chunks position (take at chunk)) (position + 1) (drop at chunk)) }
+        requires { (chunk : List Element) × (slice_get self.old.chunks position ≡ Some chunk) × (0 < at)
+            × (at < length chunk) }
+        ensures split { (chunk : List Element) → slice_get self.old.chunks position ≡ Some chunk
+            → OnOk result
+            (self.new.chunks ≡ insert (set self.old.chunks position (take at chunk)) (position + 1) (drop at chunk)) }
         ensures err { OnErr result (self.new.chunks ≡ self.old.chunks) }
         ensures next { position < usize.MAX }
     {
@@ -288,9 +307,12 @@ impl ChunkList {
 
     /// Splits a full chunk, and gives the spot among its parts.
     fn split(&mut self, spot: Spot) -> Result<Spot, AllocError>
-        requires { (chunk : List Element) × (slice_get self.old.chunks spot.position ≡ Some chunk) × (length chunk ≡ 64) × (spot.at ≤ 64) }
+        requires { (chunk : List Element) × (slice_get self.old.chunks spot.position ≡ Some chunk)
+            × (length chunk ≡ 64) × (spot.at ≤ 64) }
         ensures same { joined self.new.chunks ≡ joined self.old.chunks }
-        ensures spot { IfOk result (λ s. (chunk : List Element) × (slice_get self.new.chunks s.position ≡ Some chunk) × (length chunk < 64) × (s.at ≤ length chunk) × (start_of self.new.chunks s.position + s.at ≡ start_of self.old.chunks spot.position + spot.at)) }
+        ensures spot { IfOk result (λ s. (chunk : List Element) × (slice_get self.new.chunks s.position ≡ Some chunk)
+            × (length chunk < 64) × (s.at ≤ length chunk)
+            × (start_of self.new.chunks s.position + s.at ≡ start_of self.old.chunks spot.position + spot.at)) }
     {
         let at = split_point(spot.at);
         self.split_chunk(spot.position, at)?;
@@ -311,7 +333,9 @@ impl ChunkList {
     pub(crate) fn reserve(&mut self, parent: Option<OpId>, id: OpId) -> Result<Room, AllocError>
         requires { (m : OpId) → parent ≡ Some m → HasId (joined self.old.chunks) m }
         ensures same { joined self.new.chunks ≡ joined self.old.chunks }
-        ensures room { IfOk result (λ room. (start : ℕ) × ((place : ℕ) × IsAfter (joined self.old.chunks) parent start × IsPast (joined self.old.chunks) id start place × IsRoom self.new room place)) }
+        ensures room { IfOk result (λ room. (start : ℕ)
+            × ((place : ℕ) × IsAfter (joined self.old.chunks) parent start
+            × IsPast (joined self.old.chunks) id start place × IsRoom self.new room place)) }
     {
         if self.chunks.is_empty() {
             let blank = Blank::new(*self.names.allocator())?;
@@ -337,7 +361,8 @@ impl ChunkList {
         requires room { 1 ≤ self.old.room }
         requires fresh { (ops : List Op) × IsNewest ops newest.old × (Used ops element.id → ⊥) }
         ensures ok { OnOk result (self.new.chunks ≡ (element ∷ []) ∷ []) }
-        ensures noted { (ops : List Op) (op : Op) → id_of op ≡ element.id → IsNewest ops newest.old → IfOk result (λ _. IsNewest (ops ++ op ∷ []) newest.new) }
+        ensures noted { (ops : List Op) (op : Op) → id_of op ≡ element.id → IsNewest ops newest.old
+            → IfOk result (λ _. IsNewest (ops ++ op ∷ []) newest.new) }
         ensures err { OnErr result ((self.new.chunks ≡ self.old.chunks) × (newest.new ≡ newest.old)) }
     {
         enter(&mut self.index, newest, element.id, 0)?;
@@ -353,11 +378,14 @@ impl ChunkList {
         spot: Spot,
         element: Element,
     ) -> Result<(), AllocError>
-        requires there { (chunk : List Element) × (slice_get self.old.chunks spot.position ≡ Some chunk) × (length chunk < 64) × (spot.at ≤ length chunk) }
+        requires there { (chunk : List Element) × (slice_get self.old.chunks spot.position ≡ Some chunk)
+            × (length chunk < 64) × (spot.at ≤ length chunk) }
         requires few { length (joined self.old.chunks) < 32768 }
         requires fresh { (ops : List Op) × IsNewest ops newest.old × (Used ops element.id → ⊥) }
-        ensures ok { (chunk : List Element) → slice_get self.old.chunks spot.position ≡ Some chunk → OnOk result (self.new.chunks ≡ set self.old.chunks spot.position (insert chunk spot.at element)) }
-        ensures noted { (ops : List Op) (op : Op) → id_of op ≡ element.id → IsNewest ops newest.old → IfOk result (λ _. IsNewest (ops ++ op ∷ []) newest.new) }
+        ensures ok { (chunk : List Element) → slice_get self.old.chunks spot.position ≡ Some chunk
+            → OnOk result (self.new.chunks ≡ set self.old.chunks spot.position (insert chunk spot.at element)) }
+        ensures noted { (ops : List Op) (op : Op) → id_of op ≡ element.id → IsNewest ops newest.old
+            → IfOk result (λ _. IsNewest (ops ++ op ∷ []) newest.new) }
         ensures err { OnErr result ((self.new.chunks ≡ self.old.chunks) × (newest.new ≡ newest.old)) }
     {
         let name = self.names[spot.position];
@@ -367,7 +395,8 @@ impl ChunkList {
         Ok(())
     }
 
-    /// Notes an element's id, and puts the element where there is room for it; the error is want of memory, and changes nothing.
+    /// Notes an element's id, and puts the element where there is room for it; the error is want of memory, and changes
+    /// nothing.
     pub(crate) fn put(
         &mut self,
         newest: &mut Newest,
@@ -377,8 +406,10 @@ impl ChunkList {
         requires room { (place : ℕ) × IsRoom self.old room place }
         requires few { length (joined self.old.chunks) < 32768 }
         requires fresh { (ops : List Op) × IsNewest ops newest.old × (Used ops element.id → ⊥) }
-        ensures ok { (place : ℕ) → IsRoom self.old room place → OnOk result (joined self.new.chunks ≡ insert (joined self.old.chunks) place element) }
-        ensures noted { (ops : List Op) (op : Op) → id_of op ≡ element.id → IsNewest ops newest.old → IfOk result (λ _. IsNewest (ops ++ op ∷ []) newest.new) }
+        ensures ok { (place : ℕ) → IsRoom self.old room place
+            → OnOk result (joined self.new.chunks ≡ insert (joined self.old.chunks) place element) }
+        ensures noted { (ops : List Op) (op : Op) → id_of op ≡ element.id → IsNewest ops newest.old
+            → IfOk result (λ _. IsNewest (ops ++ op ∷ []) newest.new) }
         ensures err { OnErr result ((joined self.new.chunks ≡ joined self.old.chunks) × (newest.new ≡ newest.old)) }
     {
         match room {
@@ -391,7 +422,10 @@ impl ChunkList {
     /// Makes the element of this id a tombstone.
     pub(crate) fn hide(&mut self, id: OpId)
         requires { HasId (joined self.old.chunks) id }
-        ensures { (place : ℕ) × IsAt (joined self.old.chunks) id place × ((x : Element) → slice_get (joined self.old.chunks) place ≡ Some x → joined self.new.chunks ≡ set (joined self.old.chunks) place (record { id = x.id; character = x.character; visible = false })) }
+        ensures { (place : ℕ) × IsAt (joined self.old.chunks) id place
+            × ((x : Element) → slice_get (joined self.old.chunks) place ≡ Some x
+            → joined self.new.chunks
+            ≡ set (joined self.old.chunks) place (record { id = x.id; character = x.character; visible = false })) }
     {
         let spot = self.spot_of(id).unwrap();
         self.chunks[spot.position].hide(spot.at);
@@ -401,8 +435,10 @@ impl ChunkList {
     pub(crate) fn shape(&self) -> (usize, usize)
         ensures count { result.0 ≡ length self.now.chunks }
         ensures limit { result.1 ≤ 64 }
-        ensures each { (i : ℕ) (c : List Element) → slice_get self.now.chunks i ≡ Some c → (0 < length c) × (length c ≤ result.1) }
-        ensures reached { (result.1 ≡ 0) ⊎ ((i : ℕ) × ((c : List Element) × (slice_get self.now.chunks i ≡ Some c) × (length c ≡ result.1))) }
+        ensures each { (i : ℕ) (c : List Element) → slice_get self.now.chunks i ≡ Some c
+            → (0 < length c) × (length c ≤ result.1) }
+        ensures reached { (result.1 ≡ 0) ⊎ ((i : ℕ)
+            × ((c : List Element) × (slice_get self.now.chunks i ≡ Some c) × (length c ≡ result.1))) }
     {
         let mut longest = 0;
         for position in 0..self.chunks.len() {

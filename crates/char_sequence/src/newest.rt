@@ -40,7 +40,8 @@ impl Newest {
 
     /// The last counter of a peer, if it made an operation.
     pub fn last(&self, node: u16) -> Option<u64>
-        ensures { (ops : List Op) → IsNewest ops self.now → MatchOption result ((o : Op) → Contains ops o → (id_of o).node ≡ node → ⊥) (IsLast ops node) }
+        ensures { (ops : List Op) → IsNewest ops self.now
+            → MatchOption result ((o : Op) → Contains ops o → (id_of o).node ≡ node → ⊥) (IsLast ops node) }
     {
         self.counters.get(&node).copied()
     }
@@ -68,7 +69,8 @@ impl Newest {
     /// Notes an operation whose id is not used; the error is want of memory, and changes nothing.
     pub fn note(&mut self, id: OpId) -> Result<(), AllocError>
         requires { (ops : List Op) × IsNewest ops self.old × (Used ops id → ⊥) }
-        ensures noted { (ops : List Op) (op : Op) → id_of op ≡ id → IsNewest ops self.old → IfOk result (λ _. IsNewest (ops ++ op ∷ []) self.new) }
+        ensures noted { (ops : List Op) (op : Op) → id_of op ≡ id → IsNewest ops self.old
+            → IfOk result (λ _. IsNewest (ops ++ op ∷ []) self.new) }
         ensures err { IfErr result (λ _. self.new ≡ self.old) }
     {
         self.counters.insert(id.node(), id.counter())?;

@@ -102,7 +102,8 @@ impl PlaceTable<'_> {
     /// The number of characters, removed ones too, before this one.
     pub fn place_of(&self, id: OpId) -> Option<usize>
         ensures found { MatchOption result (HasId self.now id → ⊥) (λ k. IsAt self.now id k) }
-        ensures present { (ops : List Op) → Shows self.now ops → MatchOption result (Present ops id → ⊥) (λ k. IsAt self.now id k) }
+        ensures present { (ops : List Op) → Shows self.now ops
+            → MatchOption result (Present ops id → ⊥) (λ k. IsAt self.now id k) }
     {
         let name = *self.index.get(&id)?;
         let chunk = self.starts[name];

@@ -1,4 +1,6 @@
-ghost use Rattle.std.specs.Prelude.{◌≡◌, ℕ, ◌<◌, ◌≤◌, ◌*◌, ◌==◌, ◌++◌, ◌∷◌, [], List, true, false, IsTrue, ◌↔◌, length, slice_get, slice_range, string_bytes, MatchOption, IfOk, IfErr, OnOk, OnErr, Some, Contains, insert};
+ghost use Rattle.std.specs.Prelude.{◌≡◌, ℕ, ◌<◌, ◌≤◌, ◌*◌, ◌==◌, ◌++◌, ◌∷◌, [], List, true, false, IsTrue, ◌↔◌, length};
+ghost use Rattle.std.specs.Prelude.{slice_get, slice_range, string_bytes, MatchOption, IfOk, IfErr, OnOk, OnErr, Some};
+ghost use Rattle.std.specs.Prelude.{Contains, insert};
 
 use crate::chunk_list::ChunkList;
 use crate::elements::Elements;
@@ -61,7 +63,8 @@ impl Model for Sequence {
 
     ghost view = { λ s. record { elements = joined s.elements.chunks; newest = s.newest } };
 
-    ghost invariant = { λ s. (length (joined s.elements.chunks) ≤ CHARACTER_LIMIT) × ((ops : List Op) × Holds (record { elements = joined s.elements.chunks; newest = s.newest }) ops) };
+    ghost invariant = { λ s. (length (joined s.elements.chunks) ≤ CHARACTER_LIMIT)
+        × ((ops : List Op) × Holds (record { elements = joined s.elements.chunks; newest = s.newest }) ops) };
 }
 
 ghost use Rattle.change_ops.specs.Ids.{Less};
@@ -117,7 +120,8 @@ fn is_stale(newest: &Newest, op: &Op) -> bool
 /// Whether a character that the operation names is not there.
 fn is_unknown(elements: &ChunkList, op: &Op) -> bool
     ensures yes { (ops : List Op) → IsText ops (joined elements.now.chunks) → result ≡ true → IsUnknown ops op.now }
-    ensures no { (ops : List Op) → IsText ops (joined elements.now.chunks) → result ≡ false → (x : OpId) → Names op.now x → Present ops x }
+    ensures no { (ops : List Op) → IsText ops (joined elements.now.chunks) → result ≡ false → (x : OpId)
+        → Names op.now x → Present ops x }
 {
     let Named { first, second } = op.named();
     !is_there(elements, first) || !is_there(elements, second)
@@ -155,7 +159,8 @@ impl Sequence {
         requires insert { is_insert op.now ≡ true }
         requires accepted { (ops : List Op) → Holds self.old ops → Accepts ops op.now }
         ensures held { (ops : List Op) → Holds self.old ops → IfOk result (λ _. Holds self.new (ops ++ op.now ∷ [])) }
-        ensures shows { (ops : List Op) → Shows self.old.elements ops → Accepts ops op.now → IfOk result (λ _. Shows self.new.elements (ops ++ op.now ∷ [])) }
+        ensures shows { (ops : List Op) → Shows self.old.elements ops → Accepts ops op.now
+            → IfOk result (λ _. Shows self.new.elements (ops ++ op.now ∷ [])) }
         ensures err { IfErr result (λ _. self.new ≡ self.old) }
     {
         let Op::Insert {
@@ -182,7 +187,8 @@ impl Sequence {
         requires removal { (r : OpId) × ((x : OpId) × (op.now ≡ Op.Remove r x)) }
         requires accepted { (ops : List Op) → Holds self.old ops → Accepts ops op.now }
         ensures held { (ops : List Op) → Holds self.old ops → IfOk result (λ _. Holds self.new (ops ++ op.now ∷ [])) }
-        ensures shows { (ops : List Op) → Shows self.old.elements ops → Accepts ops op.now → IfOk result (λ _. Shows self.new.elements (ops ++ op.now ∷ [])) }
+        ensures shows { (ops : List Op) → Shows self.old.elements ops → Accepts ops op.now
+            → IfOk result (λ _. Shows self.new.elements (ops ++ op.now ∷ [])) }
         ensures err { IfErr result (λ _. self.new ≡ self.old) }
     {
         let Op::Remove { id, target } = op else {
@@ -196,7 +202,8 @@ impl Sequence {
     /// The number of characters, removed ones too, before this one.
     pub fn place_of(&self, id: OpId) -> Option<usize>
         ensures found { MatchOption result (HasId self.now.elements id → ⊥) (λ k. IsAt self.now.elements id k) }
-        ensures present { (ops : List Op) → Shows self.now.elements ops → MatchOption result (Present ops id → ⊥) (λ k. IsAt self.now.elements id k) }
+        ensures present { (ops : List Op) → Shows self.now.elements ops
+            → MatchOption result (Present ops id → ⊥) (λ k. IsAt self.now.elements id k) }
     {
         self.elements.place_of(id)
     }
@@ -219,7 +226,8 @@ impl Sequence {
 
     /// Whether the character is there and not removed.
     pub fn visible(&self, id: OpId) -> bool
-        ensures { (ops : List Op) → Shows self.now.elements ops → IsTrue result ↔ Present ops id × (Removed ops id → ⊥) }
+        ensures { (ops : List Op) → Shows self.now.elements ops
+            → IsTrue result ↔ Present ops id × (Removed ops id → ⊥) }
     {
         match self.elements.element_of(id) {
             Some(element) => element.visible,
@@ -288,7 +296,9 @@ impl Clone for Sequence {
     }
 }
 
-/// The law that replicas converge: two sequences that hold one set of operations, in whatever order they were accepted, have equal elements.
+/// The law that replicas converge: two sequences that hold one set of operations, in whatever order they were accepted,
+/// have equal elements.
 pub fn same_set_same_text(first: &Sequence, second: &Sequence)
-    ensures { (ops others : List Op) → Shows first.now.elements ops → Shows second.now.elements others → SameSet ops others → first.now.elements ≡ second.now.elements }
+    ensures { (ops others : List Op) → Shows first.now.elements ops → Shows second.now.elements others
+        → SameSet ops others → first.now.elements ≡ second.now.elements }
 {}

@@ -1,5 +1,6 @@
 //! The visible text of consecutive elements, and of a range of places.
-ghost use Rattle.std.specs.Prelude.{◌≡◌, ◌≤◌, ◌+◌, ◌-◌, ◌*◌, ◌++◌, ◌∷◌, [], true, length, take, drop, slice_range, string_bytes, IfOk, OnOk, OnErr};
+ghost use Rattle.std.specs.Prelude.{◌≡◌, ◌≤◌, ◌+◌, ◌-◌, ◌*◌, ◌++◌, ◌∷◌, [], true, length, take, drop, slice_range};
+ghost use Rattle.std.specs.Prelude.{string_bytes, IfOk, OnOk, OnErr};
 ghost use Rattle.std.specs.String.{string_len, string_capacity};
 ghost use Rattle.std.specs.String.Boundary.{IsSplitPoint};
 ghost use Rattle.char_sequence.specs.Chunks.{joined};
@@ -29,7 +30,8 @@ pub(crate) fn visible_len(elements: &[Element]) -> usize
 pub(crate) fn write_at(element: &Element, at: usize, text: &mut String)
     requires split { IsSplitPoint (string_bytes text.old) at }
     requires room { string_len text.old + 4 ≤ string_capacity text.old }
-    ensures bytes { string_bytes text.new ≡ (take at (string_bytes text.old) ++ visible_text (element.now ∷ [])) ++ drop at (string_bytes text.old) }
+    ensures bytes { string_bytes text.new ≡ (take at (string_bytes text.old) ++ visible_text (element.now ∷ []))
+        ++ drop at (string_bytes text.old) }
     ensures capacity { string_capacity text.old ≤ string_capacity text.new }
 {
     if element.visible {
@@ -96,8 +98,10 @@ fn visible_len_within(chunk: &Chunk, start: usize, from: usize, to: usize) -> us
 /// Appends what of a chunk's visible text stands in a range of places, for which there is room.
 fn push_within(chunk: &Chunk, start: usize, from: usize, to: usize, text: &mut String)
     requires order { from ≤ to }
-    requires room { string_len text.old + length (visible_text (slice_range chunk.now (from - start) (to - start))) ≤ string_capacity text.old }
-    ensures bytes { string_bytes text.new ≡ string_bytes text.old ++ visible_text (slice_range chunk.now (from - start) (to - start)) }
+    requires room { string_len text.old + length (visible_text (slice_range chunk.now (from - start) (to - start)))
+        ≤ string_capacity text.old }
+    ensures bytes { string_bytes text.new ≡ string_bytes text.old
+        ++ visible_text (slice_range chunk.now (from - start) (to - start)) }
     ensures capacity { string_capacity text.old ≤ string_capacity text.new }
 {
     let items = chunk.as_slice();
@@ -128,7 +132,8 @@ fn visible_len_of_range(chunks: &[Chunk], from: usize, to: usize) -> usize
 fn push_range_with_room(chunks: &[Chunk], from: usize, to: usize, text: &mut String)
     requires order { from ≤ to }
     requires few { length (joined chunks.now) ≤ CHARACTER_LIMIT }
-    requires room { string_len text.old + length (visible_text (slice_range (joined chunks.now) from to)) ≤ string_capacity text.old }
+    requires room { string_len text.old + length (visible_text (slice_range (joined chunks.now) from to))
+        ≤ string_capacity text.old }
     ensures { string_bytes text.new ≡ string_bytes text.old ++ visible_text (slice_range (joined chunks.now) from to) }
 {
     let mut start = 0;
@@ -148,7 +153,8 @@ pub(crate) fn push_visible(
 ) -> Result<usize, AllocError>
     requires order { from ≤ to }
     requires few { length (joined chunks.now) ≤ CHARACTER_LIMIT }
-    ensures ok { OnOk result (string_bytes text.new ≡ string_bytes text.old ++ visible_text (slice_range (joined chunks.now) from to)) }
+    ensures ok { OnOk result (string_bytes text.new ≡ string_bytes text.old
+        ++ visible_text (slice_range (joined chunks.now) from to)) }
     ensures count { IfOk result (λ count. count ≡ visible_count (slice_range (joined chunks.now) from to)) }
     ensures err { OnErr result (string_bytes text.new ≡ string_bytes text.old) }
 {

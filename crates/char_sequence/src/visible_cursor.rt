@@ -51,11 +51,12 @@ fn chunk_at(chunks: &[Chunk], place: usize) -> ChunkStart
 }
 
 impl VisibleCursor<'_> {
-    /// Reads so many characters, removed ones too, and appends those of them that are visible, of which it says how many they
-    /// are; the error is want of memory, and changes nothing.
+    /// Reads so many characters, removed ones too, and appends those of them that are visible, of which it says how
+    /// many they are; the error is want of memory, and changes nothing.
     pub fn push_next(&mut self, count: usize, text: &mut String) -> Result<usize, AllocError>
         requires { count ≤ length self.old }
-        ensures text { OnOk result (string_bytes text.new ≡ string_bytes text.old ++ visible_text (take count self.old)) }
+        ensures text { OnOk result (string_bytes text.new ≡ string_bytes text.old
+            ++ visible_text (take count self.old)) }
         ensures characters { IfOk result (λ characters. characters ≡ visible_count (take count self.old)) }
         ensures left { OnOk result (self.new ≡ drop count self.old) }
         ensures err { OnErr result ((string_bytes text.new ≡ string_bytes text.old) × (self.new ≡ self.old)) }

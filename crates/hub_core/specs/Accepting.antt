@@ -8,8 +8,10 @@ use Rattle.change_history.specs.VersionAt.{IsVersionAt}
 use Rattle.change_history.specs.declared.refusal.SubmitError.{SubmitError}
 
 -- both have one more, or stay as they were
-abbrev pub Accepts : List Edit → List (Token Snapshot) → Edit → Result (Token Snapshot) SubmitError → List Edit → List (Token Snapshot) → Type 0
+abbrev pub Accepts : List Edit → List (Token Snapshot) → Edit → Result (Token Snapshot) SubmitError → List Edit
+    → List (Token Snapshot) → Type 0
 Accepts changes versions change (Ok token) changes' versions' =
     IsAccepted changes change × IsVersionAt (changes ++ change ∷ []) (length changes + 1) token.value
     × (changes' ≡ changes ++ change ∷ []) × (versions' ≡ versions ++ token ∷ [])
-Accepts changes versions change (Err error) changes' versions' = (changes' ≡ changes) × (versions' ≡ versions) × IsRefused changes change error
+Accepts changes versions change (Err error) changes' versions' =
+    (changes' ≡ changes) × (versions' ≡ versions) × IsRefused changes change error

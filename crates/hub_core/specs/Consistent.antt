@@ -6,7 +6,8 @@ use Rattle.change_history.specs.Accepted.{AreAccepted}
 use Rattle.batches.specs.Stream.{BeginsStream}
 use Rattle.hub_core.specs.Machine.{State, IsSound}
 
--- what the core's type keeps; each change was accepted after those before it; what each subscriber's sink was sent is a beginning of its program's stream
+-- what the core's type keeps; each change was accepted after those before it; what each subscriber's sink was sent is a
+-- beginning of its program's stream
 pub record IsConsistent {S : Type 0} (sent : S → List Entry) (full : S → Type 0) (s : State S) : Type 0 where
   pub sound : IsSound sent full s
   pub accepted : AreAccepted s.changes

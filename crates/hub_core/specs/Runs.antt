@@ -28,7 +28,8 @@ module _ {S : Type 0} (sent : S → List Entry) (full : S → Type 0) where
   -- what one event does, where these jobs were handed out before it in its run
   abbrev pub Happens : State S → List Slip → Event (Token Program) S → Reply (Token Snapshot) Slip → State S → Type 0
   Happens s jobs (event.Submit change) (reply.Submitted r) s' = Submits s change r s'
-  Happens s jobs (event.Subscribe program sink) (reply.Subscribed r) s' = Subscribes s (length s.changes) program sink r s'
+  Happens s jobs (event.Subscribe program sink) (reply.Subscribed r) s' =
+      Subscribes s (length s.changes) program sink r s'
   Happens s jobs (event.SubscribeFrom program sink first) (reply.Subscribed r) s' = Subscribes s first program sink r s'
   Happens s jobs event.TakeJob (reply.Handed r) s' = TakesJob s r s'
   Happens s jobs (event.Commit k) (reply.Committed r) s' = CommitsJob s (slice_get jobs k) r s'
@@ -38,20 +39,27 @@ module _ {S : Type 0} (sent : S → List Entry) (full : S → Type 0) where
   Happens s jobs _ _ s' = ⊥
 
   -- the events happened in order, each with its reply
-  abbrev pub IsRun : State S → List Slip → List (Event (Token Program) S) → List (Reply (Token Snapshot) Slip) → State S → Type 0
+  abbrev pub IsRun : State S → List Slip → List (Event (Token Program) S) → List (Reply (Token Snapshot) Slip) → State S
+      → Type 0
   IsRun s jobs [] [] s' = s' ≡ s
   IsRun s jobs [] (r ∷ rs) s' = ⊥
   IsRun s jobs (e ∷ es) [] s' = ⊥
-  IsRun s jobs (e ∷ es) (r ∷ rs) s' = (mid : State S) × Happens s jobs e r mid × IsRun mid (jobs ++ handed_by r) es rs s'
+  IsRun s jobs (e ∷ es) (r ∷ rs) s' =
+      (mid : State S) × Happens s jobs e r mid × IsRun mid (jobs ++ handed_by r) es rs s'
 
   -- replies are appended, and they are those of a run
-  pub record AppendsRun (before : List (Reply (Token Snapshot) Slip)) (old : State S) (events : List (Event (Token Program) S)) (after : List (Reply (Token Snapshot) Slip)) (new : State S) : Type 0 where
-    pub added : List (Reply (Token Snapshot) Slip)
-    pub appended : after ≡ before ++ added
-    pub run : IsRun old [] events added new
+  pub record AppendsRun (before : List (Reply (Token Snapshot) Slip)) (old : State S)
+      (events : List (Event (Token Program) S)) (after : List (Reply (Token Snapshot) Slip)) (new : State S) : Type 0
+    where
+      pub added : List (Reply (Token Snapshot) Slip)
+      pub appended : after ≡ before ++ added
+      pub run : IsRun old [] events added new
 
--- a sink that is subscribed was sent nothing, and nothing is promised of it but this program's stream from the first version on
+-- a sink that is subscribed was sent nothing, and nothing is promised of it but this program's stream from the first
+-- version on
 abbrev pub IsFreshEvent : {S : Type 0} → (S → List Entry) → (S → Option Promise) → Event (Token Program) S → Type 0
-IsFreshEvent sent promise (event.Subscribe program sink) = (sent sink ≡ []) × ((first : ℕ) → Suits (promise sink) program.value first)
-IsFreshEvent sent promise (event.SubscribeFrom program sink first) = (sent sink ≡ []) × Suits (promise sink) program.value first
+IsFreshEvent sent promise (event.Subscribe program sink) =
+    (sent sink ≡ []) × ((first : ℕ) → Suits (promise sink) program.value first)
+IsFreshEvent sent promise (event.SubscribeFrom program sink first) =
+    (sent sink ≡ []) × Suits (promise sink) program.value first
 IsFreshEvent sent promise _ = Unit {0}

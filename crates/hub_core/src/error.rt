@@ -20,7 +20,8 @@ pub enum CommitError {
     /// No subscriber has this id, or it is closed.
     #[error("52 NoSubscriber")]
     NoSubscriber,
-    /// The subscriber doesn't wait for this batch: it is held, was sent, is too far ahead, or is of another program or version.
+    /// The subscriber doesn't wait for this batch: it is held, was sent, is too far ahead, or is of another program or
+    /// version.
     #[error("53 Stale")]
     Stale,
     /// No memory was found.

@@ -1,4 +1,5 @@
-ghost use Rattle.std.specs.Prelude.{◌≡◌, ◌+◌, ◌<◌, ◌≤◌, ◌↔◌, ◌++◌, ◌∷◌, [], Some, length, map, slice_get, IsTrue, IfOk, OnOk, MatchOption, vec_len, vec_capacity};
+ghost use Rattle.std.specs.Prelude.{◌≡◌, ◌+◌, ◌<◌, ◌≤◌, ◌↔◌, ◌++◌, ◌∷◌, [], Some, length, map, slice_get, IsTrue, IfOk};
+ghost use Rattle.std.specs.Prelude.{OnOk, MatchOption, vec_len, vec_capacity};
 ghost use Rattle.change_ops.specs.Changes.{Edit};
 ghost use Rattle.char_sequence.specs.Newest.{IsLastCounter};
 ghost use Rattle.meaning.specs.Safe.{Safe};
@@ -12,7 +13,8 @@ ghost use Rattle.batches.specs.Promise.{Suits};
 ghost use Rattle.hub_core.specs.Consistent.{IsConsistent};
 ghost use Rattle.hub_core.specs.Runs.{CommitsJob};
 ghost use Rattle.hub_core.specs.Accepting.{Accepts};
-ghost use Rattle.hub_core.specs.Machine.{IsStart, Submits, Subscribes, Commits, Pumps, Reissues, Closes, TakesJob, Misses, FindsAt, FindsJob};
+ghost use Rattle.hub_core.specs.Machine.{IsStart, Submits, Subscribes, Commits, Pumps, Reissues, Closes, TakesJob};
+ghost use Rattle.hub_core.specs.Machine.{Misses, FindsAt, FindsJob};
 
 use crate::error::{CommitError, NoSubscriber, SubscribeError};
 use batches::batch::Batch;
@@ -62,7 +64,8 @@ impl<'p, N: Naming, S: Sink<Item<N>>> Model for Core<'p, N, S> {
 
     ghost view = { λ c. record { changes = c.history; versions = c.versions.items; subs = c.subs.items } };
 
-    ghost invariant = { λ c. IsSound S.sent S.full (record { changes = c.history; versions = c.versions.items; subs = c.subs.items }) };
+    ghost invariant = { λ c. IsSound S.sent S.full
+        (record { changes = c.history; versions = c.versions.items; subs = c.subs.items }) };
 }
 
 /// Publishes the version that the changes make with the one of a draft, once there is room for one token more.
@@ -75,7 +78,8 @@ fn publish_draft<N: Naming, R: Wait>(
     versions: &mut Vec<VersionToken<N>>,
 ) -> Result<VersionToken<N>, AllocError>
     requires { (change : Edit) × IsDraft history.now change draft.now }
-    ensures token { IfOk result (λ token. (change : Edit) → IsDraft history.now change draft.now → IsVersion (operations_of (history.now ++ change ∷ [])) (length history.now + 1) token.value) }
+    ensures token { IfOk result (λ token. (change : Edit) → IsDraft history.now change draft.now
+        → IsVersion (operations_of (history.now ++ change ∷ [])) (length history.now + 1) token.value) }
     ensures room { OnOk result (vec_len versions.new < vec_capacity versions.new) }
     ensures same { versions.new.items ≡ versions.old.items }
 {
@@ -87,8 +91,9 @@ fn publish_draft<N: Naming, R: Wait>(
     }
 }
 
-/// Takes a change in after those before it, with its version's token. All that can fail comes before the version is published but that
-/// itself, so no version stands published without its change; where the change is refused both lists stay as they were.
+/// Takes a change in after those before it, with its version's token. All that can fail comes before the version is
+/// published but that itself, so no version stands published without its change; where the change is refused both lists
+/// stay as they were.
 fn accept<N: Naming, R: Wait>(
     rt: &R,
     alloc: Global,
@@ -152,7 +157,8 @@ impl<'p, N: Naming, S: Sink<Item<N>>> Core<'p, N, S> {
         })
     }
 
-    /// Accepts a change after those before it and publishes its version, whole; where it is refused the core stays as it was.
+    /// Accepts a change after those before it and publishes its version, whole; where it is refused the core stays as
+    /// it was.
     pub fn submit<R: Wait>(
         &mut self,
         rt: &R,
@@ -194,7 +200,8 @@ impl<'p, N: Naming, S: Sink<Item<N>>> Core<'p, N, S> {
         self.history.last_counter(node)
     }
 
-    /// The law of what is so of a core between any two calls: what each sink was sent, with which tokens, and what is held.
+    /// The law of what is so of a core between any two calls: what each sink was sent, with which tokens, and what is
+    /// held.
     pub fn stays_consistent(&self)
         ensures { IsConsistent S.sent S.full self.now }
     {
@@ -208,8 +215,8 @@ impl<'p, N: Naming, S: Sink<Item<N>>> Core<'p, N, S> {
         self.subs.len() == SUBSCRIBER_LIMIT
     }
 
-    /// Adds a subscriber, from the latest version on, to a sink that was sent nothing, and of which nothing is promised but this program's
-    /// stream. Ids rise from 0.
+    /// Adds a subscriber, from the latest version on, to a sink that was sent nothing, and of which nothing is promised
+    /// but this program's stream. Ids rise from 0.
     pub fn subscribe(&mut self, program: ProgramToken<N>, sink: S) -> Result<usize, SubscribeError>
         requires none { S.sent sink ≡ [] }
         requires suits { Suits (S.promise sink) program.value (length self.old.changes) }
@@ -226,8 +233,8 @@ impl<'p, N: Naming, S: Sink<Item<N>>> Core<'p, N, S> {
         latest(&self.history) < number
     }
 
-    /// Adds a subscriber, from the latest version or an earlier one on, to a sink that was sent nothing, and of which nothing is promised but
-    /// this program's stream from there on. Ids rise from 0.
+    /// Adds a subscriber, from the latest version or an earlier one on, to a sink that was sent nothing, and of which
+    /// nothing is promised but this program's stream from there on. Ids rise from 0.
     pub fn subscribe_from(
         &mut self,
         program: ProgramToken<N>,
@@ -291,8 +298,8 @@ impl<'p, N: Naming, S: Sink<Item<N>>> Core<'p, N, S> {
         Some(sub.hand_out(id, number, self.versions.as_slice()))
     }
 
-    /// The job of the first version that an open subscriber waits for, whoever it was handed out to; None only where it waits
-    /// for none. Nothing is handed out.
+    /// The job of the first version that an open subscriber waits for, whoever it was handed out to; None only where it
+    /// waits for none. Nothing is handed out.
     pub fn missing_job(&self, id: usize) -> Option<Job<N>>
         ensures { Misses self.now id result }
     {
@@ -371,12 +378,15 @@ impl<'p, N: Naming, S: Sink<Item<N>>> Core<'p, N, S> {
         Ok(())
     }
 
-    /// A subscriber's sink, also of a closed one; None for an unknown id. What it was sent is a beginning of the stream of its program,
-    /// of which every run ends with a number, over the accepted changes, from the subscriber's first version to the last.
-    /// [`Core::stays_consistent`] says how far it goes, with which tokens, and what is held.
+    /// A subscriber's sink, also of a closed one; None for an unknown id. What it was sent is a beginning of the stream
+    /// of its program, of which every run ends with a number, over the accepted changes, from the subscriber's first
+    /// version to the last. [`Core::stays_consistent`] says how far it goes, with which tokens, and what is held.
     pub fn sink(&self, id: usize) -> Option<&S>
-        ensures value { MatchOption result (length self.now.subs ≤ id) (λ sink. (a : Sub S) × (slice_get self.now.subs id ≡ Some a) × (sink.now ≡ a.sink)) }
-        ensures stream { (a : Sub S) → slice_get self.now.subs id ≡ Some a → BeginsStream a.program.value self.now.changes a.first (length self.now.changes) (map (λ item. item.what) (S.sent a.sink)) }
+        ensures value { MatchOption result (length self.now.subs ≤ id) (λ sink. (a : Sub S)
+            × (slice_get self.now.subs id ≡ Some a) × (sink.now ≡ a.sink)) }
+        ensures stream { (a : Sub S) → slice_get self.now.subs id ≡ Some a
+            → BeginsStream a.program.value self.now.changes a.first (length self.now.changes)
+            (map (λ item. item.what) (S.sent a.sink)) }
         ensures safe { (a : Sub S) → slice_get self.now.subs id ≡ Some a → Safe a.program.value }
     {
         if id >= self.subs.len() {

@@ -21,7 +21,8 @@ pub enum Event<P, S> {
     /// From a version on.
     SubscribeFrom(P, S, u64),
     TakeJob,
-    /// Computes the batch of the job that was handed out with this index among those of the run, from 0, and commits it.
+    /// Computes the batch of the job that was handed out with this index among those of the run, from 0, and commits
+    /// it.
     Commit(usize),
     Pump(usize),
     Reissue(usize),
@@ -84,8 +85,8 @@ fn run_event<N: Naming, S: Sink<Item<N>>, R: Wait>(
     }
 }
 
-/// Does what the events ask for, in order, and appends a reply for each. Room for all replies and jobs is made first; without it nothing
-/// is done.
+/// Does what the events ask for, in order, and appends a reply for each. Room for all replies and jobs is made first;
+/// without it nothing is done.
 pub fn run_events<N: Naming, S: Sink<Item<N>>, R: Wait>(
     rt: &R,
     alloc: Global,
@@ -94,7 +95,8 @@ pub fn run_events<N: Naming, S: Sink<Item<N>>, R: Wait>(
     replies: &mut Vec<Reply<VersionToken<N>, Job<N>>>,
 ) -> Result<(), AllocError>
     requires { All (IsFreshEvent S.sent S.promise) events.items }
-    ensures ok { OnOk result (AppendsRun S.sent S.full replies.old.items core.old events.items replies.new.items core.new) }
+    ensures ok { OnOk result (AppendsRun S.sent S.full replies.old.items core.old events.items replies.new.items
+        core.new) }
     ensures err { OnErr result ((replies.new.items ≡ replies.old.items) × (core.new ≡ core.old)) }
 {
     let mut jobs = Vec::with_capacity(alloc, events.len())?;

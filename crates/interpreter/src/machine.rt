@@ -31,7 +31,12 @@ pub struct Machine<'a> {
 impl<'a> Model for Machine<'a> {
     ghost Value = { Run };
 
-    ghost view = { λ m. record { bytes = m.memory.bytes; slot = m.slot; registers = m.registers; stack = m.memory.stack } };
+    ghost view = { λ m. record {
+      bytes = m.memory.bytes;
+      slot = m.slot;
+      registers = m.registers;
+      stack = m.memory.stack;
+    } };
 }
 
 impl<'a> Machine<'a> {
@@ -125,7 +130,8 @@ impl<'a> Machine<'a> {
         destination: Register,
         operand: Operand,
     ) -> Result<Motion, FaultKind>
-        ensures value { move_of result (state_of self.new) ≡ perform self.old.bytes (state_of self.old) (Insn.Compute width operation destination operand) }
+        ensures value { move_of result (state_of self.new)
+            ≡ perform self.old.bytes (state_of self.old) (Insn.Compute width operation destination operand) }
         ensures stays { Stays self.old self.new }
     {
         let a = self.first_operand(operation, destination)?;
@@ -134,7 +140,8 @@ impl<'a> Machine<'a> {
     }
 
     fn negate(&mut self, width: Width, destination: Register) -> Result<Motion, FaultKind>
-        ensures value { move_of result (state_of self.new) ≡ perform self.old.bytes (state_of self.old) (Insn.Negate width destination) }
+        ensures value { move_of result (state_of self.new)
+            ≡ perform self.old.bytes (state_of self.old) (Insn.Negate width destination) }
         ensures stays { Stays self.old self.new }
     {
         let a = self.register(destination)?;
@@ -147,7 +154,8 @@ impl<'a> Machine<'a> {
         destination: Register,
         source: Register,
     ) -> Result<Motion, FaultKind>
-        ensures value { move_of result (state_of self.new) ≡ perform self.old.bytes (state_of self.old) (Insn.Extend extension destination source) }
+        ensures value { move_of result (state_of self.new)
+            ≡ perform self.old.bytes (state_of self.old) (Insn.Extend extension destination source) }
         ensures stays { Stays self.old self.new }
     {
         let a = self.register(source)?;
@@ -160,7 +168,8 @@ impl<'a> Machine<'a> {
         bits: ConvertedBits,
         destination: Register,
     ) -> Result<Motion, FaultKind>
-        ensures value { move_of result (state_of self.new) ≡ perform self.old.bytes (state_of self.old) (Insn.Convert conversion bits destination) }
+        ensures value { move_of result (state_of self.new)
+            ≡ perform self.old.bytes (state_of self.old) (Insn.Convert conversion bits destination) }
         ensures stays { Stays self.old self.new }
     {
         let a = self.register(destination)?;
@@ -175,7 +184,8 @@ impl<'a> Machine<'a> {
         right: Operand,
         distance: i16,
     ) -> Result<Motion, FaultKind>
-        ensures { move_of result (state_of self.now) ≡ perform self.now.bytes (state_of self.now) (Insn.Branch width comparison left right distance) }
+        ensures { move_of result (state_of self.now)
+            ≡ perform self.now.bytes (state_of self.now) (Insn.Branch width comparison left right distance) }
     {
         let a = self.register(left)?;
         let b = self.operand(right)?;
@@ -193,7 +203,8 @@ impl<'a> Machine<'a> {
         base: Register,
         offset: i16,
     ) -> Result<Motion, FaultKind>
-        ensures value { move_of result (state_of self.new) ≡ perform self.old.bytes (state_of self.old) (Insn.Load size destination base offset) }
+        ensures value { move_of result (state_of self.new)
+            ≡ perform self.old.bytes (state_of self.old) (Insn.Load size destination base offset) }
         ensures stays { Stays self.old self.new }
     {
         let address = address(self.register(base)?, offset);
@@ -208,7 +219,8 @@ impl<'a> Machine<'a> {
         base: Register,
         offset: i16,
     ) -> Result<Motion, FaultKind>
-        ensures value { move_of result (state_of self.new) ≡ perform self.old.bytes (state_of self.old) (Insn.LoadSigned size destination base offset) }
+        ensures value { move_of result (state_of self.new)
+            ≡ perform self.old.bytes (state_of self.old) (Insn.LoadSigned size destination base offset) }
         ensures stays { Stays self.old self.new }
     {
         let address = address(self.register(base)?, offset);
@@ -223,7 +235,8 @@ impl<'a> Machine<'a> {
         offset: i16,
         value: Operand,
     ) -> Result<Motion, FaultKind>
-        ensures value { move_of result (state_of self.new) ≡ perform self.old.bytes (state_of self.old) (Insn.Store size base offset value) }
+        ensures value { move_of result (state_of self.new)
+            ≡ perform self.old.bytes (state_of self.old) (Insn.Store size base offset value) }
         ensures stays { Stays self.old self.new }
     {
         let address = address(self.register(base)?, offset);
@@ -297,7 +310,8 @@ impl<'a> Machine<'a> {
     /// On by a distance, counted from the slot after this one.
     fn go_by(&mut self, words: &Words<'_>, distance: i32) -> Result<(), FaultKind>
         requires { self.old.slot < length (program_of words.now) }
-        ensures ok { OnOk result (go_by (program_of words.now) (state_of self.old) distance ≡ Ok (Next (state_of self.new))) }
+        ensures ok { OnOk result (go_by (program_of words.now) (state_of self.old) distance
+            ≡ Ok (Next (state_of self.new))) }
         ensures err { IfErr result (λ kind. go_by (program_of words.now) (state_of self.old) distance ≡ Err kind) }
         ensures within { self.new.slot < length (program_of words.now) }
         ensures reads { Reads self.old self.new }
@@ -316,7 +330,8 @@ impl<'a> Machine<'a> {
     /// One step of the machine.
     pub fn step(&mut self, words: &Words<'_>) -> Result<Progress, FaultKind>
         requires within { self.old.slot < length (program_of words.now) }
-        ensures value { result_of result (state_of self.new) ≡ step (program_of words.now) self.old.bytes (state_of self.old) }
+        ensures value { result_of result (state_of self.new)
+            ≡ step (program_of words.now) self.old.bytes (state_of self.old) }
         ensures within { self.new.slot < length (program_of words.now) }
         ensures reads { Reads self.old self.new }
     {
@@ -340,7 +355,8 @@ pub fn address(base: u64, offset: i16) -> u64
     base.wrapping_add_signed(i64::from(offset))
 }
 
-/// What an instruction without a fault does to the run: it goes on by a distance, counted from the slot after it, or ends it.
+/// What an instruction without a fault does to the run: it goes on by a distance, counted from the slot after it, or
+/// ends it.
 #[derive(Clone, Copy)]
 pub enum Motion {
     By(i32),

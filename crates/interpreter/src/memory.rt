@@ -1,4 +1,5 @@
-ghost use Rattle.std.specs.Prelude.{◌≡◌, ℕ, ◌+◌, ◌<◌, ◌≤◌, ◌^◌, ◌++◌, length, map, take, drop, replicate, Some, None, IfSome, IfOk, OnOk, IfErr, Ok, Err};
+ghost use Rattle.std.specs.Prelude.{◌≡◌, ℕ, ◌+◌, ◌<◌, ◌≤◌, ◌^◌, ◌++◌, length, map, take, drop, replicate, Some, None};
+ghost use Rattle.std.specs.Prelude.{IfSome, IfOk, OnOk, IfErr, Ok, Err};
 ghost use Rattle.byteorder.specs.Endian.{little_bytes, little_number};
 ghost use Rattle.bpf_words.specs.Context.{span_bytes};
 ghost use Rattle.interpreter.specs.Running.{Regions};
@@ -78,7 +79,8 @@ impl<'a> Model for Memory<'a> {
 
     ghost view = { λ m. record { bytes = span_bytes m.context.now m.text.now m.link.now; stack = m.stack } };
 
-    ghost invariant = { λ m. (length m.context.now < 2 ^ 32) × (length m.text.now < 2 ^ 32) × (length m.link.now < 2 ^ 32) };
+    ghost invariant = { λ m. (length m.context.now < 2 ^ 32) × (length m.text.now < 2 ^ 32)
+        × (length m.link.now < 2 ^ 32) };
 }
 
 impl<'a> Memory<'a> {
@@ -121,8 +123,10 @@ impl<'a> Memory<'a> {
 
     /// Writes a number's low bytes at an address.
     pub fn store(&mut self, address: u64, size: Size, value: u64) -> Result<(), FaultKind>
-        ensures ok { OnOk result (store_of self.old.bytes self.old.stack address (bytes_in size) value ≡ Ok self.new.stack) }
-        ensures err { IfErr result (λ kind. store_of self.old.bytes self.old.stack address (bytes_in size) value ≡ Err kind) }
+        ensures ok { OnOk result (store_of self.old.bytes self.old.stack address (bytes_in size) value
+            ≡ Ok self.new.stack) }
+        ensures err { IfErr result (λ kind. store_of self.old.bytes self.old.stack address (bytes_in size) value
+            ≡ Err kind) }
         ensures bytes { self.new.bytes ≡ self.old.bytes }
     {
         let count = count(size);

@@ -4,7 +4,8 @@
 //! operations of RFC 9669, section 4, define it. Where a result can leave the 64 bits, that is every number.
 #![tactic(auto)]
 
-ghost use Rattle.std.specs.Prelude.{◌≡◌, ℕ, ◌+◌, ◌-◌, ◌*◌, ◌/◌, ◌%◌, ◌^◌, ◌<◌, ◌≤◌, ◌↔◌, IsSome, IfSome, bit_and, min, max};
+ghost use Rattle.std.specs.Prelude.{◌≡◌, ℕ, ◌+◌, ◌-◌, ◌*◌, ◌/◌, ◌%◌, ◌^◌, ◌<◌, ◌≤◌, ◌↔◌, IsSome, IfSome, bit_and, min};
+ghost use Rattle.std.specs.Prelude.{max};
 
 /// The numbers from `low` to `high`, both included; there is at least one.
 #[derive(Clone, Copy)]
@@ -137,7 +138,8 @@ impl Range {
     /// The shift to the left by `count` modulo 64, modulo 2^64.
     pub fn shl(self, count: u64) -> Range
         ensures contains { Maps self result (λ x. x * 2 ^ (count % 64) % 2 ^ 64) }
-        ensures ends { let scale = 2 ^ (count % 64) in self.high * scale < 2 ^ 64 → Spans result (self.low * scale) (self.high * scale) }
+        ensures ends { let scale = 2 ^ (count % 64) in self.high * scale < 2 ^ 64
+            → Spans result (self.low * scale) (self.high * scale) }
         ensures wraps { 2 ^ 64 ≤ self.high * 2 ^ (count % 64) → Spans result 0 (2 ^ 64 - 1) }
     {
         let scale = 1_u64 << (count % 64);

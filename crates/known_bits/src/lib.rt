@@ -4,7 +4,8 @@
 //! RFC 9669, section 4, define it.
 #![tactic(auto)]
 
-ghost use Rattle.std.specs.Prelude.{◌≡◌, ℕ, ◌+◌, ◌-◌, ◌*◌, ◌/◌, ◌%◌, ◌^◌, ◌<◌, ◌≤◌, ◌↔◌, IsTrue, IsNone, IfSome, bit_and, bit_or, bit_xor};
+ghost use Rattle.std.specs.Prelude.{◌≡◌, ℕ, ◌+◌, ◌-◌, ◌*◌, ◌/◌, ◌%◌, ◌^◌, ◌<◌, ◌≤◌, ◌↔◌, IsTrue, IsNone, IfSome};
+ghost use Rattle.std.specs.Prelude.{bit_and, bit_or, bit_xor};
 
 /// What is known of a number: bit k is that of `value` where bit k of `unknown` is 0. An unknown bit of `value` is 0.
 #[derive(Clone, Copy)]
@@ -15,7 +16,8 @@ pub struct Bits {
 }
 
 impl Bits {
-    ghost use Rattle.known_bits.specs.Bits.{bit, Contains, Within, Maps, MapsBoth, Knows, KnowsBoth, most, IsConstant, IsApart, Covers};
+    ghost use Rattle.known_bits.specs.Bits.{bit, Contains, Within, Maps, MapsBoth, Knows, KnowsBoth, most, IsConstant};
+    ghost use Rattle.known_bits.specs.Bits.{IsApart, Covers};
 
     /// The one number.
     pub fn constant(value: u64) -> Bits
@@ -126,8 +128,10 @@ impl Bits {
     pub fn add(self, other: Bits) -> Bits
         ensures contains { MapsBoth self other result (λ x y. (x + y) % 2 ^ 64) }
         ensures apart { IsApart self other → KnowsBoth self other result (λ x y. bit_or x y) }
-        ensures constants { self.unknown ≡ 0 → other.unknown ≡ 0 → IsConstant result ((self.value + other.value) % 2 ^ 64) }
-        ensures otherwise { ¬ IsApart self other → ¬ ((self.unknown ≡ 0) × (other.unknown ≡ 0)) → result.unknown ≡ 2 ^ 64 - 1 }
+        ensures constants { self.unknown ≡ 0 → other.unknown ≡ 0
+            → IsConstant result ((self.value + other.value) % 2 ^ 64) }
+        ensures otherwise { ¬ IsApart self other → ¬ ((self.unknown ≡ 0) × (other.unknown ≡ 0))
+            → result.unknown ≡ 2 ^ 64 - 1 }
     {
         if self.is_apart(other) {
             return self.or(other);
@@ -151,8 +155,10 @@ impl Bits {
     pub fn sub(self, other: Bits) -> Bits
         ensures contains { MapsBoth self other result (λ x y. (x + (2 ^ 64 - y)) % 2 ^ 64) }
         ensures covered { Covers self other → KnowsBoth self other result (λ x y. bit_xor x y) }
-        ensures constants { self.unknown ≡ 0 → other.unknown ≡ 0 → IsConstant result ((self.value + (2 ^ 64 - other.value)) % 2 ^ 64) }
-        ensures otherwise { ¬ Covers self other → ¬ ((self.unknown ≡ 0) × (other.unknown ≡ 0)) → result.unknown ≡ 2 ^ 64 - 1 }
+        ensures constants { self.unknown ≡ 0 → other.unknown ≡ 0
+            → IsConstant result ((self.value + (2 ^ 64 - other.value)) % 2 ^ 64) }
+        ensures otherwise { ¬ Covers self other → ¬ ((self.unknown ≡ 0) × (other.unknown ≡ 0))
+            → result.unknown ≡ 2 ^ 64 - 1 }
     {
         if self.covers(other) {
             return self.xor(other);
@@ -175,7 +181,8 @@ impl Bits {
         }
     }
 
-    /// The shift to the right by `count` modulo 64, without sign: both words shift, and the bits that come in are known 0s.
+    /// The shift to the right by `count` modulo 64, without sign: both words shift, and the bits that come in are known
+    /// 0s.
     pub fn shr(self, count: u64) -> Bits
         ensures contains { Maps self result (λ x. x / 2 ^ (count % 64)) }
         ensures knows { Knows self result (λ x. x / 2 ^ (count % 64)) }
@@ -202,7 +209,8 @@ impl Bits {
     pub fn join(self, other: Bits) -> Bits
         ensures left { Maps self result (λ x. x) }
         ensures right { Maps other result (λ x. x) }
-        ensures agreed { (k : ℕ) → bit self.unknown k ≡ 0 → bit other.unknown k ≡ 0 → bit self.value k ≡ bit other.value k → bit result.unknown k ≡ 0 }
+        ensures agreed { (k : ℕ) → bit self.unknown k ≡ 0 → bit other.unknown k ≡ 0
+            → bit self.value k ≡ bit other.value k → bit result.unknown k ≡ 0 }
     {
         let unknown = self.unknown | other.unknown | (self.value ^ other.value);
         Bits {

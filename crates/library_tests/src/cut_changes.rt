@@ -1,8 +1,8 @@
-use crate::lines::lines;
 use change_ops::change::read_change;
 use change_ops::refusal::ChangeError;
 use std::alloc::Global;
 use std::test::Fail;
+use test_inputs::lines::lines;
 
 /// Changes of both forms with lines of all kinds.
 static CHANGES: [&str; 11] = [

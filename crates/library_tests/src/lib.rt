@@ -9,7 +9,6 @@ mod cut_changes;
 #[cfg(test)]
 mod full_text;
 #[cfg(test)]
-mod lines;
 #[cfg(test)]
 mod marks_calls;
 #[cfg(test)]

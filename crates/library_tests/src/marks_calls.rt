@@ -1,4 +1,3 @@
-use crate::lines::lines;
 use change_ops::change::read_change;
 use change_ops::id::OpId;
 use change_ops::line::Line;
@@ -6,6 +5,7 @@ use change_ops::operation::{Anchor, Op};
 use mark_anchors::marks::Marks;
 use std::alloc::Global;
 use std::test::Fail;
+use test_inputs::lines::lines;
 
 /// Marks at a removed character, at one anchor, and with their ends in the wrong order.
 static CHANGE: &str =

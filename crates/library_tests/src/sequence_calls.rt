@@ -1,4 +1,3 @@
-use crate::lines::lines;
 use change_ops::change::read_change;
 use change_ops::id::OpId;
 use change_ops::line::Line;
@@ -6,6 +5,7 @@ use change_ops::operation::Op;
 use char_sequence::sequence::{Sequence, SequenceError};
 use std::alloc::{AllocError, Global};
 use std::test::Fail;
+use test_inputs::lines::lines;
 
 /// Takes an insert or a removal, if it is accepted.
 fn deliver(sequence: &mut Sequence, op: &Op) -> Result<bool, AllocError> {

@@ -7,8 +7,8 @@ use std::alloc::Global;
 use std::test::Fail;
 use verifier::verify::{Verified, verify};
 
-// Programs that read the text, or the link's text, within its bounds, with each byte in turn replaced by each value: where one
-// is accepted both interpreters have one verdict.
+// Programs that read the text, or the link's text, within its bounds, with each byte in turn replaced by each value:
+// where one is accepted both interpreters have one verdict.
 
 /// The byte at the front of the text, and the byte at the color's lowest bits where the text has four bytes.
 static TEXT_READERS: [&str; 2] = [

@@ -1,4 +1,3 @@
-use crate::lines::lines;
 use change_history::history::History;
 use change_ops::change::read_change;
 use change_ops::id::OpId;
@@ -8,6 +7,7 @@ use span_view::context::context;
 use span_view::view::{SpanView, spans, view};
 use std::alloc::Global;
 use std::test::Fail;
+use test_inputs::lines::lines;
 
 /// `abc` with strong from before a to before c, and then strong taken off from before b on.
 static CHANGES: [&str; 2] = [
@@ -44,7 +44,8 @@ fn a_context_has_its_bytes(rt: HostRuntime) -> Result<(), Fail> {
     let alloc = rt.alloc();
     let version = version(alloc)?;
     let span = view(&version, 0).ok_or("there is no span")?;
-    // Text start, text end, length and characters, flags and color, link and comments, index and count, version, link start, link end.
+    // Text start, text end, length and characters, flags and color, link and comments, index and count, version, link
+    // start, link end.
     let want =
         "000000000400000001000000040000000100000001000000010000000000000000000000000000000000000002000000020000000000000000000000080000000000000008000000";
     let got = hex::encode(alloc, context(&span).bytes())?;

@@ -1,5 +1,6 @@
 -- The ids of the marks that begin, or end, at an anchor.
-use Rattle.std.specs.Prelude.{◌≡◌, ℕ, ◌<◌, ◌&&◌, nat_eq, Bool, true, false, List, [], ◌∷◌, ◌++◌, Option, Some, None, Contains, slice_get}
+use Rattle.std.specs.Prelude.{◌≡◌, ℕ, ◌<◌, ◌&&◌, nat_eq, Bool, true, false, List, [], ◌∷◌, ◌++◌, Option, Some, None}
+use Rattle.std.specs.Prelude.{Contains, slice_get}
 use Rattle.std.specs.Map.{lookup, values_of}
 use Rattle.std.specs.declared.vec.Vec.{Vec}
 use Rattle.change_ops.specs.Ids.{Less}
@@ -31,7 +32,8 @@ abbrev pub AreRising : List OpId → Type 0
 AreRising ids = (i j : ℕ) (x y : OpId) → i < j → slice_get ids i ≡ Some x → slice_get ids j ≡ Some y → Less x y
 
 -- the ids, rising, of exactly the marks that stand so to the anchor
-pub record AreIdsAt (StandsAt : Op → Anchor → Type 0) (marks : List Op) (anchor : Anchor) (ids : List OpId) : Type 0 where
+pub record AreIdsAt (StandsAt : Op → Anchor
+    → Type 0) (marks : List Op) (anchor : Anchor) (ids : List OpId) : Type 0 where
   pub rising : AreRising ids
   pub held : (id : OpId) → Contains ids id → (o : Op) × Contains marks o × StandsAt o anchor × (id_of o ≡ id)
   pub listed : (o : Op) → Contains marks o → StandsAt o anchor → Contains ids (id_of o)

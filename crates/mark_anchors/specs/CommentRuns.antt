@@ -1,5 +1,6 @@
 -- The places at which comments hold, as runs of places side by side.
-use Rattle.std.specs.Prelude.{◌≡◌, ℕ, ◌<◌, ◌≤◌, ◌^◌, ◌⊎◌, ◌&&◌, Bool, cond, nat_le, nat_lt, List, [], ◌∷◌, Some, Contains, slice_get}
+use Rattle.std.specs.Prelude.{◌≡◌, ℕ, ◌<◌, ◌≤◌, ◌^◌, ◌⊎◌, ◌&&◌, Bool, cond, nat_le, nat_lt, List, [], ◌∷◌, Some}
+use Rattle.std.specs.Prelude.{Contains, slice_get}
 use Rattle.change_ops.specs.declared.id.OpId.{OpId}
 use Rattle.change_ops.specs.declared.attribute.Attribute.TheVariants.{Comment}
 use Rattle.change_ops.specs.declared.operation.Op.{Op}
@@ -39,7 +40,8 @@ Precedes run other = (run.number < other.number) ⊎ ((run.number ≡ other.numb
 
 -- the runs stand by rising numbers, those of one number apart
 pub record AreOrderly (runs : List CommentRun) : Type 0 where
-  pub order : (i j : ℕ) (run other : CommentRun) → i < j → slice_get runs i ≡ Some run → slice_get runs j ≡ Some other → Precedes run other
+  pub order : (i j : ℕ) (run other : CommentRun) → i < j → slice_get runs i ≡ Some run → slice_get runs j ≡ Some other
+      → Precedes run other
   pub along : (run : CommentRun) → Contains runs run → run.from ≤ run.to
   pub some : (run : CommentRun) → Contains runs run → 1 ≤ run.number
   pub short : (run : CommentRun) → Contains runs run → run.number < 2 ^ 32
@@ -47,12 +49,14 @@ pub record AreOrderly (runs : List CommentRun) : Type 0 where
 -- at each place of a run its comment holds
 abbrev pub AreHeld : List Element → List Op → List CommentRun → Type 0
 AreHeld es operations runs =
-    (ops : List Op) (run : CommentRun) (place : ℕ) (e : OpId) → Shows es ops → AreMarks ops operations → Contains runs run → HasPlace run place → IsAt es e place → Bears ops e (Comment run.number)
+    (ops : List Op) (run : CommentRun) (place : ℕ) (e : OpId) → Shows es ops → AreMarks ops operations
+    → Contains runs run → HasPlace run place → IsAt es e place → Bears ops e (Comment run.number)
 
 -- each place at which the comment holds is in a run of its number
 abbrev pub IsCovered : List Element → List Op → List CommentRun → ℕ → Type 0
 IsCovered es operations runs n =
-    (ops : List Op) (place : ℕ) (e : OpId) → Shows es ops → AreMarks ops operations → IsAt es e place → Bears ops e (Comment n) → HasRun runs n place
+    (ops : List Op) (place : ℕ) (e : OpId) → Shows es ops → AreMarks ops operations → IsAt es e place
+    → Bears ops e (Comment n) → HasRun runs n place
 
 -- the runs have the places at which comments hold, and no other
 pub record AreHolding (es : List Element) (operations : List Op) (runs : List CommentRun) : Type 0 where

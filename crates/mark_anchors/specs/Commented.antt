@@ -20,13 +20,15 @@ AreEmpty {A} groups = (i : ℕ) (g : Vec PlacedMark A) → slice_get groups i �
 -- each group has the marks of the comment of its number among the first so many operations
 abbrev pub AreGrouped : {A : Type 0} → List Element → List Op → ℕ → List ℕ → List (Vec PlacedMark A) → Type 0
 AreGrouped {A} es operations count numbers groups =
-    (i n : ℕ) (g : Vec PlacedMark A) → slice_get numbers i ≡ Some n → slice_get groups i ≡ Some g → AreFirstPlaced es operations (Comment n) count g.items
+    (i n : ℕ) (g : Vec PlacedMark A) → slice_get numbers i ≡ Some n → slice_get groups i ≡ Some g
+    → AreFirstPlaced es operations (Comment n) count g.items
 
 abbrev pub numbers_of : List CommentMarks → List ℕ
 numbers_of comments = map (λ c. c.number) comments
 
 -- the marks of each comment, by rising numbers
 pub record AreCommented (es : List Element) (operations : List Op) (comments : List CommentMarks) : Type 0 where
-  pub each : (i : ℕ) (c : CommentMarks) → slice_get comments i ≡ Some c → ArePlaced es operations (Comment c.number) c.marks
+  pub each : (i : ℕ) (c : CommentMarks) → slice_get comments i ≡ Some c
+      → ArePlaced es operations (Comment c.number) c.marks
   pub rising : IsStrictlyIncreasing (numbers_of comments)
   pub every : (n : ℕ) (o : Op) → Contains operations o → IsOfKey (Comment n) o → Contains (numbers_of comments) n

@@ -28,6 +28,8 @@ formatting_eq =
 
 pub formatting_eq_equiv : IsEquivalence formatting_eq
 formatting_eq_equiv =
-    and_equiv (on_equiv (λ f. f.strong) bool_eq_equiv) (and_equiv (on_equiv (λ f. f.em) bool_eq_equiv) (and_equiv (on_equiv (λ f. f.code) bool_eq_equiv)
-    (and_equiv (on_equiv (λ f. f.link) (options_equiv nat_list_eq_equiv)) (and_equiv (on_equiv (λ f. f.color) (options_equiv nat_eq_equiv))
+    and_equiv (on_equiv (λ f. f.strong) bool_eq_equiv)
+    (and_equiv (on_equiv (λ f. f.em) bool_eq_equiv) (and_equiv (on_equiv (λ f. f.code) bool_eq_equiv)
+    (and_equiv (on_equiv (λ f. f.link) (options_equiv nat_list_eq_equiv))
+    (and_equiv (on_equiv (λ f. f.color) (options_equiv nat_eq_equiv))
     (on_equiv (λ f. f.comments) nat_list_eq_equiv)))))

@@ -7,7 +7,8 @@ use Rattle.mark_anchors.specs.declared.placed.PlacedMark.{PlacedMark}
 
 -- no mark has a greater id than one behind it
 abbrev pub AreById : List PlacedMark → Type 0
-AreById marks = (i j : ℕ) (p q : PlacedMark) → i < j → slice_get marks i ≡ Some p → slice_get marks j ≡ Some q → Less q.id p.id → ⊥
+AreById marks =
+    (i j : ℕ) (p q : PlacedMark) → i < j → slice_get marks i ≡ Some p → slice_get marks j ≡ Some q → Less q.id p.id → ⊥
 
 -- so many of the places are before this one
 abbrev pub IsCountBelow : List ℕ → ℕ → ℕ → Type 0
@@ -28,7 +29,8 @@ IsEndOf marks place = (m : PlacedMark) × Contains marks m × ((m.start ≡ plac
 
 -- none of the marks begins or ends behind the one place and before the other
 abbrev pub AreStill : List PlacedMark → ℕ → ℕ → Type 0
-AreStill marks place until = (m : PlacedMark) → Contains marks m → ((m.start ≤ place) ⊎ (until ≤ m.start)) × ((m.end ≤ place) ⊎ (until ≤ m.end))
+AreStill marks place until =
+    (m : PlacedMark) → Contains marks m → ((m.start ≤ place) ⊎ (until ≤ m.start)) × ((m.end ≤ place) ⊎ (until ≤ m.end))
 
 -- the marks begin and end at places among these, which rise
 pub record AreEnds (marks : List PlacedMark) (places : List ℕ) : Type 0 where
@@ -39,7 +41,8 @@ pub record AreEnds (marks : List PlacedMark) (places : List ℕ) : Type 0 where
 -- at each place the mark of this number is the greatest, among the first so many, of those that cover it
 pub record ArePainted (places : List ℕ) (marks : List PlacedMark) (count : ℕ) (numbers : List (Option ℕ)) : Type 0 where
   pub sized : length numbers ≡ length places
-  pub best : (j place : ℕ) (number : Option ℕ) → slice_get places j ≡ Some place → slice_get numbers j ≡ Some number → IsBest marks place count (numbered marks number)
+  pub best : (j place : ℕ) (number : Option ℕ) → slice_get places j ≡ Some place → slice_get numbers j ≡ Some number
+      → IsBest marks place count (numbered marks number)
 
 -- the places at which the marks begin and end, and which mark decides from each of them on
 pub record AreOver (marks : List PlacedMark) (places : List ℕ) (numbers : List (Option ℕ)) : Type 0 where
@@ -54,13 +57,17 @@ NoneCovers marks from place = (i : ℕ) (m : PlacedMark) → from ≤ i → slic
 
 -- the mark of this number covers the place, and none behind it does
 abbrev pub IsLast : List PlacedMark → ℕ → ℕ → Type 0
-IsLast marks place number = (m : PlacedMark) × (slice_get marks number ≡ Some m) × CoversPlace m place × NoneCovers marks (number + 1) place
+IsLast marks place number =
+    (m : PlacedMark) × (slice_get marks number ≡ Some m) × CoversPlace m place × NoneCovers marks (number + 1) place
 
 -- at each place is the number of the last mark that covers it, where one of those numbered from this one on does
-pub record ArePaintedFrom (places : List ℕ) (marks : List PlacedMark) (from : ℕ) (numbers : List (Option ℕ)) : Type 0 where
-  pub sized : length numbers ≡ length places
-  pub without : (j place : ℕ) → slice_get places j ≡ Some place → slice_get numbers j ≡ Some None → NoneCovers marks from place
-  pub last : (j place number : ℕ) → slice_get places j ≡ Some place → slice_get numbers j ≡ Some (Some number) → IsLast marks place number
+pub record ArePaintedFrom (places : List ℕ) (marks : List PlacedMark) (from : ℕ) (numbers : List (Option ℕ)) : Type 0
+  where
+    pub sized : length numbers ≡ length places
+    pub without : (j place : ℕ) → slice_get places j ≡ Some place → slice_get numbers j ≡ Some None
+        → NoneCovers marks from place
+    pub last : (j place number : ℕ) → slice_get places j ≡ Some place → slice_get numbers j ≡ Some (Some number)
+        → IsLast marks place number
 
 -- a jump to itself: the place isn't painted
 abbrev pub IsFree : List ℕ → ℕ → Type 0

@@ -9,5 +9,6 @@ use Rattle.mark_anchors.specs.declared.mark_range.MarkRange.{MarkRange}
 abbrev pub IsRangeOf : Op → MarkRange → Type 0
 IsRangeOf (Insert id parent character) range = ⊥
 IsRangeOf (Remove id target) range = ⊥
-IsRangeOf (AddMark id attribute start end) range = (key_of attribute ≡ range.key) × (start ≡ range.start) × (end ≡ range.end)
+IsRangeOf (AddMark id attribute start end) range =
+    (key_of attribute ≡ range.key) × (start ≡ range.start) × (end ≡ range.end)
 IsRangeOf (RemoveMark id key start end) range = (key ≡ range.key) × (start ≡ range.start) × (end ≡ range.end)

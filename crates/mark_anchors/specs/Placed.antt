@@ -20,15 +20,19 @@ pub record IsPlaced (es : List Element) (key : Key) (o : Op) (p : PlacedMark) : 
 -- the marks are the first so many operations with their places, in the same order
 pub record AreFirstMarks (es : List Element) (operations : List Op) (count : ℕ) (marks : List PlacedMark) : Type 0 where
   pub sized : length marks ≡ count
-  pub placed : (i : ℕ) (p : PlacedMark) → slice_get marks i ≡ Some p → (p.index ≡ i) × ((o : Op) × (slice_get operations i ≡ Some o) × IsPlaced es p.key o p)
+  pub placed : (i : ℕ) (p : PlacedMark) → slice_get marks i ≡ Some p
+      → (p.index ≡ i) × ((o : Op) × (slice_get operations i ≡ Some o) × IsPlaced es p.key o p)
 
 abbrev pub AreAllPlaced : List Element → List Op → List PlacedMark → Type 0
 AreAllPlaced es operations marks = AreFirstMarks es operations (length operations) marks
 
 -- the marks are the operations of the key among the first so many
-pub record AreFirstPlaced (es : List Element) (operations : List Op) (key : Key) (count : ℕ) (marks : List PlacedMark) : Type 0 where
-  pub placed : (i : ℕ) (p : PlacedMark) → slice_get marks i ≡ Some p → (o : Op) × (slice_get operations p.index ≡ Some o) × IsPlaced es key o p
-  pub listed : (j : ℕ) (o : Op) → j < count → slice_get operations j ≡ Some o → IsOfKey key o → (i : ℕ) × ((p : PlacedMark) × (slice_get marks i ≡ Some p) × (p.index ≡ j))
+pub record AreFirstPlaced (es : List Element) (operations : List Op) (key : Key) (count : ℕ)
+    (marks : List PlacedMark) : Type 0 where
+  pub placed : (i : ℕ) (p : PlacedMark) → slice_get marks i ≡ Some p
+      → (o : Op) × (slice_get operations p.index ≡ Some o) × IsPlaced es key o p
+  pub listed : (j : ℕ) (o : Op) → j < count → slice_get operations j ≡ Some o → IsOfKey key o
+      → (i : ℕ) × ((p : PlacedMark) × (slice_get marks i ≡ Some p) × (p.index ≡ j))
 
 abbrev pub ArePlaced : List Element → List Op → Key → List PlacedMark → Type 0
 ArePlaced es operations key marks = AreFirstPlaced es operations key (length operations) marks
@@ -40,12 +44,14 @@ CoversPlace p place = (p.start ≤ place) × (place < p.end)
 pub record IsGreatest (marks : List PlacedMark) (place count : ℕ) (b : PlacedMark) : Type 0 where
   pub at : (i : ℕ) × (slice_get marks i ≡ Some b)
   pub covers : CoversPlace b place
-  pub greatest : (i : ℕ) (p : PlacedMark) → i < count → slice_get marks i ≡ Some p → CoversPlace p place → Less b.id p.id → ⊥
+  pub greatest : (i : ℕ) (p : PlacedMark) → i < count → slice_get marks i ≡ Some p → CoversPlace p place
+      → Less b.id p.id → ⊥
 
 -- the greatest of those that cover the place, if there is one
 abbrev pub IsBest : List PlacedMark → ℕ → ℕ → Option PlacedMark → Type 0
 IsBest marks place count best =
-    MatchOption best ((i : ℕ) (p : PlacedMark) → i < count → slice_get marks i ≡ Some p → CoversPlace p place → ⊥) (λ b. IsGreatest marks place count b)
+    MatchOption best ((i : ℕ) (p : PlacedMark) → i < count → slice_get marks i ≡ Some p → CoversPlace p place
+    → ⊥) (λ b. IsGreatest marks place count b)
 
 -- the value of the key at the character, if it holds
 pub record IsValue (ops : List Op) (key : Key) (e : OpId) (value : Option Attribute) : Type 0 where

@@ -12,7 +12,8 @@ use Rattle.mark_anchors.specs.Places.{Lies}
 -- the character at the place has the format
 abbrev pub IsFormatAt : List Element → List Op → ℕ → Formatting → Type 0
 IsFormatAt es marks place format =
-    (ops : List Op) (e : Element) → Shows es ops → AreMarks ops marks → slice_get es place ≡ Some e → IsFormat ops e.id format
+    (ops : List Op) (e : Element) → Shows es ops → AreMarks ops marks → slice_get es place ≡ Some e
+    → IsFormat ops e.id format
 
 abbrev pub AreWithin : ℕ → List ℕ → Type 0
 AreWithin end cuts = (c : ℕ) → Contains cuts c → c ≤ end
@@ -35,4 +36,6 @@ IsReached cuts k from = ((k ≡ 0) × (from ≡ 0)) ⊎ ((j : ℕ) × (k ≡ j +
 -- no mark begins or ends between the two places
 abbrev pub IsUniform : List Element → List Op → ℕ → ℕ → Type 0
 IsUniform es marks from to =
-    (o : Op) → Contains marks o → (first : ℕ) × ((last : ℕ) × Lies es o first last × ((first ≤ from) ⊎ (to ≤ first)) × ((last ≤ from) ⊎ (to ≤ last)))
+    (o : Op) → Contains marks o
+    → (first : ℕ)
+    × ((last : ℕ) × Lies es o first last × ((first ≤ from) ⊎ (to ≤ first)) × ((last ≤ from) ⊎ (to ≤ last)))

@@ -26,10 +26,19 @@ pub record Standing : Type 0 where
 
 -- the format of what was decided of the other keys, and of the comments' numbers
 abbrev pub formatting_of : Decided → List ℕ → Formatting
-formatting_of d numbers = record { strong = d.strong; em = d.em; code = d.code; link = option_copied d.link; color = d.color; comments = numbers }
+formatting_of d numbers =
+    record {
+      strong = d.strong;
+      em = d.em;
+      code = d.code;
+      link = option_copied d.link;
+      color = d.color;
+      comments = numbers;
+    }
 
 -- marks of a text that is shown: all of them, those of each other key, and the runs of the comments
-pub record AreResolved (es : List Element) (operations : List Op) (marks : List PlacedMark) (strongs ems codes links colors : List PlacedMark) (runs : List CommentRun) : Type 0 where
+pub record AreResolved (es : List Element) (operations : List Op) (marks : List PlacedMark)
+    (strongs ems codes links colors : List PlacedMark) (runs : List CommentRun) : Type 0 where
   pub text : (ops : List Op) × Shows es ops × AreMarks ops operations
   pub all : AreAllPlaced es operations marks
   pub strong : ArePlaced es operations Strong strongs

@@ -1,5 +1,6 @@
 //! Ids of marks by an anchor of each.
-ghost use Rattle.std.specs.Prelude.{◌≡◌, ◌≤◌, ◌<◌, ◌⊎◌, ◌↔◌, ℕ, List, [], Some, Contains, length, slice_get, IfOk, OnOk};
+ghost use Rattle.std.specs.Prelude.{◌≡◌, ◌≤◌, ◌<◌, ◌⊎◌, ◌↔◌, ℕ, List, [], Some, Contains, length, slice_get, IfOk};
+ghost use Rattle.std.specs.Prelude.{OnOk};
 ghost use Rattle.indexmap.specs.IndexMap.{spare};
 ghost use Rattle.change_ops.specs.Ids.{Less};
 ghost use Rattle.change_ops.specs.declared.id.OpId.{OpId};
@@ -75,14 +76,16 @@ impl AnchoredIds {
     pub(crate) fn put(&mut self, anchor: Anchor, ids: Vec<OpId>)
         requires { 1 ≤ spare self.old.lists }
         ensures here { ids_at self.new.lists.entries anchor ≡ ids.items }
-        ensures others { (other : Anchor) → (other ≡ anchor → ⊥) → ids_at self.new.lists.entries other ≡ ids_at self.old.lists.entries other }
+        ensures others { (other : Anchor) → (other ≡ anchor → ⊥)
+            → ids_at self.new.lists.entries other ≡ ids_at self.old.lists.entries other }
     {
         self.lists.insert(anchor, ids).unwrap();
     }
 }
 
 impl Clone for AnchoredIds {
-    ghost is_clone = { λ old new. (anchor : Anchor) → ids_at new.lists.entries anchor ≡ ids_at old.lists.entries anchor };
+    ghost is_clone = { λ old new. (anchor : Anchor)
+        → ids_at new.lists.entries anchor ≡ ids_at old.lists.entries anchor };
 
     fn clone(&self) -> Result<AnchoredIds, AllocError> {
         let lists = self.lists.clone()?;

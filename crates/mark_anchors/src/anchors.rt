@@ -10,5 +10,7 @@ use char_sequence::sequence::Sequence;
 
 /// The order of anchors is that of their list along the text.
 pub fn anchors_in_order(sequence: &Sequence)
-    ensures { (ops : List Op) (m n : ℕ) (a b : Anchor) → Shows sequence.now.elements ops → slice_get (anchors_of sequence.now.elements) m ≡ Some a → slice_get (anchors_of sequence.now.elements) n ≡ Some b → AtOrBefore ops a b ↔ (m ≤ n) }
+    ensures { (ops : List Op) (m n : ℕ) (a b : Anchor) → Shows sequence.now.elements ops
+        → slice_get (anchors_of sequence.now.elements) m ≡ Some a
+        → slice_get (anchors_of sequence.now.elements) n ≡ Some b → AtOrBefore ops a b ↔ (m ≤ n) }
 {}

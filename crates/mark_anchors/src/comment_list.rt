@@ -1,5 +1,6 @@
 //! The comments on a character.
-ghost use Rattle.std.specs.Prelude.{◌≡◌, ◌+◌, ◌<◌, ◌≤◌, ◌∷◌, ◌↔◌, [], false, IfSome, IsTrue, MatchOption, Some, drop, length, slice_get};
+ghost use Rattle.std.specs.Prelude.{◌≡◌, ◌+◌, ◌<◌, ◌≤◌, ◌∷◌, ◌↔◌, [], false, IfSome, IsTrue, MatchOption, Some, drop};
+ghost use Rattle.std.specs.Prelude.{length, slice_get};
 ghost use Rattle.std.specs.List.Sorted.{IsStrictlyIncreasing};
 ghost use Rattle.std.specs.Iterator.{UpTo, YieldsFirst, item_count};
 ghost use Rattle.std.specs.Iterator.SizeHint.{IsWithinCount};
@@ -12,8 +13,8 @@ use std::alloc::{AllocError, Global};
 use std::marker::Model;
 use std::sync::ArcSlice;
 
-/// The numbers of the comments on a character, as the place of the character among the runs of a version, which the version's
-/// formats share. Contracts see the numbers.
+/// The numbers of the comments on a character, as the place of the character among the runs of a version, which the
+/// version's formats share. Contracts see the numbers.
 pub(crate) struct CommentList {
     /// None where there is no comment.
     pub(crate) runs: Option<ArcSlice<CommentRun, Global>>,
@@ -121,8 +122,8 @@ impl<'a> Model for CommentNumbers<'a> {
     ghost invariant = { λ c. AreCounted c.runs.now c.place c.count };
 }
 
-/// How many runs, from one on that doesn't have the place, can be passed over because they don't have it either: up to the one
-/// of the comment's that can, or to the next comment.
+/// How many runs, from one on that doesn't have the place, can be passed over because they don't have it either: up to
+/// the one of the comment's that can, or to the next comment.
 fn count_without(runs: &[CommentRun], first: CommentRun, place: usize) -> usize
     requires orderly { AreOrderly runs.now }
     requires first { slice_get runs.now 0 ≡ Some first }
@@ -139,11 +140,14 @@ fn count_without(runs: &[CommentRun], first: CommentRun, place: usize) -> usize
     }
 }
 
-/// The index of the first of the runs that has the place: the search goes from comment to comment, as one can have many runs.
+/// The index of the first of the runs that has the place: the search goes from comment to comment, as one can have many
+/// runs.
 fn first_at(runs: &[CommentRun], place: usize) -> Option<usize>
     requires { AreOrderly runs.now }
     ensures within { IfSome result (λ first. first < length runs.now) }
-    ensures first { MatchOption result (numbers_at runs.now place ≡ []) (λ first. (run : CommentRun) → slice_get runs.now first ≡ Some run → numbers_at runs.now place ≡ run.number ∷ numbers_at (drop (first + 1) runs.now) place) }
+    ensures first { MatchOption result (numbers_at runs.now place ≡ []) (λ first. (run : CommentRun)
+        → slice_get runs.now first ≡ Some run
+        → numbers_at runs.now place ≡ run.number ∷ numbers_at (drop (first + 1) runs.now) place) }
 {
     let mut index = 0;
     while index < runs.len() {

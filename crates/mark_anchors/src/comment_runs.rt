@@ -1,5 +1,6 @@
 //! The places at which comments hold, as runs of places side by side.
-ghost use Rattle.std.specs.Prelude.{◌≡◌, ◌<◌, ◌≤◌, ◌^◌, ◌⊎◌, ◌↔◌, ℕ, List, Some, Contains, IfOk, IfSome, IsSome, length, slice_get};
+ghost use Rattle.std.specs.Prelude.{◌≡◌, ◌<◌, ◌≤◌, ◌^◌, ◌⊎◌, ◌↔◌, ℕ, List, Some, Contains, IfOk, IfSome, IsSome};
+ghost use Rattle.std.specs.Prelude.{length, slice_get};
 ghost use Rattle.change_ops.specs.declared.attribute.Attribute.{Attribute};
 ghost use Rattle.change_ops.specs.declared.attribute.Key.{Key};
 ghost use Rattle.char_sequence.specs.declared.sequence.Element.{Element};
@@ -9,7 +10,8 @@ ghost use Rattle.mark_anchors.specs.Marks.{AreMarks};
 ghost use Rattle.mark_anchors.specs.KeyMarks.{AreStill};
 ghost use Rattle.mark_anchors.specs.Placed.{ArePlaced};
 ghost use Rattle.mark_anchors.specs.Commented.{AreCommented};
-ghost use Rattle.mark_anchors.specs.CommentRuns.{HasPlace, has_place, HasRun, IsRun, Precedes, AreOrderly, AreHeld, IsCovered, AreHolding};
+ghost use Rattle.mark_anchors.specs.CommentRuns.{HasPlace, has_place, HasRun, IsRun, Precedes, AreOrderly, AreHeld};
+ghost use Rattle.mark_anchors.specs.CommentRuns.{IsCovered, AreHolding};
 ghost use Rattle.mark_anchors.specs.declared.comment_runs.CommentRun.{CommentRun};
 ghost use Rattle.mark_anchors.specs.declared.placed.PlacedMark.{PlacedMark};
 
@@ -37,7 +39,8 @@ impl CommentRun {
     }
 }
 
-/// The run from the one place to the other, between which no mark of the comment begins or ends, if the comment holds there.
+/// The run from the one place to the other, between which no mark of the comment begins or ends, if the comment holds
+/// there.
 /// `near` is where the last look-up among the comment's marks ended.
 fn run_between(
     operations: &[Op],
@@ -48,7 +51,10 @@ fn run_between(
 ) -> Option<CommentRun>
     requires { (i : ℕ) (p : PlacedMark) → slice_get comment.now.marks i ≡ Some p → p.index < length operations.now }
     ensures run { IfSome result (λ run. IsRun comment.now.number from to run) }
-    ensures along { (es : List Element) (ops : List Op) (p : ℕ) (e : OpId) → Shows es ops → AreMarks ops operations.now → ArePlaced es operations.now (Key.Comment comment.now.number) comment.now.marks → AreStill comment.now.marks from to → from ≤ p → p < to → IsAt es e p → IsSome result ↔ Bears ops e (Attribute.Comment comment.now.number) }
+    ensures along { (es : List Element) (ops : List Op) (p : ℕ) (e : OpId) → Shows es ops
+        → AreMarks ops operations.now → ArePlaced es operations.now (Key.Comment comment.now.number) comment.now.marks
+        → AreStill comment.now.marks from to → from ≤ p → p < to → IsAt es e p
+        → IsSome result ↔ Bears ops e (Attribute.Comment comment.now.number) }
 {
     if !holds_at(operations, &comment.marks, from, near) {
         return None;
@@ -67,8 +73,10 @@ fn push_run(runs: &mut Vec<CommentRun>, run: CommentRun) -> Result<(), AllocErro
     requires some { 1 ≤ run.number }
     requires short { run.number < 2 ^ 32 }
     ensures orderly { IfOk result (λ _. AreOrderly runs.new.items) }
-    ensures places { IfOk result (λ _. (n place : ℕ) → HasRun runs.new.items n place ↔ (HasRun runs.old.items n place ⊎ ((run.number ≡ n) × HasPlace run place))) }
-    ensures ends { IfOk result (λ _. (other : CommentRun) → Contains runs.new.items other → Contains runs.old.items other ⊎ ((other.number ≡ run.number) × (other.to ≡ run.to))) }
+    ensures places { IfOk result (λ _. (n place : ℕ)
+        → HasRun runs.new.items n place ↔ (HasRun runs.old.items n place ⊎ ((run.number ≡ n) × HasPlace run place))) }
+    ensures ends { IfOk result (λ _. (other : CommentRun) → Contains runs.new.items other
+        → Contains runs.old.items other ⊎ ((other.number ≡ run.number) × (other.to ≡ run.to))) }
 {
     let count = runs.len();
     if count > 0 {
@@ -88,14 +96,20 @@ fn push_runs(
     operations: &[Op],
     comment: &CommentMarks,
 ) -> Result<(), AllocError>
-    requires placed { (i : ℕ) (p : PlacedMark) → slice_get comment.now.marks i ≡ Some p → p.index < length operations.now }
+    requires placed { (i : ℕ) (p : PlacedMark) → slice_get comment.now.marks i ≡ Some p
+        → p.index < length operations.now }
     requires orderly { AreOrderly runs.old.items }
     requires below { (run : CommentRun) → Contains runs.old.items run → run.number < comment.now.number }
     ensures orderly { IfOk result (λ _. AreOrderly runs.new.items) }
-    ensures up_to { IfOk result (λ _. (run : CommentRun) → Contains runs.new.items run → run.number ≤ comment.now.number) }
+    ensures up_to { IfOk result (λ _. (run : CommentRun) → Contains runs.new.items run
+        → run.number ≤ comment.now.number) }
     ensures kept { IfOk result (λ _. (n place : ℕ) → HasRun runs.old.items n place → HasRun runs.new.items n place) }
-    ensures held { IfOk result (λ _. (es : List Element) → ArePlaced es operations.now (Key.Comment comment.now.number) comment.now.marks → AreHeld es operations.now runs.old.items → AreHeld es operations.now runs.new.items) }
-    ensures covered { IfOk result (λ _. (es : List Element) → ArePlaced es operations.now (Key.Comment comment.now.number) comment.now.marks → IsCovered es operations.now runs.new.items comment.now.number) }
+    ensures held { IfOk result (λ _. (es : List Element)
+        → ArePlaced es operations.now (Key.Comment comment.now.number) comment.now.marks
+        → AreHeld es operations.now runs.old.items → AreHeld es operations.now runs.new.items) }
+    ensures covered { IfOk result (λ _. (es : List Element)
+        → ArePlaced es operations.now (Key.Comment comment.now.number) comment.now.marks
+        → IsCovered es operations.now runs.new.items comment.now.number) }
 {
     let places = comment.marks.places();
     let gaps = places.len().saturating_sub(1);
@@ -122,7 +136,8 @@ pub(crate) fn comment_runs(
 ) -> Result<Vec<CommentRun>, AllocError>
     requires { (es : List Element) × AreCommented es operations.now comments.now }
     ensures orderly { IfOk result (λ runs. AreOrderly runs.items) }
-    ensures holding { IfOk result (λ runs. (es : List Element) → AreCommented es operations.now comments.now → AreHolding es operations.now runs.items) }
+    ensures holding { IfOk result (λ runs. (es : List Element) → AreCommented es operations.now comments.now
+        → AreHolding es operations.now runs.items) }
 {
     let mut runs = Vec::new(alloc);
     for comment in comments {

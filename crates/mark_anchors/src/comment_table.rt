@@ -13,8 +13,9 @@ use std::alloc::{AllocError, Global};
 use std::marker::Model;
 use std::sync::ArcSlice;
 
-/// The runs of all comments, also in the order in which they begin and in that in which they end: as many comments hold at a place
-/// as have begun there without having ended, and between two places only those change that begin or end there.
+/// The runs of all comments, also in the order in which they begin and in that in which they end: as many comments hold
+/// at a place as have begun there without having ended, and between two places only those change that begin or end
+/// there.
 #[derive(Drop)]
 pub(crate) struct CommentTable {
     runs: ArcSlice<CommentRun, Global>,
@@ -64,7 +65,8 @@ fn begun_up_to(begins: &[CommentRun], place: usize) -> usize
     ensures count { result ≡ count_up_to begin_of begins.now place }
     ensures within { result ≤ length begins.now }
     ensures first { (k : ℕ) (d : CommentRun) → k < result → (begin_of (slice_index_or begins.now k d)) ≤ place }
-    ensures rest { (k : ℕ) (d : CommentRun) → result ≤ k → k < length begins.now → place < begin_of (slice_index_or begins.now k d) }
+    ensures rest { (k : ℕ) (d : CommentRun) → result ≤ k → k < length begins.now
+        → place < begin_of (slice_index_or begins.now k d) }
 {
     begins.partition_point(|run| run.from <= place)
 }
@@ -75,7 +77,8 @@ fn ended_up_to(ends: &[CommentRun], place: usize) -> usize
     ensures count { result ≡ count_up_to end_of ends.now place }
     ensures within { result ≤ length ends.now }
     ensures first { (k : ℕ) (d : CommentRun) → k < result → (end_of (slice_index_or ends.now k d)) ≤ place }
-    ensures rest { (k : ℕ) (d : CommentRun) → result ≤ k → k < length ends.now → place < end_of (slice_index_or ends.now k d) }
+    ensures rest { (k : ℕ) (d : CommentRun) → result ≤ k → k < length ends.now
+        → place < end_of (slice_index_or ends.now k d) }
 {
     ends.partition_point(|run| run.to <= place)
 }
@@ -85,8 +88,10 @@ fn is_begun_up_to(begins: &[CommentRun], count: usize, place: usize) -> bool
     requires { IsNonDecreasingBy begin_of begins.now }
     ensures count { IsTrue result → count ≡ count_up_to begin_of begins.now place }
     ensures within { IsTrue result → count ≤ length begins.now }
-    ensures first { IsTrue result → (k : ℕ) (d : CommentRun) → k < count → (begin_of (slice_index_or begins.now k d)) ≤ place }
-    ensures rest { IsTrue result → (k : ℕ) (d : CommentRun) → count ≤ k → k < length begins.now → place < begin_of (slice_index_or begins.now k d) }
+    ensures first { IsTrue result → (k : ℕ) (d : CommentRun) → k < count
+        → (begin_of (slice_index_or begins.now k d)) ≤ place }
+    ensures rest { IsTrue result → (k : ℕ) (d : CommentRun) → count ≤ k → k < length begins.now
+        → place < begin_of (slice_index_or begins.now k d) }
 {
     count <= begins.len()
         && (count == 0 || begins[count - 1].from <= place)
@@ -99,7 +104,8 @@ fn begun_near(begins: &[CommentRun], place: usize, near: &mut usize) -> usize
     ensures count { result ≡ count_up_to begin_of begins.now place }
     ensures within { result ≤ length begins.now }
     ensures first { (k : ℕ) (d : CommentRun) → k < result → (begin_of (slice_index_or begins.now k d)) ≤ place }
-    ensures rest { (k : ℕ) (d : CommentRun) → result ≤ k → k < length begins.now → place < begin_of (slice_index_or begins.now k d) }
+    ensures rest { (k : ℕ) (d : CommentRun) → result ≤ k → k < length begins.now
+        → place < begin_of (slice_index_or begins.now k d) }
 {
     if !is_begun_up_to(begins, *near, place) {
         let next = near.saturating_add(1);
@@ -117,8 +123,10 @@ fn is_ended_up_to(ends: &[CommentRun], count: usize, place: usize) -> bool
     requires { IsNonDecreasingBy end_of ends.now }
     ensures count { IsTrue result → count ≡ count_up_to end_of ends.now place }
     ensures within { IsTrue result → count ≤ length ends.now }
-    ensures first { IsTrue result → (k : ℕ) (d : CommentRun) → k < count → (end_of (slice_index_or ends.now k d)) ≤ place }
-    ensures rest { IsTrue result → (k : ℕ) (d : CommentRun) → count ≤ k → k < length ends.now → place < end_of (slice_index_or ends.now k d) }
+    ensures first { IsTrue result → (k : ℕ) (d : CommentRun) → k < count
+        → (end_of (slice_index_or ends.now k d)) ≤ place }
+    ensures rest { IsTrue result → (k : ℕ) (d : CommentRun) → count ≤ k → k < length ends.now
+        → place < end_of (slice_index_or ends.now k d) }
 {
     count <= ends.len()
         && (count == 0 || ends[count - 1].to <= place)
@@ -131,7 +139,8 @@ fn ended_near(ends: &[CommentRun], place: usize, near: &mut usize) -> usize
     ensures count { result ≡ count_up_to end_of ends.now place }
     ensures within { result ≤ length ends.now }
     ensures first { (k : ℕ) (d : CommentRun) → k < result → (end_of (slice_index_or ends.now k d)) ≤ place }
-    ensures rest { (k : ℕ) (d : CommentRun) → result ≤ k → k < length ends.now → place < end_of (slice_index_or ends.now k d) }
+    ensures rest { (k : ℕ) (d : CommentRun) → result ≤ k → k < length ends.now
+        → place < end_of (slice_index_or ends.now k d) }
 {
     if !is_ended_up_to(ends, *near, place) {
         let next = near.saturating_add(1);
@@ -162,7 +171,8 @@ fn begun_between<'a>(
 ) -> &'a [CommentRun]
     requires sorted { IsNonDecreasingBy begin_of begins.now }
     requires order { first ≤ second }
-    ensures { (run : CommentRun) → Contains begins.now run → first < run.from → run.from ≤ second → Contains result.now run }
+    ensures { (run : CommentRun) → Contains begins.now run → first < run.from → run.from ≤ second
+        → Contains result.now run }
 {
     let from = begun_near(begins, first, near);
     let to = begun_near(begins, second, near);

@@ -78,7 +78,9 @@ fn grouped(
     requires rising { IsStrictlyIncreasing numbers.now }
     requires every { AreNumbered marks.now numbers.now }
     ensures sized { IfOk result (λ groups. length groups.items ≡ length numbers.now) }
-    ensures grouped { IfOk result (λ groups. (es : List Element) (operations : List Op) → AreAllPlaced es operations marks.now → AreGrouped es operations (length operations) numbers.now groups.items) }
+    ensures grouped { IfOk result (λ groups. (es : List Element) (operations : List Op)
+        → AreAllPlaced es operations marks.now
+        → AreGrouped es operations (length operations) numbers.now groups.items) }
 {
     let mut groups = empty_groups(alloc, numbers.len())?;
     for mark in marks {
@@ -94,7 +96,8 @@ pub(crate) fn comment_marks(
     alloc: Global,
     marks: &[PlacedMark],
 ) -> Result<Vec<CommentMarks>, AllocError>
-    ensures { IfOk result (λ comments. (es : List Element) (operations : List Op) → AreAllPlaced es operations marks.now → AreCommented es operations comments.items) }
+    ensures { IfOk result (λ comments. (es : List Element) (operations : List Op)
+        → AreAllPlaced es operations marks.now → AreCommented es operations comments.items) }
 {
     let numbers = comment_numbers(alloc, marks)?;
     let groups = grouped(alloc, marks, &numbers)?;

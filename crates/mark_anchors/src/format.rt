@@ -41,7 +41,14 @@ impl Model for Format {
 
     ghost Value = { Formatting };
 
-    ghost view = { λ f. record { strong = f.strong; em = f.em; code = f.code; link = f.link; color = f.color; comments = f.comments } };
+    ghost view = { λ f. record {
+      strong = f.strong;
+      em = f.em;
+      code = f.code;
+      link = f.link;
+      color = f.color;
+      comments = f.comments;
+    } };
 }
 
 impl Clone for Format {
@@ -160,5 +167,6 @@ impl Format {
 
 /// Replicas that hold one set of operations format a character alike.
 pub fn same_set_same_format(first: &Format, second: &Format)
-    ensures { (ops others : List Op) (e : OpId) → SameSet ops others → IsFormat ops e first.now → IsFormat others e second.now → first.now ≡ second.now }
+    ensures { (ops others : List Op) (e : OpId) → SameSet ops others → IsFormat ops e first.now
+        → IsFormat others e second.now → first.now ≡ second.now }
 {}

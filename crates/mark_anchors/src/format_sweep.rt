@@ -8,8 +8,8 @@ use crate::resolved::{Decided, Near, ResolvedMarks};
 use std::alloc::AllocError;
 use std::marker::Model;
 
-/// A walk over the characters, removed ones too, that stands at a place. What was decided there is kept, and what marks decide at
-/// the next place is looked for from there on.
+/// A walk over the characters, removed ones too, that stands at a place. What was decided there is kept, and what marks
+/// decide at the next place is looked for from there on.
 #[derive(Drop)]
 pub struct FormatSweep<'a> {
     pub(crate) resolved: &'a ResolvedMarks<'a>,
@@ -27,15 +27,19 @@ impl<'a> Model for FormatSweep<'a> {
 
     ghost view = { λ s. record { resolution = s.resolved.now; place = s.place } };
 
-    ghost invariant = { λ s. IsFormatAt s.resolved.now.elements s.resolved.now.marks s.place (formatting_of s.decided (numbers_at s.resolved.now.runs s.place)) };
+    ghost invariant = { λ s. IsFormatAt s.resolved.now.elements s.resolved.now.marks s.place
+        (formatting_of s.decided (numbers_at s.resolved.now.runs s.place)) };
 }
 
 impl FormatSweep<'_> {
-    /// Goes on to a place, and says whether the character there has the format of the one where it stood. No format is made for it.
+    /// Goes on to a place, and says whether the character there has the format of the one where it stood. No format is
+    /// made for it.
     pub fn advance(&mut self, place: usize) -> bool
         requires order { self.old.place ≤ place }
         requires there { place < length self.old.resolution.elements }
-        ensures alike { (format : Formatting) → IsFormatAt self.old.resolution.elements self.old.resolution.marks self.old.place format → IsTrue result ↔ IsFormatAt self.old.resolution.elements self.old.resolution.marks place format }
+        ensures alike { (format : Formatting)
+            → IsFormatAt self.old.resolution.elements self.old.resolution.marks self.old.place format
+            → IsTrue result ↔ IsFormatAt self.old.resolution.elements self.old.resolution.marks place format }
         ensures resolution { self.new.resolution ≡ self.old.resolution }
         ensures place { self.new.place ≡ place }
     {
@@ -49,7 +53,8 @@ impl FormatSweep<'_> {
 
     /// The format of the character where it stands.
     pub fn format(&mut self) -> Result<Format, AllocError>
-        ensures format { IfOk result (λ format. IsFormatAt self.old.resolution.elements self.old.resolution.marks self.old.place format) }
+        ensures format { IfOk result (λ format. IsFormatAt self.old.resolution.elements self.old.resolution.marks
+            self.old.place format) }
         ensures same { self.new ≡ self.old }
     {
         self.resolved

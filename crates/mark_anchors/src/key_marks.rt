@@ -3,7 +3,8 @@
 ghost use Rattle.std.specs.Prelude.{◌≡◌, ◌<◌, ◌≤◌, ◌+◌, ◌↔◌, ℕ, List, Some, Contains, IfOk, IsTrue, length, slice_get};
 ghost use Rattle.std.specs.List.Sorted.{IsStrictlyIncreasing, IsPermutation};
 ghost use Rattle.mark_anchors.specs.Placed.{IsBest};
-ghost use Rattle.mark_anchors.specs.KeyMarks.{AreById, AreEnds, IsEndOf, IsCountBelow, IsCountUpTo, ArePainted, ArePaintedFrom};
+ghost use Rattle.mark_anchors.specs.KeyMarks.{AreById, AreEnds, IsEndOf, IsCountBelow, IsCountUpTo, ArePainted};
+ghost use Rattle.mark_anchors.specs.KeyMarks.{ArePaintedFrom};
 ghost use Rattle.mark_anchors.specs.KeyMarks.{IsFree, AreJumps, AreJumpsOver, IsNextFree};
 ghost use Rattle.mark_anchors.specs.declared.placed.PlacedMark.{PlacedMark};
 
@@ -11,8 +12,8 @@ use crate::placed::PlacedMark;
 use std::alloc::{AllocError, Global};
 use std::marker::Model;
 
-/// The marks of a key, by rising ids; the places at which they begin and end; and for each of these the number of the mark that
-/// decides from there on.
+/// The marks of a key, by rising ids; the places at which they begin and end; and for each of these the number of the
+/// mark that decides from there on.
 #[derive(Drop)]
 pub(crate) struct KeyMarks {
     marks: Vec<PlacedMark>,
@@ -61,8 +62,8 @@ fn jumps_over(alloc: Global, places: &[usize]) -> Result<Vec<usize>, AllocError>
     (0..places.len() + 1).collect(alloc)
 }
 
-/// The next place at or after this one that isn't painted yet, or the one behind all. The path there is halved (Tarjan and
-/// van Leeuwen, 1984: path halving), so that a call takes at most a logarithmic number of steps, amortized.
+/// The next place at or after this one that isn't painted yet, or the one behind all. The path there is halved (Tarjan
+/// and van Leeuwen, 1984: path halving), so that a call takes at most a logarithmic number of steps, amortized.
 fn next_free(jumps: &mut Vec<usize>, from: usize) -> usize
     requires jumps { AreJumps jumps.old.items }
     requires within { from < length jumps.old.items }
@@ -93,7 +94,9 @@ fn paint(
     requires over { AreJumpsOver jumps.old.items numbers.old.items }
     ensures sized { length numbers.new.items ≡ length places.now }
     ensures over { AreJumpsOver jumps.new.items numbers.new.items }
-    ensures painted { (marks : List PlacedMark) → slice_get marks number ≡ Some mark.now → ArePaintedFrom places.now marks (number + 1) numbers.old.items → ArePaintedFrom places.now marks number numbers.new.items }
+    ensures painted { (marks : List PlacedMark) → slice_get marks number ≡ Some mark.now
+        → ArePaintedFrom places.now marks (number + 1) numbers.old.items
+        → ArePaintedFrom places.now marks number numbers.new.items }
 {
     let from = count_below(places, mark.start);
     let to = count_below(places, mark.end);
@@ -128,8 +131,8 @@ fn is_count_up_to(places: &[usize], count: usize, place: usize) -> bool
         && (count == places.len() || place < places[count])
 }
 
-/// How many of the places are at this one or before it. What was found last, `near`, and one more are tried first, as places are
-/// mostly looked up in their order.
+/// How many of the places are at this one or before it. What was found last, `near`, and one more are tried first, as
+/// places are mostly looked up in their order.
 fn count_near(places: &[usize], place: usize, near: &mut usize) -> usize
     requires { IsStrictlyIncreasing places.now }
     ensures up_to { IsCountUpTo places.now place result }

@@ -77,7 +77,8 @@ impl MarkIndex {
         ensures by_id { self.new.by_id.entries ≡ self.old.by_id.entries }
         ensures begins { self.new.begins.lists.entries ≡ self.old.begins.lists.entries }
         ensures ends { self.new.ends.lists.entries ≡ self.old.ends.lists.entries }
-        ensures room { OnOk result ((1 ≤ spare self.new.by_id) × (1 ≤ spare self.new.begins.lists) × (1 ≤ spare self.new.ends.lists)) }
+        ensures room { OnOk result ((1 ≤ spare self.new.by_id) × (1 ≤ spare self.new.begins.lists)
+            × (1 ≤ spare self.new.ends.lists)) }
     {
         self.by_id.reserve(1)?;
         self.begins.reserve()?;
@@ -86,14 +87,19 @@ impl MarkIndex {
 
     /// Puts the operation last, and its lists to its anchors.
     fn put(&mut self, addition: Addition)
-        requires room { (1 ≤ spare self.old.by_id) × (1 ≤ spare self.old.begins.lists) × (1 ≤ spare self.old.ends.lists) }
-        requires fresh { (o : Op) → Contains (values_of self.old.by_id.entries) o → id_of o ≡ id_of addition.operation → ⊥ }
+        requires room { (1 ≤ spare self.old.by_id) × (1 ≤ spare self.old.begins.lists)
+            × (1 ≤ spare self.old.ends.lists) }
+        requires fresh { (o : Op) → Contains (values_of self.old.by_id.entries) o → id_of o ≡ id_of addition.operation
+            → ⊥ }
         requires held { AreHeld self.old.by_id.entries self.old.begins.lists.entries self.old.ends.lists.entries }
-        ensures last { self.new.by_id.entries ≡ self.old.by_id.entries ++ (id_of addition.operation, addition.operation) ∷ [] }
+        ensures last { self.new.by_id.entries ≡ self.old.by_id.entries
+            ++ (id_of addition.operation, addition.operation) ∷ [] }
         ensures begins { ids_at self.new.begins.lists.entries addition.start ≡ addition.begins.items }
-        ensures begins_elsewhere { (other : Anchor) → (other ≡ addition.start → ⊥) → ids_at self.new.begins.lists.entries other ≡ ids_at self.old.begins.lists.entries other }
+        ensures begins_elsewhere { (other : Anchor) → (other ≡ addition.start → ⊥)
+            → ids_at self.new.begins.lists.entries other ≡ ids_at self.old.begins.lists.entries other }
         ensures ends { ids_at self.new.ends.lists.entries addition.end ≡ addition.ends.items }
-        ensures ends_elsewhere { (other : Anchor) → (other ≡ addition.end → ⊥) → ids_at self.new.ends.lists.entries other ≡ ids_at self.old.ends.lists.entries other }
+        ensures ends_elsewhere { (other : Anchor) → (other ≡ addition.end → ⊥)
+            → ids_at self.new.ends.lists.entries other ≡ ids_at self.old.ends.lists.entries other }
     {
         let Addition {
             operation,
@@ -125,7 +131,9 @@ impl MarkIndex {
 }
 
 impl Clone for MarkIndex {
-    ghost is_clone = { λ old new. (new.by_id.entries ≡ old.by_id.entries) × ((anchor : Anchor) → ids_at new.begins.lists.entries anchor ≡ ids_at old.begins.lists.entries anchor) × ((anchor : Anchor) → ids_at new.ends.lists.entries anchor ≡ ids_at old.ends.lists.entries anchor) };
+    ghost is_clone = { λ old new. (new.by_id.entries ≡ old.by_id.entries)
+        × ((anchor : Anchor) → ids_at new.begins.lists.entries anchor ≡ ids_at old.begins.lists.entries anchor)
+        × ((anchor : Anchor) → ids_at new.ends.lists.entries anchor ≡ ids_at old.ends.lists.entries anchor) };
 
     fn clone(&self) -> Result<MarkIndex, AllocError> {
         Ok(MarkIndex {

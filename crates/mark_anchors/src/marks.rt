@@ -1,4 +1,5 @@
-ghost use Rattle.std.specs.Prelude.{◌≡◌, ◌≤◌, ◌++◌, ◌∷◌, [], ◌↔◌, List, Contains, true, length, IsTrue, MatchOption, OnOk, OnErr};
+ghost use Rattle.std.specs.Prelude.{◌≡◌, ◌≤◌, ◌++◌, ◌∷◌, [], ◌↔◌, List, Contains, true, length, IsTrue, MatchOption};
+ghost use Rattle.std.specs.Prelude.{OnOk, OnErr};
 ghost use Rattle.change_ops.specs.Operations.{id_of, is_mark};
 ghost use Rattle.mark_anchors.specs.Marks.{AreMarks};
 ghost use Rattle.mark_anchors.specs.Anchored.{Begins, Ends, AreIdsAt};
@@ -85,7 +86,8 @@ impl Marks {
 
     /// The operation of the id, if it is held.
     pub fn mark(&self, id: OpId) -> Option<&Op>
-        ensures { MatchOption result ((o : Op) → Contains self.now o → id_of o ≡ id → ⊥) (λ o. Contains self.now o.now × (id_of o.now ≡ id)) }
+        ensures { MatchOption result ((o : Op) → Contains self.now o → id_of o ≡ id
+            → ⊥) (λ o. Contains self.now o.now × (id_of o.now ≡ id)) }
     {
         self.index.by_id.get(&id)
     }

@@ -20,7 +20,8 @@ use char_sequence::place_table::PlaceTable;
 use char_sequence::sequence::Sequence;
 use std::alloc::{AllocError, Global};
 
-/// A mark operation, by its index, with its key and the places that it covers: from `start` up to `end`, which is not one of them.
+/// A mark operation, by its index, with its key and the places that it covers: from `start` up to `end`, which is not
+/// one of them.
 #[derive(Clone, Copy)]
 pub(crate) struct PlacedMark {
     pub(crate) index: usize,
@@ -105,7 +106,8 @@ pub(crate) fn marks_in(
 
 /// Those of the marks that are of the key.
 fn gathered(alloc: Global, marks: &[PlacedMark], key: &Key) -> Result<Vec<PlacedMark>, AllocError>
-    ensures { IfOk result (λ found. (es : List Element) (operations : List Op) → AreAllPlaced es operations marks.now → ArePlaced es operations key.now found.items) }
+    ensures { IfOk result (λ found. (es : List Element) (operations : List Op) → AreAllPlaced es operations marks.now
+        → ArePlaced es operations key.now found.items) }
 {
     let mut found = Vec::new(alloc);
     for mark in marks {
@@ -122,7 +124,8 @@ pub(crate) fn marks_of(
     marks: &[PlacedMark],
     key: &Key,
 ) -> Result<KeyMarks, AllocError>
-    ensures { IfOk result (λ found. (es : List Element) (operations : List Op) → AreAllPlaced es operations marks.now → ArePlaced es operations key.now found) }
+    ensures { IfOk result (λ found. (es : List Element) (operations : List Op) → AreAllPlaced es operations marks.now
+        → ArePlaced es operations key.now found) }
 {
     let found = gathered(alloc, marks, key)?;
     KeyMarks::new(alloc, found)
@@ -136,7 +139,8 @@ fn added_at<'a>(
     near: &mut usize,
 ) -> Option<&'a Attribute>
     requires { (i : ℕ) (p : PlacedMark) → slice_get marks.now i ≡ Some p → p.index < length operations.now }
-    ensures { (es : List Element) (ops : List Op) (key : Key) (e : OpId) → Shows es ops → AreMarks ops operations.now → ArePlaced es operations.now key marks.now → IsAt es e place → IsValue ops key e (option_copied result) }
+    ensures { (es : List Element) (ops : List Op) (key : Key) (e : OpId) → Shows es ops → AreMarks ops operations.now
+        → ArePlaced es operations.now key marks.now → IsAt es e place → IsValue ops key e (option_copied result) }
 {
     let mark = marks.deciding(place, near)?;
     match &operations[mark.index] {
@@ -149,7 +153,9 @@ fn added_at<'a>(
 pub(crate) fn holds_at(operations: &[Op], marks: &KeyMarks, place: usize, near: &mut usize) -> bool
     requires { (i : ℕ) (p : PlacedMark) → slice_get marks.now i ≡ Some p → p.index < length operations.now }
     // The key has one attribute.
-    ensures { (es : List Element) (ops : List Op) (a : Attribute) (e : OpId) → ((b : Attribute) → key_of b ≡ key_of a → b ≡ a) → Shows es ops → AreMarks ops operations.now → ArePlaced es operations.now (key_of a) marks.now → IsAt es e place → IsTrue result ↔ Bears ops e a }
+    ensures { (es : List Element) (ops : List Op) (a : Attribute) (e : OpId)
+        → ((b : Attribute) → key_of b ≡ key_of a → b ≡ a) → Shows es ops → AreMarks ops operations.now
+        → ArePlaced es operations.now (key_of a) marks.now → IsAt es e place → IsTrue result ↔ Bears ops e a }
 {
     added_at(operations, marks, place, near).is_some()
 }
@@ -162,7 +168,9 @@ pub(crate) fn link_at<'a>(
     near: &mut usize,
 ) -> Option<&'a Link>
     requires { (i : ℕ) (p : PlacedMark) → slice_get marks.now i ≡ Some p → p.index < length operations.now }
-    ensures { (es : List Element) (ops : List Op) (e : OpId) → Shows es ops → AreMarks ops operations.now → ArePlaced es operations.now Key.Link marks.now → IsAt es e place → (target : List ℕ) → (option_copied result ≡ Some target) ↔ Bears ops e (Attribute.Link target) }
+    ensures { (es : List Element) (ops : List Op) (e : OpId) → Shows es ops → AreMarks ops operations.now
+        → ArePlaced es operations.now Key.Link marks.now → IsAt es e place → (target : List ℕ)
+        → (option_copied result ≡ Some target) ↔ Bears ops e (Attribute.Link target) }
 {
     match added_at(operations, marks, place, near)? {
         Attribute::Link(link) => Some(link),
@@ -178,7 +186,9 @@ pub(crate) fn color_at(
     near: &mut usize,
 ) -> Option<Color>
     requires { (i : ℕ) (p : PlacedMark) → slice_get marks.now i ≡ Some p → p.index < length operations.now }
-    ensures { (es : List Element) (ops : List Op) (e : OpId) → Shows es ops → AreMarks ops operations.now → ArePlaced es operations.now Key.Color marks.now → IsAt es e place → (rgb : ℕ) → (result ≡ Some rgb) ↔ Bears ops e (Attribute.Color rgb) }
+    ensures { (es : List Element) (ops : List Op) (e : OpId) → Shows es ops → AreMarks ops operations.now
+        → ArePlaced es operations.now Key.Color marks.now → IsAt es e place → (rgb : ℕ)
+        → (result ≡ Some rgb) ↔ Bears ops e (Attribute.Color rgb) }
 {
     match added_at(operations, marks, place, near)? {
         Attribute::Color(color) => Some(*color),

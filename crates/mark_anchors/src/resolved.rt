@@ -46,7 +46,8 @@ impl<'a> Model for ResolvedMarks<'a> {
 
     ghost view = { λ r. record { elements = r.sequence.now.elements; marks = r.operations.now; runs = r.comments } };
 
-    ghost invariant = { λ r. AreResolved r.sequence.now.elements r.operations.now r.marks.items r.strong r.em r.code r.link r.color r.comments };
+    ghost invariant = { λ r. AreResolved r.sequence.now.elements r.operations.now r.marks.items r.strong r.em r.code
+        r.link r.color r.comments };
 }
 
 /// What holds at a place of each key but comments.
@@ -98,7 +99,8 @@ impl Near {
 impl Decided<'_> {
     /// Whether the same holds of each key but the link.
     fn is_same_but_link(&self, other: &Decided<'_>) -> bool
-        ensures { IsTrue result ↔ ((self.now.strong ≡ other.now.strong) × (self.now.em ≡ other.now.em) × (self.now.code ≡ other.now.code) × (self.now.color ≡ other.now.color)) }
+        ensures { IsTrue result ↔ ((self.now.strong ≡ other.now.strong) × (self.now.em ≡ other.now.em)
+            × (self.now.code ≡ other.now.code) × (self.now.color ≡ other.now.color)) }
     {
         self.strong == other.strong
             && self.em == other.em
@@ -144,7 +146,8 @@ impl Marks {
         id: OpId,
     ) -> Result<Format, AllocError>
         requires { (ops : List Op) × Shows sequence.now.elements ops × AreMarks ops self.now × Present ops id }
-        ensures { (ops : List Op) → Shows sequence.now.elements ops → AreMarks ops self.now → IfOk result (λ format. IsFormat ops id format) }
+        ensures { (ops : List Op) → Shows sequence.now.elements ops → AreMarks ops self.now
+            → IfOk result (λ format. IsFormat ops id format) }
     {
         let resolved = self.resolve(alloc, sequence)?;
         let place = sequence.place_of(id).unwrap();
@@ -166,7 +169,8 @@ impl ResolvedMarks<'_> {
 
     /// What holds of each key but comments at the place.
     pub(crate) fn decided_at(&self, place: usize, near: &mut Near) -> Decided<'_>
-        ensures { IsFormatAt self.now.elements self.now.marks place (formatting_of result (numbers_at self.now.runs place)) }
+        ensures { IsFormatAt self.now.elements self.now.marks place
+            (formatting_of result (numbers_at self.now.runs place)) }
     {
         let operations = self.operations;
         Decided {
@@ -189,9 +193,12 @@ impl ResolvedMarks<'_> {
     ) -> bool
         requires order { first ≤ second }
         requires there { second < length self.now.elements }
-        requires one { IsFormatAt self.now.elements self.now.marks first (formatting_of one.now (numbers_at self.now.runs first)) }
-        requires other { IsFormatAt self.now.elements self.now.marks second (formatting_of other.now (numbers_at self.now.runs second)) }
-        ensures { (format : Formatting) → IsFormatAt self.now.elements self.now.marks first format → IsTrue result ↔ IsFormatAt self.now.elements self.now.marks second format }
+        requires one { IsFormatAt self.now.elements self.now.marks first
+            (formatting_of one.now (numbers_at self.now.runs first)) }
+        requires other { IsFormatAt self.now.elements self.now.marks second
+            (formatting_of other.now (numbers_at self.now.runs second)) }
+        ensures { (format : Formatting) → IsFormatAt self.now.elements self.now.marks first format
+            → IsTrue result ↔ IsFormatAt self.now.elements self.now.marks second format }
     {
         let decided = one.is_same_but_link(other) && is_same_link(one.link, other.link);
         decided && self.comments.is_alike(first, second, &mut near.comments)

@@ -1,13 +1,19 @@
 -- The numbers and names of the refusals of the libraries.
 use Rattle.std.specs.Prelude.{ℕ, List, codes}
 use Rattle.bpf_words.specs.declared.refusal.SlotFault.{SlotFault}
-use Rattle.bpf_words.specs.declared.refusal.SlotFault.TheVariants.{UnknownOpcode, OutOfProfile, UnusedField, BadRegister, BadWidth, TruncatedWide}
+use Rattle.bpf_words.specs.declared.refusal.SlotFault.TheVariants.{UnknownOpcode, OutOfProfile, UnusedField}
+use Rattle.bpf_words.specs.declared.refusal.SlotFault.TheVariants.{BadRegister, BadWidth, TruncatedWide}
 use Rattle.abstract_state.specs.declared.refusal.Refusal.{Refusal as StateFault}
-use Rattle.abstract_state.specs.declared.refusal.Refusal.TheVariants.{UnsetRegister, PointerArithmetic, PointerCompare, ContextField, StackBounds, StackUnset, TextBounds, TextOffset, ReadOnlyStore, NotAnAddress, PointerStore, ReturnPointer}
+use Rattle.abstract_state.specs.declared.refusal.Refusal.TheVariants.{UnsetRegister, PointerArithmetic, PointerCompare}
+use Rattle.abstract_state.specs.declared.refusal.Refusal.TheVariants.{ContextField, StackBounds, StackUnset, TextBounds}
+use Rattle.abstract_state.specs.declared.refusal.Refusal.TheVariants.{TextOffset, ReadOnlyStore, NotAnAddress}
+use Rattle.abstract_state.specs.declared.refusal.Refusal.TheVariants.{PointerStore, ReturnPointer}
 use Rattle.verifier.specs.declared.refusal.StructureFault.{StructureFault}
-use Rattle.verifier.specs.declared.refusal.StructureFault.TheVariants.{BackwardJump, JumpOut, JumpIntoWide, FallOff, WriteR10}
+use Rattle.verifier.specs.declared.refusal.StructureFault.TheVariants.{BackwardJump, JumpOut, JumpIntoWide, FallOff}
+use Rattle.verifier.specs.declared.refusal.StructureFault.TheVariants.{WriteR10}
 use Rattle.assembler_lines.specs.declared.fault.LineFault.{LineFault}
-use Rattle.assembler_lines.specs.declared.fault.LineFault.TheVariants.{Syntax, UnknownName, NumberRange, UnknownLabel, LabelTwice, JumpRange}
+use Rattle.assembler_lines.specs.declared.fault.LineFault.TheVariants.{Syntax, UnknownName, NumberRange, UnknownLabel}
+use Rattle.assembler_lines.specs.declared.fault.LineFault.TheVariants.{LabelTwice, JumpRange}
 use Rattle.change_history.specs.declared.refusal.Refusal.{Refusal}
 use Rattle.change_history.specs.declared.refusal.Refusal.TheVariants.{StaleCounter, UnknownRef, DocumentFull, MarksFull}
 

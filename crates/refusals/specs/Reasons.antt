@@ -119,4 +119,5 @@ reason_text reason = reason_title reason ++ place_text (reason_place reason)
 
 -- the same of a change in an input of many, by its number
 abbrev pub change_reason_text : ChangeReason → List ℕ
-change_reason_text change = reason_title change.reason ++ codes " change " ++ decimal change.number ++ place_text (reason_place change.reason)
+change_reason_text change =
+    reason_title change.reason ++ codes " change " ++ decimal change.number ++ place_text (reason_place change.reason)

@@ -1,6 +1,8 @@
 ghost use Rattle.std.specs.Prelude.{◌≡◌};
 ghost use Rattle.std.specs.declared.option.Option.TheVariants.{Some};
-ghost use Rattle.refusals.specs.Reasons.{word_place, place_text, reason_title, reason_place, reason_text, change_reason_text, verdict_title, verdict_place, source_title, source_place, unread_title, unread_place, unaccepted_title, unaccepted_place, word_title};
+ghost use Rattle.refusals.specs.Reasons.{word_place, place_text, reason_title, reason_place, reason_text};
+ghost use Rattle.refusals.specs.Reasons.{change_reason_text, verdict_title, verdict_place, source_title, source_place};
+ghost use Rattle.refusals.specs.Reasons.{unread_title, unread_place, unaccepted_title, unaccepted_place, word_title};
 
 use crate::names::{line_fault, refusal_name, slot_fault, state_fault, structure_fault};
 use assembler::fault::AsmError;

@@ -1,5 +1,6 @@
 -- The lines of a change in a session, and the text that they are read as.
-use Rattle.std.specs.Prelude.{ℕ, ◌==◌, ◌||◌, Bool, if◌then◌else◌, List, [], Option, Some, None, codes, map, option_and_then}
+use Rattle.std.specs.Prelude.{ℕ, ◌==◌, ◌||◌, Bool, if◌then◌else◌, List, [], Option, Some, None, codes, map}
+use Rattle.std.specs.Prelude.{option_and_then}
 use Rattle.std.specs.List.{before_first}
 use Rattle.std.specs.Str.{bytes_eq, is_utf8}
 use Rattle.change_ops.specs.Reading.{header_at}
@@ -8,7 +9,8 @@ use Rattle.session_lines.specs.Lines.{joined}
 
 -- a line whose first word, what stands before the first space, is `change` or `change2`
 abbrev pub is_header : List ℕ → Bool
-is_header line = let word = before_first (λ b. b == 32) line in bytes_eq word (codes "change") || bytes_eq word (codes "change2")
+is_header line = let word =
+    before_first (λ b. b == 32) line in bytes_eq word (codes "change") || bytes_eq word (codes "change2")
 
 -- the form, the node and the count of a right first line of a change
 abbrev pub right_header : List ℕ → Option Header

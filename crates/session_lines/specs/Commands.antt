@@ -13,8 +13,8 @@ use Rattle.session_lines.specs.declared.query.Query.TheVariants.{Latest, Show, C
 use Rattle.session_lines.specs.declared.fault.LineRefusal.{LineRefusal}
 use Rattle.session_lines.specs.declared.fault.LineRefusal.TheVariants.{BadCommand, BadCapacity, BadHex, OutOfMemory}
 
--- what a line says; a subscription is of a program that may read what the profile lets it, and from the latest version on, or from
--- the one that it names
+-- what a line says; a subscription is of a program that may read what the profile lets it, and from the latest version
+-- on, or from the one that it names
 pub data Command : Type 0 where
   subscribe : (profile : Profile) (capacity : ℕ) (digits : List ℕ) (first : Option ℕ) → Command
   pull : (subscriber count : ℕ) → Command
@@ -58,7 +58,8 @@ name_of Two = codes "sub2"
 -- a line, without its LF
 abbrev pub CommandForm : Command → List ℕ → Type 0
 CommandForm (subscribe profile capacity digits None) = Word (name_of profile) ⎵ Number capacity ⎵ OneWord digits
-CommandForm (subscribe profile capacity digits (Some first)) = Word (name_of profile) ⎵ Number capacity ⎵ OneWord digits ⎵ Word (codes "from") ⎵ Number first
+CommandForm (subscribe profile capacity digits (Some first)) =
+    Word (name_of profile) ⎵ Number capacity ⎵ OneWord digits ⎵ Word (codes "from") ⎵ Number first
 CommandForm (pull subscriber count) = Word (codes "pull") ⎵ Number subscriber ⎵ Count count
 CommandForm (close subscriber) = Word (codes "close") ⎵ Number subscriber
 CommandForm (read Latest) = Word (codes "latest")
@@ -68,9 +69,11 @@ CommandForm (read (Newest node)) = Word (codes "newest") ⎵ Number node
 
 -- What is asked for by what a line says, or why it is refused; the capacity is looked at before the digits.
 abbrev pub Grants : Command → Result SessionRequest LineRefusal → Type 0
-Grants (subscribe profile capacity digits first) (Ok (Subscribe reads room program from)) = (reads ≡ profile) × (room ≡ capacity) × IsCount capacity × (decode_of digits ≡ Ok program.items) × (from ≡ first)
+Grants (subscribe profile capacity digits first) (Ok (Subscribe reads room program from)) =
+    (reads ≡ profile) × (room ≡ capacity) × IsCount capacity × (decode_of digits ≡ Ok program.items) × (from ≡ first)
 Grants (subscribe profile capacity digits first) (Err BadCapacity) = ¬ (IsCount capacity)
-Grants (subscribe profile capacity digits first) (Err BadHex) = IsCount capacity × ((error : FromHexError) × (decode_of digits ≡ Err error))
+Grants (subscribe profile capacity digits first) (Err BadHex) =
+    IsCount capacity × ((error : FromHexError) × (decode_of digits ≡ Err error))
 Grants (subscribe profile capacity digits first) (Err OutOfMemory) = IsCount capacity
 Grants (pull subscriber count) (Ok (Pull id most)) = (id ≡ subscriber) × (most ≡ count)
 Grants (close subscriber) (Ok (Close id)) = id ≡ subscriber

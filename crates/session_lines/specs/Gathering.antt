@@ -31,7 +31,8 @@ abbrev pub IsReadAs : List ℕ → List ℕ → Type 0
 IsReadAs text whole = (read : Result Edit ChangeError) → IsRead text read → IsRead whole read
 
 -- an input had these bytes left, and the change a text that is read as this one
-pub record Gathers (wanted : ℕ) (old : Option (List ℕ)) (had : List ℕ) (gathered : Gathered) (new : Option (List ℕ)) (text : List ℕ) : Type 0 where
+pub record Gathers (wanted : ℕ) (old : Option (List ℕ)) (had : List ℕ) (gathered : Gathered) (new : Option (List ℕ))
+    (text : List ℕ) : Type 0 where
   pub lines : List (List ℕ)
   pub last : List ℕ
   pub are_lines : All IsLine lines

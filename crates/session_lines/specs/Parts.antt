@@ -6,15 +6,17 @@ use Rattle.session_lines.specs.Lines.{IsLine, IsRemainder, IsTooLong, IsOver}
 use Rattle.session_lines.specs.declared.reader.Arrival.{Arrival}
 use Rattle.session_lines.specs.declared.reader.Arrival.TheVariants.{Whole, Unended, TooLong, End}
 
--- So many bytes of an input were appended to a line, none of them a LF but perhaps the last; none at the input's end alone.
-pub record Appended (old : Option (List ℕ)) (had : List ℕ) (room n : ℕ) (new : Option (List ℕ)) (line : List ℕ) : Type 0 where
-  pub part : List ℕ
-  pub whole : line ≡ had ++ part
-  pub many : length part ≡ n
-  pub few : n ≤ room
-  pub one : IsUnended (take (n - 1) part)
-  pub front : Consumes old new part
-  pub end : n ≡ 0 → IsOver old new
+-- So many bytes of an input were appended to a line, none of them a LF but perhaps the last; none at the input's end
+-- alone.
+pub record Appended (old : Option (List ℕ)) (had : List ℕ) (room n : ℕ) (new : Option (List ℕ)) (line : List ℕ) : Type 0
+  where
+    pub part : List ℕ
+    pub whole : line ≡ had ++ part
+    pub many : length part ≡ n
+    pub few : n ≤ room
+    pub one : IsUnended (take (n - 1) part)
+    pub front : Consumes old new part
+    pub end : n ≡ 0 → IsOver old new
 
 -- what was read of a line, the last part of it of so many bytes
 pub record IsBegun (part : ℕ) (line : List ℕ) : Type 0 where

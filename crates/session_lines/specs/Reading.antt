@@ -1,5 +1,6 @@
 -- Reading a line from left to right.
-use Rattle.std.specs.Prelude.{ℕ, ◌+◌, ◌*◌, ◌^◌, nat_lt, nat_le, ◌==◌, ◌&&◌, not, Bool, if◌then◌else◌, List, length, codes, Option, Some, None}
+use Rattle.std.specs.Prelude.{ℕ, ◌+◌, ◌*◌, ◌^◌, nat_lt, nat_le, ◌==◌, ◌&&◌, not, Bool, if◌then◌else◌, List, length}
+use Rattle.std.specs.Prelude.{codes, Option, Some, None}
 use Rattle.std.specs.List.{list_all}
 use Rattle.std.specs.Str.{bytes_eq}
 use Rattle.bpf_words.specs.declared.profile.Profile.{Profile}
@@ -44,10 +45,12 @@ from_at profile capacity text = do
   parts ← split 32 text
   more ← split 32 parts.1
   first ← small (number_in 10 more.1)
-  if is_one_word parts.0 && bytes_eq more.0 (codes "from") then Some (subscribe profile capacity parts.0 (Some first)) else None
+  if is_one_word parts.0 && bytes_eq more.0 (codes "from") then Some (subscribe profile capacity parts.0 (Some first))
+      else None
 
 abbrev pub program_at : Profile → ℕ → List ℕ → Option Command
-program_at profile capacity text = if is_one_word text then Some (subscribe profile capacity text None) else from_at profile capacity text
+program_at profile capacity text =
+    if is_one_word text then Some (subscribe profile capacity text None) else from_at profile capacity text
 
 unfoldable pub subscribe_at : Profile → List ℕ → Option Command
 subscribe_at profile fields = do

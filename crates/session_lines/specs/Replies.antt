@@ -7,12 +7,14 @@ use Rattle.refusals.specs.declared.reason.Reason.TheVariants as reason
 use Rattle.session_lines.specs.declared.fault.LineRefusal.{LineRefusal}
 use Rattle.session_lines.specs.declared.fault.LineRefusal.TheVariants as line
 use Rattle.session_lines.specs.declared.reply.Reply.{Reply}
-use Rattle.session_lines.specs.declared.reply.Reply.TheVariants.{Version, Subscribed, Hit, End, Items, Closed, Latest, Spans, Changes, Newest, Refused}
+use Rattle.session_lines.specs.declared.reply.Reply.TheVariants.{Version, Subscribed, Hit, End, Items, Closed, Latest}
+use Rattle.session_lines.specs.declared.reply.Reply.TheVariants.{Spans, Changes, Newest, Refused}
 
 abbrev pub reply_text : Reply → List ℕ
 reply_text (Version number) = codes "ok version " ++ decimal number
 reply_text (Subscribed id) = codes "ok sub " ++ decimal id
-reply_text (Hit version span verdict) = codes "hit " ++ decimal version ++ codes " " ++ decimal span ++ codes " " ++ decimal verdict
+reply_text (Hit version span verdict) =
+    codes "hit " ++ decimal version ++ codes " " ++ decimal span ++ codes " " ++ decimal verdict
 reply_text (End version spans) = codes "end " ++ decimal version ++ codes " " ++ decimal spans
 reply_text (Items count) = codes "ok items " ++ decimal count
 reply_text (Closed id) = codes "ok closed " ++ decimal id

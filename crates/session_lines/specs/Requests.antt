@@ -1,5 +1,6 @@
 -- What comes next of a session's input, by the lines that it takes.
-use Rattle.std.specs.Prelude.{◌≡◌, ℕ, ◌<◌, ◌≤◌, ◌⊎◌, IsTrue, IsFalse, List, [], ◌∷◌, ◌++◌, length, All, Option, Result, Ok, Err, if◌then◌else◌}
+use Rattle.std.specs.Prelude.{◌≡◌, ℕ, ◌<◌, ◌≤◌, ◌⊎◌, IsTrue, IsFalse, List, [], ◌∷◌, ◌++◌, length, All, Option, Result}
+use Rattle.std.specs.Prelude.{Ok, Err, if◌then◌else◌}
 use Rattle.std.specs.Io.KnownBytes.{Consumes}
 use Rattle.change_ops.specs.Changes.{Edit}
 use Rattle.change_ops.specs.Refusals.{IsRefused}
@@ -44,8 +45,10 @@ pub data IsNext (old : Option (List ℕ)) (next : Next) (new : Option (List ℕ)
       → length others ≡ followers (right_header header) → Consumes old new (joined (header ∷ others))
       → IsRead (text_of (header ∷ others)) read → next ≡ changed read → IsNext old next new
   -- the input ends within a change
-  cut : (header : List ℕ) (others : List (List ℕ)) (last : List ℕ) (read : Result Edit ChangeError) → ChangeLines header others
-      → length others < followers (right_header header) → IsRemainder last → Consumes old new (joined (header ∷ others) ++ last) → IsOver old new
+  cut : (header : List ℕ) (others : List (List ℕ)) (last : List ℕ) (read : Result Edit ChangeError)
+      → ChangeLines header others
+      → length others < followers (right_header header) → IsRemainder last
+      → Consumes old new (joined (header ∷ others) ++ last) → IsOver old new
       → IsRead (text_of (header ∷ others)) read → next ≡ changed read → IsNext old next new
   -- it ends with a line that has no LF
   unended : (last : List ℕ) → IsRemainder last → 1 ≤ length last → Consumes old new last → IsOver old new
@@ -54,11 +57,14 @@ pub data IsNext (old : Option (List ℕ)) (next : Next) (new : Option (List ℕ)
   long_line : (last : List ℕ) → IsTooLong last → Consumes old new last → next ≡ TooLong → IsNext old next new
   -- one within a change
   long_within : (header : List ℕ) (others : List (List ℕ)) (last : List ℕ) → ChangeLines header others
-      → length others < followers (right_header header) → IsTooLong last → Consumes old new (joined (header ∷ others) ++ last)
+      → length others < followers (right_header header) → IsTooLong last
+      → Consumes old new (joined (header ∷ others) ++ last)
       → next ≡ TooLong → IsNext old next new
   -- nothing is left
   ended : Consumes old new [] → IsOver old new → next ≡ End → IsNext old next new
 
 -- The next of an input that had these bytes left before its line, the first of a change.
 abbrev pub GoesOn : List ℕ → Option (List ℕ) → Next → Option (List ℕ) → Type 0
-GoesOn line left next new = (old : Option (List ℕ)) → IsLine line → IsTrue (is_header line) → Consumes old left (line ++ 10 ∷ []) → IsNext old next new
+GoesOn line left next new =
+    (old : Option (List ℕ)) → IsLine line → IsTrue (is_header line) → Consumes old left (line ++ 10 ∷ [])
+    → IsNext old next new

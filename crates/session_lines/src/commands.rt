@@ -4,7 +4,9 @@ ghost use Rattle.std.specs.Option.{option_map};
 ghost use Rattle.hex.specs.Hex.{decode_of};
 ghost use Rattle.hex.specs.declared.error.FromHexError.{FromHexError};
 ghost use Rattle.session_lines.specs.Commands.{subscribe, Grants, IsAsked};
-ghost use Rattle.session_lines.specs.Reading.{said, from_at, program_at, subscribe_at, pull_at, close_at, show_at, changes_at, newest_at, query_at, words_at, command_at, is_count, is_few_changes};
+ghost use Rattle.session_lines.specs.Reading.{said, from_at, program_at, subscribe_at, pull_at, close_at, show_at};
+ghost use Rattle.session_lines.specs.Reading.{changes_at, newest_at, query_at, words_at, command_at, is_count};
+ghost use Rattle.session_lines.specs.Reading.{is_few_changes};
 ghost use Rattle.session_lines.specs.declared.fault.LineRefusal.TheVariants as why;
 
 use crate::fault::LineRefusal;
@@ -223,7 +225,8 @@ fn command_in(line: &[u8]) -> Option<LentCommand<'_>>
 /// The program that pairs of hexadecimal digits stand for.
 fn program_of(alloc: Global, digits: &[u8]) -> Result<Vec<u8>, LineRefusal>
     ensures ok { IfOk result (λ program. decode_of digits.now ≡ Ok program.items) }
-    ensures err { IfErr result (λ e. (e ≡ why.OutOfMemory) ⊎ ((e ≡ why.BadHex) × ((error : FromHexError) × (decode_of digits.now ≡ Err error)))) }
+    ensures err { IfErr result (λ e. (e ≡ why.OutOfMemory)
+        ⊎ ((e ≡ why.BadHex) × ((error : FromHexError) × (decode_of digits.now ≡ Err error)))) }
 {
     match hex::decode(alloc, digits) {
         Ok(program) => Ok(program),

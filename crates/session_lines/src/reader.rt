@@ -68,8 +68,10 @@ fn part_len(bytes: &[u8], room: usize) -> usize
 /// Appends what a reader shows next to a line, to the first LF and no more than there is room for: how many bytes.
 fn append_part<B: BufRead>(reader: &mut B, room: usize, line: &mut Vec<u8>) -> io::Result<usize>
     requires { 0 < room }
-    ensures ok { IfOk result (λ n. Appended (B.remaining reader.old) line.old.items room n (B.remaining reader.new) line.new.items) }
-    ensures err { OnErr result (Keeps (B.remaining reader.old) (B.remaining reader.new) × (line.new.items ≡ line.old.items)) }
+    ensures ok { IfOk result (λ n. Appended (B.remaining reader.old) line.old.items room n (B.remaining reader.new)
+        line.new.items) }
+    ensures err { OnErr result (Keeps (B.remaining reader.old) (B.remaining reader.new)
+        × (line.new.items ≡ line.old.items)) }
 {
     let bytes = reader.fill_buf()?;
     let len = part_len(bytes, room);
@@ -103,7 +105,8 @@ fn arrival_of(line: &mut Vec<u8>, part: usize) -> Option<Arrival>
 
 /// Reads a line, which is kept without its LF.
 fn read_line<B: BufRead>(reader: &mut B, line: &mut Vec<u8>) -> io::Result<Arrival>
-    ensures { IfOk result (λ arrival. Arrives (B.remaining reader.old) arrival (record { line = line.new.items; left = B.remaining reader.new })) }
+    ensures { IfOk result (λ arrival. Arrives (B.remaining reader.old) arrival
+        (record { line = line.new.items; left = B.remaining reader.new })) }
 {
     line.clear();
     for _ in 0..u64::MAX {

@@ -108,7 +108,8 @@ fn push_number(out: &mut String, word: &str, number: u64) -> Result<(), AllocErr
 
 /// Appends the line of a hit.
 fn push_hit(out: &mut String, version: u64, span: usize, verdict: u64) -> Result<(), AllocError>
-    ensures ok { OnOk result (string_bytes out.new ≡ string_bytes out.old ++ (reply_text (told.Hit version span verdict) ++ 10 ∷ [])) }
+    ensures ok { OnOk result (string_bytes out.new ≡ string_bytes out.old
+        ++ (reply_text (told.Hit version span verdict) ++ 10 ∷ [])) }
     ensures err { OnErr result (string_bytes out.new ≡ string_bytes out.old) }
 {
     out.reserve(HIT_ROOM)?;
@@ -121,7 +122,8 @@ fn push_hit(out: &mut String, version: u64, span: usize, verdict: u64) -> Result
 
 /// Appends the line of a version's end.
 fn push_end(out: &mut String, version: u64, spans: usize) -> Result<(), AllocError>
-    ensures ok { OnOk result (string_bytes out.new ≡ string_bytes out.old ++ (reply_text (told.End version spans) ++ 10 ∷ [])) }
+    ensures ok { OnOk result (string_bytes out.new ≡ string_bytes out.old
+        ++ (reply_text (told.End version spans) ++ 10 ∷ [])) }
     ensures err { OnErr result (string_bytes out.new ≡ string_bytes out.old) }
 {
     out.reserve(HIT_ROOM)?;
@@ -133,7 +135,8 @@ fn push_end(out: &mut String, version: u64, spans: usize) -> Result<(), AllocErr
 
 /// Appends the line of a refusal.
 fn push_refusal(out: &mut String, reason: Reason) -> Result<(), AllocError>
-    ensures ok { OnOk result (string_bytes out.new ≡ string_bytes out.old ++ (reply_text (told.Refused reason) ++ 10 ∷ [])) }
+    ensures ok { OnOk result (string_bytes out.new ≡ string_bytes out.old
+        ++ (reply_text (told.Refused reason) ++ 10 ∷ [])) }
     ensures err { OnErr result (string_bytes out.new ≡ string_bytes out.old) }
 {
     let title = reason.title();
@@ -146,8 +149,8 @@ fn push_refusal(out: &mut String, reason: Reason) -> Result<(), AllocError>
 }
 
 impl Reply {
-    /// Appends the line with its LF, whole or not at all. The words and digits are put there one by one, since most lines are items', and
-    /// a pull has up to 1,024 of those.
+    /// Appends the line with its LF, whole or not at all. The words and digits are put there one by one, since most
+    /// lines are items', and a pull has up to 1,024 of those.
     pub fn push_line(&self, out: &mut String) -> Result<(), AllocError>
         ensures ok { OnOk result (string_bytes out.new ≡ string_bytes out.old ++ (reply_text self.now ++ 10 ∷ [])) }
         ensures err { OnErr result (string_bytes out.new ≡ string_bytes out.old) }

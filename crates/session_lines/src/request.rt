@@ -27,8 +27,8 @@ const LONGEST_RIGHT_LINE: usize = 2048;
 pub enum SessionRequest {
     /// To accept a change.
     Change(Change),
-    /// To add a subscriber: with room for 1 to 1,024 items, with bytes that are yet to be looked at as those of a program that reads
-    /// what the profile lets it, and from the latest version on, or from the one with this number.
+    /// To add a subscriber: with room for 1 to 1,024 items, with bytes that are yet to be looked at as those of a
+    /// program that reads what the profile lets it, and from the latest version on, or from the one with this number.
     Subscribe {
         profile: Profile,
         capacity: usize,
@@ -110,15 +110,17 @@ fn is_settled(alloc: Global, text: &str) -> bool
     }
 }
 
-/// Keeps a line behind the text of a change, unless what is read of that is settled. It answers whether it is then. Only a line that is
-/// too long to be right is worth the look: so what is kept is never much longer than a right change's text.
+/// Keeps a line behind the text of a change, unless what is read of that is settled. It answers whether it is then.
+/// Only a line that is too long to be right is worth the look: so what is kept is never much longer than a right
+/// change's text.
 fn keep_line(
     alloc: Global,
     text: &mut String,
     line: &[u8],
     settled: bool,
 ) -> Result<bool, AllocError>
-    ensures { IfOk result (λ now. KeepsLine settled (string_bytes text.old) (legible line.now ++ 10 ∷ []) now (string_bytes text.new)) }
+    ensures { IfOk result (λ now. KeepsLine settled (string_bytes text.old) (legible line.now ++ 10 ∷ []) now
+        (string_bytes text.new)) }
 {
     if settled {
         return Ok(true);
@@ -138,7 +140,8 @@ fn gather<R: Read>(
     count: usize,
     text: &mut String,
 ) -> Result<Gathered, ReadFault>
-    ensures { IfOk result (λ gathered. Gathers count reader.old.left (string_bytes text.old) gathered reader.new.left (string_bytes text.new)) }
+    ensures { IfOk result (λ gathered. Gathers count reader.old.left (string_bytes text.old) gathered reader.new.left
+        (string_bytes text.new)) }
 {
     let mut settled = false;
     for _ in 0..count {
@@ -188,8 +191,8 @@ fn unended(line: &[u8]) -> LineRefusal
 }
 
 #[tactic(auto, using(crate::proofs::Nexts::next_end))]
-/// Reads the next request of a session, a change with all its lines. A failure ends the session: what is left of the input
-/// may then begin within a request.
+/// Reads the next request of a session, a change with all its lines. A failure ends the session: what is left of the
+/// input may then begin within a request.
 pub fn next_request<R: Read>(alloc: Global, reader: &mut LineReader<R>) -> Result<Next, ReadFault>
     ensures { IfOk result (λ next. IsNext reader.old.left next reader.new.left) }
 {

@@ -25,8 +25,10 @@ WasSo fact = InOneHolding (λ old new. (new ≡ old) × fact old)
 -- so many spans of a version, from one of them on, and how many it has; or no version had the number
 abbrev pub Shows : ℕ → ℕ → ℕ → List ℕ → Reply → Type 0
 Shows number first most text (reply.Spans count) =
-    (token : Token Snapshot) × WasSo (λ s. slice_get s.versions number ≡ Some token) × (text ≡ some_lines first most token.value) × (count ≡ length token.value.rows)
-Shows number first most text (reply.Refused reason.NoVersion) = WasSo (λ s. slice_get s.versions number ≡ None) × (text ≡ [])
+    (token : Token Snapshot) × WasSo (λ s. slice_get s.versions number ≡ Some token)
+    × (text ≡ some_lines first most token.value) × (count ≡ length token.value.rows)
+Shows number first most text (reply.Refused reason.NoVersion) =
+    WasSo (λ s. slice_get s.versions number ≡ None) × (text ≡ [])
 Shows number first most text _ = ⊥
 
 -- the texts of changes, one behind the other, and how many they are
@@ -35,7 +37,8 @@ AreTexts changes text count = (text ≡ flat_map change_text changes) × (count 
 
 -- the accepted changes behind a version, so many or as many as there were; or no version had the number
 abbrev pub Lists : ℕ → ℕ → List ℕ → Reply → Type 0
-Lists from most text (reply.Changes count) = WasSo (λ s. (from ≤ length s.changes) × AreTexts (take most (drop from s.changes)) text count)
+Lists from most text (reply.Changes count) =
+    WasSo (λ s. (from ≤ length s.changes) × AreTexts (take most (drop from s.changes)) text count)
 Lists from most text (reply.Refused reason.NoVersion) = WasSo (λ s. length s.changes < from) × (text ≡ [])
 Lists from most text _ = ⊥
 

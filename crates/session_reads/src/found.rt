@@ -80,7 +80,8 @@ impl fmt::Display for Whole<'_, '_> {
 impl Found<'_> {
     /// Writes it and lines behind it, in pieces and without memory for that.
     pub fn write<W: io::Write>(&self, lines: &str, writer: &mut W) -> io::Result<()>
-        ensures { OnOk result (Appends (W.contents writer.old) (W.contents writer.new) (found_text self.now ++ lines.now)) }
+        ensures { OnOk result (Appends (W.contents writer.old) (W.contents writer.new)
+            (found_text self.now ++ lines.now)) }
     {
         match self {
             Found::Nothing => writer.write_all(lines.as_bytes()),

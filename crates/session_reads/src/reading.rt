@@ -91,8 +91,8 @@ fn told<'a, N: Naming + Ledger, R: Wait + Copy>(
     }
 }
 
-/// Reads of the text: what is found, and the reply behind it. A hub that isn't read refuses. Reading changes nothing, and copies nothing
-/// of the text: no memory is taken but for a list of up to 64 texts.
+/// Reads of the text: what is found, and the reply behind it. A hub that isn't read refuses. Reading changes nothing,
+/// and copies nothing of the text: no memory is taken but for a list of up to 64 texts.
 pub fn read<'a, N: Naming + Ledger, R: Wait + Copy>(
     rt: &R,
     hub: &Hub<'_, N, R>,

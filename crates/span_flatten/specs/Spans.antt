@@ -1,6 +1,7 @@
 -- The spans of a text: its visible characters in order, cut into maximal runs of equal format
 -- (Peritext, CSCW 2022).
-use Rattle.std.specs.Prelude.{◌≡◌, ◌≢◌, ◌<◌, ℕ, List, [], ◌∷◌, ◌++◌, Option, Some, length, map, slice_get, All, AllPairs, Contains, encode_utf8_all}
+use Rattle.std.specs.Prelude.{◌≡◌, ◌≢◌, ◌<◌, ℕ, List, [], ◌∷◌, ◌++◌, Option, Some, length, map, slice_get, All}
+use Rattle.std.specs.Prelude.{AllPairs, Contains, encode_utf8_all}
 use Rattle.change_ops.specs.declared.id.OpId.{OpId}
 use Rattle.change_ops.specs.declared.operation.Op.{Op}
 use Rattle.change_ops.specs.declared.operation.Op.TheVariants.{Insert}
@@ -18,7 +19,8 @@ pub record Shown : Type 0 where
 -- the characters that are inserted and not removed, in order, each with its format
 pub record AreVisible (ops : List Op) (shown : List Shown) : Type 0 where
   pub ordered : AllPairs (λ a b. Before ops (Some a.id) b.id) shown
-  pub listed : (x : OpId) (p : Option OpId) (c : ℕ) → Contains ops (Insert x p c) → (Removed ops x → ⊥) → (s : Shown) × Contains shown s × (s.id ≡ x) × (s.character ≡ c)
+  pub listed : (x : OpId) (p : Option OpId) (c : ℕ) → Contains ops (Insert x p c) → (Removed ops x → ⊥)
+      → (s : Shown) × Contains shown s × (s.id ≡ x) × (s.character ≡ c)
   pub inserted : (s : Shown) → Contains shown s → (p : Option OpId) × Contains ops (Insert s.id p s.character)
   pub kept : (s : Shown) → Contains shown s → Removed ops s.id → ⊥
   pub formatted : (s : Shown) → Contains shown s → IsFormat ops s.id s.format
@@ -38,7 +40,8 @@ pub record IsRun (front rest : List Shown) (span : Span) : Type 0 where
 -- the characters, cut into maximal runs of equal format, are the spans
 abbrev pub Cuts : List Shown → List Span → Type 0
 Cuts shown [] = shown ≡ []
-Cuts shown (span ∷ spans) = (front : List Shown) × ((rest : List Shown) × (shown ≡ front ++ rest) × IsRun front rest span × Cuts rest spans)
+Cuts shown (span ∷ spans) =
+    (front : List Shown) × ((rest : List Shown) × (shown ≡ front ++ rest) × IsRun front rest span × Cuts rest spans)
 
 -- the spans of a set of operations
 abbrev pub AreSpans : List Op → List Span → Type 0

@@ -19,14 +19,17 @@ abbrev pub is_visible : Element → Bool
 is_visible e = e.visible
 
 -- what of the first elements is visible is laid out
-pub record IsTaken (elements : List Element) (marks : List Op) (place : ℕ) (text : List ℕ) (rows : List Row) : Type 0 where
-  pub shown : List Shown
-  pub drawn : map element_of shown ≡ filter is_visible (take place elements)
-  pub formatted : (ops : List Op) → Shows elements ops → AreMarks ops marks → All (λ s. IsFormat ops s.id s.format) shown
-  pub draft : IsDraft shown text rows
-  pub short : length text ≤ 4 * place
-  pub few : length rows ≤ place
+pub record IsTaken (elements : List Element) (marks : List Op) (place : ℕ) (text : List ℕ) (rows : List Row) : Type 0
+  where
+    pub shown : List Shown
+    pub drawn : map element_of shown ≡ filter is_visible (take place elements)
+    pub formatted : (ops : List Op) → Shows elements ops → AreMarks ops marks
+        → All (λ s. IsFormat ops s.id s.format) shown
+    pub draft : IsDraft shown text rows
+    pub short : length text ≤ 4 * place
+    pub few : length rows ≤ place
 
 -- the last row has the format of the character at the place
 abbrev pub IsLastFormat : List Element → List Op → ℕ → List Row → Type 0
-IsLastFormat elements marks place rows = (d : Row) → 0 < length rows → IsFormatAt elements marks place (slice_index_or rows (length rows - 1) d).format
+IsLastFormat elements marks place rows =
+    (d : Row) → 0 < length rows → IsFormatAt elements marks place (slice_index_or rows (length rows - 1) d).format

@@ -1,5 +1,6 @@
 -- A version: the spans of a set of operations as one text, with a row for each span (Peritext, CSCW 2022).
-use Rattle.std.specs.Prelude.{◌≡◌, ◌<◌, ◌≤◌, ◌+◌, ℕ, List, [], ◌∷◌, length, map, flat_map, slice_range, All, chars, encode_utf8_all}
+use Rattle.std.specs.Prelude.{◌≡◌, ◌<◌, ◌≤◌, ◌+◌, ℕ, List, [], ◌∷◌, length, map, flat_map, slice_range, All, chars}
+use Rattle.std.specs.Prelude.{encode_utf8_all}
 use Rattle.std.specs.Str.{IsUtf8, IsCharBoundary}
 use Rattle.change_ops.specs.declared.operation.Op.{Op}
 use Rattle.span_flatten.specs.declared.version.Row.{Row}
@@ -25,11 +26,15 @@ spans_of version = spans_in version.text version.rows
 abbrev pub joined : List Span → List ℕ
 joined spans = flat_map (λ span. span.text) spans
 
--- a row for each span, one after another from this place on, each as long as its span's text, with the number of its characters
+-- a row for each span, one after another from this place on, each as long as its span's text, with the number of its
+-- characters
 abbrev pub rows_from : ℕ → List Span → List Row
 rows_from start [] = []
 rows_from start (span ∷ spans) =
-    let end = start + length span.text in record { start = start; end = end; characters = length (chars span.text); format = span.format } ∷ rows_from end spans
+    let end =
+    start + length span.text
+    in record { start = start; end = end; characters = length (chars span.text); format = span.format }
+    ∷ rows_from end spans
 
 -- the spans are laid out as one text and a row (start, end, characters, format) for each, end to end
 pub record IsLayout (spans : List Span) (text : List ℕ) (rows : List Row) : Type 0 where

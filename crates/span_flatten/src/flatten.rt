@@ -1,4 +1,5 @@
-ghost use Rattle.std.specs.Prelude.{◌≡◌, ◌<◌, ◌≤◌, ◌+◌, ◌-◌, ◌^◌, ◌++◌, ℕ, List, All, IfOk, length, drop, chars, string_bytes};
+ghost use Rattle.std.specs.Prelude.{◌≡◌, ◌<◌, ◌≤◌, ◌+◌, ◌-◌, ◌^◌, ◌++◌, ℕ, List, All, IfOk, length, drop, chars};
+ghost use Rattle.std.specs.Prelude.{string_bytes};
 ghost use Rattle.change_ops.specs.declared.operation.Op.{Op};
 ghost use Rattle.char_sequence.specs.declared.sequence.Element.{Element};
 ghost use Rattle.char_sequence.specs.Order.{Shows, SameSet};
@@ -19,7 +20,12 @@ use std::alloc::{AllocError, Global};
 /// Lengthens a row by so many characters, up to a new end.
 fn lengthen(row: &mut Row, end: usize, characters: usize)
     requires { row.old.characters + characters < 2 ^ 64 }
-    ensures { row.new ≡ record { start = row.old.start; end = end; characters = row.old.characters + characters; format = row.old.format } }
+    ensures { row.new ≡ record {
+      start = row.old.start;
+      end = end;
+      characters = row.old.characters + characters;
+      format = row.old.format;
+    } }
 {
     row.end = end;
     row.characters += characters;
@@ -33,8 +39,8 @@ struct Extent {
     characters: usize,
 }
 
-/// Adds a row with the format of the character at the place `from`, or lengthens the last row where that has the format too. The last
-/// row's format is that of the character where the sweep stands, which goes on to the place.
+/// Adds a row with the format of the character at the place `from`, or lengthens the last row where that has the format
+/// too. The last row's format is that of the character where the sweep stands, which goes on to the place.
 fn add_row(
     rows: &mut Vec<Row>,
     sweep: &mut FormatSweep<'_>,
@@ -43,11 +49,18 @@ fn add_row(
 ) -> Result<(), AllocError>
     requires order { sweep.old.place ≤ from }
     requires there { from < length sweep.old.resolution.elements }
-    requires formatted { IsLastFormat sweep.old.resolution.elements sweep.old.resolution.marks sweep.old.place rows.old.items }
+    requires formatted { IsLastFormat sweep.old.resolution.elements sweep.old.resolution.marks sweep.old.place
+        rows.old.items }
     requires counted { All (λ earlier. earlier.characters ≤ extent.start) rows.old.items }
     requires within { extent.start + extent.characters ≤ extent.end }
-    ensures draft { IfOk result (λ _. (f : Formatting) × IsFormatAt sweep.old.resolution.elements sweep.old.resolution.marks from f × ((shown more : List Shown) (piece : Span) (text text' : List ℕ) → IsPiece more piece → piece.format ≡ f → text' ≡ text ++ piece.text → extent.start ≡ length text → extent.end ≡ length text' → extent.characters ≡ length (chars piece.text) → IsDraft shown text rows.old.items → IsDraft (shown ++ more) text' rows.new.items)) }
-    ensures formatted { IfOk result (λ _. IsLastFormat sweep.old.resolution.elements sweep.old.resolution.marks from rows.new.items) }
+    ensures draft { IfOk result (λ _. (f : Formatting)
+        × IsFormatAt sweep.old.resolution.elements sweep.old.resolution.marks from f
+        × ((shown more : List Shown) (piece : Span) (text text' : List ℕ) → IsPiece more piece → piece.format ≡ f
+        → text' ≡ text ++ piece.text → extent.start ≡ length text → extent.end ≡ length text'
+        → extent.characters ≡ length (chars piece.text) → IsDraft shown text rows.old.items
+        → IsDraft (shown ++ more) text' rows.new.items)) }
+    ensures formatted { IfOk result (λ _. IsLastFormat sweep.old.resolution.elements sweep.old.resolution.marks from
+        rows.new.items) }
     ensures count { IfOk result (λ _. length rows.new.items ≤ length rows.old.items + 1) }
     ensures resolution { sweep.new.resolution ≡ sweep.old.resolution }
     ensures place { sweep.new.place ≡ from }
@@ -70,8 +83,9 @@ fn add_row(
     Ok(())
 }
 
-/// Adds the visible text from one place, at which the cursor stands, up to another, between which all characters have one format.
-/// Where none of them is visible there is no row. The last row's format is that of the character where the sweep stands.
+/// Adds the visible text from one place, at which the cursor stands, up to another, between which all characters have
+/// one format. Where none of them is visible there is no row. The last row's format is that of the character where the
+/// sweep stands.
 fn take_in(
     text: &mut String,
     rows: &mut Vec<Row>,
@@ -85,11 +99,17 @@ fn take_in(
     requires within { to ≤ length sweep.old.resolution.elements }
     requires uniform { IsUniform sweep.old.resolution.elements sweep.old.resolution.marks from to }
     requires at { cursor.old ≡ drop from sweep.old.resolution.elements }
-    requires formatted { IsLastFormat sweep.old.resolution.elements sweep.old.resolution.marks sweep.old.place rows.old.items }
+    requires formatted { IsLastFormat sweep.old.resolution.elements sweep.old.resolution.marks sweep.old.place
+        rows.old.items }
     requires counted { All (λ row. row.characters ≤ length (string_bytes text.old)) rows.old.items }
-    ensures taken { IsTaken sweep.old.resolution.elements sweep.old.resolution.marks from (string_bytes text.old) rows.old.items → IfOk result (λ _. IsTaken sweep.old.resolution.elements sweep.old.resolution.marks to (string_bytes text.new) rows.new.items) }
+    ensures taken { IsTaken sweep.old.resolution.elements sweep.old.resolution.marks from (string_bytes text.old)
+        rows.old.items
+        → IfOk result
+        (λ _. IsTaken sweep.old.resolution.elements sweep.old.resolution.marks to (string_bytes text.new)
+        rows.new.items) }
     ensures at { IfOk result (λ _. cursor.new ≡ drop to sweep.old.resolution.elements) }
-    ensures formatted { IfOk result (λ _. IsLastFormat sweep.old.resolution.elements sweep.old.resolution.marks sweep.new.place rows.new.items) }
+    ensures formatted { IfOk result (λ _. IsLastFormat sweep.old.resolution.elements sweep.old.resolution.marks
+        sweep.new.place rows.new.items) }
     ensures behind { sweep.new.place ≤ to }
     ensures resolution { sweep.new.resolution ≡ sweep.old.resolution }
 {
@@ -116,7 +136,8 @@ pub fn flatten(
     number: u64,
 ) -> Result<Version, AllocError>
     requires { (ops : List Op) × Shows sequence.now.elements ops × AreMarks ops marks.now }
-    ensures { IfOk result (λ version. (ops : List Op) → Shows sequence.now.elements ops → AreMarks ops marks.now → IsVersion ops number version) }
+    ensures { IfOk result (λ version. (ops : List Op) → Shows sequence.now.elements ops → AreMarks ops marks.now
+        → IsVersion ops number version) }
 {
     let resolved = marks.resolve(alloc, sequence)?;
     let cuts = resolved.cuts(alloc)?;
@@ -137,11 +158,13 @@ pub fn flatten(
 /// The law that replicas converge: versions with one number of one set of operations are equal,
 /// in whatever order the operations were accepted.
 pub fn same_set_same_version(first: &Version, second: &Version)
-    ensures { (ops others : List Op) (elements : List Element) (number : ℕ) → Shows elements ops → SameSet ops others → IsVersion ops number first.now → IsVersion others number second.now → first.now ≡ second.now }
+    ensures { (ops others : List Op) (elements : List Element) (number : ℕ) → Shows elements ops → SameSet ops others
+        → IsVersion ops number first.now → IsVersion others number second.now → first.now ≡ second.now }
 {}
 
 /// The law that replicas converge, of the spans alone: one set of operations has one list of spans,
 /// in whatever order and in however many changes the operations were accepted.
 pub fn same_set_same_spans(sequence: &Sequence)
-    ensures { (ops others : List Op) (spans more : List Span) → Shows sequence.now.elements ops → SameSet ops others → AreSpans ops spans → AreSpans others more → spans ≡ more }
+    ensures { (ops others : List Op) (spans more : List Span) → Shows sequence.now.elements ops → SameSet ops others
+        → AreSpans ops spans → AreSpans others more → spans ≡ more }
 {}

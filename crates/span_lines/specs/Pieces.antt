@@ -9,4 +9,5 @@ given contents p = append_known (contents p.writer.now) p.piece.bytes
 
 -- it was given these bytes, and has the same writer behind it
 abbrev pub Takes : {W : Type 0} → (W → Option (List ℕ)) → Pieces W → List ℕ → Pieces W → Type 0
-Takes contents old bs new = Appends (given contents old) (given contents new) bs × (new.writer.ghost_name ≡ old.writer.ghost_name)
+Takes contents old bs new =
+    Appends (given contents old) (given contents new) bs × (new.writer.ghost_name ≡ old.writer.ghost_name)

@@ -1,5 +1,6 @@
 -- The lines that the spans of a version are printed as, as UTF-8.
-use Rattle.std.specs.Prelude.{ℕ, ◌==◌, if◌then◌else◌, Bool, true, false, List, [], ◌∷◌, ◌++◌, map, take, drop, Option, Some, None, codes}
+use Rattle.std.specs.Prelude.{ℕ, ◌==◌, if◌then◌else◌, Bool, true, false, List, [], ◌∷◌, ◌++◌, map, take, drop, Option}
+use Rattle.std.specs.Prelude.{Some, None, codes}
 use Rattle.std.specs.List.{flat_map, enumerate_from}
 use Rattle.std.specs.Fmt.{decimal}
 use Rattle.change_ops.specs.Spelling.{◌␣◌, last_digits}
@@ -28,7 +29,8 @@ comment_key number = codes "comment:" ++ decimal number
 -- the keys that hold, with their values, in the order in which they are printed
 abbrev pub keys_of : Formatting → List (List ℕ)
 keys_of format =
-    flag_keys format.strong (codes "strong") ++ flag_keys format.em (codes "em") ++ flag_keys format.code (codes "code") ++ link_keys format.link ++ color_keys format.color ++ map comment_key format.comments
+    flag_keys format.strong (codes "strong") ++ flag_keys format.em (codes "em") ++ flag_keys format.code (codes "code")
+    ++ link_keys format.link ++ color_keys format.color ++ map comment_key format.comments
 
 -- a comma before each key
 abbrev pub behind_commas : List (List ℕ) → List ℕ

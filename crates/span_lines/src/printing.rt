@@ -3,7 +3,8 @@ ghost use Rattle.std.specs.Prelude.{◌≡◌, ◌++◌, [], Some, if◌then◌e
 ghost use Rattle.std.specs.Fmt.{WritesOnOk};
 ghost use Rattle.std.specs.Option.{option_copied};
 ghost use Rattle.span_flatten.specs.Version.{spans_of as spans_in};
-ghost use Rattle.span_lines.specs.SpanLines.{flag_keys, link_keys, color_keys, comment_key, parted, format_text, escaped, lent_line, some_lines, span_lines};
+ghost use Rattle.span_lines.specs.SpanLines.{flag_keys, link_keys, color_keys, comment_key, parted, format_text};
+ghost use Rattle.span_lines.specs.SpanLines.{escaped, lent_line, some_lines, span_lines};
 
 use change_ops::attribute::{Color, Link};
 use mark_anchors::format::Format;
@@ -191,7 +192,8 @@ pub fn lines_of(alloc: Global, version: &Version) -> Result<String, AllocError>
     Ok(out)
 }
 
-/// So many spans of a version, from one of them on, or as many as there are: a line for each, `span ` and what [`lines_of`] has.
+/// So many spans of a version, from one of them on, or as many as there are: a line for each, `span ` and what
+/// [`lines_of`] has.
 #[derive(Clone, Copy)]
 pub struct SomeSpans<'a> {
     pub version: &'a Version,

@@ -5,7 +5,8 @@ use Rattle.mark_anchors.specs.Formatting.{Formatting}
 use Rattle.span_flatten.specs.declared.version.Row.{Row}
 use Rattle.span_flatten.specs.Version.{Snapshot}
 
--- a span: its text as UTF-8, its format, its place among the version's spans, how many these are, and the version's number
+-- a span: its text as UTF-8, its format, its place among the version's spans, how many these are, and the version's
+-- number
 pub record LentSpan : Type 0 where
   pub text : List ℕ
   pub format : Formatting

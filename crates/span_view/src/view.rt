@@ -28,9 +28,16 @@ impl<'a> Model for SpanView<'a> {
 
     ghost Value = { LentSpan };
 
-    ghost view = { λ v. record { text = v.text.now; format = v.format.now; index = v.index; count = v.count; version = v.version } };
+    ghost view = { λ v. record {
+      text = v.text.now;
+      format = v.format.now;
+      index = v.index;
+      count = v.count;
+      version = v.version;
+    } };
 
-    ghost invariant = { λ v. IsWithinLimits (length v.text.now) v.index v.count × (v.characters ≡ length (chars v.text.now)) };
+    ghost invariant = { λ v. IsWithinLimits (length v.text.now) v.index v.count
+        × (v.characters ≡ length (chars v.text.now)) };
 }
 
 /// The span with this index in the version, if there is one.

@@ -15,7 +15,8 @@ pub record Sending : Type 0 where
   pub capacity : ℕ
   pub promise : Option Promise
 
--- the subscriber's end: of which queue, what it was promised, what was taken, and what it knows to have been sent at least
+-- the subscriber's end: of which queue, what it was promised, what was taken, and what it knows to have been sent at
+-- least
 pub record Taking : Type 0 where
   pub line : Line
   pub promise : Option Promise

@@ -7,8 +7,8 @@ use Rattle.batches.specs.Orderly.{IsOrderly}
 use Rattle.batches.specs.Promise.{Promise, IsPromised}
 use Rattle.subscriber_queues.specs.Queue.{Begins}
 
--- what a seat knows: whether it may send or take, how many items may wait, what it promised and was promised, what it sent and took, and a
--- beginning of what was sent
+-- what a seat knows: whether it may send or take, how many items may wait, what it promised and was promised, what it
+-- sent and took, and a beginning of what was sent
 pub record Seat : Type 0 where
   pub sends : Bool
   pub takes : Bool
@@ -21,9 +21,19 @@ pub record Seat : Type 0 where
 
 abbrev pub seat : Bool → Bool → ℕ → Option Promise → Option Promise → List Entry → List Entry → List Entry → Seat
 seat sends takes capacity gives gets sent taken shown =
-    record { sends = sends; takes = takes; capacity = capacity; gives = gives; gets = gets; sent = sent; taken = taken; shown = shown }
+    record {
+      sends = sends;
+      takes = takes;
+      capacity = capacity;
+      gives = gives;
+      gets = gets;
+      sent = sent;
+      taken = taken;
+      shown = shown;
+    }
 
--- what is so of a queue: the numbers of its two seats, how many items may wait, what is promised, and what was sent and taken
+-- what is so of a queue: the numbers of its two seats, how many items may wait, what is promised, and what was sent and
+-- taken
 pub record Facts : Type 0 where
   pub sender : ℕ
   pub taker : ℕ
@@ -32,11 +42,13 @@ pub record Facts : Type 0 where
   pub sent : List Entry
   pub taken : List Entry
 
--- only the sender's seat may send, and it knows what was sent; only the taker's may take, and it knows what was taken; both know what is promised;
--- what any was shown was sent
+-- only the sender's seat may send, and it knows what was sent; only the taker's may take, and it knows what was taken;
+-- both know what is promised; what any was shown was sent
 pub record Fits (f : Facts) (number : ℕ) (v : Seat) : Type 0 where
-  pub sends : v.sends ≡ true → (number ≡ f.sender) × (v.capacity ≡ f.capacity) × (v.sent ≡ f.sent) × (v.gives ≡ f.promise)
-  pub takes : v.takes ≡ true → (number ≡ f.taker) × (v.capacity ≡ f.capacity) × (v.taken ≡ f.taken) × (v.gets ≡ f.promise)
+  pub sends : v.sends ≡ true
+      → (number ≡ f.sender) × (v.capacity ≡ f.capacity) × (v.sent ≡ f.sent) × (v.gives ≡ f.promise)
+  pub takes : v.takes ≡ true
+      → (number ≡ f.taker) × (v.capacity ≡ f.capacity) × (v.taken ≡ f.taken) × (v.gets ≡ f.promise)
   pub shown : Begins v.shown f.sent
 
 -- the rule, over the items that wait, the oldest first, and over what the seats know

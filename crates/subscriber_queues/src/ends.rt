@@ -19,8 +19,8 @@ use version_history::published::Naming;
 /// The most items that may wait in a queue.
 pub const CAPACITY_LIMIT: usize = 1024;
 
-/// The hub's end of a subscriber's queue. Contracts see which queue it is of, what was sent, the capacity, and what is promised of all
-/// that is sent.
+/// The hub's end of a subscriber's queue. Contracts see which queue it is of, what was sent, the capacity, and what is
+/// promised of all that is sent.
 pub struct QueueSink<N: Naming, R: Wait + Copy> {
     rt: R,
     line: Arc<Line<N>, Global>,
@@ -45,13 +45,19 @@ impl<N: Naming, R: Wait + Copy> Model for QueueSink<N, R> {
 
     ghost Value = { Sending };
 
-    ghost view = { λ s. record { line = s.pass.table_id; sent = (view_of s.pass).sent; capacity = ruled_capacity (arc_value s.line); promise = (view_of s.pass).gives } };
+    ghost view = { λ s. record {
+      line = s.pass.table_id;
+      sent = (view_of s.pass).sent;
+      capacity = ruled_capacity (arc_value s.line);
+      promise = (view_of s.pass).gives;
+    } };
 
-    ghost invariant = { λ s. IsPassOf (arc_value s.line) s.pass × ((view_of s.pass).sends ≡ true) × ((view_of s.pass).capacity ≡ ruled_capacity (arc_value s.line)) };
+    ghost invariant = { λ s. IsPassOf (arc_value s.line) s.pass × ((view_of s.pass).sends ≡ true)
+        × ((view_of s.pass).capacity ≡ ruled_capacity (arc_value s.line)) };
 }
 
-/// The subscriber's end of its queue. Contracts see which queue it is of, what it was promised, what was taken, and what was shown to have
-/// been sent.
+/// The subscriber's end of its queue. Contracts see which queue it is of, what it was promised, what was taken, and
+/// what was shown to have been sent.
 pub struct Subscription<N: Naming, R: Wait + Copy> {
     rt: R,
     line: Arc<Line<N>, Global>,
@@ -78,9 +84,15 @@ impl<N: Naming, R: Wait + Copy> Model for Subscription<N, R> {
 
     ghost Value = { Taking };
 
-    ghost view = { λ s. record { line = s.pass.table_id; promise = (view_of s.pass).gets; taken = (view_of s.pass).taken; shown = (view_of s.pass).shown } };
+    ghost view = { λ s. record {
+      line = s.pass.table_id;
+      promise = (view_of s.pass).gets;
+      taken = (view_of s.pass).taken;
+      shown = (view_of s.pass).shown;
+    } };
 
-    ghost invariant = { λ s. IsPassOf (arc_value s.line) s.pass × ((view_of s.pass).takes ≡ true) × IsOrderly (view_of s.pass).taken × IsPromised (view_of s.pass).gets (view_of s.pass).taken };
+    ghost invariant = { λ s. IsPassOf (arc_value s.line) s.pass × ((view_of s.pass).takes ≡ true)
+        × IsOrderly (view_of s.pass).taken × IsPromised (view_of s.pass).gets (view_of s.pass).taken };
 }
 
 /// What was sent to a queue up to a moment. It is known for good, and takes no memory.
@@ -130,7 +142,8 @@ impl<N: Naming, R: Wait + Copy> Sink<Item<N>> for QueueSink<N, R> {
         requires orderly { IsOrderly (self.old.sent ++ item ∷ []) }
         requires promised { IsPromised self.old.promise (self.old.sent ++ item ∷ []) }
         ensures ok { OnOk result (self.new.sent ≡ self.old.sent ++ item ∷ []) }
-        ensures err { IfErr result (λ back. (back ≡ item) × (self.new.sent ≡ self.old.sent) × (self.new.capacity ≤ length self.new.sent)) }
+        ensures err { IfErr result (λ back. (back ≡ item) × (self.new.sent ≡ self.old.sent)
+            × (self.new.capacity ≤ length self.new.sent)) }
         ensures kept { self.new.promise ≡ self.old.promise }
         ensures capacity { self.new.capacity ≡ self.old.capacity }
         ensures line { self.new.line ≡ self.old.line }
@@ -154,9 +167,9 @@ impl<N: Naming, R: Wait + Copy> QueueSink<N, R> {
 }
 
 impl<N: Naming, R: Wait + Copy> Subscription<N, R> {
-    /// Takes the item that waits longest; None where none waits, and then all that was shown has been taken. What was taken so far are
-    /// the batches of one program on versions in their order, the last perhaps unfinished, and as was promised; and of it and what was
-    /// shown one begins the other.
+    /// Takes the item that waits longest; None where none waits, and then all that was shown has been taken. What was
+    /// taken so far are the batches of one program on versions in their order, the last perhaps unfinished, and as was
+    /// promised; and of it and what was shown one begins the other.
     pub fn take(&mut self) -> Option<Item<N>>
         ensures some { IfSome result (λ item. self.new ≡ record self.old { taken = self.old.taken ++ item ∷ [] }) }
         ensures none { IfNone result ((self.new ≡ self.old) × Begins self.old.shown self.old.taken) }
@@ -167,8 +180,8 @@ impl<N: Naming, R: Wait + Copy> Subscription<N, R> {
         self.line.pop_as::<Takes, R>(&self.rt, &mut self.pass)
     }
 
-    /// The law of what was taken so far: the batches of one program on versions in their order, the last perhaps unfinished, and as was
-    /// promised.
+    /// The law of what was taken so far: the batches of one program on versions in their order, the last perhaps
+    /// unfinished, and as was promised.
     pub fn stays_orderly(&self)
         ensures orderly { IsOrderly self.now.taken }
         ensures promised { IsPromised self.now.promise self.now.taken }
@@ -184,7 +197,8 @@ impl<N: Naming, R: Wait + Copy> Subscription<N, R> {
         self.line.absorb::<Shows>(&mut self.pass, shown.into_pass());
     }
 
-    /// The law of the two ends of one queue: what was taken of it is a beginning of what was sent, and no more waits than may.
+    /// The law of the two ends of one queue: what was taken of it is a beginning of what was sent, and no more waits
+    /// than may.
     pub fn compare(self, sink: &mut QueueSink<N, R>) -> Subscription<N, R>
         requires { self.line ≡ sink.old.line }
         ensures sink { sink.new ≡ sink.old }
@@ -211,8 +225,8 @@ pub enum QueueError {
     OutOfMemory,
 }
 
-/// The two ends of a new queue, in which at most `capacity` items wait, 1 to 1,024. It has its room from the start, and nothing is promised
-/// of what is sent.
+/// The two ends of a new queue, in which at most `capacity` items wait, 1 to 1,024. It has its room from the start, and
+/// nothing is promised of what is sent.
 pub fn queue<N: Naming, R: Wait + Copy>(
     rt: R,
     alloc: Global,
@@ -226,8 +240,8 @@ pub fn queue<N: Naming, R: Wait + Copy>(
     sized::<N, R, Brand>(rt, alloc, capacity)
 }
 
-/// The two ends of a new queue, as of [`queue`], with a promise: all that is sent begins the stream of this program, from this version on
-/// or, where none is named, from some version on.
+/// The two ends of a new queue, as of [`queue`], with a promise: all that is sent begins the stream of this program,
+/// from this version on or, where none is named, from some version on.
 pub fn queue_for<N: Naming, R: Wait + Copy>(
     rt: R,
     alloc: Global,
@@ -235,8 +249,15 @@ pub fn queue_for<N: Naming, R: Wait + Copy>(
     program: &Verified,
     first: Option<u64>,
 ) -> Result<(QueueSink<N, R>, Subscription<N, R>), QueueError>
-    ensures sink { IfOk result (λ q. (q.0.sent ≡ []) × (q.0.capacity ≡ capacity) × (q.0.promise ≡ Some (record { program = program.now; first = first }))) }
-    ensures end { IfOk result (λ q. q.1 ≡ record { line = q.0.line; promise = Some (record { program = program.now; first = first }); taken = []; shown = [] }) }
+    ensures sink { IfOk result (λ q. (q.0.sent ≡ []) × (q.0.capacity ≡ capacity)
+        × (q.0.promise ≡ Some (record { program = program.now; first = first }))) }
+    ensures end { IfOk result (λ q. q.1
+        ≡ record {
+          line = q.0.line;
+          promise = Some (record { program = program.now; first = first });
+          taken = [];
+          shown = [];
+        }) }
     ensures range { OnOk result (IsCapacity capacity) }
     ensures bad { IfErr result (λ e. (e ≡ QueueError.BadCapacity) ↔ ¬ IsCapacity capacity) }
 {

@@ -37,7 +37,16 @@ impl<N: Naming> Model for Knows<N> {
 
     ghost Value = { Seat };
 
-    ghost view = { λ k. record { sends = k.sends; takes = k.takes; capacity = k.capacity; gives = k.gives; gets = k.gets; sent = k.sent; taken = k.taken; shown = k.shown } };
+    ghost view = { λ k. record {
+      sends = k.sends;
+      takes = k.takes;
+      capacity = k.capacity;
+      gives = k.gives;
+      gets = k.gets;
+      sent = k.sent;
+      taken = k.taken;
+      shown = k.shown;
+    } };
 }
 
 /// The rule of a queue: what was sent is what was taken and then what waits.
@@ -148,8 +157,8 @@ impl<N: Naming> Lesson<Item<N>, Knows<N>> for Sends {
     ghost fact = { λ v items. length items ≤ length v.sent };
 }
 
-/// A pop: what was taken grows by the item, is orderly, is as promised, and was sent, as what was shown was. Where none waits, all that was shown was
-/// taken.
+/// A pop: what was taken grows by the item, is orderly, is as promised, and was sent, as what was shown was. Where none
+/// waits, all that was shown was taken.
 pub struct Takes;
 
 impl<N: Naming> Outcome<Item<N>, Knows<N>> for Takes {
@@ -159,7 +168,9 @@ impl<N: Naming> Outcome<Item<N>, Knows<N>> for Takes {
     ghost use Rattle.subscriber_queues.specs.Queue.{AreBeginnings};
     ghost use Rattle.subscriber_queues.specs.Rule.{seat};
 
-    ghost then = { λ v x w. (w ≡ seat v.sends v.takes v.capacity v.gives v.gets v.sent (v.taken ++ x ∷ []) v.shown) × IsOrderly (v.taken ++ x ∷ []) × IsPromised v.gets (v.taken ++ x ∷ []) × AreBeginnings (v.taken ++ x ∷ []) v.shown };
+    ghost then = { λ v x w. (w ≡ seat v.sends v.takes v.capacity v.gives v.gets v.sent (v.taken ++ x ∷ []) v.shown)
+        × IsOrderly (v.taken ++ x ∷ []) × IsPromised v.gets (v.taken ++ x ∷ [])
+        × AreBeginnings (v.taken ++ x ∷ []) v.shown };
 }
 
 impl<N: Naming> Lesson<Item<N>, Knows<N>> for Takes {

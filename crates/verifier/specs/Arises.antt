@@ -36,8 +36,8 @@ pub data Guards (a : AbsState) : Insn → Region → ℕ → Type 0 where
       → p.region ≡ q.region → tail_of q.offset.tails p.region ≡ Some t
       → Guards a (Branch Full Greater left (Source right) distance) p.region p.offset.range.low
 
--- what is never refused: what reads numbers alone, the steps of a guarded read of a region that the profile lends, and loads and
--- stores in the stack
+-- what is never refused: what reads numbers alone, the steps of a guarded read of a region that the profile lends, and
+-- loads and stores in the stack
 pub data IsGranted (profile : Profile) (a : AbsState) (insn : Insn) : Type 0 where
   of_numbers : ReadsNumbers a insn → IsGranted profile a insn
   of_row : (register : ℕ) (fact : Fact) → Yields profile a insn register fact → IsGranted profile a insn
@@ -58,7 +58,8 @@ pub record Takes (profile : Profile) (a : AbsState) (insn : Insn) (b : AbsState)
   pub memory : LeavesMemory a insn b
   pub stores : (p count : ℕ) → Stores a insn p count → StoresSlots p count a.stack b.stack
   pub spills : (i : ℕ) (known : Known) → Spills a insn i known → SpillsSlot i known a.stack b.stack
-  pub yields : (register : ℕ) (fact : Fact) → Yields profile a insn register fact → Holds fact (register_at b.registers register)
+  pub yields : (register : ℕ) (fact : Fact) → Yields profile a insn register fact
+      → Holds fact (register_at b.registers register)
 
 -- how long a lent region is where a comparison doesn't hold
 abbrev pub IsLongBehind : AbsState → Insn → AbsState → Type 0
@@ -66,7 +67,8 @@ IsLongBehind a insn b = (region : Region) (n : ℕ) → Guards a insn region n �
 
 -- c has nothing less than what a and b both have
 pub record JoinsAll (a b c : AbsState) : Type 0 where
-  pub registers : (i : ℕ) → i < 11 → JoinsReg (register_at a.registers i) (register_at b.registers i) (register_at c.registers i)
+  pub registers : (i : ℕ) → i < 11
+      → JoinsReg (register_at a.registers i) (register_at b.registers i) (register_at c.registers i)
   pub slots : (i : ℕ) → i < 64 → JoinsSlot (slot_at a.stack i) (slot_at b.stack i) (slot_at c.stack i)
   pub bounds : (region : Region) → bound_of c.bounds region ≡ min (bound_of a.bounds region) (bound_of b.bounds region)
 
@@ -79,30 +81,38 @@ pub record IsTarget (program : Program) (slot : ℕ) : Type 0 where
   pub jumps : jump_of insn ≡ Some (pos distance)
   pub there : slot ≡ from + 1 + distance
 
--- in a run of the profile: known before the first slot; past an instruction, by its fall into the next one or by its jump; or joined, where a jump leads
+-- in a run of the profile: known before the first slot; past an instruction, by its fall into the next one or by its
+-- jump; or joined, where a jump leads
 pub data Arises (profile : Profile) (program : Program) : ℕ → AbsState → Type 0 where
   first : {a : AbsState} → IsContextAt 0 (register_at a.registers 1) → IsStackAt 512 (register_at a.registers 10)
       → ((i : ℕ) → i ≢ 1 → i ≢ 10 → register_at a.registers i ≡ Unset) → Arises profile program 0 a
-  fell : {slot : ℕ} {a b : AbsState} {insn : Insn} → Arises profile program slot a → StartsAt program slot insn → falls_through insn ≡ true → Takes profile a insn b → IsLongBehind a insn b → Arises profile program (slot + slots_of insn) b
-  jumped : {slot n : ℕ} {a b : AbsState} {insn : Insn} → Arises profile program slot a → StartsAt program slot insn → jump_of insn ≡ Some (pos n) → Takes profile a insn b → Arises profile program (slot + 1 + n) b
-  joined : {slot : ℕ} {a b c : AbsState} → IsTarget program slot → Arises profile program slot a → Arises profile program slot b → JoinsAll a b c → Arises profile program slot c
+  fell : {slot : ℕ} {a b : AbsState} {insn : Insn} → Arises profile program slot a → StartsAt program slot insn
+      → falls_through insn ≡ true → Takes profile a insn b → IsLongBehind a insn b
+      → Arises profile program (slot + slots_of insn) b
+  jumped : {slot n : ℕ} {a b : AbsState} {insn : Insn} → Arises profile program slot a → StartsAt program slot insn
+      → jump_of insn ≡ Some (pos n) → Takes profile a insn b → Arises profile program (slot + 1 + n) b
+  joined : {slot : ℕ} {a b c : AbsState} → IsTarget program slot → Arises profile program slot a
+      → Arises profile program slot b → JoinsAll a b c → Arises profile program slot c
 
 abbrev pub ArisesAt : Profile → Program → ℕ → Option AbsState → Type 0
 ArisesAt profile program slot o = (a : AbsState) → o ≡ Some a → Arises profile program slot a
 
 -- something waits only where a jump leads, and arises there
 abbrev pub AllArise : Profile → Program → States → Type 0
-AllArise profile program waiting = (slot : ℕ) (a : AbsState) → waiting_at waiting slot ≡ Some a → IsTarget program slot × Arises profile program slot a
+AllArise profile program waiting =
+    (slot : ℕ) (a : AbsState) → waiting_at waiting slot ≡ Some a → IsTarget program slot × Arises profile program slot a
 
 -- what an instruction leaves for the next one
 abbrev pub FallsFrom : Profile → Program → ℕ → Insn → Option AbsState → Type 0
-FallsFrom profile program slot insn falling = (a : AbsState) → falling ≡ Some a → (falls_through insn ≡ true) × Arises profile program (slot + slots_of insn) a
+FallsFrom profile program slot insn falling =
+    (a : AbsState) → falling ≡ Some a → (falls_through insn ≡ true) × Arises profile program (slot + slots_of insn) a
 
 -- what falls into the next instruction arises there
 abbrev pub FallsAs : Profile → Program → ℕ → Option AbsState → Type 0
 FallsAs profile program slot falling =
     (a : AbsState) → falling ≡ Some a
-    → (to : ℕ) × ((next : Insn) × (slot ≤ to) × Between program slot to × StartsAt program to next × Arises profile program to a)
+    → (to : ℕ) × ((next : Insn) × (slot ≤ to) × Between program slot to × StartsAt program to next
+    × Arises profile program to a)
 
 -- what arises before some instruction, and contains each state that a run of the profile comes to there, doesn't grant
 -- it; the fault is an unset register exactly where the instruction reads one
@@ -119,7 +129,8 @@ pub record MayRefuse (profile : Profile) (program : Program) : Type 0 where
 
 -- the causes of a refusal of a structured program
 abbrev pub IsCause : Profile → Program → VerifyError → Type 0
-IsCause profile program e = (e ≡ OutOfMemory) ⊎ ((may : MayRefuse profile program) × (e ≡ StateRefused may.slot may.fault))
+IsCause profile program e =
+    (e ≡ OutOfMemory) ⊎ ((may : MayRefuse profile program) × (e ≡ StateRefused may.slot may.fault))
 
 -- why an instruction is refused at a slot
 abbrev pub RefusesAt : Profile → Program → ℕ → Refusal → Type 0

@@ -2,7 +2,8 @@
 use Rattle.std.specs.Prelude.{◌≡◌, ℕ, ℤ, ◌+◌, ◌%◌, ◌^◌, ◌<◌, ◌≤◌, ◌⊎◌, List, Contains}
 use Rattle.std.specs.Int.{cast_unsigned, w64}
 use Rattle.bpf_words.specs.declared.instruction.Insn.{Insn}
-use Rattle.bpf_words.specs.declared.instruction.Insn.TheVariants.{Compute, Negate, Extend, Convert, Jump, JumpLong, Branch, Load, LoadSigned, Store, LoadWide, Exit}
+use Rattle.bpf_words.specs.declared.instruction.Insn.TheVariants.{Compute, Negate, Extend, Convert, Jump, JumpLong}
+use Rattle.bpf_words.specs.declared.instruction.Insn.TheVariants.{Branch, Load, LoadSigned, Store, LoadWide, Exit}
 use Rattle.bpf_words.specs.Flow.{StartsAt, read_by}
 use Rattle.meaning.specs.Memory.{bytes_in, bytes_in_signed}
 use Rattle.meaning.specs.Step.{Program}
@@ -30,8 +31,10 @@ IsFramedInsn (Convert conversion bits destination) = IsPlainInsn (Convert conver
 IsFramedInsn (Jump distance) = IsPlainInsn (Jump distance)
 IsFramedInsn (JumpLong distance) = IsPlainInsn (JumpLong distance)
 IsFramedInsn (Branch width comparison left right distance) = IsPlainInsn (Branch width comparison left right distance)
-IsFramedInsn (Load size destination base offset) = IsPlainInsn (Load size destination base offset) ⊎ (IsFree destination × IsInFrame base offset (bytes_in size))
-IsFramedInsn (LoadSigned size destination base offset) = IsFree destination × IsInFrame base offset (bytes_in_signed size)
+IsFramedInsn (Load size destination base offset) =
+    IsPlainInsn (Load size destination base offset) ⊎ (IsFree destination × IsInFrame base offset (bytes_in size))
+IsFramedInsn (LoadSigned size destination base offset) =
+    IsFree destination × IsInFrame base offset (bytes_in_signed size)
 IsFramedInsn (Store size base offset value) = IsFreeOperand value × IsInFrame base offset (bytes_in size)
 IsFramedInsn (LoadWide destination value) = IsPlainInsn (LoadWide destination value)
 IsFramedInsn Exit = IsPlainInsn Exit
@@ -49,11 +52,14 @@ LoadsByte insn p = ⊥
 -- a path from the first slot to this one doesn't store byte p
 pub data Unstored (program : Program) (p : ℕ) : ℕ → Type 0 where
   at_first : Unstored program p 0
-  spared : {slot to : ℕ} {insn : Insn} → Unstored program p slot → StartsAt program slot insn → Leads insn slot to → (StoresByte insn p → ⊥) → Unstored program p to
+  spared : {slot to : ℕ} {insn : Insn} → Unstored program p slot → StartsAt program slot insn → Leads insn slot to
+      → (StoresByte insn p → ⊥) → Unstored program p to
 
--- each register but r1 and r10 that is read was written, and each byte of the frame that is loaded was stored, on every path
+-- each register but r1 and r10 that is read was written, and each byte of the frame that is loaded was stored, on every
+-- path
 pub record IsFramed (program : Program) : Type 0 where
   pub structured : IsStructured program
   pub framed : (slot : ℕ) (insn : Insn) → StartsAt program slot insn → IsFramedInsn insn
-  pub set : (slot register : ℕ) (done : List ℕ) (insn : Insn) → Path program slot done → StartsAt program slot insn → Contains (read_by insn) register → IsFree register → Contains done register
+  pub set : (slot register : ℕ) (done : List ℕ) (insn : Insn) → Path program slot done → StartsAt program slot insn
+      → Contains (read_by insn) register → IsFree register → Contains done register
   pub stored : (slot p : ℕ) (insn : Insn) → Unstored program p slot → StartsAt program slot insn → LoadsByte insn p → ⊥

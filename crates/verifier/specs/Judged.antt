@@ -16,15 +16,19 @@ use Rattle.verifier.specs.Arises.{RefusesAt}
 abbrev pub HasNoFault : Program → Type 0
 HasNoFault code = (slot : ℕ) (fault : StructureFault) → ¬ (FirstFault code slot fault)
 
--- what a refusal says of a program: the first fault in its structure; or that this has none, and then, where a slot is named, that
--- the program has it and is neither plain, nor framed, nor a guard program of the profile, and that what is known before the slot doesn't
--- grant its instruction, with an unset register named exactly where the instruction reads one
+-- what a refusal says of a program: the first fault in its structure; or that this has none, and then, where a slot is
+-- named, that the program has it and is neither plain, nor framed, nor a guard program of the profile, and that what is
+-- known before the slot doesn't grant its instruction, with an unset register named exactly where the instruction reads
+-- one
 abbrev pub Rejects : Profile → Program → VerifyError → Type 0
 Rejects profile code (Structure slot fault) = FirstFault code slot fault
-Rejects profile code (State slot fault) = HasNoFault code × (slot < length code) × ¬ (IsPlain code) × ¬ (IsFramed code) × ¬ (IsGuard profile code) × RefusesAt profile code slot fault
+Rejects profile code (State slot fault) =
+    HasNoFault code × (slot < length code) × ¬ (IsPlain code) × ¬ (IsFramed code) × ¬ (IsGuard profile code)
+    × RefusesAt profile code slot fault
 Rejects profile code OutOfMemory = HasNoFault code
 
--- why a program isn't accepted; none: it is structured, and every run of it on what the profile lends ends with a number
+-- why a program isn't accepted; none: it is structured, and every run of it on what the profile lends ends with a
+-- number
 abbrev pub IsJudged : Profile → Program → Option VerifyError → Type 0
 IsJudged profile code None = IsStructured code × SafeIn profile code
 IsJudged profile code (Some error) = Rejects profile code error

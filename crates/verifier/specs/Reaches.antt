@@ -18,12 +18,15 @@ use Rattle.verifier.specs.Arises.{ArisesAt}
 
 -- each state that is known arises from the program's steps
 abbrev pub AriseEverywhere : Profile → Program → List (Option AbsState) → Type 0
-AriseEverywhere profile program states = (slot : ℕ) (insn : Insn) → StartsAt program slot insn → ArisesAt profile program slot (slice_index_or states slot None)
+AriseEverywhere profile program states =
+    (slot : ℕ) (insn : Insn) → StartsAt program slot insn
+    → ArisesAt profile program slot (slice_index_or states slot None)
 
 -- what each run of the profile loads at a slot below is listed
 abbrev pub ListsBelow : Profile → Program → ℕ → Reads → Type 0
 ListsBelow profile program end reads =
-    (span : Span) (s : State) (insn : Insn) → span.profile ≡ profile → Reaches program span s → s.slot < end → StartsAt program s.slot insn → CoversLoad reads s insn
+    (span : Span) (s : State) (insn : Insn) → span.profile ≡ profile → Reaches program span s → s.slot < end
+    → StartsAt program s.slot insn → CoversLoad reads s insn
 
 -- a refusal for what is known at a slot below, or for want of memory
 abbrev pub IsStateBelow : ℕ → VerifyError → Type 0
@@ -41,9 +44,11 @@ IsBefore end OutOfMemory = Unit {0}
 -- the run comes to a state by a step from below a slot, or it begins there
 pub data Enters (program : Program) (span : Span) (slot : ℕ) : State → Type 0 where
   from_start : Enters program span slot start
-  from_below : {s next : State} → Reaches program span s → s.slot < slot → step program span.bytes s ≡ Ok (Next next) → Enters program span slot next
+  from_below : {s next : State} → Reaches program span s → s.slot < slot → step program span.bytes s ≡ Ok (Next next)
+      → Enters program span slot next
 
 -- each state from a slot on that a run of the profile enters from below is awaited
 abbrev pub Covers : Profile → Program → ℕ → Option AbsState → States → Type 0
 Covers profile program slot falling waiting =
-    (span : Span) (s : State) → span.profile ≡ profile → Enters program span slot s → slot ≤ s.slot → IsAwaited program slot falling waiting (lengths_of span) s
+    (span : Span) (s : State) → span.profile ≡ profile → Enters program span slot s → slot ≤ s.slot
+    → IsAwaited program slot falling waiting (lengths_of span) s

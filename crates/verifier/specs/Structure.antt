@@ -5,7 +5,8 @@ use Rattle.bpf_words.specs.declared.instruction.Insn.TheVariants.{Exit}
 use Rattle.bpf_words.specs.Flow.{StartsAt, jump_of, slots_of, written_by}
 use Rattle.meaning.specs.Step.{Program}
 use Rattle.verifier.specs.declared.refusal.StructureFault.{StructureFault}
-use Rattle.verifier.specs.declared.refusal.StructureFault.TheVariants.{BackwardJump, JumpOut, JumpIntoWide, FallOff, WriteR10}
+use Rattle.verifier.specs.declared.refusal.StructureFault.TheVariants.{BackwardJump, JumpOut, JumpIntoWide, FallOff}
+use Rattle.verifier.specs.declared.refusal.StructureFault.TheVariants.{WriteR10}
 use Rattle.verifier.specs.declared.refusal.VerifyError.{VerifyError}
 use Rattle.verifier.specs.declared.refusal.VerifyError.TheVariants.{Structure, State, OutOfMemory}
 
@@ -13,7 +14,8 @@ use Rattle.verifier.specs.declared.refusal.VerifyError.TheVariants.{Structure, S
 abbrev pub JumpFaults : Program → ℕ → ℤ → StructureFault → Type 0
 JumpFaults program slot distance BackwardJump = (n : ℕ) × (distance ≡ negsuc n)
 JumpFaults program slot distance JumpOut = (n : ℕ) × (distance ≡ pos n) × (length program ≤ slot + 1 + n)
-JumpFaults program slot distance JumpIntoWide = (n : ℕ) × (distance ≡ pos n) × (slice_get program (slot + 1 + n) ≡ Some None)
+JumpFaults program slot distance JumpIntoWide =
+    (n : ℕ) × (distance ≡ pos n) × (slice_get program (slot + 1 + n) ≡ Some None)
 JumpFaults program slot distance FallOff = ⊥
 JumpFaults program slot distance WriteR10 = ⊥
 
@@ -45,7 +47,8 @@ IsSound program slot insn = (fault : StructureFault) → Faults program slot ins
 
 -- no instruction below a slot is at fault
 abbrev pub AreSound : Program → ℕ → Type 0
-AreSound program count = (slot : ℕ) (insn : Insn) → slot < count → StartsAt program slot insn → IsSound program slot insn
+AreSound program count =
+    (slot : ℕ) (insn : Insn) → slot < count → StartsAt program slot insn → IsSound program slot insn
 
 -- every jump leads forward to an instruction, the last instruction is an exit, and r10 is never written
 abbrev pub IsStructured : Program → Type 0

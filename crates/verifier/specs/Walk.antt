@@ -2,7 +2,8 @@
 use Rattle.std.specs.Prelude.{◌≡◌, ℕ, ℤ, pos, ◌+◌, ◌<◌, ◌≤◌, ◌⊎◌, length, Option, Some, None, Ok, Err, true, slice_get}
 use Rattle.bpf_words.specs.declared.profile.Profile.{Profile}
 use Rattle.bpf_words.specs.declared.instruction.Insn.{Insn}
-use Rattle.bpf_words.specs.declared.instruction.Insn.TheVariants.{Compute, Negate, Extend, Convert, Jump, JumpLong, Branch, Load, LoadSigned, Store, LoadWide, Exit}
+use Rattle.bpf_words.specs.declared.instruction.Insn.TheVariants.{Compute, Negate, Extend, Convert, Jump, JumpLong}
+use Rattle.bpf_words.specs.declared.instruction.Insn.TheVariants.{Branch, Load, LoadSigned, Store, LoadWide, Exit}
 use Rattle.bpf_words.specs.Flow.{StartsAt, jump_of, slots_of, falls_through}
 use Rattle.meaning.specs.State.{State}
 use Rattle.meaning.specs.Step.{Program, Moved, On, Returns}
@@ -25,10 +26,12 @@ pub record ComesTo (program : Program) (span : Span) (s : State) : Type 0 where
 abbrev pub Between : Program → ℕ → ℕ → Type 0
 Between program from to = (slot : ℕ) → from ≤ slot → slot < to → slice_get program slot ≡ Some None
 
--- a state before a slot or after it is contained in what is known: of the fall into the next instruction, or of the jumps to its slot
+-- a state before a slot or after it is contained in what is known: of the fall into the next instruction, or of the
+-- jumps to its slot
 abbrev pub IsAwaited : Program → ℕ → Option AbsState → States → Lengths → State → Type 0
 IsAwaited program slot falling waiting lengths s =
-    (slot ≤ s.slot) × ((Between program slot s.slot × WithinState falling lengths s) ⊎ WithinState (waiting_at waiting s.slot) lengths s)
+    (slot ≤ s.slot) × ((Between program slot s.slot × WithinState falling lengths s)
+    ⊎ WithinState (waiting_at waiting s.slot) lengths s)
 
 abbrev pub Ends : Program → Span → Type 0
 Ends program span = (value : ℕ) × Verdict program span.bytes value
@@ -36,24 +39,31 @@ Ends program span = (value : ℕ) × Verdict program span.bytes value
 -- every run of the profile ends with a number, or comes to a state that is awaited
 abbrev pub Follows : Profile → Program → ℕ → Option AbsState → States → Type 0
 Follows profile program slot falling waiting =
-    (span : Span) → span.profile ≡ profile → Ends program span ⊎ ((s : State) × ComesTo program span s × IsAwaited program slot falling waiting (lengths_of span) s)
+    (span : Span) → span.profile ≡ profile
+    → Ends program span
+    ⊎ ((s : State) × ComesTo program span s × IsAwaited program slot falling waiting (lengths_of span) s)
 
--- where what an instruction did leads: to the end, to the next instruction, or to the target of its jump, and what is known there
--- contains it
+-- where what an instruction did leads: to the end, to the next instruction, or to the target of its jump, and what is
+-- known there contains it
 abbrev pub Advances : Lengths → ℕ → Insn → Option AbsState → States → Moved → Type 0
 Advances lengths slot insn falling waiting (Ok (Returns value)) = Unit {0}
 Advances lengths slot insn falling waiting (Ok (On next distance)) =
-    ((n : ℕ) × (distance ≡ pos n) × (n + 1 ≡ slots_of insn) × (falls_through insn ≡ true) × WithinState falling lengths next)
-    ⊎ ((n : ℕ) × (distance ≡ pos n) × (jump_of insn ≡ Some (pos n)) × WithinState (waiting_at waiting (slot + 1 + n)) lengths next)
+    ((n : ℕ) × (distance ≡ pos n) × (n + 1 ≡ slots_of insn) × (falls_through insn ≡ true)
+    × WithinState falling lengths next)
+    ⊎ ((n : ℕ) × (distance ≡ pos n) × (jump_of insn ≡ Some (pos n))
+    × WithinState (waiting_at waiting (slot + 1 + n)) lengths next)
 Advances lengths slot insn falling waiting (Err kind) = ⊥
 
 -- what waits contains still what it contained
 abbrev pub Keeps : States → States → Type 0
-Keeps old new = (slot : ℕ) (lengths : Lengths) (s : State) → WithinState (waiting_at old slot) lengths s → WithinState (waiting_at new slot) lengths s
+Keeps old new =
+    (slot : ℕ) (lengths : Lengths) (s : State) → WithinState (waiting_at old slot) lengths s
+    → WithinState (waiting_at new slot) lengths s
 
 -- a jump of an instruction leads forward, to a slot below the count
 abbrev pub JumpsWithin : ℕ → ℕ → Insn → Type 0
-JumpsWithin count slot insn = (distance : ℤ) → jump_of insn ≡ Some distance → (n : ℕ) × (distance ≡ pos n) × (slot + 1 + n < count)
+JumpsWithin count slot insn =
+    (distance : ℤ) → jump_of insn ≡ Some distance → (n : ℕ) × (distance ≡ pos n) × (slot + 1 + n < count)
 
 -- an instruction with edges of its own
 abbrev pub IsComparison : Insn → Type 0

@@ -23,9 +23,9 @@ use bpf_words::profile::Profile;
 use bpf_words::words::Words;
 use std::alloc::Global;
 
-/// What `verify` knows of the machine before a slot: it contains each state to which a run comes there, on whatever the profile
-/// lends of a span, and it is nothing only where no run comes there. Refused is what `verify` refuses for its structure or at a
-/// slot below.
+/// What `verify` knows of the machine before a slot: it contains each state to which a run comes there, on whatever the
+/// profile lends of a span, and it is nothing only where no run comes there. Refused is what `verify` refuses for its
+/// structure or at a slot below.
 pub fn state_before(
     alloc: Global,
     words: &Words<'_>,
@@ -34,9 +34,12 @@ pub fn state_before(
 ) -> Result<Option<AbsState>, VerifyError>
     requires { slot < length (program_of words.now) }
     ensures contains { IfOk result (ContainsRuns profile (program_of words.now) slot) }
-    ensures arises { IfOk result (λ known. (insn : Insn) → StartsAt (program_of words.now) slot insn → ArisesAt profile (program_of words.now) slot known) }
-    ensures structure { (at : ℕ) (fault : StructureFault) → (result ≡ Err (VerifyError.Structure at fault)) ↔ FirstFault (program_of words.now) at fault }
-    ensures refused { (at : ℕ) (fault : TheRefusal) → result ≡ Err (VerifyError.State at fault) → RefusesAt profile (program_of words.now) at fault }
+    ensures arises { IfOk result (λ known. (insn : Insn) → StartsAt (program_of words.now) slot insn
+        → ArisesAt profile (program_of words.now) slot known) }
+    ensures structure { (at : ℕ) (fault : StructureFault)
+        → (result ≡ Err (VerifyError.Structure at fault)) ↔ FirstFault (program_of words.now) at fault }
+    ensures refused { (at : ℕ) (fault : TheRefusal) → result ≡ Err (VerifyError.State at fault)
+        → RefusesAt profile (program_of words.now) at fault }
     ensures unset { (at : ℕ) (fault : TheRefusal) → result ≡ Err (VerifyError.State at fault)
         → ReadsUnset profile (program_of words.now) at → fault ≡ TheRefusal.UnsetRegister }
     ensures plain { IfErr result (λ e. IsPlain (program_of words.now) → e ≡ VerifyError.OutOfMemory) }
@@ -54,8 +57,8 @@ pub fn state_before(
     walk_before(alloc, words, profile, slot)
 }
 
-/// What `verify` knows of the machine before each slot, as `state_before` answers it of one, by one walk. Refused is what `verify`
-/// refuses.
+/// What `verify` knows of the machine before each slot, as `state_before` answers it of one, by one walk. Refused is
+/// what `verify` refuses.
 pub fn states_before(
     alloc: Global,
     words: &Words<'_>,
@@ -64,8 +67,10 @@ pub fn states_before(
     ensures size { IfOk result (λ states. length states.items ≡ length (program_of words.now)) }
     ensures contains { IfOk result (λ states. ContainAllRuns profile (program_of words.now) states.items) }
     ensures arises { IfOk result (λ states. AriseEverywhere profile (program_of words.now) states.items) }
-    ensures structure { (at : ℕ) (fault : StructureFault) → (result ≡ Err (VerifyError.Structure at fault)) ↔ FirstFault (program_of words.now) at fault }
-    ensures refused { (at : ℕ) (fault : TheRefusal) → result ≡ Err (VerifyError.State at fault) → RefusesAt profile (program_of words.now) at fault }
+    ensures structure { (at : ℕ) (fault : StructureFault)
+        → (result ≡ Err (VerifyError.Structure at fault)) ↔ FirstFault (program_of words.now) at fault }
+    ensures refused { (at : ℕ) (fault : TheRefusal) → result ≡ Err (VerifyError.State at fault)
+        → RefusesAt profile (program_of words.now) at fault }
     ensures unset { (at : ℕ) (fault : TheRefusal) → result ≡ Err (VerifyError.State at fault)
         → ReadsUnset profile (program_of words.now) at → fault ≡ TheRefusal.UnsetRegister }
     ensures plain { IfErr result (λ e. IsPlain (program_of words.now) → e ≡ VerifyError.OutOfMemory) }

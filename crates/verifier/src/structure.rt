@@ -18,7 +18,9 @@ pub struct Misplaced {
 
 fn check_jump(words: &Words<'_>, slot: usize, distance: i32) -> Result<(), StructureFault>
     requires { slot < length (program_of words.now) }
-    ensures { MatchResult result (λ _. (fault : StructureFault) → JumpFaults (program_of words.now) slot distance fault → ⊥) (λ fault. JumpFaults (program_of words.now) slot distance fault) }
+    ensures { MatchResult result (λ _. (fault : StructureFault)
+        → JumpFaults (program_of words.now) slot distance fault
+        → ⊥) (λ fault. JumpFaults (program_of words.now) slot distance fault) }
 {
     let count = words.len();
     if distance < 0 {
@@ -37,7 +39,8 @@ fn check_jump(words: &Words<'_>, slot: usize, distance: i32) -> Result<(), Struc
 /// Looks at where an instruction jumps, if it does.
 fn check_jumps(words: &Words<'_>, slot: usize, insn: &Insn) -> Result<(), StructureFault>
     requires { slot < length (program_of words.now) }
-    ensures { MatchResult result (λ _. (fault : StructureFault) → Jumps (program_of words.now) slot insn.now fault → ⊥) (λ fault. Jumps (program_of words.now) slot insn.now fault) }
+    ensures { MatchResult result (λ _. (fault : StructureFault) → Jumps (program_of words.now) slot insn.now fault
+        → ⊥) (λ fault. Jumps (program_of words.now) slot insn.now fault) }
 {
     match insn.distance() {
         Some(distance) => check_jump(words, slot, distance),
@@ -64,7 +67,8 @@ fn writes_r10(insn: &Insn) -> bool
 
 fn check_insn(words: &Words<'_>, slot: usize, insn: &Insn) -> Result<(), StructureFault>
     requires { slot < length (program_of words.now) }
-    ensures { MatchResult result (λ _. IsSound (program_of words.now) slot insn.now) (λ fault. LeastFault (program_of words.now) slot insn.now fault) }
+    ensures { MatchResult result (λ _. IsSound (program_of words.now) slot insn.now)
+        (λ fault. LeastFault (program_of words.now) slot insn.now fault) }
 {
     check_jumps(words, slot, insn)?;
     if falls_off(words, slot, insn) {
@@ -78,7 +82,8 @@ fn check_insn(words: &Words<'_>, slot: usize, insn: &Insn) -> Result<(), Structu
 
 /// Looks at each instruction in order.
 pub fn check(words: &Words<'_>) -> Result<(), Misplaced>
-    ensures { MatchResult result (λ _. IsStructured (program_of words.now)) (λ wrong. FirstFault (program_of words.now) wrong.slot wrong.fault) }
+    ensures { MatchResult result (λ _. IsStructured (program_of words.now))
+        (λ wrong. FirstFault (program_of words.now) wrong.slot wrong.fault) }
 {
     for slot in 0..words.len() {
         if let Some(insn) = words.insn(slot) {

@@ -25,7 +25,8 @@ use program_reads::reads::Reads;
 use std::alloc::Global;
 use std::marker::Model;
 
-/// A program of which every run ends with a number: it meets no fault, and takes no more steps than the program has slots.
+/// A program of which every run ends with a number: it meets no fault, and takes no more steps than the program has
+/// slots.
 pub struct Verified {
     profile: Profile,
     reads: Reads,
@@ -87,18 +88,20 @@ impl Verified {
     }
 }
 
-/// Accepts a program of which every run ends with a number, and that reads of a span no more than the profile lets it. The places
-/// and targets of all instructions are looked at first, and then what is known of the machine before each; the first slot at fault is
-/// named (of the second kind of fault the clauses say that what is known before the slot doesn't grant its instruction, and that the
-/// fault is an unset register exactly where the instruction reads one).
+/// Accepts a program of which every run ends with a number, and that reads of a span no more than the profile lets it.
+/// The places and targets of all instructions are looked at first, and then what is known of the machine before each;
+/// the first slot at fault is named (of the second kind of fault the clauses say that what is known before the slot
+/// doesn't grant its instruction, and that the fault is an unset register exactly where the instruction reads one).
 pub fn verify(alloc: Global, words: &Words<'_>, profile: Profile) -> Result<Verified, VerifyError>
     ensures same { IfOk result (λ verified. verified ≡ program_of words.now) }
     ensures safe { IfOk result (λ verified. Safe verified) }
     ensures seen { IfOk result (λ verified. SafeIn profile verified) }
     ensures blind { profile ≡ Profile.One → IfOk result (λ verified. IsBlindToLink verified) }
     ensures structured { IfOk result (λ _. IsStructured (program_of words.now)) }
-    ensures structure { (slot : ℕ) (fault : StructureFault) → (result ≡ Err (VerifyError.Structure slot fault)) ↔ FirstFault (program_of words.now) slot fault }
-    ensures refused { (at : ℕ) (fault : TheRefusal) → result ≡ Err (VerifyError.State at fault) → RefusesAt profile (program_of words.now) at fault }
+    ensures structure { (slot : ℕ) (fault : StructureFault)
+        → (result ≡ Err (VerifyError.Structure slot fault)) ↔ FirstFault (program_of words.now) slot fault }
+    ensures refused { (at : ℕ) (fault : TheRefusal) → result ≡ Err (VerifyError.State at fault)
+        → RefusesAt profile (program_of words.now) at fault }
     ensures unset { (at : ℕ) (fault : TheRefusal) → result ≡ Err (VerifyError.State at fault)
         → ReadsUnset profile (program_of words.now) at → fault ≡ TheRefusal.UnsetRegister }
     ensures plain { IfErr result (λ e. IsPlain (program_of words.now) → e ≡ VerifyError.OutOfMemory) }

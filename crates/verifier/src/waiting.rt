@@ -36,9 +36,13 @@ fn join(
     waiting: Option<Box<AbsState>>,
     state: &AbsState,
 ) -> Result<Box<AbsState>, AllocError>
-    ensures kept { IfOk result (λ joined. (lengths : Lengths) (s : State) → WithinState (unboxed waiting) lengths s → Contains joined.value lengths s) }
-    ensures added { IfOk result (λ joined. (lengths : Lengths) (s : State) → Contains state.now lengths s → Contains joined.value lengths s) }
-    ensures arises { (profile : Profile) (program : Program) (slot : ℕ) → IsTarget program slot → ArisesAt profile program slot (unboxed waiting) → Arises profile program slot state.now → IfOk result (λ joined. Arises profile program slot joined.value) }
+    ensures kept { IfOk result (λ joined. (lengths : Lengths) (s : State) → WithinState (unboxed waiting) lengths s
+        → Contains joined.value lengths s) }
+    ensures added { IfOk result (λ joined. (lengths : Lengths) (s : State) → Contains state.now lengths s
+        → Contains joined.value lengths s) }
+    ensures arises { (profile : Profile) (program : Program) (slot : ℕ) → IsTarget program slot
+        → ArisesAt profile program slot (unboxed waiting) → Arises profile program slot state.now
+        → IfOk result (λ joined. Arises profile program slot joined.value) }
 {
     let Some(mut earlier) = waiting else {
         return Ok(Box::new(alloc, *state)?);
@@ -65,8 +69,11 @@ impl Waiting {
         requires { slot < length self.old }
         ensures size { length self.new ≡ length self.old }
         ensures kept { IfOk result (λ _. Keeps self.old self.new) }
-        ensures added { IfOk result (λ _. (lengths : Lengths) (s : State) → Contains state.now lengths s → WithinState (waiting_at self.new slot) lengths s) }
-        ensures arises { (profile : Profile) (program : Program) → AllArise profile program self.old → IsTarget program slot → Arises profile program slot state.now → IfOk result (λ _. AllArise profile program self.new) }
+        ensures added { IfOk result (λ _. (lengths : Lengths) (s : State) → Contains state.now lengths s
+            → WithinState (waiting_at self.new slot) lengths s) }
+        ensures arises { (profile : Profile) (program : Program) → AllArise profile program self.old
+            → IsTarget program slot → Arises profile program slot state.now
+            → IfOk result (λ _. AllArise profile program self.new) }
     {
         let joined = join(self.alloc, self.states[slot].take(), state)?;
         self.states[slot] = Some(joined);
@@ -77,12 +84,17 @@ impl Waiting {
     pub fn arrive(&mut self, slot: usize, flow: Flow, state: &mut AbsState) -> Flow
         requires { slot < length self.old }
         ensures size { length self.new ≡ length self.old }
-        ensures falls { (lengths : Lengths) (s : State) → WithinState (after flow state.old) lengths s → WithinState (after result state.new) lengths s }
-        ensures arrives { (lengths : Lengths) (s : State) → WithinState (waiting_at self.old slot) lengths s → WithinState (after result state.new) lengths s }
+        ensures falls { (lengths : Lengths) (s : State) → WithinState (after flow state.old) lengths s
+            → WithinState (after result state.new) lengths s }
+        ensures arrives { (lengths : Lengths) (s : State) → WithinState (waiting_at self.old slot) lengths s
+            → WithinState (after result state.new) lengths s }
         ensures others { (other : ℕ) → other ≢ slot → waiting_at self.new other ≡ waiting_at self.old other }
         ensures alone { waiting_at self.old slot ≡ None → after result state.new ≡ after flow state.old }
-        ensures waits { (profile : Profile) (program : Program) → AllArise profile program self.old → AllArise profile program self.new }
-        ensures arises { (profile : Profile) (program : Program) → AllArise profile program self.old → ArisesAt profile program slot (after flow state.old) → AllArise profile program self.new × ArisesAt profile program slot (after result state.new) }
+        ensures waits { (profile : Profile) (program : Program) → AllArise profile program self.old
+            → AllArise profile program self.new }
+        ensures arises { (profile : Profile) (program : Program) → AllArise profile program self.old
+            → ArisesAt profile program slot (after flow state.old)
+            → AllArise profile program self.new × ArisesAt profile program slot (after result state.new) }
     {
         let Some(waiting) = self.states[slot].take() else {
             return flow;

@@ -73,8 +73,11 @@ fn record(target: usize, edge: &Option<AbsState>, waiting: &mut Waiting) -> Resu
     requires { target < length waiting.old }
     ensures size { length waiting.new ≡ length waiting.old }
     ensures kept { IfOk result (λ _. Keeps waiting.old waiting.new) }
-    ensures added { IfOk result (λ _. (lengths : Lengths) (s : State) → WithinState edge.now lengths s → WithinState (waiting_at waiting.new target) lengths s) }
-    ensures arises { (profile : TheProfile) (program : Program) → AllArise profile program waiting.old → IsTarget program target → ArisesAt profile program target edge.now → IfOk result (λ _. AllArise profile program waiting.new) }
+    ensures added { IfOk result (λ _. (lengths : Lengths) (s : State) → WithinState edge.now lengths s
+        → WithinState (waiting_at waiting.new target) lengths s) }
+    ensures arises { (profile : TheProfile) (program : Program) → AllArise profile program waiting.old
+        → IsTarget program target → ArisesAt profile program target edge.now
+        → IfOk result (λ _. AllArise profile program waiting.new) }
 {
     let Some(state) = edge else {
         return Ok(());
@@ -118,10 +121,16 @@ fn compare(
     requires compares { IsComparison insn.now }
     ensures size { length waiting.new ≡ length waiting.old }
     ensures kept { IfOk result (λ _. Keeps waiting.old waiting.new) }
-    ensures sound { IfOk result (λ flow. (span : Span) (s : State) → span.profile ≡ profile → Contains state.old (lengths_of span) s → Advances (lengths_of span) slot insn.now (after flow state.new) waiting.new (does span s insn.now)) }
+    ensures sound { IfOk result (λ flow. (span : Span) (s : State) → span.profile ≡ profile
+        → Contains state.old (lengths_of span) s
+        → Advances (lengths_of span) slot insn.now (after flow state.new) waiting.new (does span s insn.now)) }
     ensures floor { IsGranted profile state.old insn.now → IfErr result (λ stop. stop ≡ Stop.OutOfMemory) }
-    ensures unset { (fault : TheRefusal) → result ≡ Err (Stop.Refused fault) → (fault ≡ TheRefusal.UnsetRegister) ↔ HasUnset state.old (read_by insn.now) }
-    ensures arises { (program : Program) → StartsAt program slot insn.now → Arises profile program slot state.old → AllArise profile program waiting.old → IfOk result (λ flow. AllArise profile program waiting.new × FallsFrom profile program slot insn.now (after flow state.new)) }
+    ensures unset { (fault : TheRefusal) → result ≡ Err (Stop.Refused fault)
+        → (fault ≡ TheRefusal.UnsetRegister) ↔ HasUnset state.old (read_by insn.now) }
+    ensures arises { (program : Program) → StartsAt program slot insn.now → Arises profile program slot state.old
+        → AllArise profile program waiting.old
+        → IfOk result (λ flow. AllArise profile program waiting.new
+        × FallsFrom profile program slot insn.now (after flow state.new)) }
 {
     let Insn::Branch {
         width,
@@ -151,10 +160,16 @@ fn pass(
     requires spares { written_by insn.now ≢ Some 10 }
     ensures size { length waiting.new ≡ length waiting.old }
     ensures kept { IfOk result (λ _. Keeps waiting.old waiting.new) }
-    ensures sound { IfOk result (λ flow. (span : Span) (s : State) → span.profile ≡ profile → Contains state.old (lengths_of span) s → Advances (lengths_of span) slot insn.now (after flow state.new) waiting.new (does span s insn.now)) }
+    ensures sound { IfOk result (λ flow. (span : Span) (s : State) → span.profile ≡ profile
+        → Contains state.old (lengths_of span) s
+        → Advances (lengths_of span) slot insn.now (after flow state.new) waiting.new (does span s insn.now)) }
     ensures floor { IsGranted profile state.old insn.now → IfErr result (λ stop. stop ≡ Stop.OutOfMemory) }
-    ensures unset { (fault : TheRefusal) → result ≡ Err (Stop.Refused fault) → (fault ≡ TheRefusal.UnsetRegister) ↔ HasUnset state.old (read_by insn.now) }
-    ensures arises { (program : Program) → StartsAt program slot insn.now → Arises profile program slot state.old → AllArise profile program waiting.old → IfOk result (λ flow. AllArise profile program waiting.new × FallsFrom profile program slot insn.now (after flow state.new)) }
+    ensures unset { (fault : TheRefusal) → result ≡ Err (Stop.Refused fault)
+        → (fault ≡ TheRefusal.UnsetRegister) ↔ HasUnset state.old (read_by insn.now) }
+    ensures arises { (program : Program) → StartsAt program slot insn.now → Arises profile program slot state.old
+        → AllArise profile program waiting.old
+        → IfOk result (λ flow. AllArise profile program waiting.new
+        × FallsFrom profile program slot insn.now (after flow state.new)) }
 {
     match *insn {
         Insn::Jump { .. } => {
@@ -190,10 +205,21 @@ fn visit(
     requires spares { written_by insn.now ≢ Some 10 }
     ensures size { length waiting.new ≡ length waiting.old }
     ensures below { IfErr result (IsStateBelow (slot + 1)) }
-    ensures covers { (program : Program) → IsPaired program → IsStructured program → StartsAt program slot insn.now → Covers profile program slot (after flow state.old) waiting.old → IfOk result (λ next. Covers profile program (slot + 1) (after next state.new) waiting.new) }
-    ensures follows { (program : Program) → IsPaired program → IsStructured program → StartsAt program slot insn.now → Follows profile program slot (after flow state.old) waiting.old → IfOk result (λ next. Follows profile program (slot + 1) (after next state.new) waiting.new) }
-    ensures lists { (program : Program) → IsStructured program → StartsAt program slot insn.now → Covers profile program slot (after flow state.old) waiting.old → ListsBelow profile program slot reads.old → IfOk result (λ _. ListsBelow profile program (slot + 1) reads.new) }
-    ensures floor { (program : Program) → IsPaired program → IsStructured program → StartsAt program slot insn.now → AllArise profile program waiting.old → FallsAs profile program slot (after flow state.old) → Covers profile program slot (after flow state.old) waiting.old → IfErr result (IsCause profile program) × IfOk result (λ next. AllArise profile program waiting.new × FallsAs profile program (slot + 1) (after next state.new)) }
+    ensures covers { (program : Program) → IsPaired program → IsStructured program → StartsAt program slot insn.now
+        → Covers profile program slot (after flow state.old) waiting.old
+        → IfOk result (λ next. Covers profile program (slot + 1) (after next state.new) waiting.new) }
+    ensures follows { (program : Program) → IsPaired program → IsStructured program → StartsAt program slot insn.now
+        → Follows profile program slot (after flow state.old) waiting.old
+        → IfOk result (λ next. Follows profile program (slot + 1) (after next state.new) waiting.new) }
+    ensures lists { (program : Program) → IsStructured program → StartsAt program slot insn.now
+        → Covers profile program slot (after flow state.old) waiting.old → ListsBelow profile program slot reads.old
+        → IfOk result (λ _. ListsBelow profile program (slot + 1) reads.new) }
+    ensures floor { (program : Program) → IsPaired program → IsStructured program → StartsAt program slot insn.now
+        → AllArise profile program waiting.old → FallsAs profile program slot (after flow state.old)
+        → Covers profile program slot (after flow state.old) waiting.old
+        → IfErr result (IsCause profile program)
+        × IfOk result (λ next. AllArise profile program waiting.new
+        × FallsAs profile program (slot + 1) (after next state.new)) }
 {
     let Flow::Live = waiting.arrive(slot, flow, state) else {
         return Ok(Flow::Dead);
@@ -226,10 +252,13 @@ fn walk_to(
     requires structured { IsStructured (program_of words.now) }
     requires end { end ≤ length (program_of words.now) }
     ensures size { IfOk result (λ walked. length walked.waiting ≡ length (program_of words.now)) }
-    ensures follows { IfOk result (λ walked. Follows profile (program_of words.now) end (after walked.flow walked.state) walked.waiting) }
-    ensures covers { IfOk result (λ walked. Covers profile (program_of words.now) end (after walked.flow walked.state) walked.waiting) }
+    ensures follows { IfOk result (λ walked. Follows profile (program_of words.now) end
+        (after walked.flow walked.state) walked.waiting) }
+    ensures covers { IfOk result (λ walked. Covers profile (program_of words.now) end (after walked.flow walked.state)
+        walked.waiting) }
     ensures lists { IfOk result (λ walked. ListsBelow profile (program_of words.now) end walked.reads) }
-    ensures arises { IfOk result (λ walked. AllArise profile (program_of words.now) walked.waiting × FallsAs profile (program_of words.now) end (after walked.flow walked.state)) }
+    ensures arises { IfOk result (λ walked. AllArise profile (program_of words.now) walked.waiting
+        × FallsAs profile (program_of words.now) end (after walked.flow walked.state)) }
     ensures below { IfErr result (IsStateBelow end) }
     ensures floor { IfErr result (IsCause profile (program_of words.now)) }
 {
@@ -282,7 +311,8 @@ pub fn walk_before(
     requires structured { IsStructured (program_of words.now) }
     requires slot { slot < length (program_of words.now) }
     ensures contains { IfOk result (ContainsRuns profile (program_of words.now) slot) }
-    ensures arises { (insn : Insn) → StartsAt (program_of words.now) slot insn → IfOk result (ArisesAt profile (program_of words.now) slot) }
+    ensures arises { (insn : Insn) → StartsAt (program_of words.now) slot insn
+        → IfOk result (ArisesAt profile (program_of words.now) slot) }
     ensures below { IfErr result (IsStateBelow slot) }
     ensures floor { IfErr result (IsCause profile (program_of words.now)) }
 {

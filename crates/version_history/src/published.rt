@@ -59,7 +59,8 @@ impl<N: Naming> VersionToken<N> {
     }
 }
 
-/// Shows that a program, of which every run ends with a number, stands in the list of the hub `N`, at its index, for good.
+/// Shows that a program, of which every run ends with a number, stands in the list of the hub `N`, at its index, for
+/// good.
 pub struct ProgramToken<N: Naming> {
     at: Pushed<Verified>,
     of: PhantomData<N>,

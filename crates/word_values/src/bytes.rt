@@ -26,7 +26,8 @@ pub fn number(bytes: &[u8], place: usize, size: Size) -> u64
 /// Writes as many of a number's low bytes as the size says, the lowest first.
 pub fn put_number(bytes: &mut [u8; STACK_BYTES], place: usize, size: Size, value: u64)
     requires { place + bytes_in size ≤ 512 }
-    ensures { bytes.new ≡ take place bytes.old ++ little_bytes (bytes_in size) value ++ drop (place + bytes_in size) bytes.old }
+    ensures { bytes.new ≡ take place bytes.old ++ little_bytes (bytes_in size) value
+        ++ drop (place + bytes_in size) bytes.old }
 {
     match size {
         Size::Byte => bytes[place] = (value % 256) as u8,
