@@ -72,7 +72,7 @@ def answer_to(words, given):
 
 def modelled(lines):
     """Without the lines of what an accepted program can do."""
-    return [line for line in lines if not line.startswith(("steps <= ", "context: ", "text: ", "link: "))]
+    return [line for line in lines if not line.startswith(("steps <= ", "context: ", "text: ", "link: ", "runs "))]
 
 
 def compare():

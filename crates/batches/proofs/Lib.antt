@@ -5,3 +5,5 @@ pub mod Promises
 pub mod Sends
 pub mod Feeds
 pub mod Feeding
+pub mod Alike
+pub mod Reuse

@@ -114,7 +114,7 @@ impl<N: Naming> Batch<N> {
         let program = published.program(&job.program);
         let version = published.look(&job.version);
         let verdicts = verdicts(alloc, program, version)?;
-        Batch::from_verdicts(alloc, published, job, verdicts)
+        Batch::from_verdicts(alloc, published, job, &verdicts)
     }
 
     /// The batch of a job, from the verdicts of its program on all spans of its version, in order.
@@ -123,9 +123,9 @@ impl<N: Naming> Batch<N> {
         alloc: Global,
         published: &Published<'_, N>,
         job: &Job<N>,
-        verdicts: Vec<u64>,
+        verdicts: &[u64],
     ) -> Result<Batch<N>, AllocError>
-        requires { verdicts.items ≡ verdicts_of job.now.program.value job.now.version.value }
+        requires { verdicts.now ≡ verdicts_of job.now.program.value job.now.version.value }
         ensures { IfOk result (λ batch. batch ≡ job.now) }
     {
         let version = published.look(&job.version);

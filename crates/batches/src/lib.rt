@@ -3,5 +3,7 @@
 
 pub mod batch;
 pub mod item;
+pub mod kept;
 pub mod sink;
+pub mod stretch;
 pub mod subscriber;

@@ -212,7 +212,7 @@ impl<'a, 'b, 'p, 'q, N: Naming + Ledger, R: Threads + Wait + Copy + Sync> Machin
     /// Computes the batch of a job that was taken by several threads.
     pub fn filter(&mut self, place: usize) -> Result<Answer, Fault> {
         let job = self.jobs.get(place).ok_or(Fault::Nothing)?;
-        let batch = filter(&self.rt, self.alloc, self.published, job)?;
+        let batch = filter(&self.rt, self.alloc, self.published, job, None)?;
         self.keep_batch(batch)
     }
 

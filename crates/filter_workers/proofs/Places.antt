@@ -1,6 +1,12 @@
 -- What is said of each place of a list, by the places.
-use Rattle.std.proofs.Common.{◌≡◌, ℕ, ◌+◌, suc, List, [], ◌∷◌, length, map, arith, refl, ap, ◌∙◌}
-use Rattle.std.specs.List.{range_with_len, enumerate_from, slice_get}
+use Rattle.std.proofs.Common.{◌≡◌, ℕ, ◌+◌, ◌-◌, ◌≤◌, zero, suc, List, [], ◌∷◌, length, map, take, drop, arith, refl, sym, ap, ◌∙◌}
+use Rattle.std.specs.List.{range_with_len, enumerate_from, slice_get, slice_range}
+use Rattle.std.proofs.lemmas.List.FromFn.{take-map-range_with_len}
+use Rattle.std.proofs.lemmas.List.{take_all}
+use Rattle.meaning.specs.Step.{Program}
+use Rattle.span_flatten.specs.Version.{Snapshot}
+use Rattle.batches.specs.Verdicts.{verdicts_of}
+use Rattle.batches.proofs.Hits.{verdict_count}
 use Rattle.std.specs.Option.{option_map, option_map_or}
 
 module _ {A B C : Type 0} (view : ℕ → A → B) (verdict : B → C) (none : C) where
@@ -22,3 +28,29 @@ module _ {A B C : Type 0} (view : ℕ → A → B) (verdict : B → C) (none : C
   by_place rows =
       let same : (i : ℕ) → 0 + i ≡ i = λ i. omega arith in
       from_place rows rows 0 (λ i. ap (slice_get rows) (same i))
+
+-- what is said of the places from one on is the rest of what is said of all
+from_on : {C : Type 0} (f : ℕ → C) (a start n : ℕ) → a ≤ n → drop a (map f (range_with_len start n)) ≡ map f (range_with_len (start + a) (n - a))
+from_on f zero start n le =
+    let here : start ≡ start + 0 = omega arith in
+    let all : n ≡ n - 0 = omega arith in
+    ap (λ (x : ℕ × ℕ). map f (range_with_len x.0 x.1)) (λ i. (here i, all i))
+from_on f (suc a) start zero le = absurd (omega arith)
+from_on f (suc a) start (suc n) le =
+    let place : (start + 1) + a ≡ start + suc a = omega arith in
+    let left : n - a ≡ suc n - suc a = omega arith in
+    from_on f a (start + 1) n (omega arith) ∙ ap (λ (x : ℕ × ℕ). map f (range_with_len x.0 x.1)) (λ i. (place i, left i))
+
+-- of the places from one up to another
+pub between : {C : Type 0} (f : ℕ → C) (a b n : ℕ) → a ≤ b → b ≤ n → map f (range_with_len a (b - a)) ≡ slice_range (map f (range_with_len 0 n)) a b
+between f a b n order within =
+    let here : 0 + a ≡ a = omega arith in
+    sym (ap (take (b - a)) (from_on f a 0 n (omega arith) ∙ ap (λ s. map f (range_with_len s (n - a))) here)
+    ∙ take-map-range_with_len f a (n - a) (b - a) (omega arith))
+
+-- from the first to the last they are all
+pub whole : (program : Program) (version : Snapshot) (n : ℕ) → n ≡ length version.rows → slice_range (verdicts_of program version) 0 n ≡ verdicts_of program version
+whole program version n is =
+    let size : n - 0 ≡ n = omega arith in
+    ap (λ k. take k (verdicts_of program version)) size
+    ∙ take_all n (verdicts_of program version) (omega (arith, verdict_count program version))

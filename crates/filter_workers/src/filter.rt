@@ -1,11 +1,14 @@
-ghost use Rattle.std.specs.Prelude.{◌≡◌, ◌≤◌, ◌↔◌, IsTrue, IfOk};
+ghost use Rattle.std.specs.Prelude.{◌≡◌, ◌≤◌, ◌↔◌, IsTrue, IfOk, IfSome, length, slice_range};
 ghost use Rattle.std.specs.Option.{option_map_or};
 ghost use Rattle.span_view.specs.Views.{view_at};
 ghost use Rattle.batches.specs.Verdicts.{verdict_on, verdicts_of};
+ghost use Rattle.batches.specs.Kept.{IsKnownOf};
 ghost use Rattle.filter_workers.specs.Turns.{most_steps};
 
 use batches::batch::{Batch, verdict};
 use batches::item::Job;
+use batches::kept::{KeptVerdicts, Known};
+use batches::stretch::Stretch;
 use rayon::prelude::*;
 use span_flatten::version::Version;
 use span_view::view::view;
@@ -38,17 +41,22 @@ fn verdict_at(program: &Verified, version: &Version, index: usize) -> u64
     }
 }
 
-/// The verdicts on all spans of a version, in order. Each thread has at least so many spans, where there are so many.
-fn verdicts<R: Threads + Sync>(
+/// The verdicts on the spans of a version from one index up to another, in order. Each thread has at least so many spans, where there
+/// are so many.
+fn verdicts_between<R: Threads + Sync>(
     rt: &R,
     alloc: Global,
     program: &Verified,
     version: &Version,
+    from: usize,
+    to: usize,
     least: usize,
 ) -> Result<Vec<u64>, AllocError>
-    ensures { IfOk result (λ found. found.items ≡ verdicts_of program.now version.now) }
+    requires order { from ≤ to }
+    requires within { to ≤ length version.now.rows }
+    ensures { IfOk result (λ found. found.items ≡ slice_range (verdicts_of program.now version.now) from to) }
 {
-    (0..version.rows().len())
+    (from..to)
         .into_par_iter()
         .with_min_len(least)
         .map(
@@ -68,32 +76,63 @@ pub(crate) fn is_short<N: Naming>(published: &Published<'_, N>, job: &Job<N>, mo
     spans.saturating_mul(slots + STEPS_TO_BEGIN) <= most
 }
 
-/// The batch of a job, where so many workers share the processors: the more they are, the fewer threads this one may start.
-pub(crate) fn filter_beside<N: Naming, R: Threads + Sync>(
+/// The verdicts of a job's program on all spans of its version, where so many workers share the processors: the more they are, the fewer
+/// threads this one may start. Where those on an earlier version are known, the program is run on the spans alone that aren't as they
+/// were there.
+pub(crate) fn verdicts<N: Naming, R: Threads + Sync>(
     rt: &R,
     alloc: Global,
     published: &Published<'_, N>,
     job: &Job<N>,
+    known: Option<Known<N>>,
     workers: usize,
-) -> Result<Batch<N>, AllocError>
-    ensures { IfOk result (λ batch. batch ≡ job.now) }
+) -> Result<Vec<u64>, AllocError>
+    requires { IfSome known (λ k. IsKnownOf k job.now) }
+    ensures { IfOk result (λ found. found.items ≡ verdicts_of job.now.program.value job.now.version.value) }
 {
     let program = published.program(&job.program);
     let version = published.look(&job.version);
     let least = spans_per_thread(workers, program.words().len());
-    let verdicts = verdicts(rt, alloc, program, version, least)?;
-    Batch::from_verdicts(alloc, published, job, verdicts)
+    let count = version.rows().len();
+    match known {
+        None => verdicts_between(rt, alloc, program, version, 0, count, least),
+        Some(known) => {
+            let stretch = known.stretch();
+            let from = stretch.front();
+            let to = count - stretch.back();
+            let middle = verdicts_between(rt, alloc, program, version, from, to, least)?;
+            known.verdicts(alloc, &middle)
+        }
+    }
 }
 
-/// The batch of a job, as `Batch::compute` answers it. The spans of a version are shared out among as many threads as there are
-/// processors to run them, where the program is so long and the spans are so many that each thread is worth its start. It asks for no lock.
+/// What is known of a job's verdicts from those on an earlier version: nothing, where they are of another program, or of one that lists
+/// the index, the count or the number.
+fn known<N: Naming>(
+    published: &Published<'_, N>,
+    job: &Job<N>,
+    kept: Option<KeptVerdicts<N>>,
+) -> Option<Known<N>>
+    ensures { IfSome result (λ k. IsKnownOf k job.now) }
+{
+    let kept = kept?;
+    let stretch = Stretch::between(published, kept.version(), &job.version);
+    Known::new(published, job, kept, stretch)
+}
+
+/// The batch of a job, as `Batch::compute` answers it, from what is kept of the verdicts of its program on an earlier version, if
+/// anything is: the program is run on the spans alone that aren't as they were there. They are shared out among as many threads as there
+/// are processors to run them, where the program is so long and they are so many that each thread is worth its start. It asks for no lock.
 pub fn filter<N: Naming, R: Threads + Sync>(
     rt: &R,
     alloc: Global,
     published: &Published<'_, N>,
     job: &Job<N>,
+    kept: Option<KeptVerdicts<N>>,
 ) -> Result<Batch<N>, AllocError>
     ensures { IfOk result (λ batch. batch ≡ job.now) }
 {
-    filter_beside(rt, alloc, published, job, 1)
+    let known = known(published, job, kept);
+    let verdicts = verdicts(rt, alloc, published, job, known, 1)?;
+    Batch::from_verdicts(alloc, published, job, &verdicts)
 }

@@ -1,9 +1,12 @@
-ghost use Rattle.std.specs.Prelude.{◌≡◌, ◌≤◌, ◌<◌, ◌*◌, ◌^◌, Ok, All, IfOk, length};
+ghost use Rattle.std.specs.Prelude.{◌≡◌, ◌≤◌, ◌<◌, ◌*◌, ◌^◌, Ok, All, IfOk, IfSome, length};
+ghost use Rattle.batches.specs.Kept.{IsKnownOf};
 ghost use Rattle.filter_workers.specs.Turns.{Ends, IsPumped, Turns, Helps, CatchesUp, AreCommitted, batches_of};
 
-use crate::filter::{filter_beside, is_short};
+use crate::filter::{is_short, verdicts};
 use crate::gate::Gate;
+use batches::batch::Batch;
 use batches::item::Job;
+use batches::kept::{KeptVerdicts, Known, is_blind_to_place};
 use hub_core::error::CommitError;
 use ingest_workers::hub::Hub;
 use std::alloc::{AllocError, Global};
@@ -32,6 +35,49 @@ impl TurnEnd {
     }
 }
 
+/// What is known of a job's verdicts by what the hub keeps of its subscriber's: nothing, where the program lists the index, the count or
+/// the number.
+fn known<N: Naming + Ledger, R: Wait + Copy>(
+    rt: &R,
+    hub: &Hub<'_, N, R>,
+    published: &Published<'_, N>,
+    job: &Job<N>,
+) -> Option<Known<N>>
+    ensures { IfSome result (λ k. IsKnownOf k job.now) }
+{
+    let kept = hub.kept().take(rt, job.subscriber)?;
+    let stretch = hub
+        .kept()
+        .stretch(rt, published, kept.version(), &job.version);
+    Known::new(published, job, kept, stretch)
+}
+
+/// Computes the batch of a job outside the hub's lock. The verdicts are kept where they may serve for a later version.
+fn batch_of<N: Naming + Ledger, R: Threads + Wait + Copy + Sync>(
+    rt: &R,
+    alloc: Global,
+    hub: &Hub<'_, N, R>,
+    published: &Published<'_, N>,
+    job: &Job<N>,
+    workers: usize,
+) -> Result<Batch<N>, AllocError>
+    ensures { IfOk result (λ batch. batch ≡ job.now) }
+{
+    let may_keep = is_blind_to_place(published.program(&job.program));
+    let known = if may_keep {
+        known(rt, hub, published, job)
+    } else {
+        None
+    };
+    let verdicts = verdicts(rt, alloc, published, job, known, workers)?;
+    let batch = Batch::from_verdicts(alloc, published, job, &verdicts)?;
+    if may_keep {
+        let kept = KeptVerdicts::of(job, verdicts);
+        hub.kept().put(rt, job.subscriber, kept);
+    }
+    Ok(batch)
+}
+
 /// Computes the batch of a job outside the lock, and commits it.
 fn answer<N: Naming + Ledger, R: Threads + Wait + Copy + Sync>(
     rt: &R,
@@ -43,7 +89,7 @@ fn answer<N: Naming + Ledger, R: Threads + Wait + Copy + Sync>(
 ) -> Result<TurnEnd, AllocError>
     ensures { IfOk result (Ends job.now) }
 {
-    let batch = filter_beside(rt, alloc, published, job, workers)?;
+    let batch = batch_of(rt, alloc, hub, published, job, workers)?;
     match hub.commit(rt, batch) {
         Ok(()) => Ok(TurnEnd::Committed),
         Err(CommitError::OutOfMemory) => Err(AllocError),

@@ -8,6 +8,7 @@ ghost use Rattle.subscriber_queues.specs.Queue.{was_sent, IsFull};
 ghost use Rattle.ingest_workers.specs.Holdings.{InOneHolding};
 
 use crate::books::Books;
+use crate::kept::Kept;
 use crate::share::{Share, cut};
 use crate::text::ChangeText;
 use crate::turns::{Turn, Turns};
@@ -27,6 +28,7 @@ pub struct Hub<'p, N: Naming + Ledger, R: Wait + Copy> {
     pub(crate) published: Published<'p, N>,
     turns: Turns,
     books: Mutex<Books<'p, N, R>>,
+    kept: Kept<N>,
 }
 
 /// What lies under a hub's lock, for as long as a turn is held.
@@ -58,6 +60,7 @@ fn locked<'p, N: Naming + Ledger, R: Wait + Copy>(
         published: published.again(),
         turns: Turns::new(),
         books: Mutex::new(Books::new(alloc, core, book)),
+        kept: Kept::new(alloc)?,
     })
 }
 
@@ -206,10 +209,17 @@ impl<'p, N: Naming + Ledger, R: Wait + Copy> Hub<'p, N, R> {
         self.hold(rt).books.reissue(id)
     }
 
-    /// Closes a subscriber for good, and drops the batches that it holds.
+    /// Closes a subscriber for good, and drops the batches that it holds and what is kept of its verdicts.
     pub fn close(&self, rt: &R, id: usize) -> Result<(), NoSubscriber>
         ensures { InOneHolding (λ old new. Closes old id result new) }
     {
-        self.hold(rt).books.close(id)
+        let closed = self.hold(rt).books.close(id);
+        self.kept.close(rt, id);
+        closed
+    }
+
+    /// What is kept of the subscribers' verdicts, under a lock of its own.
+    pub fn kept(&self) -> &Kept<N> {
+        &self.kept
     }
 }

@@ -4,6 +4,7 @@
 pub mod books;
 pub mod hub;
 pub mod ingest;
+pub mod kept;
 pub mod share;
 pub mod text;
 mod turns;

@@ -5,7 +5,8 @@ use Rattle.std.proofs.Math.Seq.{drop-cons}
 use Rattle.std.specs.List.{flat_map}
 use Rattle.bpf_words.specs.declared.context_field.ContextField.{ContextField}
 use Rattle.bpf_words.specs.ContextField.{name_of}
-use Rattle.program_reads.specs.Lines.{marked, comma, names_text}
+use Rattle.program_reads.specs.Places.{marked}
+use Rattle.program_reads.specs.Lines.{comma, names_text}
 
 -- what is still to be printed of the names, where there was one before them or not
 abbrev pub names_left : Bool → List ContextField → List ℕ

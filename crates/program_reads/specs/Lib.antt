@@ -1,3 +1,4 @@
+pub mod Places
 pub mod Lines
 pub mod Reads
 pub mod Runs

@@ -7,13 +7,7 @@ use Rattle.bpf_words.specs.ContextField.{name_of, every_field}
 use Rattle.bpf_words.specs.declared.profile.Profile.{Profile}
 use Rattle.bpf_words.specs.declared.profile.Profile.TheVariants.{One, Two}
 use Rattle.program_reads.specs.declared.reads.Reads.{Reads}
-
--- those that are marked
-unfoldable pub marked : List Bool → List ContextField → List ContextField
-marked [] fields = []
-marked (mark ∷ marks) [] = []
-marked (true ∷ marks) (field ∷ fields) = field ∷ marked marks fields
-marked (false ∷ marks) (field ∷ fields) = marked marks fields
+use Rattle.program_reads.specs.Places.{marked, places_in}
 
 -- what stands before a name, where there is one before it
 abbrev pub comma : Bool → List ℕ
@@ -41,5 +35,14 @@ abbrev pub link_line : Profile → Reads → List ℕ
 link_line One reads = []
 link_line Two reads = bytes_line (codes "link") reads.link
 
+-- the spans on which the verdict is found again in the next version: those that change, or all where their places are read
+abbrev pub runs_text : List ContextField → List ℕ
+runs_text [] = codes "runs where a span changes"
+runs_text (field ∷ fields) = codes "runs on every span: it reads " ++ join_by (λ f. codes "the " ++ name_of f) (codes ", ") (field ∷ fields)
+
+abbrev pub runs_line : Reads → List ℕ
+runs_line reads = runs_text (places_in reads) ++ 10 ∷ []
+
 abbrev pub read_lines : Profile → Reads → List ℕ
-read_lines profile reads = fields_line reads.fields ++ bytes_line (codes "text") reads.text ++ link_line profile reads
+read_lines profile reads =
+    fields_line reads.fields ++ bytes_line (codes "text") reads.text ++ link_line profile reads ++ runs_line reads

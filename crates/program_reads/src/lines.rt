@@ -1,6 +1,7 @@
 //! The lines that say what loads can read of a span.
-ghost use Rattle.std.specs.Prelude.{◌≡◌, ◌++◌, OnOk, string_bytes};
-ghost use Rattle.program_reads.specs.Lines.{marked, comma, names_text, fields_line, bytes_line, read_lines};
+ghost use Rattle.std.specs.Prelude.{◌≡◌, ◌++◌, ◌∷◌, [], drop, OnOk, string_bytes};
+ghost use Rattle.program_reads.specs.Places.{marked, place_fields};
+ghost use Rattle.program_reads.specs.Lines.{comma, names_text, fields_line, bytes_line, runs_text, runs_line, read_lines};
 ghost use Rattle.bpf_words.specs.ContextField.{name_of, every_field};
 
 use crate::reads::Reads;
@@ -55,14 +56,40 @@ fn push_bytes(text: &mut String, name: &str, count: u64) -> Result<(), AllocErro
     }
 }
 
-/// Appends a line for the fields of the context, one for the text, and one for the link where the profile lends it.
+/// On which spans the verdict is found again, where these of the three fields that say where a span stands are listed.
+#[tactic(auto, unfolding(crate::specs::Places::marked))]
+fn runs_on(index: bool, count: bool, version: bool) -> &'static str
+    ensures { result.now ≡ runs_text (marked (index ∷ count ∷ version ∷ []) place_fields) }
+{
+    match (index, count, version) {
+        (false, false, false) => "runs where a span changes",
+        (true, false, false) => "runs on every span: it reads the index",
+        (false, true, false) => "runs on every span: it reads the count",
+        (false, false, true) => "runs on every span: it reads the version",
+        (true, true, false) => "runs on every span: it reads the index, the count",
+        (true, false, true) => "runs on every span: it reads the index, the version",
+        (false, true, true) => "runs on every span: it reads the count, the version",
+        (true, true, true) => "runs on every span: it reads the index, the count, the version",
+    }
+}
+
+/// Appends on which spans the verdict is found again in the next version.
+fn push_runs(text: &mut String, fields: &[bool; 13]) -> Result<(), AllocError>
+    ensures { OnOk result (string_bytes text.new ≡ string_bytes text.old ++ runs_text (marked (drop 8 fields.now) place_fields) ++ 10 ∷ []) }
+{
+    text.push_str(runs_on(fields[8], fields[9], fields[10]))?;
+    text.push('\n')
+}
+
+/// Appends a line for the fields of the context, one for the text, one for the link where the profile lends it, and one that says on
+/// which spans of the next version the program is run.
 pub fn push_reads(text: &mut String, reads: &Reads, profile: Profile) -> Result<(), AllocError>
     ensures { OnOk result (string_bytes text.new ≡ string_bytes text.old ++ read_lines profile reads.now) }
 {
     push_fields(text, &reads.fields)?;
     push_bytes(text, "text", reads.text)?;
-    match profile {
-        Profile::One => Ok(()),
-        Profile::Two => push_bytes(text, "link", reads.link),
+    if let Profile::Two = profile {
+        push_bytes(text, "link", reads.link)?;
     }
+    push_runs(text, &reads.fields)
 }

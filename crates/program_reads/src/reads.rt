@@ -1,5 +1,5 @@
 //! The list of what loads can read, by what is known of the machine before each.
-ghost use Rattle.std.specs.Prelude.{◌≡◌, ℕ, ◌+◌, ◌≤◌, Some, length};
+ghost use Rattle.std.specs.Prelude.{◌≡◌, ◌↔◌, ℕ, ◌+◌, ◌≤◌, Some, length, IsTrue};
 ghost use Rattle.bpf_words.specs.Context.{context_base};
 ghost use Rattle.bpf_words.specs.Words.{program_of};
 ghost use Rattle.bpf_words.specs.declared.instruction.Insn.{Insn as TheInsn};
@@ -12,6 +12,7 @@ ghost use Rattle.abstract_state.specs.Known.{ContainsKnown};
 ghost use Rattle.abstract_state.specs.Lent.{Lengths, base_of, limit_of};
 ghost use Rattle.abstract_state.specs.State.{ContainsRegister, Contains, WithinState};
 ghost use Rattle.program_reads.specs.Runs.{ContainAllRuns};
+ghost use Rattle.program_reads.specs.Places.{IsPlaceless};
 ghost use Rattle.program_reads.specs.Reads.{CoversAt, Determines};
 ghost use Rattle.program_reads.specs.Loads.{CoversLoad, CoversStates};
 ghost use Rattle.program_reads.specs.Marks.{Grows};
@@ -58,6 +59,13 @@ fn first_of(base: ContextPlace, offset: i16) -> u64
 }
 
 impl Reads {
+    /// Whether it lists none of the fields that say where a span stands: its index, the count of spans and the version's number.
+    pub fn is_placeless(&self) -> bool
+        ensures { IsTrue result ↔ IsPlaceless self.now }
+    {
+        !(self.fields[8] | self.fields[9] | self.fields[10])
+    }
+
     /// Of no load.
     pub fn nothing() -> Reads {
         Reads {

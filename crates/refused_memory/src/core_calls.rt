@@ -233,7 +233,7 @@ fn filtered<N: Naming, R: Print + Threads + Wait + Sync>(
 ) -> Result<bool, Fault> {
     let job = long_job(stage.rt, stage.alloc, board)?;
     stage.begin()?;
-    let outcome = filter(stage.rt, stage.alloc, &board.published, &job);
+    let outcome = filter(stage.rt, stage.alloc, &board.published, &job, None);
     stage.end()?;
     stage.tell(&batch_answer(stage.alloc, outcome)?)?;
     Ok(false)

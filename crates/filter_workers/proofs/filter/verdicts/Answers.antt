@@ -1,24 +1,15 @@
-use Rattle.std.proofs.Common.{◌≡◌, ℕ, ◌-◌, ◌∙◌, length, map, ap, arith}
-use Rattle.std.specs.Option.{option_map_or}
-use Rattle.std.specs.List.{range_with_len}
-use Rattle.std.proofs.lemmas.Slice.Zip.{AllZip-map}
-use Rattle.rayon.specs.Numbers.{nat_range}
-use Rattle.rayon.proofs.ListFacts.{IfOk-then}
-use Rattle.span_view.specs.Views.{view_of, view_at}
-use Rattle.batches.specs.Verdicts.{verdict_on}
-use Rattle.filter_workers.proofs.Places.{by_place}
+use Rattle.std.proofs.Common.{◌≡◌, ◌∙◌, ℕ, List, IfOk, length, ap, subst}
+use Rattle.batches.specs.Batches.{Slip}
+use Rattle.batches.specs.Verdicts.{verdicts_of}
+use Rattle.filter_workers.proofs.Places.{whole}
 use Rattle.filter_workers.proofs.filter.verdicts.Goals as goal
 
-pub returns : goal.returns
-returns g c =
-    let program = c.args.program.now in
-    let version = c.args.version.now in
-    let n = length version.rows in
-    let ends = c.into_par_iter.ensures in
-    let whole : length c.rows.result.now - 0 ≡ n = omega (arith, ap length c.rows.ensures.value) in
-    let verdict = λ (i : ℕ). option_map_or (verdict_on program) (view_at version i) 0 in
-    IfOk-then c.collect.result _ _ c.collect.ensures (λ v h.
-    let chain = rw (c.map.ensures.base, c.map.ensures.f, c.with_min_len.ensures.base) at h.1 in
-    let places = chain.1 ∙ (λ i. nat_range (ends.0 i) (ends.1 i)) ∙ ap (range_with_len 0) whole in
-    h.2 ∙ AllZip-map verdict chain.0 h.0 chain.2 ∙ ap (map verdict) places
-    ∙ by_place (view_of version) (verdict_on program) 0 version.rows)
+pub returns-in-None : goal.returns-in-None
+returns-in-None g c =
+    let job : Slip = c.args.job.now in
+    let program : c.program-program.result.now ≡ job.program.value = c.program-program.ensures ∙ ap (λ (j : Slip). j.program.value) c.job.view_is in
+    let version : c.look-version.result.now ≡ job.version.value = c.look-version.ensures ∙ ap (λ (j : Slip). j.version.value) c.job.view_is in
+    let all = whole c.program-program.result.now c.look-version.result.now (length c.rows-count.result.now) (ap length c.rows-count.ensures.value) in
+    let named : verdicts_of c.program-program.result.now c.look-version.result.now ≡ verdicts_of job.program.value job.version.value =
+    λ i. verdicts_of (program i) (version i) in
+    subst (λ (l : List ℕ). IfOk c.verdicts_between.result (λ found. found.items ≡ l)) (all ∙ named) c.verdicts_between.ensures

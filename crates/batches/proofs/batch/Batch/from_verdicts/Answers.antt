@@ -8,8 +8,8 @@ use Rattle.batches.proofs.batch.Batch.from_verdicts.Goals as goal
 pub invariant_of-result : goal.invariant_of-result
 invariant_of-result g c =
     let job : Slip = c.args.job.now in
-    let verdicts = c.deref-verdict-items.result.now in
-    let are : verdicts ≡ verdicts_of job.program.value job.version.value = c.deref-verdict-items.ensures.value ∙ c.requires in
+    let verdicts = c.args.verdicts.now in
+    let are : verdicts ≡ verdicts_of job.program.value job.version.value = c.requires in
     let version : c.look-version.result.now ≡ job.version.value = c.look-version.ensures ∙ ap (λ (j : Slip). j.version.value) c.job.view_is in
     let number = c.number-number.ensures ∙ ap (λ (v : Snapshot). v.number) version in
     let spans : length c.rows-spans.result.now ≡ length job.version.value.rows = ap length c.rows-spans.ensures.value ∙ ap (λ (v : Snapshot). length v.rows) version in

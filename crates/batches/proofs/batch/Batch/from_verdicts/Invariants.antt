@@ -5,6 +5,6 @@ use Rattle.batches.proofs.batch.Batch.from_verdicts.Given as goal
 abbrev pub invariant-loop-span : goal.invariant-loop-span
 invariant-loop-span g l = record {
   few : vec_len l.items ≤ l.span;
-  whole : l.items.items ++ map (entry l.job.program l.job.version) (hits_from l.number l.span (drop l.span l.verdict-items))
-      ≡ map (entry l.job.program l.job.version) (hits_from l.number 0 l.verdict-items);
+  whole : l.items.items ++ map (entry l.job.program l.job.version) (hits_from l.number l.span (drop l.span l.verdicts))
+      ≡ map (entry l.job.program l.job.version) (hits_from l.number 0 l.verdicts);
 }

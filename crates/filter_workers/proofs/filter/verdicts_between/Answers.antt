@@ -1,0 +1,26 @@
+use Rattle.std.proofs.Common.{◌≡◌, ℕ, ◌-◌, ◌∙◌, length, map, ap, arith}
+use Rattle.std.specs.Option.{option_map_or}
+use Rattle.std.specs.List.{range_with_len, slice_range}
+use Rattle.std.proofs.lemmas.Slice.Zip.{AllZip-map}
+use Rattle.rayon.specs.Numbers.{nat_range}
+use Rattle.rayon.proofs.ListFacts.{IfOk-then}
+use Rattle.span_view.specs.Views.{view_of, view_at}
+use Rattle.batches.specs.Verdicts.{verdict_on}
+use Rattle.filter_workers.proofs.Places.{by_place, between}
+use Rattle.filter_workers.proofs.filter.verdicts_between.Goals as goal
+
+pub returns : goal.returns
+returns g c =
+    let program = c.args.program.now in
+    let version = c.args.version.now in
+    let from = c.args.from in
+    let to = c.args.to in
+    let n = length version.rows in
+    let ends = c.into_par_iter.ensures in
+    let verdict = λ (i : ℕ). option_map_or (verdict_on program) (view_at version i) 0 in
+    IfOk-then c.collect.result _ _ c.collect.ensures (λ v h.
+    let chain = rw (c.map.ensures.base, c.map.ensures.f, c.with_min_len.ensures.base) at h.1 in
+    let places = chain.1 ∙ (λ i. nat_range (ends.0 i) (ends.1 i)) in
+    h.2 ∙ AllZip-map verdict chain.0 h.0 chain.2 ∙ ap (map verdict) places
+    ∙ between verdict from to n c.requires.order c.requires.within
+    ∙ ap (λ l. slice_range l from to) (by_place (view_of version) (verdict_on program) 0 version.rows))

@@ -1,0 +1,134 @@
+//! What a hub keeps of its subscribers' verdicts.
+ghost use Rattle.std.specs.Prelude.{◌≡◌, IfSome};
+
+use batches::kept::KeptVerdicts;
+use batches::stretch::Stretch;
+use hub_core::hub::SUBSCRIBER_LIMIT;
+use std::alloc::{AllocError, Global};
+use std::sync::{Mutex, Wait};
+use version_history::published::{Naming, Published, VersionToken};
+
+/// What is kept for one subscriber.
+enum Place<N: Naming> {
+    Nothing,
+    Verdicts(KeptVerdicts<N>),
+    /// The subscriber is closed, and nothing will be kept for it.
+    Closed,
+}
+
+impl<N: Naming> Drop for Place<N> {
+    fn drop(self) {
+        match self {
+            Place::Nothing | Place::Closed => {}
+            Place::Verdicts(_) => {}
+        }
+    }
+}
+
+impl<N: Naming> Place<N> {
+    fn verdicts(self) -> Option<KeptVerdicts<N>> {
+        match self {
+            Place::Verdicts(kept) => Some(kept),
+            Place::Nothing | Place::Closed => None,
+        }
+    }
+}
+
+/// The places of all subscribers, by id, and the two versions that were compared last.
+struct Shelf<N: Naming> {
+    places: Vec<Place<N>>,
+    compared: Option<Stretch<N>>,
+}
+
+impl<N: Naming> Drop for Shelf<N> {
+    fn drop(self) {
+        let Shelf {
+            places: _,
+            compared: _,
+        } = self;
+    }
+}
+
+impl<N: Naming> Shelf<N> {
+    /// Puts something in a subscriber's place, unless it is closed, and answers what was there.
+    fn replace(&mut self, subscriber: usize, what: Place<N>) -> Place<N> {
+        match self.places.get_mut(subscriber) {
+            None | Some(Place::Closed) => Place::Closed,
+            Some(place) => std::mem::replace(place, what),
+        }
+    }
+
+    /// The comparison of these two versions, if it was the last one.
+    fn last(
+        &self,
+        published: &Published<'_, N>,
+        older: &VersionToken<N>,
+        newer: &VersionToken<N>,
+    ) -> Option<Stretch<N>>
+        ensures { IfSome result (λ s. (s.older ≡ older.now) × (s.newer ≡ newer.now)) }
+    {
+        let last = self.compared.as_ref()?;
+        let fits = published.is_same(last.older(), older) && published.is_same(last.newer(), newer);
+        if fits { Some(last.again()) } else { None }
+    }
+}
+
+/// Of each subscriber that isn't closed the verdicts on one version at most, and the two versions that were compared last, under a lock
+/// of their own. Where nothing is kept, a batch only takes longer.
+#[derive(Drop)]
+pub struct Kept<N: Naming> {
+    shelf: Mutex<Shelf<N>>,
+}
+
+impl<N: Naming> Kept<N> {
+    /// Keeps nothing yet.
+    pub(crate) fn new(alloc: Global) -> Result<Kept<N>, AllocError> {
+        let mut places = Vec::with_capacity(alloc, SUBSCRIBER_LIMIT)?;
+        for _subscriber in 0..SUBSCRIBER_LIMIT {
+            places.push(Place::Nothing)?;
+        }
+        let shelf = Shelf {
+            places,
+            compared: None,
+        };
+        Ok(Kept {
+            shelf: Mutex::new(shelf),
+        })
+    }
+
+    /// Takes out what is kept of a subscriber's verdicts.
+    pub fn take<R: Wait>(&self, rt: &R, subscriber: usize) -> Option<KeptVerdicts<N>> {
+        let mut shelf = self.shelf.lock(rt);
+        shelf.replace(subscriber, Place::Nothing).verdicts()
+    }
+
+    /// Keeps a subscriber's verdicts in place of what was kept, unless it is closed.
+    pub fn put<R: Wait>(&self, rt: &R, subscriber: usize, verdicts: KeptVerdicts<N>) {
+        let mut shelf = self.shelf.lock(rt);
+        let _before = shelf.replace(subscriber, Place::Verdicts(verdicts));
+    }
+
+    /// Lets go what is kept of a subscriber's verdicts. Nothing is kept for it from now on.
+    pub(crate) fn close<R: Wait>(&self, rt: &R, subscriber: usize) {
+        let mut shelf = self.shelf.lock(rt);
+        let _before = shelf.replace(subscriber, Place::Closed);
+    }
+
+    /// Compares two versions, unless they were compared last.
+    pub fn stretch<R: Wait>(
+        &self,
+        rt: &R,
+        published: &Published<'_, N>,
+        older: &VersionToken<N>,
+        newer: &VersionToken<N>,
+    ) -> Stretch<N>
+        ensures { (result.older ≡ older.now) × (result.newer ≡ newer.now) }
+    {
+        if let Some(stretch) = self.shelf.lock(rt).last(published, older, newer) {
+            return stretch;
+        }
+        let stretch = Stretch::between(published, older, newer);
+        self.shelf.lock(rt).compared = Some(stretch.again());
+        stretch
+    }
+}
