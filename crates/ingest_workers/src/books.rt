@@ -1,6 +1,7 @@
 ghost use Rattle.std.specs.Prelude.{◌≡◌, ◌+◌, ◌<◌, ◌≤◌, ◌↔◌, [], Some, Err, length, map, take, drop, slice_get, IsTrue, IfOk, OnOk, OnErr, MatchOption};
 ghost use Rattle.change_ops.specs.Spelling.{change_text};
 ghost use Rattle.char_sequence.specs.Newest.{IsLastCounter};
+ghost use Rattle.change_counters.specs.Counters.{greatest_counter};
 ghost use Rattle.meaning.specs.Safe.{Safe};
 ghost use Rattle.batches.specs.Feed.{Sub};
 ghost use Rattle.batches.specs.Promise.{Suits};
@@ -15,6 +16,7 @@ use crate::share::Share;
 use crate::text::{ChangeText, next_text, some_texts};
 use batches::batch::Batch;
 use batches::item::Job;
+use change_counters::greatest_with;
 use change_history::history::CHANGE_LIMIT;
 use change_history::refusal::SubmitError;
 use change_ops::change::Change;
@@ -27,19 +29,23 @@ use std::sync::{Wait, ledger};
 use subscriber_queues::ends::QueueSink;
 use version_history::published::{Naming, ProgramToken, VersionToken};
 
-/// What lies under a hub's lock: its core, the book of its ledger, whose total is the number of accepted changes, and the texts of
-/// these, for whoever reads them. Each call is one event of the core, from a consistent state to another; contracts see the core.
+/// What lies under a hub's lock: its core, the book of its ledger, whose total is the number of accepted changes, the texts
+/// of these, for whoever reads them, and the greatest of their counters. Each call is one event of the core, from a
+/// consistent state to another; contracts see the core.
 #[derive(Drop)]
 pub struct Books<'p, N: Naming + Ledger, R: Wait + Copy> {
     core: Core<'p, N, QueueSink<N, R>>,
     book: Book<N>,
     alloc: Global,
     texts: Vec<ChangeText>,
+    greatest: u64,
 }
 
 impl<'p, N: Naming + Ledger, R: Wait + Copy> Model for Books<'p, N, R> {
     ghost use Rattle.std.specs.Prelude.{◌≡◌, length, map};
     ghost use Rattle.change_ops.specs.Spelling.{change_text};
+    ghost use Rattle.change_counters.specs.Counters.{greatest_counter};
+    ghost use Rattle.change_history.specs.Accepted.{operations_of};
     ghost use Rattle.hub_core.specs.Machine.{State};
     ghost use Rattle.hub_core.specs.Consistent.{IsConsistent};
     ghost use Rattle.subscriber_queues.specs.Queue.{Sending, was_sent, IsFull};
@@ -48,10 +54,11 @@ impl<'p, N: Naming + Ledger, R: Wait + Copy> Model for Books<'p, N, R> {
 
     ghost view = { λ b. b.core };
 
-    ghost invariant = { λ b. (b.book.total ≡ length b.core.changes) × IsConsistent was_sent IsFull b.core × (b.texts.items ≡ map change_text b.core.changes) };
+    ghost invariant = { λ b. (b.book.total ≡ length b.core.changes) × IsConsistent was_sent IsFull b.core × (b.texts.items ≡ map change_text b.core.changes) × (b.greatest ≡ greatest_counter (operations_of b.core.changes)) };
 }
 
 impl<'p, N: Naming + Ledger, R: Wait + Copy> Books<'p, N, R> {
+    #[tactic(auto, using(crate::proofs::Counters::greatest_of_none))]
     pub(crate) fn new(
         alloc: Global,
         core: Core<'p, N, QueueSink<N, R>>,
@@ -67,6 +74,7 @@ impl<'p, N: Naming + Ledger, R: Wait + Copy> Books<'p, N, R> {
             book,
             alloc,
             texts: Vec::new(alloc),
+            greatest: 0,
         }
     }
 
@@ -89,11 +97,13 @@ impl<'p, N: Naming + Ledger, R: Wait + Copy> Books<'p, N, R> {
         let Ok(text) = next_text(self.alloc, &mut self.texts, &change) else {
             return Err(SubmitError::OutOfMemory);
         };
+        let greatest = greatest_with(self.greatest, &change);
         let token = self.core.submit(rt, change);
         self.core.stays_consistent();
         let token = token?;
         share.count_one(&mut self.book);
         self.texts.push_reserved(text);
+        self.greatest = greatest;
         Ok(token)
     }
 
@@ -253,6 +263,14 @@ impl<'p, N: Naming + Ledger, R: Wait + Copy> Books<'p, N, R> {
         ensures consistent { IsConsistent was_sent IsFull self.now }
     {
         self.core.last_counter(node)
+    }
+
+    /// The greatest counter of all accepted operations, 0 where there are none.
+    pub fn greatest_counter(&self) -> u64
+        ensures counter { result ≡ greatest_counter (operations_of self.now.changes) }
+        ensures consistent { IsConsistent was_sent IsFull self.now }
+    {
+        self.greatest
     }
 
     /// A subscriber's queue, also of a closed one; None for an unknown id. What it was sent is a beginning of the stream of its program,

@@ -1,6 +1,7 @@
 ghost use Rattle.std.specs.Prelude.{◌≡◌, ℕ, ◌<◌, ◌≤◌, ◌↔◌, [], Err, length, map, take, drop, slice_get, All, IsTrue, IfOk, MatchOption, vec_len};
 ghost use Rattle.change_ops.specs.Spelling.{change_text};
 ghost use Rattle.char_sequence.specs.Newest.{IsLastCounter};
+ghost use Rattle.change_counters.specs.Counters.{greatest_counter};
 ghost use Rattle.batches.specs.Promise.{Suits};
 ghost use Rattle.change_history.specs.Accepted.{operations_of};
 ghost use Rattle.hub_core.specs.Machine.{Subscribes, TakesJob, Misses, Commits, Pumps, Reissues, Closes};
@@ -141,6 +142,13 @@ impl<'p, N: Naming + Ledger, R: Wait + Copy> Hub<'p, N, R> {
         ensures { InOneHolding (λ old new. (new ≡ old) × IsLastCounter (operations_of old.changes) node result) }
     {
         self.hold(rt).books.last_counter(node)
+    }
+
+    /// The greatest counter of all accepted operations, 0 where there were none. Later it may be greater, never less.
+    pub fn greatest_counter(&self, rt: &R) -> u64
+        ensures { InOneHolding (λ old new. (new ≡ old) × (result ≡ greatest_counter (operations_of old.changes))) }
+    {
+        self.hold(rt).books.greatest_counter()
     }
 
     /// Adds a subscriber, from the latest version or an earlier one on.
