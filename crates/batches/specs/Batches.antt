@@ -13,7 +13,8 @@ pub record Entry : Type 0 where
   pub program : Token Program
   pub version : Token Snapshot
 
--- a job and, since its items follow from it, a batch: the subscriber, the version's number, and the tokens of program and version
+-- a job and, since its items follow from it, a batch: the subscriber, the version's number, and the tokens of program
+-- and version
 pub record Slip : Type 0 where
   pub subscriber : ℕ
   pub number : ℕ
@@ -24,7 +25,8 @@ pub record Slip : Type 0 where
 abbrev pub hits_from : ℕ → ℕ → List ℕ → List Finding
 hits_from number index [] = []
 hits_from number index (verdict ∷ verdicts) =
-    cond (verdict == 0) (hits_from number (index + 1) verdicts) (Hit number index verdict ∷ hits_from number (index + 1) verdicts)
+    cond (verdict == 0) (hits_from number (index + 1) verdicts)
+    (Hit number index verdict ∷ hits_from number (index + 1) verdicts)
 
 -- the batch of a program and a version: the hits, by rising index, and the end
 abbrev pub batch_of : Program → Snapshot → List Finding

@@ -1,5 +1,6 @@
 -- What a subscriber has, what it was sent, and what it keeps.
-use Rattle.std.specs.Prelude.{◌≡◌, ℕ, ◌+◌, ◌-◌, ◌<◌, ◌≤◌, ◌⊎◌, Bool, false, true, Option, None, Some, List, [], ◌∷◌, ◌++◌, length, take, drop, replicate, slice_get, slice_set}
+use Rattle.std.specs.Prelude.{◌≡◌, ℕ, ◌+◌, ◌-◌, ◌<◌, ◌≤◌, ◌⊎◌, Bool, false, true, Option, None, Some, List, [], ◌∷◌}
+use Rattle.std.specs.Prelude.{◌++◌, length, take, drop, replicate, slice_get, slice_set}
 use Rattle.std.proofs.Common.{zero, suc}
 use Rattle.meaning.specs.Step.{Program}
 use Rattle.span_flatten.specs.Version.{Snapshot}
@@ -11,8 +12,9 @@ use Rattle.batches.specs.Orderly.{items_of_all}
 abbrev pub Held : Type 0
 Held = List (Option Slip)
 
--- a subscriber: its program, the first version that it is sent, the cursor (the first version that is not sent whole), the version from
--- which on jobs are handed out, the held batches, how many items of the cursor's batch are sent, whether it is closed, and its sink
+-- a subscriber: its program, the first version that it is sent, the cursor (the first version that is not sent whole),
+-- the version from which on jobs are handed out, the held batches, how many items of the cursor's batch are sent,
+-- whether it is closed, and its sink
 pub record Sub (S : Type 0) : Type 0 where
   pub program : Token Program
   pub first : ℕ
@@ -33,7 +35,17 @@ nothing_held = replicate 8 None
 
 -- a subscriber that was sent nothing yet
 abbrev pub fresh : {S : Type 0} → Token Program → ℕ → S → Sub S
-fresh p n sink = record { program = p; first = n; cursor = n; handed = n; held = nothing_held; count = 0; closed = false; sink = sink }
+fresh p n sink =
+    record {
+      program = p;
+      first = n;
+      cursor = n;
+      handed = n;
+      held = nothing_held;
+      count = 0;
+      closed = false;
+      sink = sink;
+    }
 
 -- jobs are handed out from the cursor on again
 abbrev pub rewound : {S : Type 0} → Sub S → Sub S
@@ -54,7 +66,8 @@ items_at p [] n = []
 items_at p (t ∷ ts) zero = items_of p t
 items_at p (t ∷ ts) (suc n) = items_at p ts n
 
--- what a subscriber was sent: the batches of the versions from its first one to the one before the cursor, and a part of the cursor's
+-- what a subscriber was sent: the batches of the versions from its first one to the one before the cursor, and a part
+-- of the cursor's
 abbrev pub sent_of : {S : Type 0} → List (Token Snapshot) → Sub S → List Entry
 sent_of ts s = items_of_all s.program (drop s.first (take s.cursor ts)) ++ take s.count (items_at s.program ts s.cursor)
 
@@ -63,8 +76,8 @@ abbrev pub IsOwed : {S : Type 0} → List (Token Snapshot) → Sub S → Type 0
 IsOwed ts s = (i : ℕ) (b : Slip) → slice_get s.held i ≡ Some (Some b)
     → (b.number ≡ s.cursor + i) × (b.program ≡ s.program) × (slice_get ts (s.cursor + i) ≡ Some b.version)
 
--- the batch is one that the subscriber waits for: not below the cursor, at most seven versions above it, not held yet, for its program, and of
--- the hub's token of that version
+-- the batch is one that the subscriber waits for: not below the cursor, at most seven versions above it, not held yet,
+-- for its program, and of the hub's token of that version
 pub record IsWanted {S : Type 0} (versions : List (Token Snapshot)) (a : Sub S) (b : Slip) : Type 0 where
   pub low : a.cursor ≤ b.number
   pub high : b.number ≤ a.cursor + 7
@@ -110,11 +123,17 @@ module _ {S : Type 0} (sent : S → List Entry) (full : S → Type 0) where
     pub part_held : 0 < s.count → s.closed ≡ false → IsHeldAt s.held 0
     pub owed : IsOwed ts s
 
-  -- that many items more were sent, all of versions that were held; the cursor went on by some versions, and nothing else changed
+  -- that many items more were sent, all of versions that were held; the cursor went on by some versions, and nothing
+  -- else changed
   pub record Moved (old : Sub S) (m : ℕ) (new : Sub S) : Type 0 where
     pub steps : ℕ
     pub more : List Entry
-    pub same : new ≡ record old { cursor = old.cursor + steps; held = slid steps old.held; count = new.count; sink = new.sink }
+    pub same : new ≡ record old {
+      cursor = old.cursor + steps;
+      held = slid steps old.held;
+      count = new.count;
+      sink = new.sink;
+    }
     pub held : (i : ℕ) → i < steps → IsHeldAt old.held i
     pub many : length more ≡ m
     pub sent_more : sent new.sink ≡ sent old.sink ++ more

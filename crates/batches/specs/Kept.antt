@@ -19,8 +19,8 @@ pub record AreFormattedAlike (older newer : Formatting) : Type 0 where
   pub color : older.color ≡ newer.color
   pub comments : length older.comments ≡ length newer.comments
 
--- a program may be run on both, and what it can read of them differs in their place alone: the index, the count of spans and the
--- version's number
+-- a program may be run on both, and what it can read of them differs in their place alone: the index, the count of
+-- spans and the version's number
 pub record IsAlike (older newer : LentSpan) : Type 0 where
   pub older_lent : IsSpan (bytes_of older)
   pub newer_lent : IsSpan (bytes_of newer)
@@ -29,7 +29,8 @@ pub record IsAlike (older newer : LentSpan) : Type 0 where
 
 -- the verdict on a span doesn't depend on its place
 abbrev pub IsBlindToPlace : Program → Type 0
-IsBlindToPlace program = (older newer : LentSpan) → IsAlike older newer → verdict_on program older ≡ verdict_on program newer
+IsBlindToPlace program =
+    (older newer : LentSpan) → IsAlike older newer → verdict_on program older ≡ verdict_on program newer
 
 -- the spans at these two indices are alike
 abbrev pub AlikeAt : Snapshot → ℕ → Snapshot → ℕ → Type 0

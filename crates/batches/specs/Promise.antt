@@ -19,7 +19,8 @@ abbrev pub IsNamed : Option ℕ → ℕ → Type 0
 IsNamed None number = Unit {0}
 IsNamed (Some named) number = named ≡ number
 
--- the findings of these items begin the stream of the program over some accepted changes, from its first version to the last
+-- the findings of these items begin the stream of the program over some accepted changes, from its first version to the
+-- last
 pub record BeginsPromised (promise : Promise) (items : List Entry) : Type 0 where
   pub changes : List Edit
   pub accepted : AreAccepted changes

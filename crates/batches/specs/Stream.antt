@@ -11,7 +11,8 @@ use Rattle.change_history.specs.VersionAt.{IsVersionAt}
 -- the versions of the changes from this number on, one after another
 abbrev pub AreVersionsFrom : List Edit → ℕ → List Snapshot → Type 0
 AreVersionsFrom changes n [] = Unit {0}
-AreVersionsFrom changes n (version ∷ versions) = IsVersionAt changes n version × AreVersionsFrom changes (n + 1) versions
+AreVersionsFrom changes n (version ∷ versions) =
+    IsVersionAt changes n version × AreVersionsFrom changes (n + 1) versions
 
 -- the batches of the versions from a first to a last one, joined
 pub record IsStream (program : Program) (changes : List Edit) (first last : ℕ) (findings : List Finding) : Type 0 where
@@ -21,6 +22,7 @@ pub record IsStream (program : Program) (changes : List Edit) (first last : ℕ)
   pub joined : findings ≡ flat_map (batch_of program) versions
 
 -- a beginning of that
-pub record BeginsStream (program : Program) (changes : List Edit) (first last : ℕ) (findings : List Finding) : Type 0 where
-  pub rest : List Finding
-  pub stream : IsStream program changes first last (findings ++ rest)
+pub record BeginsStream (program : Program) (changes : List Edit) (first last : ℕ) (findings : List Finding) : Type 0
+  where
+    pub rest : List Finding
+    pub stream : IsStream program changes first last (findings ++ rest)

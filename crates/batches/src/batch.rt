@@ -45,7 +45,8 @@ impl<N: Naming> Model for Batch<N> {
 #[tactic(auto, using(crate::proofs::Hits::verdict_is))]
 pub fn verdict(program: &Verified, span: &SpanView<'_>) -> u64
     ensures verdict { result ≡ verdict_on program.now span.now }
-    ensures alike { (reads : Reads) (other : LentSpan) → Determines reads Two program.now → IsSpan (bytes_of other) → AgreesOn reads (bytes_of span.now) (bytes_of other) → result ≡ verdict_on program.now other }
+    ensures alike { (reads : Reads) (other : LentSpan) → Determines reads Two program.now → IsSpan (bytes_of other)
+        → AgreesOn reads (bytes_of span.now) (bytes_of other) → result ≡ verdict_on program.now other }
 {
     run(program, &context(span), span.text.as_bytes(), link(span))
 }
@@ -86,7 +87,8 @@ fn push_hit<N: Naming>(
     verdict: u64,
 ) -> Result<(), AllocError>
     ensures few { OnOk result (vec_len items.new ≤ vec_len items.old + 1) }
-    ensures items { OnOk result (items.new.items ≡ items.old.items ++ map (entry job.now.program job.now.version) (hits_from number span (verdict ∷ []))) }
+    ensures items { OnOk result (items.new.items ≡ items.old.items
+        ++ map (entry job.now.program job.now.version) (hits_from number span (verdict ∷ []))) }
 {
     if verdict == 0 {
         return Ok(());

@@ -83,7 +83,12 @@ impl<N: Naming> Model for Job<N> {
 
     ghost Value = { Slip };
 
-    ghost view = { λ j. record { subscriber = j.subscriber; number = j.number; program = j.program; version = j.version } };
+    ghost view = { λ j. record {
+      subscriber = j.subscriber;
+      number = j.number;
+      program = j.program;
+      version = j.version;
+    } };
 }
 
 impl<N: Naming> Job<N> {

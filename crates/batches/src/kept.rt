@@ -10,7 +10,8 @@ use std::marker::Model;
 use verifier::verify::Verified;
 use version_history::published::{Naming, ProgramToken, Published, VersionToken};
 
-/// Whether a program's verdict on a span stays the same wherever the span stands: its list has no index, no count and no number.
+/// Whether a program's verdict on a span stays the same wherever the span stands: its list has no index, no count and
+/// no number.
 pub fn is_blind_to_place(program: &Verified) -> bool
     ensures { IsTrue result → IsBlindToPlace program.now }
 {
@@ -98,7 +99,8 @@ fn joined(
     back: usize,
 ) -> Result<Vec<u64>, AllocError>
     requires { front + back ≤ length numbers.now }
-    ensures { IfOk result (λ all. all.items ≡ (take front numbers.now ++ others.now) ++ drop (length numbers.now - back) numbers.now) }
+    ensures { IfOk result (λ all. all.items ≡ (take front numbers.now ++ others.now)
+        ++ drop (length numbers.now - back) numbers.now) }
 {
     let mut all = Vec::new(alloc);
     all.extend_from_slice(&numbers[..front])?;
@@ -107,7 +109,8 @@ fn joined(
     Ok(all)
 }
 
-/// Verdicts on a version with a later version that was compared with it. The program has the same verdicts on spans that are alike.
+/// Verdicts on a version with a later version that was compared with it. The program has the same verdicts on spans
+/// that are alike.
 pub struct Known<N: Naming> {
     kept: KeptVerdicts<N>,
     stretch: Stretch<N>,
@@ -134,8 +137,8 @@ impl<N: Naming> Model for Known<N> {
 }
 
 impl<N: Naming> Known<N> {
-    /// Verdicts that may serve to find those of a job: the stretch leads from their version to the job's, they are of the job's
-    /// program, and the program is blind to the place.
+    /// Verdicts that may serve to find those of a job: the stretch leads from their version to the job's, they are of
+    /// the job's program, and the program is blind to the place.
     pub fn new(
         published: &Published<'_, N>,
         job: &Job<N>,
@@ -155,9 +158,11 @@ impl<N: Naming> Known<N> {
         }
     }
 
-    /// The verdicts on all spans of the later version, of which these are those on the spans in the middle, which aren't known to be alike.
+    /// The verdicts on all spans of the later version, of which these are those on the spans in the middle, which
+    /// aren't known to be alike.
     pub fn verdicts(self, alloc: Global, middle: &[u64]) -> Result<Vec<u64>, AllocError>
-        requires { middle.now ≡ slice_range (verdicts_of self.program.value self.compared.newer.value) self.compared.front
+        requires { middle.now ≡ slice_range (verdicts_of self.program.value self.compared.newer.value)
+            self.compared.front
             (length self.compared.newer.value.rows - self.compared.back) }
         ensures { IfOk result (λ all. all.items ≡ verdicts_of self.program.value self.compared.newer.value) }
     {

@@ -86,7 +86,8 @@ impl<N: Naming> Sink<Item<N>> for ListSink<N> {
 
     fn push(&mut self, item: Item<N>) -> Result<(), Item<N>>
         ensures ok { OnOk result (self.new.sent ≡ self.old.sent ++ item ∷ []) }
-        ensures err { IfErr result (λ back. (back ≡ item) × (self.new.sent ≡ self.old.sent) × (length self.new.sent ≡ self.new.capacity)) }
+        ensures err { IfErr result (λ back. (back ≡ item) × (self.new.sent ≡ self.old.sent)
+            × (length self.new.sent ≡ self.new.capacity)) }
         ensures capacity { self.new.capacity ≡ self.old.capacity }
     {
         if self.items.len() == self.capacity {

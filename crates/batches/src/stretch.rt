@@ -86,8 +86,8 @@ fn alike_back(
     back
 }
 
-/// Two versions, and how many of their spans are alike at the front and at the back: what a program can read of them differs in their
-/// place alone.
+/// Two versions, and how many of their spans are alike at the front and at the back: what a program can read of them
+/// differs in their place alone.
 pub struct Stretch<N: Naming> {
     older: VersionToken<N>,
     newer: VersionToken<N>,

@@ -1,9 +1,11 @@
-ghost use Rattle.std.specs.Prelude.{◌≡◌, ◌≤◌, ◌<◌, ◌-◌, ◌+◌, ◌++◌, ◌⊎◌, true, false, None, Some, [], length, take, drop, replicate, slice_get, MatchBool, MatchOption, IsTrue, ◌↔◌, IfOk};
+ghost use Rattle.std.specs.Prelude.{◌≡◌, ◌≤◌, ◌<◌, ◌-◌, ◌+◌, ◌++◌, ◌⊎◌, true, false, None, Some, [], length, take};
+ghost use Rattle.std.specs.Prelude.{drop, replicate, slice_get, MatchBool, MatchOption, IsTrue, ◌↔◌, IfOk};
 ghost use Rattle.meaning.specs.Safe.{Safe};
 ghost use Rattle.batches.specs.Batches.{items_of};
 ghost use Rattle.batches.specs.Orderly.{IsOrderly};
 ghost use Rattle.batches.specs.Promise.{IsPromised, Suits, AreOfChanges};
-ghost use Rattle.batches.specs.Feed.{IsHeldAt, IsFed, IsWanted, Keeps, Moved, Stops, Finds, fresh, rewound, nothing_held};
+ghost use Rattle.batches.specs.Feed.{IsHeldAt, IsFed, IsWanted, Keeps, Moved, Stops, Finds, fresh, rewound};
+ghost use Rattle.batches.specs.Feed.{nothing_held};
 
 use crate::batch::Batch;
 use crate::item::{Item, Job};
@@ -34,18 +36,30 @@ impl<N: Naming, S: Sink<Item<N>>> Model for Subscriber<N, S> {
 
     ghost coded = { Prim.hlevel (codes, S.code) };
 
-    ghost view = { λ s. record { program = s.program; first = s.first; cursor = s.cursor; handed = s.handed; held = s.held.items; count = s.count; closed = s.closed; sink = s.sink } };
+    ghost view = { λ s. record {
+      program = s.program;
+      first = s.first;
+      cursor = s.cursor;
+      handed = s.handed;
+      held = s.held.items;
+      count = s.count;
+      closed = s.closed;
+      sink = s.sink;
+    } };
 
     ghost invariant = { λ s. Suits (S.promise s.sink) s.program.value s.first };
 }
 
-/// Sends the items of a batch from one on, until the sink is full. It answers how many items of the batch are sent then.
+/// Sends the items of a batch from one on, until the sink is full. It answers how many items of the batch are sent
+/// then.
 fn send_batch<N: Naming, S: Sink<Item<N>>>(sink: &mut S, batch: &Batch<N>, from: usize) -> usize
     requires from { from ≤ length (items_of batch.now.program batch.now.version) }
     requires orderly { IsOrderly (S.sent sink.old ++ drop from (items_of batch.now.program batch.now.version)) }
-    requires promised { IsPromised (S.promise sink.old) (S.sent sink.old ++ drop from (items_of batch.now.program batch.now.version)) }
+    requires promised { IsPromised (S.promise sink.old)
+        (S.sent sink.old ++ drop from (items_of batch.now.program batch.now.version)) }
     ensures reached { (from ≤ result) × (result ≤ length (items_of batch.now.program batch.now.version)) }
-    ensures sent { S.sent sink.new ≡ S.sent sink.old ++ take (result - from) (drop from (items_of batch.now.program batch.now.version)) }
+    ensures sent { S.sent sink.new ≡ S.sent sink.old
+        ++ take (result - from) (drop from (items_of batch.now.program batch.now.version)) }
     ensures stop { (result ≡ length (items_of batch.now.program batch.now.version)) ⊎ S.full sink.new }
     ensures kept { S.promise sink.new ≡ S.promise sink.old }
 {
@@ -194,7 +208,8 @@ impl<N: Naming, S: Sink<Item<N>>> Subscriber<N, S> {
         requires { length self.now.held ≡ 8 }
         ensures low { result ≡ true → self.now.cursor ≤ batch.now.number }
         ensures high { result ≡ true → batch.now.number ≤ self.now.cursor + 7 }
-        ensures wanted { MatchBool result (IsWanted versions.now self.now batch.now) (¬ IsWanted versions.now self.now batch.now) }
+        ensures wanted { MatchBool result (IsWanted versions.now self.now batch.now)
+            (¬ IsWanted versions.now self.now batch.now) }
     {
         if !self.is_near(batch) || self.holds(batch) {
             return false;

@@ -65,8 +65,8 @@ pub fn taken<N: Naming, R: Wait + Copy>(
     Ok(found)
 }
 
-/// The job that the words name: a subscriber, a version's number, and the places of two jobs, of which one has the program and the other
-/// the version.
+/// The job that the words name: a subscriber, a version's number, and the places of two jobs, of which one has the
+/// program and the other the version.
 fn made_up_job<N: Naming>(jobs: &[Job<N>], rest: &str) -> Option<Job<N>> {
     let (subscriber, rest) = parted(rest);
     let (version, rest) = parted(rest);

@@ -66,7 +66,8 @@ fn push_lines(alloc: Global, lines: &mut String, line: &str) -> Result<(), Alloc
     }
 }
 
-/// The lines of a case, without comments, and with those that stand for many lines written out. All but the last of these begin with
+/// The lines of a case, without comments, and with those that stand for many lines written out. All but the last of
+/// these begin with
 /// `~`.
 pub fn written_out(alloc: Global, case: &str) -> Result<String, AllocError> {
     let mut lines = String::new(alloc);

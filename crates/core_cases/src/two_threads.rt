@@ -12,8 +12,8 @@ use std::thread::{Threads, join};
 use verifier::verify::Verified;
 use version_history::published::{Naming, Published};
 
-/// Has two threads, each with a share and a peer of its own, ingest so many changes on a new hub. It tells what each share counted, what
-/// the hub did, and the sum of the numbers that were answered.
+/// Has two threads, each with a share and a peer of its own, ingest so many changes on a new hub. It tells what each
+/// share counted, what the hub did, and the sum of the numbers that were answered.
 pub fn play_threads<R: Threads + Wait + Copy + Send + Sync>(
     rt: &R,
     alloc: Global,

@@ -1,5 +1,6 @@
 -- What workers do to a hub.
-use Rattle.std.specs.Prelude.{◌≡◌, ◌<◌, ◌≤◌, ◌+◌, ◌*◌, ◌⊎◌, ℕ, Bool, true, false, Result, Ok, Err, Option, Some, None, List, All, length}
+use Rattle.std.specs.Prelude.{◌≡◌, ◌<◌, ◌≤◌, ◌+◌, ◌*◌, ◌⊎◌, ℕ, Bool, true, false, Result, Ok, Err, Option, Some, None}
+use Rattle.std.specs.Prelude.{List, All, length}
 use Rattle.batches.specs.Batches.{Slip}
 use Rattle.hub_core.specs.Machine.{TakesJob, Misses, Commits, Pumps}
 use Rattle.hub_core.specs.declared.error.CommitError.{CommitError}
@@ -14,38 +15,46 @@ abbrev pub Ends : Slip → TurnEnd → Type 0
 Ends job Committed = InOneHolding (λ old new. Commits old job (Ok tt) new)
 Ends job Refused = (e : CommitError) × InOneHolding (λ old new. Commits old job (Err e) new)
 
--- what could be sent to this subscriber was sent, in one holding of the lock; it says nothing of the hub, since a refusal (Err) meets it for every id
+-- what could be sent to this subscriber was sent, in one holding of the lock; it says nothing of the hub, since a
+-- refusal (Err) meets it for every id
 abbrev pub IsPumped : ℕ → Type 0
-IsPumped subscriber = (sent : Result ℕ NoSubscriber) × InOneHolding (λ old new. Pumps was_sent IsFull old subscriber sent new)
+IsPumped subscriber =
+    (sent : Result ℕ NoSubscriber) × InOneHolding (λ old new. Pumps was_sent IsFull old subscriber sent new)
 
--- a job was taken in one holding of the lock, its batch committed or refused in another, and its subscriber sent what could be in a third; or there
--- was none to take, which says nothing of the hub
+-- a job was taken in one holding of the lock, its batch committed or refused in another, and its subscriber sent what
+-- could be in a third; or there was none to take, which says nothing of the hub
 abbrev pub Turns : Option TurnEnd → Type 0
-Turns (Some end) = (job : Slip) × InOneHolding (λ old new. TakesJob old (Some job) new) × Ends job end × IsPumped job.subscriber
+Turns (Some end) =
+    (job : Slip) × InOneHolding (λ old new. TakesJob old (Some job) new) × Ends job end × IsPumped job.subscriber
 Turns None = InOneHolding (λ old new. TakesJob old None new)
 
--- the most steps that running the program on each span of the version takes: a run takes at most one a slot, and to begin it counts as 32
+-- the most steps that running the program on each span of the version takes: a run takes at most one a slot, and to
+-- begin it counts as 32
 abbrev pub most_steps : Slip → ℕ
 most_steps job = length job.version.value.rows * (length job.program.value + 32)
 
--- a job of at most so many steps was taken in one holding of the lock, its batch committed or refused in another, and its subscriber sent what
--- could be in a third; or a longer one was taken and left to its subscriber, or there was none to take, which says nothing of the hub
+-- a job of at most so many steps was taken in one holding of the lock, its batch committed or refused in another, and
+-- its subscriber sent what could be in a third; or a longer one was taken and left to its subscriber, or there was none
+-- to take, which says nothing of the hub
 abbrev pub Helps : ℕ → Bool → Type 0
 Helps most true =
-    (job : Slip) × (most_steps job ≤ most) × InOneHolding (λ old new. TakesJob old (Some job) new) × (end : TurnEnd) × Ends job end × IsPumped job.subscriber
-Helps most false = ((job : Slip) × (most < most_steps job) × InOneHolding (λ old new. TakesJob old (Some job) new)) ⊎ Turns None
+    (job : Slip) × (most_steps job ≤ most) × InOneHolding (λ old new. TakesJob old (Some job) new) × (end : TurnEnd)
+    × Ends job end × IsPumped job.subscriber
+Helps most false =
+    ((job : Slip) × (most < most_steps job) × InOneHolding (λ old new. TakesJob old (Some job) new)) ⊎ Turns None
 
 -- what a subscriber was found to wait for is no version, or one behind this
 abbrev pub IsBehind : ℕ → Option Slip → Type 0
 IsBehind last None = Unit {0}
 IsBehind last (Some job) = last < job.number
 
--- the job of the first version that a subscriber waited for was found in one holding of the lock, is of one of the versions up to the last that is
--- wanted, and its batch was committed or refused in another holding; or it waited for none of them,
--- which says nothing of the hub
+-- the job of the first version that a subscriber waited for was found in one holding of the lock, is of one of the
+-- versions up to the last that is wanted, and its batch was committed or refused in another holding; or it waited for
+-- none of them, which says nothing of the hub
 abbrev pub CatchesUp : ℕ → ℕ → Bool → Type 0
 CatchesUp subscriber last true =
-    (job : Slip) × (job.number ≤ last) × InOneHolding (λ old new. (new ≡ old) × Misses old subscriber (Some job)) × (end : TurnEnd) × Ends job end
+    (job : Slip) × (job.number ≤ last) × InOneHolding (λ old new. (new ≡ old) × Misses old subscriber (Some job))
+    × (end : TurnEnd) × Ends job end
 CatchesUp subscriber last false =
     (missed : Option Slip) × IsBehind last missed × InOneHolding (λ old new. (new ≡ old) × Misses old subscriber missed)
 
@@ -54,10 +63,12 @@ abbrev pub batches_of : TurnEnd → ℕ
 batches_of Committed = 1
 batches_of Refused = 0
 
--- a job was taken in one holding of the lock, its batch committed in another, and its subscriber sent what could be in a third
+-- a job was taken in one holding of the lock, its batch committed in another, and its subscriber sent what could be in
+-- a third
 abbrev pub IsCommitted : Slip → Type 0
 IsCommitted job =
-    InOneHolding (λ old new. TakesJob old (Some job) new) × InOneHolding (λ old new. Commits old job (Ok tt) new) × IsPumped job.subscriber
+    InOneHolding (λ old new. TakesJob old (Some job) new) × InOneHolding (λ old new. Commits old job (Ok tt) new)
+    × IsPumped job.subscriber
 
 -- the batches of so many jobs were committed, in at most so many turns
 pub record AreCommitted (turns count : ℕ) : Type 0 where

@@ -23,8 +23,8 @@ const STEPS_PER_THREAD: usize = 262_144;
 /// What it takes to make a span's context and begin a run, in steps.
 const STEPS_TO_BEGIN: usize = 32;
 
-/// The least number of spans that justifies a further thread, where so many workers share the processors and a run takes at most so
-/// many steps.
+/// The least number of spans that justifies a further thread, where so many workers share the processors and a run
+/// takes at most so many steps.
 fn spans_per_thread(workers: usize, steps: usize) -> usize
     requires few { steps ≤ 4096 }
 {
@@ -41,8 +41,8 @@ fn verdict_at(program: &Verified, version: &Version, index: usize) -> u64
     }
 }
 
-/// The verdicts on the spans of a version from one index up to another, in order. Each thread has at least so many spans, where there
-/// are so many.
+/// The verdicts on the spans of a version from one index up to another, in order. Each thread has at least so many
+/// spans, where there are so many.
 fn verdicts_between<R: Threads + Sync>(
     rt: &R,
     alloc: Global,
@@ -76,9 +76,9 @@ pub(crate) fn is_short<N: Naming>(published: &Published<'_, N>, job: &Job<N>, mo
     spans.saturating_mul(slots + STEPS_TO_BEGIN) <= most
 }
 
-/// The verdicts of a job's program on all spans of its version, where so many workers share the processors: the more they are, the fewer
-/// threads this one may start. Where those on an earlier version are known, the program is run on the spans alone that aren't as they
-/// were there.
+/// The verdicts of a job's program on all spans of its version, where so many workers share the processors: the more
+/// they are, the fewer threads this one may start. Where those on an earlier version are known, the program is run on
+/// the spans alone that aren't as they were there.
 pub(crate) fn verdicts<N: Naming, R: Threads + Sync>(
     rt: &R,
     alloc: Global,
@@ -106,8 +106,8 @@ pub(crate) fn verdicts<N: Naming, R: Threads + Sync>(
     }
 }
 
-/// What is known of a job's verdicts from those on an earlier version: nothing, where they are of another program, or of one that lists
-/// the index, the count or the number.
+/// What is known of a job's verdicts from those on an earlier version: nothing, where they are of another program, or
+/// of one that lists the index, the count or the number.
 fn known<N: Naming>(
     published: &Published<'_, N>,
     job: &Job<N>,
@@ -120,9 +120,10 @@ fn known<N: Naming>(
     Known::new(published, job, kept, stretch)
 }
 
-/// The batch of a job, as `Batch::compute` answers it, from what is kept of the verdicts of its program on an earlier version, if
-/// anything is: the program is run on the spans alone that aren't as they were there. They are shared out among as many threads as there
-/// are processors to run them, where the program is so long and they are so many that each thread is worth its start. It asks for no lock.
+/// The batch of a job, as `Batch::compute` answers it, from what is kept of the verdicts of its program on an earlier
+/// version, if anything is: the program is run on the spans alone that aren't as they were there. They are shared out
+/// among as many threads as there are processors to run them, where the program is so long and they are so many that
+/// each thread is worth its start. It asks for no lock.
 pub fn filter<N: Naming, R: Threads + Sync>(
     rt: &R,
     alloc: Global,

@@ -1,7 +1,8 @@
 use batches::item::Job;
 use version_history::published::Naming;
 
-/// What workers call in each turn that has a job, outside the lock: once before its batch is computed, and once after all else.
+/// What workers call in each turn that has a job, outside the lock: once before its batch is computed, and once after
+/// all else.
 pub trait Gate<N: Naming>: Sync {
     fn before(&self, job: &Job<N>);
 

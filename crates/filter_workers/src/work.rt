@@ -35,8 +35,8 @@ impl TurnEnd {
     }
 }
 
-/// What is known of a job's verdicts by what the hub keeps of its subscriber's: nothing, where the program lists the index, the count or
-/// the number.
+/// What is known of a job's verdicts by what the hub keeps of its subscriber's: nothing, where the program lists the
+/// index, the count or the number.
 fn known<N: Naming + Ledger, R: Wait + Copy>(
     rt: &R,
     hub: &Hub<'_, N, R>,
@@ -97,8 +97,8 @@ fn answer<N: Naming + Ledger, R: Threads + Wait + Copy + Sync>(
     }
 }
 
-/// Computes the batch of a job, commits it, and has its subscriber sent what can be sent. What the subscriber is owed is handed out
-/// again where no memory was found.
+/// Computes the batch of a job, commits it, and has its subscriber sent what can be sent. What the subscriber is owed
+/// is handed out again where no memory was found.
 fn serve<N: Naming + Ledger, R: Threads + Wait + Copy + Sync>(
     rt: &R,
     alloc: Global,
@@ -178,9 +178,10 @@ fn total(counts: &[Result<u64, AllocError>], turns: u64) -> Result<u64, AllocErr
     Ok(sum)
 }
 
-/// Has so many workers, of which one runs in this thread, take jobs, compute their batches and commit them, each until its turns are
-/// over or there is no job. The more they are, the fewer threads each may start to compute one. It answers how many batches were
-/// committed; where a worker found no memory it ends, what its subscriber is owed is handed out again, and the others go on to their end.
+/// Has so many workers, of which one runs in this thread, take jobs, compute their batches and commit them, each until
+/// its turns are over or there is no job. The more they are, the fewer threads each may start to compute one. It
+/// answers how many batches were committed; where a worker found no memory it ends, what its subscriber is owed is
+/// handed out again, and the others go on to their end.
 pub fn work<N: Naming + Ledger + Send + Sync, R: Threads + Wait + Copy + Send + Sync, G: Gate<N>>(
     rt: &R,
     alloc: Global,
@@ -208,9 +209,9 @@ pub fn work<N: Naming + Ledger + Send + Sync, R: Threads + Wait + Copy + Send + 
     total(counts.as_slice(), u64::from(turns))
 }
 
-/// Takes a job, whichever subscriber it is of. If it takes at most so many steps its batch is computed and committed; a longer one is
-/// left to whoever catches its subscriber up. It answers whether one was computed; where no memory was found, what the subscriber is owed
-/// is handed out again.
+/// Takes a job, whichever subscriber it is of. If it takes at most so many steps its batch is computed and committed; a
+/// longer one is left to whoever catches its subscriber up. It answers whether one was computed; where no memory was
+/// found, what the subscriber is owed is handed out again.
 pub fn help<N: Naming + Ledger, R: Threads + Wait + Copy + Sync>(
     rt: &R,
     alloc: Global,
@@ -230,9 +231,9 @@ pub fn help<N: Naming + Ledger, R: Threads + Wait + Copy + Sync>(
     Ok(true)
 }
 
-/// Computes the batch of the first version that a subscriber waits for, whoever its job was handed out to, and commits it, if the
-/// version's number is at most this one; where another committed it meanwhile that is as good. It answers whether the subscriber
-/// waited for such a version.
+/// Computes the batch of the first version that a subscriber waits for, whoever its job was handed out to, and commits
+/// it, if the version's number is at most this one; where another committed it meanwhile that is as good. It answers
+/// whether the subscriber waited for such a version.
 pub fn catch_up<N: Naming + Ledger, R: Threads + Wait + Copy + Sync>(
     rt: &R,
     alloc: Global,

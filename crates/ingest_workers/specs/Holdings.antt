@@ -12,13 +12,15 @@ use Rattle.subscriber_queues.specs.Queue.{Sending, was_sent, IsFull}
 abbrev pub AreConsistent : State Sending → State Sending → Type 0
 AreConsistent old new = IsConsistent was_sent IsFull old × IsConsistent was_sent IsFull new
 
--- a core whose sinks are queues was found under the lock, and this event made another of it; both are consistent. It says nothing of the hub where
--- the event is one of a core with no subscriber, such as a pump, close or reissue that is refused, or that no job is taken or missed
+-- a core whose sinks are queues was found under the lock, and this event made another of it; both are consistent. It
+-- says nothing of the hub where the event is one of a core with no subscriber, such as a pump, close or reissue that is
+-- refused, or that no job is taken or missed
 abbrev pub InOneHolding : (State Sending → State Sending → Type 0) → Type 0
 InOneHolding event = (old : State Sending) × (new : State Sending) × event old new × AreConsistent old new
 
 -- a change is submitted, and the number of its version answered; or it is refused
 abbrev pub Ingests : State Sending → Edit → Result ℕ SubmitError → State Sending → Type 0
 Ingests old change (Ok number) new =
-    (number ≡ length old.changes + 1) × (token : Token Snapshot) × (token.value.number ≡ number) × Submits old change (Ok token) new
+    (number ≡ length old.changes + 1) × (token : Token Snapshot) × (token.value.number ≡ number)
+    × Submits old change (Ok token) new
 Ingests old change (Err e) new = Submits old change (Err e) new

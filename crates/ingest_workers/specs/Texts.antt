@@ -15,15 +15,18 @@ IsOneChange text change = Spells text change []
 -- a change, and a line after its last one
 abbrev pub HasMore : List ℕ → ChangeError → Type 0
 HasMore text e =
-    (change : Edit) × (rest : List ℕ) × Spells text change rest × (¬ (rest ≡ [])) × (e ≡ BadLine (length change.lines + 2))
+    (change : Edit) × (rest : List ℕ) × Spells text change rest × (¬ (rest ≡ []))
+    × (e ≡ BadLine (length change.lines + 2))
 
 -- why it is not: it begins with no change, or has more than one. Want of memory is no fault of a text
 abbrev pub IsNotOne : List ℕ → ChangeError → Type 0
 IsNotOne text e = (e ≡ OutOfMemory) ⊎ IsRefused text e ⊎ HasMore text e
 
--- the text's change was submitted in one holding of the lock, and its version's number answered; or the text isn't one change's; or the change was
--- refused there
+-- the text's change was submitted in one holding of the lock, and its version's number answered; or the text isn't one
+-- change's; or the change was refused there
 abbrev pub IngestsText : List ℕ → Result ℕ HubError → Type 0
-IngestsText text (Ok number) = (change : Edit) × IsOneChange text change × InOneHolding (λ old new. Ingests old change (Ok number) new)
+IngestsText text (Ok number) =
+    (change : Edit) × IsOneChange text change × InOneHolding (λ old new. Ingests old change (Ok number) new)
 IngestsText text (Err (Change e)) = IsNotOne text e
-IngestsText text (Err (Submit e)) = (change : Edit) × IsOneChange text change × InOneHolding (λ old new. Ingests old change (Err e) new)
+IngestsText text (Err (Submit e)) =
+    (change : Edit) × IsOneChange text change × InOneHolding (λ old new. Ingests old change (Err e) new)

@@ -1,4 +1,5 @@
-ghost use Rattle.std.specs.Prelude.{◌≡◌, ◌+◌, ◌<◌, ◌≤◌, ◌↔◌, [], Some, Err, length, map, take, drop, slice_get, IsTrue, IfOk, OnOk, OnErr, MatchOption};
+ghost use Rattle.std.specs.Prelude.{◌≡◌, ◌+◌, ◌<◌, ◌≤◌, ◌↔◌, [], Some, Err, length, map, take, drop, slice_get, IsTrue};
+ghost use Rattle.std.specs.Prelude.{IfOk, OnOk, OnErr, MatchOption};
 ghost use Rattle.change_ops.specs.Spelling.{change_text};
 ghost use Rattle.char_sequence.specs.Newest.{IsLastCounter};
 ghost use Rattle.change_counters.specs.Counters.{greatest_counter};
@@ -29,9 +30,9 @@ use std::sync::{Wait, ledger};
 use subscriber_queues::ends::QueueSink;
 use version_history::published::{Naming, ProgramToken, VersionToken};
 
-/// What lies under a hub's lock: its core, the book of its ledger, whose total is the number of accepted changes, the texts
-/// of these, for whoever reads them, and the greatest of their counters. Each call is one event of the core, from a
-/// consistent state to another; contracts see the core.
+/// What lies under a hub's lock: its core, the book of its ledger, whose total is the number of accepted changes, the
+/// texts of these, for whoever reads them, and the greatest of their counters. Each call is one event of the core, from
+/// a consistent state to another; contracts see the core.
 #[derive(Drop)]
 pub struct Books<'p, N: Naming + Ledger, R: Wait + Copy> {
     core: Core<'p, N, QueueSink<N, R>>,
@@ -54,7 +55,9 @@ impl<'p, N: Naming + Ledger, R: Wait + Copy> Model for Books<'p, N, R> {
 
     ghost view = { λ b. b.core };
 
-    ghost invariant = { λ b. (b.book.total ≡ length b.core.changes) × IsConsistent was_sent IsFull b.core × (b.texts.items ≡ map change_text b.core.changes) × (b.greatest ≡ greatest_counter (operations_of b.core.changes)) };
+    ghost invariant = { λ b. (b.book.total ≡ length b.core.changes) × IsConsistent was_sent IsFull b.core
+        × (b.texts.items ≡ map change_text b.core.changes)
+        × (b.greatest ≡ greatest_counter (operations_of b.core.changes)) };
 }
 
 impl<'p, N: Naming + Ledger, R: Wait + Copy> Books<'p, N, R> {
@@ -78,7 +81,8 @@ impl<'p, N: Naming + Ledger, R: Wait + Copy> Books<'p, N, R> {
         }
     }
 
-    /// Accepts a change, publishes its version, and counts it in the book and the share; where it is refused all stay as they were.
+    /// Accepts a change, publishes its version, and counts it in the book and the share; where it is refused all stay
+    /// as they were.
     pub fn submit(
         &mut self,
         rt: &R,
@@ -166,8 +170,8 @@ impl<'p, N: Naming + Ledger, R: Wait + Copy> Books<'p, N, R> {
         job
     }
 
-    /// The job of the first version that an open subscriber waits for, whoever it was handed out to; None only where it waits
-    /// for none. Nothing is handed out.
+    /// The job of the first version that an open subscriber waits for, whoever it was handed out to; None only where it
+    /// waits for none. Nothing is handed out.
     pub fn missing_job(&self, id: usize) -> Option<Job<N>>
         ensures event { Misses self.now id result }
         ensures consistent { IsConsistent was_sent IsFull self.now }
@@ -241,13 +245,16 @@ impl<'p, N: Naming + Ledger, R: Wait + Copy> Books<'p, N, R> {
         self.core.version(number)
     }
 
-    /// The texts of so many accepted changes behind a version, or of as many as there are; None where no version has that number yet.
+    /// The texts of so many accepted changes behind a version, or of as many as there are; None where no version has
+    /// that number yet.
     pub fn texts_behind(
         &self,
         from: u64,
         most: usize,
     ) -> Result<Option<Vec<ChangeText>>, AllocError>
-        ensures texts { IfOk result (λ found. MatchOption found (length self.now.changes < from) (λ texts. (from ≤ length self.now.changes) × (texts.items ≡ map change_text (take most (drop from self.now.changes))))) }
+        ensures texts { IfOk result (λ found. MatchOption found (length self.now.changes < from)
+            (λ texts. (from ≤ length self.now.changes)
+            × (texts.items ≡ map change_text (take most (drop from self.now.changes))))) }
         ensures consistent { IsConsistent was_sent IsFull self.now }
     {
         if self.core.lacks_version(from) {
@@ -273,11 +280,15 @@ impl<'p, N: Naming + Ledger, R: Wait + Copy> Books<'p, N, R> {
         self.greatest
     }
 
-    /// A subscriber's queue, also of a closed one; None for an unknown id. What it was sent is a beginning of the stream of its program,
-    /// of which every run ends with a number, over the accepted changes, from the subscriber's first version to the last.
+    /// A subscriber's queue, also of a closed one; None for an unknown id. What it was sent is a beginning of the
+    /// stream of its program, of which every run ends with a number, over the accepted changes, from the subscriber's
+    /// first version to the last.
     pub fn sink(&self, id: usize) -> Option<&QueueSink<N, R>>
-        ensures value { MatchOption result (length self.now.subs ≤ id) (λ sink. (a : Sub Sending) × (slice_get self.now.subs id ≡ Some a) × (sink.now ≡ a.sink)) }
-        ensures stream { (a : Sub Sending) → slice_get self.now.subs id ≡ Some a → BeginsStream a.program.value self.now.changes a.first (length self.now.changes) (map (λ item. item.what) a.sink.sent) }
+        ensures value { MatchOption result (length self.now.subs ≤ id) (λ sink. (a : Sub Sending)
+            × (slice_get self.now.subs id ≡ Some a) × (sink.now ≡ a.sink)) }
+        ensures stream { (a : Sub Sending) → slice_get self.now.subs id ≡ Some a
+            → BeginsStream a.program.value self.now.changes a.first (length self.now.changes)
+            (map (λ item. item.what) a.sink.sent) }
         ensures safe { (a : Sub Sending) → slice_get self.now.subs id ≡ Some a → Safe a.program.value }
     {
         self.core.sink(id)

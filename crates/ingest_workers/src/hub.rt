@@ -1,4 +1,5 @@
-ghost use Rattle.std.specs.Prelude.{◌≡◌, ℕ, ◌<◌, ◌≤◌, ◌↔◌, [], Err, length, map, take, drop, slice_get, All, IsTrue, IfOk, MatchOption, vec_len};
+ghost use Rattle.std.specs.Prelude.{◌≡◌, ℕ, ◌<◌, ◌≤◌, ◌↔◌, [], Err, length, map, take, drop, slice_get, All, IsTrue};
+ghost use Rattle.std.specs.Prelude.{IfOk, MatchOption, vec_len};
 ghost use Rattle.change_ops.specs.Spelling.{change_text};
 ghost use Rattle.char_sequence.specs.Newest.{IsLastCounter};
 ghost use Rattle.change_counters.specs.Counters.{greatest_counter};
@@ -23,7 +24,8 @@ use std::sync::{Mutex, MutexGuard, Wait};
 use subscriber_queues::ends::QueueSink;
 use version_history::published::{Naming, ProgramToken, Published, VersionToken};
 
-/// A hub that threads share. Each call holds its lock once, for one call of the books, and calls have it in the order in which they came.
+/// A hub that threads share. Each call holds its lock once, for one call of the books, and calls have it in the order
+/// in which they came.
 #[derive(Drop)]
 pub struct Hub<'p, N: Naming + Ledger, R: Wait + Copy> {
     pub(crate) published: Published<'p, N>,
@@ -94,16 +96,16 @@ impl<'p, N: Naming + Ledger, R: Wait + Copy> Hub<'p, N, R> {
         }
     }
 
-    /// Whether as many subscribers were added as ever are, closed ones counted. It stays so for good, so one that asks first
-    /// need not publish a program that no subscriber will have.
+    /// Whether as many subscribers were added as ever are, closed ones counted. It stays so for good, so one that asks
+    /// first need not publish a program that no subscriber will have.
     pub fn is_full(&self, rt: &R) -> bool
         ensures { InOneHolding (λ old new. (new ≡ old) × (IsTrue result ↔ (length old.subs ≡ 64))) }
     {
         self.hold(rt).books.is_full()
     }
 
-    /// Whether no version had this number yet. A version stays, so one that asks first need not publish a program for a version
-    /// that isn't there.
+    /// Whether no version had this number yet. A version stays, so one that asks first need not publish a program for a
+    /// version that isn't there.
     pub fn lacks_version(&self, rt: &R, number: u64) -> bool
         ensures { InOneHolding (λ old new. (new ≡ old) × (IsTrue result ↔ (length old.changes < number))) }
     {
@@ -124,15 +126,17 @@ impl<'p, N: Naming + Ledger, R: Wait + Copy> Hub<'p, N, R> {
         self.hold(rt).books.version(number)
     }
 
-    /// The texts of so many accepted changes behind a version, or of as many as there were; None where no version had that number
-    /// yet. They are shared, so that the lock is held for no longer than it takes to find them.
+    /// The texts of so many accepted changes behind a version, or of as many as there were; None where no version had
+    /// that number yet. They are shared, so that the lock is held for no longer than it takes to find them.
     pub fn texts_behind(
         &self,
         rt: &R,
         from: u64,
         most: usize,
     ) -> Result<Option<Vec<ChangeText>>, AllocError>
-        ensures { IfOk result (λ found. InOneHolding (λ old new. (new ≡ old) × MatchOption found (length old.changes < from) (λ texts. (from ≤ length old.changes) × (texts.items ≡ map change_text (take most (drop from old.changes)))))) }
+        ensures { IfOk result (λ found. InOneHolding (λ old new. (new ≡ old)
+            × MatchOption found (length old.changes < from) (λ texts. (from ≤ length old.changes)
+            × (texts.items ≡ map change_text (take most (drop from old.changes)))))) }
     {
         self.hold(rt).books.texts_behind(from, most)
     }
@@ -187,8 +191,8 @@ impl<'p, N: Naming + Ledger, R: Wait + Copy> Hub<'p, N, R> {
         self.hold(rt).books.take_job()
     }
 
-    /// The job of the first version that an open subscriber waits for, whoever it was handed out to; None only where it waited
-    /// for none. Nothing is handed out.
+    /// The job of the first version that an open subscriber waits for, whoever it was handed out to; None only where it
+    /// waited for none. Nothing is handed out.
     pub fn missing_job(&self, rt: &R, id: usize) -> Option<Job<N>>
         ensures { InOneHolding (λ old new. (new ≡ old) × Misses old id result) }
     {

@@ -71,7 +71,8 @@ pub fn ingest_change<N: Naming + Ledger, R: Wait + Copy>(
     Ok(hub.published.look(&token).number())
 }
 
-/// Reads the change that a text is of, without the lock, and submits it by a share. It answers the number of the change's version.
+/// Reads the change that a text is of, without the lock, and submits it by a share. It answers the number of the
+/// change's version.
 pub fn ingest<N: Naming + Ledger, R: Wait + Copy>(
     rt: &R,
     alloc: Global,

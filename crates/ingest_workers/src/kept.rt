@@ -73,8 +73,8 @@ impl<N: Naming> Shelf<N> {
     }
 }
 
-/// Of each subscriber that isn't closed the verdicts on one version at most, and the two versions that were compared last, under a lock
-/// of their own. Where nothing is kept, a batch only takes longer.
+/// Of each subscriber that isn't closed the verdicts on one version at most, and the two versions that were compared
+/// last, under a lock of their own. Where nothing is kept, a batch only takes longer.
 #[derive(Drop)]
 pub struct Kept<N: Naming> {
     shelf: Mutex<Shelf<N>>,

@@ -2,12 +2,13 @@ use std::array;
 use std::sync::Wait;
 use std::sync::atomic::{AtomicU64, Ordering};
 
-/// How many places there are to wait at. While no more threads wait, each waits at a place of its own, so that the end of a turn
-/// wakes one thread and not all.
+/// How many places there are to wait at. While no more threads wait, each waits at a place of its own, so that the end
+/// of a turn wakes one thread and not all.
 const PLACES: u64 = 64;
 
-/// The order in which threads come to what they share: first come, first served. Each takes a ticket and waits until the one before it
-/// has left. It keeps no two threads apart by itself: a lock does, which only the thread whose turn it is asks for.
+/// The order in which threads come to what they share: first come, first served. Each takes a ticket and waits until
+/// the one before it has left. It keeps no two threads apart by itself: a lock does, which only the thread whose turn
+/// it is asks for.
 #[derive(Drop)]
 pub(crate) struct Turns {
     /// The ticket that the next thread takes.
@@ -54,8 +55,8 @@ impl Turns {
         }
     }
 
-    /// Begins the turn of the ticket behind this one. A thread that takes that ticket only afterwards finds that its turn has come,
-    /// so it needs no wake.
+    /// Begins the turn of the ticket behind this one. A thread that takes that ticket only afterwards finds that its
+    /// turn has come, so it needs no wake.
     fn admit_after(&self, ticket: u64) {
         let admitted = ticket.wrapping_add(1);
         let place = self.place(admitted);

@@ -35,10 +35,12 @@ abbrev pub link_line : Profile → Reads → List ℕ
 link_line One reads = []
 link_line Two reads = bytes_line (codes "link") reads.link
 
--- the spans on which the verdict is found again in the next version: those that change, or all where their places are read
+-- the spans on which the verdict is found again in the next version: those that change, or all where their places are
+-- read
 abbrev pub runs_text : List ContextField → List ℕ
 runs_text [] = codes "runs where a span changes"
-runs_text (field ∷ fields) = codes "runs on every span: it reads " ++ join_by (λ f. codes "the " ++ name_of f) (codes ", ") (field ∷ fields)
+runs_text (field ∷ fields) =
+    codes "runs on every span: it reads " ++ join_by (λ f. codes "the " ++ name_of f) (codes ", ") (field ∷ fields)
 
 abbrev pub runs_line : Reads → List ℕ
 runs_line reads = runs_text (places_in reads) ++ 10 ∷ []

@@ -13,8 +13,11 @@ mod fields;
 pub mod lines;
 pub mod reads;
 
-/// What no load of a program can read, its outcome doesn't depend on: neither on what its profile lends, nor on the whole span.
+/// What no load of a program can read, its outcome doesn't depend on: neither on what its profile lends, nor on the
+/// whole span.
 pub fn unread_is_free()
-    ensures lent { (profile : Profile) (program : Program) (reads : Reads) → SafeIn profile program → CoversRuns reads profile program → Determines reads profile program }
-    ensures whole { (profile : Profile) (program : Program) (reads : Reads) → SafeIn profile program → CoversRuns reads profile program → Determines reads Two program }
+    ensures lent { (profile : Profile) (program : Program) (reads : Reads) → SafeIn profile program
+        → CoversRuns reads profile program → Determines reads profile program }
+    ensures whole { (profile : Profile) (program : Program) (reads : Reads) → SafeIn profile program
+        → CoversRuns reads profile program → Determines reads Two program }
 {}

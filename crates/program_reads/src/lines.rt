@@ -1,7 +1,8 @@
 //! The lines that say what loads can read of a span.
 ghost use Rattle.std.specs.Prelude.{◌≡◌, ◌++◌, ◌∷◌, [], drop, OnOk, string_bytes};
 ghost use Rattle.program_reads.specs.Places.{marked, place_fields};
-ghost use Rattle.program_reads.specs.Lines.{comma, names_text, fields_line, bytes_line, runs_text, runs_line, read_lines};
+ghost use Rattle.program_reads.specs.Lines.{comma, names_text, fields_line, bytes_line, runs_text, runs_line};
+ghost use Rattle.program_reads.specs.Lines.{read_lines};
 ghost use Rattle.bpf_words.specs.ContextField.{name_of, every_field};
 
 use crate::reads::Reads;
@@ -22,7 +23,8 @@ fn push_name(text: &mut String, some: bool, field: ContextField) -> Result<(), A
 
 /// Appends the names of the fields that are marked.
 fn push_names(text: &mut String, fields: &[bool; 13]) -> Result<(), AllocError>
-    ensures { OnOk result (string_bytes text.new ≡ string_bytes text.old ++ names_text (marked fields.now every_field)) }
+    ensures { OnOk result (string_bytes text.new ≡ string_bytes text.old
+        ++ names_text (marked fields.now every_field)) }
 {
     let mut some = false;
     for i in 0..13 {
@@ -75,14 +77,15 @@ fn runs_on(index: bool, count: bool, version: bool) -> &'static str
 
 /// Appends on which spans the verdict is found again in the next version.
 fn push_runs(text: &mut String, fields: &[bool; 13]) -> Result<(), AllocError>
-    ensures { OnOk result (string_bytes text.new ≡ string_bytes text.old ++ runs_text (marked (drop 8 fields.now) place_fields) ++ 10 ∷ []) }
+    ensures { OnOk result (string_bytes text.new ≡ string_bytes text.old
+        ++ runs_text (marked (drop 8 fields.now) place_fields) ++ 10 ∷ []) }
 {
     text.push_str(runs_on(fields[8], fields[9], fields[10]))?;
     text.push('\n')
 }
 
-/// Appends a line for the fields of the context, one for the text, one for the link where the profile lends it, and one that says on
-/// which spans of the next version the program is run.
+/// Appends a line for the fields of the context, one for the text, one for the link where the profile lends it, and one
+/// that says on which spans of the next version the program is run.
 pub fn push_reads(text: &mut String, reads: &Reads, profile: Profile) -> Result<(), AllocError>
     ensures { OnOk result (string_bytes text.new ≡ string_bytes text.old ++ read_lines profile reads.now) }
 {

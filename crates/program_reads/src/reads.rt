@@ -41,7 +41,9 @@ pub struct Reads {
 /// How many bytes of a lent region there are up to the last one that a load can take, however long the region is.
 fn end_of(base: LentPlace, offset: i16, bytes: u64) -> u64
     requires { bytes ≤ 8 }
-    ensures { (lengths : Lengths) (n place : ℕ) → ContainsKnown (TheKnown.Lent base) lengths n → address_of n offset ≡ base_of base.region + place → place + bytes ≤ limit_of base.region → place + bytes ≤ result }
+    ensures { (lengths : Lengths) (n place : ℕ) → ContainsKnown (TheKnown.Lent base) lengths n
+        → address_of n offset ≡ base_of base.region + place → place + bytes ≤ limit_of base.region
+        → place + bytes ≤ result }
 {
     let last = base
         .offset
@@ -53,13 +55,15 @@ fn end_of(base: LentPlace, offset: i16, bytes: u64) -> u64
 
 /// The first byte of the context that a load takes.
 fn first_of(base: ContextPlace, offset: i16) -> u64
-    ensures { (place : ℕ) → address_of (context_base + base.place) offset ≡ context_base + place → place ≤ 72 → result ≡ place }
+    ensures { (place : ℕ) → address_of (context_base + base.place) offset ≡ context_base + place → place ≤ 72
+        → result ≡ place }
 {
     base.place.wrapping_add_signed(i64::from(offset))
 }
 
 impl Reads {
-    /// Whether it lists none of the fields that say where a span stands: its index, the count of spans and the version's number.
+    /// Whether it lists none of the fields that say where a span stands: its index, the count of spans and the
+    /// version's number.
     pub fn is_placeless(&self) -> bool
         ensures { IsTrue result ↔ IsPlaceless self.now }
     {
@@ -75,11 +79,14 @@ impl Reads {
         }
     }
 
-    /// What the loads of a program can read by what is known before each slot; a load to which no run comes reads nothing.
+    /// What the loads of a program can read by what is known before each slot; a load to which no run comes reads
+    /// nothing.
     pub fn of(words: &Words<'_>, states: &[Option<AbsState>]) -> Reads
         requires { length states.now ≡ length (program_of words.now) }
         ensures covers { CoversStates result (program_of words.now) states.now }
-        ensures determines { (profile : TheProfile) → SafeIn profile (program_of words.now) → ContainAllRuns profile (program_of words.now) states.now → Determines result profile (program_of words.now) }
+        ensures determines { (profile : TheProfile) → SafeIn profile (program_of words.now)
+            → ContainAllRuns profile (program_of words.now) states.now
+            → Determines result profile (program_of words.now) }
     {
         let mut reads = Reads::nothing();
         for slot in 0..words.len() {
@@ -91,7 +98,8 @@ impl Reads {
     /// Adds what a slot's instruction can read; nothing where it has none, or no run comes there.
     fn add_at(&mut self, insn: Option<Insn>, state: &Option<AbsState>)
         ensures grows { Grows self.old self.new }
-        ensures covers { (i : TheInsn) (lengths : Lengths) (s : State) → insn ≡ Some i → WithinState state.now lengths s → CoversLoad self.new s i }
+        ensures covers { (i : TheInsn) (lengths : Lengths) (s : State) → insn ≡ Some i
+            → WithinState state.now lengths s → CoversLoad self.new s i }
     {
         if let (Some(insn), Some(state)) = (insn, state) {
             self.add_insn(&insn, state);
@@ -101,7 +109,8 @@ impl Reads {
     /// Adds what an instruction can read by what is known before it.
     pub fn add_insn(&mut self, insn: &Insn, state: &AbsState)
         ensures grows { Grows self.old self.new }
-        ensures covers { (lengths : Lengths) (s : State) → Contains state.now lengths s → CoversLoad self.new s insn.now }
+        ensures covers { (lengths : Lengths) (s : State) → Contains state.now lengths s
+            → CoversLoad self.new s insn.now }
     {
         match *insn {
             Insn::Load {
@@ -130,7 +139,8 @@ impl Reads {
     fn add(&mut self, register: AbsReg, offset: i16, bytes: u64)
         requires { bytes ≤ 8 }
         ensures grows { Grows self.old self.new }
-        ensures covers { (lengths : Lengths) (n : ℕ) → ContainsRegister register lengths (Some n) → CoversAt self.new (address_of n offset) bytes }
+        ensures covers { (lengths : Lengths) (n : ℕ) → ContainsRegister register lengths (Some n)
+            → CoversAt self.new (address_of n offset) bytes }
     {
         match register {
             AbsReg::Set(known) => self.add_known(known, offset, bytes),
@@ -142,7 +152,8 @@ impl Reads {
     fn add_known(&mut self, known: Known, offset: i16, bytes: u64)
         requires { bytes ≤ 8 }
         ensures grows { Grows self.old self.new }
-        ensures covers { (lengths : Lengths) (n : ℕ) → ContainsKnown known lengths n → CoversAt self.new (address_of n offset) bytes }
+        ensures covers { (lengths : Lengths) (n : ℕ) → ContainsKnown known lengths n
+            → CoversAt self.new (address_of n offset) bytes }
     {
         match known {
             Known::Context(base) => self.add_fields(base, offset, bytes),
@@ -176,7 +187,8 @@ impl Reads {
     fn add_bytes(&mut self, base: LentPlace, offset: i16, bytes: u64)
         requires { bytes ≤ 8 }
         ensures grows { Grows self.old self.new }
-        ensures covers { (lengths : Lengths) (n : ℕ) → ContainsKnown (TheKnown.Lent base) lengths n → CoversAt self.new (address_of n offset) bytes }
+        ensures covers { (lengths : Lengths) (n : ℕ) → ContainsKnown (TheKnown.Lent base) lengths n
+            → CoversAt self.new (address_of n offset) bytes }
     {
         let end = end_of(base, offset, bytes);
         match base.region {

@@ -214,7 +214,8 @@ fn long_program(alloc: Global) -> Result<Verified, Fault> {
     verified(alloc, digits.as_str())
 }
 
-/// The job of a program that is so long, on so many spans, that they are shared out among two threads where there are two processors.
+/// The job of a program that is so long, on so many spans, that they are shared out among two threads where there are
+/// two processors.
 fn long_job<N: Naming, R: Wait>(
     rt: &R,
     alloc: Global,

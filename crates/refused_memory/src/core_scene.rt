@@ -89,7 +89,8 @@ pub fn subscribed<N: Naming>(
     }
 }
 
-/// A turn of a worker: a job is taken, its batch computed and committed, and what is due is sent. It answers whether there was a job.
+/// A turn of a worker: a job is taken, its batch computed and committed, and what is due is sent. It answers whether
+/// there was a job.
 fn turn<N: Naming>(
     alloc: Global,
     board: &Board<'_, N>,
@@ -104,8 +105,8 @@ fn turn<N: Naming>(
     Ok(true)
 }
 
-/// A core with two changes, and so many subscribers of one program from version 0 on, of which the first was sent the end of version 0.
-/// The token of their program is beside it.
+/// A core with two changes, and so many subscribers of one program from version 0 on, of which the first was sent the
+/// end of version 0. The token of their program is beside it.
 pub fn scene<'p, N: Naming, R: Wait>(
     rt: &R,
     alloc: Global,

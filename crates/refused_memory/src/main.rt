@@ -1,4 +1,5 @@
-//! Makes calls that may want memory, each on a small scene of its own, and tells what each answered and what stands then.
+//! Makes calls that may want memory, each on a small scene of its own, and tells what each answered and what stands
+//! then.
 //! `tests/refused_memory` runs it, and refuses one request for memory after another.
 //!
 //! With no word on the command line all calls are made, else those that the words name. These lines tell of a call:
@@ -9,15 +10,16 @@
 //! | `answer TEXT` | what it answered; the first word is written before anything else asks for memory |
 //! | ` before TEXT` | what the public calls showed, before it, of what it works on |
 //! | ` after TEXT` | what they show after it |
-//! | `again TEXT` | what the same call then answers, on the same scene where it had found no memory, else on one made anew |
+//! | `again TEXT` | what the same call then answers, on the same scene where it had found no memory, else on one made
+//! anew |
 //! | ` after TEXT` | what is shown then |
 //! | ` rest TEXT` | what is shown in the end, once all that is due to subscribers was done |
 //!
-//! A call has those of the lines that there is something to say in. `run_events-submit-commit` is `run_events` without these two
-//! events; `subscribe` may be left out too.
+//! A call has those of the lines that there is something to say in. `run_events-submit-commit` is `run_events` without
+//! these two events; `subscribe` may be left out too.
 //!
-//! The exit status is 0; 2 where there is no such call; 3 where no memory was found outside a call, which the last line says, or where
-//! standard output can't be written.
+//! The exit status is 0; 2 where there is no such call; 3 where no memory was found outside a call, which the last line
+//! says, or where standard output can't be written.
 #![tactic(auto)]
 
 mod core_calls;
