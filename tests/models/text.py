@@ -1,7 +1,7 @@
 """Changes of both forms read and taken in, and what `hub spans` and sessions say of them, apart from the code of the hub.
 
     text.py spans < CHANGES              prints what `hub spans` prints of them
-    text.py replay [--read] < LINES      prints what `hub replay` prints, where all programs are of PROGRAMS
+    text.py replay [WORDS..] < LINES     prints what `hub replay` prints with these options, where all programs are of PROGRAMS
     text.py check STDIN STDOUT           compares the cases of `spans` and of such sessions, as crates/hub_cases has them, with this model
     text.py rows FOLDER..                compares folders of worked rows (NAME, NAME.args, NAME.stdout) with it
     text.py cases FOLDER                 writes random cases of both forms, FOLDER/text.stdin and FOLDER/text.stdout
@@ -10,6 +10,7 @@ The rules are those of docs/CHANGES.md, docs/PERITEXT.md, docs/REFUSALS.md and d
 each key's last mark over a character says, looked for among all marks.
 """
 
+import math
 import pathlib
 import random
 import re
@@ -19,7 +20,7 @@ from cases import Cases
 from machine import run, slot
 
 NAMES = {40: "BadLine", 41: "Truncated", 42: "Limit", 43: "CharRefused", 44: "WrongPeer", 46: "StaleCounter", 47: "UnknownRef",
-         48: "DocumentFull", 49: "MarksFull", 50: "HistoryFull", 52: "NoSubscriber", 54: "BadCapacity", 55: "NoVersion",
+         48: "DocumentFull", 49: "MarksFull", 50: "HistoryFull", 51: "SubscribersFull", 52: "NoSubscriber", 54: "BadCapacity", 55: "NoVersion",
          60: "BadCommand", 61: "LineTooLong", 62: "TextRefused"}
 CHARACTERS, MARKS, CHANGES, OPERATIONS = 32768, 4096, 4096, 256
 COUNTER, NODE, COMMENT, LINK = (1 << 48) - 1, 65535, (1 << 32) - 1, 1024
@@ -372,7 +373,8 @@ def number_of(word):
 
 
 class Session:
-    def __init__(self, data, reads=False):
+    def __init__(self, data, reads=False, jump=None, limits=None):
+        self.jump, self.limits, self.used = jump, limits or {}, {"changes": 0, "bytes": 0, "subscribers": 0}
         self.rest, self.text, self.versions, self.subscribers, self.out = data, Text(), [[]], [], []
         self.reads, self.spellings, self.lines_of_spans = reads, [], [[]]
 
@@ -390,6 +392,19 @@ class Session:
         except UnicodeDecodeError:
             return "\n"
 
+    def use(self, refusal, **more):
+        """Counts what the session has accepted, or refuses it where that would be more than it may have."""
+        if any(self.used[name] + count > self.limits.get(name, math.inf) for name, count in more.items()):
+            raise Refused(refusal)
+        return {name: self.used[name] + count for name, count in more.items()}
+
+    def look_at_counters(self, lines):
+        """Refuses the first line with a counter that is too far above all accepted ones."""
+        greatest = max(self.text.counters.values(), default=0)
+        for number, ops in enumerate(lines, 2):
+            if self.jump is not None and any(op[1][0] > greatest + self.jump for op in ops):
+                raise Refused(42, number)
+
     def change(self, line):
         gathered = self.legible(line)
         try:
@@ -402,7 +417,10 @@ class Session:
                 break
             gathered += self.legible(following[0])
         lines, _ = read_change(gathered)
+        self.look_at_counters(lines)
+        used = self.use(50, changes=1, bytes=len(gathered.encode()))
         self.text.accept(lines)
+        self.used.update(used)
         self.versions.append(self.text.spans())
         self.spellings.append(gathered.splitlines())
         self.lines_of_spans.append(printed(self.text))
@@ -414,10 +432,12 @@ class Session:
             raise Refused(54)
         if program not in PROGRAMS:
             raise Foreign
+        used = self.use(51, subscribers=1)
         if len(self.subscribers) >= 64:
             raise Foreign
         if first >= len(self.versions):
             raise Refused(55)
+        self.used.update(used)
         self.subscribers.append([first, 0, program])
         return [f"ok sub {len(self.subscribers) - 1}"]
 
@@ -536,14 +556,34 @@ def read_case(block):
     return name, words, data
 
 
+def options_of(words):
+    """What the options of `replay` ask for; None where they are wrong."""
+    found, rest = {}, list(words)
+    while rest:
+        word = rest.pop(0)
+        if word == "--read" and "reads" not in found:
+            found["reads"] = True
+        elif word == "--workers" and rest[:1] and rest[0] in map(str, range(1, 17)):
+            rest.pop(0)
+        elif word == "--counter-jump" and "jump" not in found and rest and re.fullmatch("[0-9]+", rest[0]) and 1 <= int(rest[0]) < 2 ** 64:
+            found["jump"] = int(rest.pop(0))
+        elif word == "--per-session" and "limits" not in found and rest:
+            parts = [re.fullmatch("(changes|subscribers|bytes)=([0-9]+)", part) for part in rest.pop(0).split(",")]
+            if not all(part and int(part[2]) < 2 ** 64 for part in parts) or len({part[1] for part in parts}) < len(parts):
+                return None
+            found["limits"] = {part[1]: int(part[2]) for part in parts}
+        else:
+            return None
+    return found
+
+
 def answer_of(words, data):
     """What the program is to print, and its exit status; Foreign where this model doesn't know."""
     if words == ["spans"]:
         return spans_of(data)
-    if words == ["replay"] or words[:2] == ["replay", "--workers"] and words[2] in map(str, range(1, 17)):
-        return Session(data).replies(), 0
-    if words == ["replay", "--read"]:
-        return Session(data, True).replies(), 0
+    if words[:1] == ["replay"]:
+        options = options_of(words[1:])
+        return ([], 2) if options is None else (Session(data, **options).replies(), 0)
     raise Foreign
 
 
@@ -828,18 +868,40 @@ def reads(cases, rng):
     cases.add("session-read-many-spans-in-parts", ["replay", "--read"], Session(input_of(lines), True).replies(), lines=lines)
 
 
+def limited(cases, rng):
+    cases.heading("Sessions of such histories, in which a change may be too far above all counters, or more than the session may have accepted.")
+    for at in range(1, 9):
+        writer, lines = Writer(rng), [f"sub 16 {READ_ALL}"]
+        for _ in range(rng.randrange(6, 13)):
+            form, node = rng.choice([1, 2, 2]), rng.choice([1, 2, 3])
+            made = writer.change(form, node)
+            made = writer.spoiled(made) if rng.random() < 0.25 else made
+            try:
+                writer.text.accept(made)
+            except Refused:
+                pass
+            lines += change_lines(form, node, made)
+            if rng.random() < 0.3:
+                lines.append(f"sub 16 {READ_ALL}")
+        lines.append("pull 0 1024")
+        limits = rng.sample([f"changes={rng.randrange(2, 7)}", f"bytes={rng.randrange(100, 500)}", f"subscribers={rng.randrange(1, 4)}"], rng.randrange(1, 4))
+        words = ["replay", "--counter-jump", str(rng.choice([10, 20, 40])), "--per-session", ",".join(limits)]
+        cases.add(f"session-limited-{at}", words, Session(input_of(lines), **options_of(words[1:])).replies(), lines=lines)
+
+
 def write_cases(folder):
     cases, rng = Cases(), random.Random(2026)
     histories(cases, rng)
     refused_histories(cases, rng)
     sessions(cases, rng)
     reads(cases, random.Random(2027))
+    limited(cases, random.Random(2028))
     cases.write(folder, "text")
 
 
 def main():
     command, words = (sys.argv[1:2] or [""])[0], sys.argv[2:]
-    if command in ("spans", "replay") and words in ([], ["--read"][:command == "replay"]):
+    if command == "replay" or command == "spans" and not words:
         lines, status = answer_of([command] + words, sys.stdin.buffer.read())
         sys.stdout.write("".join(line + "\n" for line in lines))
         sys.exit(status)

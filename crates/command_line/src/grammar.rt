@@ -295,6 +295,27 @@ fn read<'a>(alloc: Global) -> Arg<'a> {
         .help("Also answers the lines latest, show, changes and newest, which read of the text")
 }
 
+/// By how much a change's counters may be above all accepted ones.
+fn counter_jump<'a>(alloc: Global) -> Arg<'a> {
+    Arg::new(alloc, "counter-jump")
+        .long("counter-jump")
+        .value_name("NUMBER")
+        .action(ArgAction::Set)
+        .value_parser(value_parser!(u64).range(1..))
+        .help("42 to a change with a counter more than so much above all accepted ones, from 1 on")
+}
+
+/// What a session may have accepted.
+fn per_session<'a>(alloc: Global) -> Arg<'a> {
+    Arg::new(alloc, "per-session")
+        .long("per-session")
+        .value_name("LIST")
+        .action(ArgAction::Set)
+        .help(
+            "What a session may have accepted, as changes=5,subscribers=1,bytes=9000 or some of these; past it 50, 51, 50",
+        )
+}
+
 fn replay<'a>(alloc: Global) -> Result<Command<'a>, AllocError> {
     Command::new(alloc, "replay")
         .about("Answers a session")
@@ -305,7 +326,9 @@ refused is answered `no <number> <Name>`, and the session goes on.",
         )
         .after_help(AFTER_REPLAY)
         .arg(workers(alloc))?
-        .arg(read(alloc))
+        .arg(read(alloc))?
+        .arg(counter_jump(alloc))?
+        .arg(per_session(alloc))
 }
 
 fn serve<'a>(alloc: Global) -> Result<Command<'a>, AllocError> {
@@ -335,7 +358,9 @@ says.",
         .arg(port)?
         .arg(sessions)?
         .arg(workers(alloc))?
-        .arg(read(alloc))
+        .arg(read(alloc))?
+        .arg(counter_jump(alloc))?
+        .arg(per_session(alloc))
 }
 
 /// The command line of the program.

@@ -3,6 +3,7 @@ use bpf_words::profile::Profile;
 use change_ops::attribute::Link;
 use clap::error::ErrorKind;
 use clap::{ArgMatches, Error};
+use hub_requests::limits::{SessionLimits, SessionOptions};
 use hub_requests::{Command, Detail, Request, Sessions, Shown, SpanOptions, Workers};
 use std::alloc::{AllocError, Global};
 use std::convert::AsStr;
@@ -38,6 +39,10 @@ const NEEDED_BY_SERVE: &str =
 
     hub serve --port 4711 --sessions 2
 ";
+
+/// What is said of limits of a session that have none of the forms.
+const BAD_LIMITS: &str =
+    "error: `--per-session` takes changes=NUMBER,subscribers=NUMBER,bytes=NUMBER or some of these, each once\n";
 
 /// Whether the words name this command, behind the program's own name.
 fn is_command<S: AsStr>(words: &[S], name: &str) -> bool {
@@ -112,13 +117,56 @@ fn workers(matches: &ArgMatches<'_>) -> Workers {
     Workers::new(count).unwrap_or(Workers::one())
 }
 
+/// These limits and one more, as in `changes=5`, if it has that form and isn't there yet.
+fn with_limit(limits: SessionLimits, text: &str) -> Option<SessionLimits> {
+    let mut limits = limits;
+    let (name, number) = text.split_once('=')?;
+    let number = number.parse::<u64>().ok()?;
+    match name {
+        "changes" if limits.changes.is_none() => limits.changes = Some(number),
+        "subscribers" if limits.subscribers.is_none() => limits.subscribers = Some(number),
+        "bytes" if limits.bytes.is_none() => limits.bytes = Some(number),
+        _ => return None,
+    }
+    Some(limits)
+}
+
+/// The limits that a list names.
+fn limits_of(list: &str) -> Option<SessionLimits> {
+    let mut limits = SessionLimits::none();
+    for text in list.split(',') {
+        limits = with_limit(limits, text)?;
+    }
+    Some(limits)
+}
+
+/// What a session may have accepted, which is whatever the hub takes where no limits are given.
+fn limits(alloc: Global, matches: &ArgMatches<'_>) -> Result<SessionLimits, Unread> {
+    let Some(list) = matches.get_str("per-session") else {
+        return Ok(SessionLimits::none());
+    };
+    match limits_of(list) {
+        Some(limits) => Ok(limits),
+        None => Err(Unread::Usage(String::from_str(alloc, BAD_LIMITS)?)),
+    }
+}
+
+/// What sessions may do.
+fn session_options(alloc: Global, matches: &ArgMatches<'_>) -> Result<SessionOptions, Unread> {
+    Ok(SessionOptions {
+        reads: matches.get_flag("read"),
+        counter_jump: matches.get_one::<u64>("counter-jump"),
+        limits: limits(alloc, matches)?,
+    })
+}
+
 /// What the options of `serve` ask for; without its port and its number of sessions, nothing.
-fn serving(matches: &ArgMatches<'_>) -> Option<Request> {
+fn serving(matches: &ArgMatches<'_>, options: SessionOptions) -> Option<Request> {
     Some(Request::Serve {
         port: matches.get_one::<u16>("port")?,
         sessions: Sessions::new(matches.get_one::<u32>("sessions")?)?,
         workers: workers(matches),
-        reads: matches.get_flag("read"),
+        options,
     })
 }
 
@@ -132,14 +180,14 @@ fn request_of(alloc: Global, matches: &ArgMatches<'_>) -> Result<Request, Unread
         Some(("dis", _)) => Some(Request::Perform(Command::Dis)),
         Some(("replay", replay)) => Some(Request::Replay {
             workers: workers(replay),
-            reads: replay.get_flag("read"),
+            options: session_options(alloc, replay)?,
         }),
         Some(("run", run)) => Some(Request::Perform(Command::Run {
             shown: shown(run),
             digits: String::from_str(alloc, run.get_str("HEX").unwrap_or(""))?,
             options: span_options(alloc, run)?,
         })),
-        Some(("serve", serve)) => serving(serve),
+        Some(("serve", serve)) => serving(serve, session_options(alloc, serve)?),
         Some(("spans", _)) => Some(Request::Perform(Command::Spans)),
         _ => None,
     };

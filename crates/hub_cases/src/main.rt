@@ -1,8 +1,9 @@
 //! Runs the program's command on each case of the standard input, over readers and writers in memory, and prints each
-//! case's name, its exit status, and what the command printed; plays each script of events (`core_cases`), and prints what the
-//! events answered; and then what clients of a server were told.
+//! case's name, its exit status, and what the command printed; plays each script of events (`core_cases`), and prints
+//! what the events answered; and then what clients of a server were told.
 //!
-//! Cases and scripts are separated by empty lines. A case is these lines, of which all but the first may be left out or repeated:
+//! Cases and scripts are separated by empty lines. A case is these lines, of which all but the first may be left out or
+//! repeated:
 //!
 //! | line | what it says |
 //! |---|---|
@@ -17,8 +18,8 @@
 //! | `count M N TEXT` | further input: a line for each number n from M to N, with n for `{n}` and n - 1 for `{n-1}` |
 //!
 //! In input `\hh` stands for the byte of these two hexadecimal digits, as `\5c` for a backslash and `\0a` for a line
-//! feed. What the command printed is given line by line behind `> `, and what it said on standard error behind `! `, but where
-//! the exit status is 2: the words of a usage error are the parser's.
+//! feed. What the command printed is given line by line behind `> `, and what it said on standard error behind `! `,
+//! but where the exit status is 2: the words of a usage error are the parser's.
 #![tactic(auto)]
 
 use anyhow::{Context, Result, bail};

@@ -2,6 +2,7 @@ ghost use Rattle.std.specs.Prelude.{◌≡◌};
 
 use crate::client::{answered, expect_session};
 use crate::fault::Fault;
+use hub_requests::limits::SessionOptions;
 use hub_sessions::server::{ConnectionFault, serve_shares};
 use ingest_workers::hub::Hub;
 use span_flatten::version::Version;
@@ -77,12 +78,13 @@ fn failed_accept_on<
     };
     let hub = &hub;
     let published = &published;
+    let options = SessionOptions::unlimited(false);
     let (served, told) = join(
         rt,
         move || {
             // The listener is closed once the sessions have ended, so that no client waits to be accepted.
             let listener = listener;
-            serve_shares(rt, alloc, hub, published, shares, &listener, 1, false)
+            serve_shares(rt, alloc, hub, published, shares, &listener, 1, options)
         },
         move || one_is_served(rt, alloc, port),
     );
@@ -95,7 +97,8 @@ fn failed_accept_on<
     }
 }
 
-/// Serves two sessions where the first accept fails: the other is served, and the server tells that an accept failed, and how.
+/// Serves two sessions where the first accept fails: the other is served, and the server tells that an accept failed,
+/// and how.
 pub fn failed_accept<
     H: Threads + Wait + Net<Listener = TcpListener, Stream = TcpStream> + Copy + Send + Sync,
 >(rt: &H, alloc: Global) -> Result<(), Fault> {

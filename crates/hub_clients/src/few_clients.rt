@@ -105,8 +105,8 @@ fn sends_on<H: Net<Stream = TcpStream>>(rt: &H, alloc: Global, port: u16) -> Res
     expect_session(rt, alloc, port, line.as_str(), "no 61 LineTooLong\n")
 }
 
-/// While a client is silent in the middle of a line, another vanishes, and three more are served beside them: the change
-/// that was answered stands, and the subscription is closed. Then the silent one is served too.
+/// While a client is silent in the middle of a line, another vanishes, and three more are served beside them: the
+/// change that was answered stands, and the subscription is closed. Then the silent one is served too.
 pub fn silent_and_vanishing<H: Net<Stream = TcpStream>>(
     rt: &H,
     alloc: Global,

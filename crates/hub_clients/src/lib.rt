@@ -1,12 +1,13 @@
-//! Runs the program's command `serve` on 127.0.0.1 at a port that the system chooses, with clients over TCP that know what
-//! they are to be told whatever the schedule, and prints for each trial whether they were told that, and the server's exit
-//! status. A last trial is of its server alone, over a listener that fails.
+//! Runs the program's command `serve` on 127.0.0.1 at a port that the system chooses, with clients over TCP that know
+//! what they are to be told whatever the schedule, and prints for each trial whether they were told that, and the
+//! server's exit status. A last trial is of its server alone, over a listener that fails.
 #![tactic(auto)]
 
 mod client;
 mod failed_accept;
 mod fault;
 mod few_clients;
+mod limited_clients;
 mod many_clients;
 mod server;
 mod session;
@@ -27,7 +28,12 @@ pub fn trials<
     H: Threads + Wait + Net<Listener = TcpListener, Stream = TcpStream> + Copy + Send + Sync,
     W: Write,
 >(rt: &H, alloc: Global, writer: &mut W) -> io::Result<()> {
-    for trial in [Trial::Three, Trial::SilentAndVanishing, Trial::Many] {
+    for trial in [
+        Trial::Three,
+        Trial::SilentAndVanishing,
+        Trial::Many,
+        Trial::Limited,
+    ] {
         let (status, told) = trial.run(rt, alloc);
         match told {
             Ok(()) => writeln!(

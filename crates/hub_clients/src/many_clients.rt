@@ -34,8 +34,8 @@ fn look(alloc: Global, sessions: &[Session]) -> Result<(), Fault> {
     }
 }
 
-/// Sessions at once, each with changes, a subscriber and pulls, and then with pulls alone; at the end one session after another
-/// pulls what is left.
+/// Sessions at once, each with changes, a subscriber and pulls, and then with pulls alone; at the end one session after
+/// another pulls what is left.
 pub fn many<H: Threads + Net<Stream = TcpStream> + Sync>(
     rt: &H,
     alloc: Global,

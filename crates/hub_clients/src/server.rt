@@ -36,20 +36,11 @@ impl io::Write for Printed<'_> {
     }
 }
 
-/// Serves so many sessions. Answers the exit status, and whether the line of the port was all that was printed.
+/// Serves sessions as these words of a command line ask for. Answers the exit status, and whether the line of the port
+/// was all that was printed.
 pub fn serve<
     H: Threads + Wait + Net<Listener = TcpListener, Stream = TcpStream> + Copy + Send + Sync,
->(rt: &H, alloc: Global, sessions: &str, port: &Port) -> (u8, bool) {
-    let words = [
-        "hub",
-        "serve",
-        "--port",
-        "0",
-        "--sessions",
-        sessions,
-        "--workers",
-        "2",
-    ];
+>(rt: &H, alloc: Global, words: &[&str], port: &Port) -> (u8, bool) {
     let mut printed = Printed {
         bytes: Vec::new(alloc),
         port,
@@ -57,7 +48,7 @@ pub fn serve<
     let status = command(
         rt,
         alloc,
-        &words,
+        words,
         &mut io::empty(),
         &mut printed,
         &mut io::sink(),

@@ -137,8 +137,8 @@ impl Session {
         Err(Fault::Items(self.peer))
     }
 
-    /// Whether the items are the stream from the version on that was the latest when the session subscribed: not before its
-    /// change before, and before its next one.
+    /// Whether the items are the stream from the version on that was the latest when the session subscribed: not before
+    /// its change before, and before its next one.
     pub fn has_its_items(&self, stream: &Stream) -> bool {
         let Some(first) = stream.first_version(self.items.as_str()) else {
             return false;

@@ -12,8 +12,8 @@ struct Id {
 
 /// The id of the character that each version has first; None for version 0.
 ///
-/// The sessions' changes make as many versions as they are: over all sessions the numbers are each number from 1 on once,
-/// and within a session they rise.
+/// The sessions' changes make as many versions as they are: over all sessions the numbers are each number from 1 on
+/// once, and within a session they rise.
 fn order(alloc: Global, sessions: &[Session], changes: usize) -> Result<Vec<Option<Id>>, Fault> {
     let mut order = vec![in alloc; None; changes.saturating_add(1)]?;
     for session in sessions {

@@ -1,6 +1,7 @@
 use crate::client::connect;
 use crate::fault::Fault;
 use crate::few_clients::{silent_and_vanishing, three};
+use crate::limited_clients::limited;
 use crate::many_clients::many;
 use crate::server::{Port, serve};
 use std::alloc::Global;
@@ -13,11 +14,60 @@ use std::thread::{Threads, join};
 pub enum Trial {
     /// Two clients at once, and then a third.
     Three,
-    /// One that is silent in the middle of a line, one that vanishes, one that sends on at its end, and others beside them.
+    /// One that is silent in the middle of a line, one that vanishes, one that sends on at its end, and others beside
+    /// them.
     SilentAndVanishing,
     /// Eight at once, with 1,000 changes together.
     Many,
+    /// One that has nothing left that it may have accepted, one that sends the greatest counter, and what they may do.
+    Limited,
 }
+
+static THREE_WORDS: [&str; 8] = [
+    "hub",
+    "serve",
+    "--port",
+    "0",
+    "--sessions",
+    "3",
+    "--workers",
+    "2",
+];
+
+static SILENT_WORDS: [&str; 8] = [
+    "hub",
+    "serve",
+    "--port",
+    "0",
+    "--sessions",
+    "5",
+    "--workers",
+    "2",
+];
+
+static MANY_WORDS: [&str; 8] = [
+    "hub",
+    "serve",
+    "--port",
+    "0",
+    "--sessions",
+    "8",
+    "--workers",
+    "2",
+];
+
+static LIMITED_WORDS: [&str; 10] = [
+    "hub",
+    "serve",
+    "--port",
+    "0",
+    "--sessions",
+    "2",
+    "--counter-jump",
+    "1000",
+    "--per-session",
+    "changes=2,subscribers=1",
+];
 
 impl Trial {
     pub fn name(self) -> &'static str {
@@ -25,14 +75,17 @@ impl Trial {
             Trial::Three => "three clients",
             Trial::SilentAndVanishing => "a silent client, one that vanishes, one that sends on",
             Trial::Many => "eight clients with 1,000 changes",
+            Trial::Limited => "a session with nothing left, and the greatest counter",
         }
     }
 
-    fn sessions(self) -> &'static str {
+    /// What the server is asked for.
+    fn words(self) -> &'static [&'static str] {
         match self {
-            Trial::Three => "3",
-            Trial::SilentAndVanishing => "5",
-            Trial::Many => "8",
+            Trial::Three => THREE_WORDS.as_slice(),
+            Trial::SilentAndVanishing => SILENT_WORDS.as_slice(),
+            Trial::Many => MANY_WORDS.as_slice(),
+            Trial::Limited => LIMITED_WORDS.as_slice(),
         }
     }
 
@@ -46,10 +99,12 @@ impl Trial {
             Trial::Three => three(rt, alloc, port),
             Trial::SilentAndVanishing => silent_and_vanishing(rt, alloc, port),
             Trial::Many => many(rt, alloc, port),
+            Trial::Limited => limited(rt, alloc, port),
         }
     }
 
-    /// Runs the clients once the port is there. Where they fail, the sessions that the server still waits for end at once.
+    /// Runs the clients once the port is there. Where they fail, the sessions that the server still waits for end at
+    /// once.
     fn clients_at<H: Threads + Wait + Net<Stream = TcpStream> + Sync>(
         self,
         rt: &H,
@@ -73,7 +128,7 @@ impl Trial {
         let port = OnceLock::new();
         let ((status, is_port_alone), told) = join(
             rt,
-            || serve(rt, alloc, self.sessions(), &port),
+            || serve(rt, alloc, self.words(), &port),
             || self.clients_at(rt, alloc, &port),
         );
         match told {

@@ -7,6 +7,7 @@ use crate::fault::Fault;
 use command_line::reading::{Unread, request};
 use hub_commands::failure::Failure;
 use hub_commands::perform::perform;
+use hub_requests::limits::SessionOptions;
 use hub_requests::{Command, Request, Sessions, Workers};
 use hub_sessions::conversation::SessionFault;
 use hub_sessions::replaying::{ReplayError, replay};
@@ -37,8 +38,9 @@ impl From<Failure> for CommandError {
 }
 
 /// Runs the command that the words name (the program's own name is the first), and answers the exit
-/// status: 0 done, 1 refused or faulted, 2 usage, 3 where a read, a write, a bind or an accept failed. What stands beside the
-/// answer goes to `errors`: usage, hints, and what failed. Only `replay` and `serve` start threads or wait for them, and only
+/// status: 0 done, 1 refused or faulted, 2 usage, 3 where a read, a write, a bind or an accept failed. What stands
+/// beside the answer goes to `errors`: usage, hints, and what failed. Only `replay` and `serve` start threads or wait
+/// for them, and only
 /// `serve` opens sockets.
 pub fn command<
     H: Threads + Wait + Net<Listener = TcpListener, Stream = TcpStream> + Copy + Send + Sync,
@@ -113,15 +115,15 @@ fn asked<
 ) -> Result<u8, CommandError> {
     match request {
         Request::Perform(command) => performed(alloc, command, reader, writer, errors),
-        Request::Replay { workers, reads } => {
-            replayed(rt, alloc, reader, writer, *workers, *reads)
+        Request::Replay { workers, options } => {
+            replayed(rt, alloc, reader, writer, *workers, *options)
         }
         Request::Serve {
             port,
             sessions,
             workers,
-            reads,
-        } => served(rt, alloc, *port, *sessions, *workers, *reads, writer),
+            options,
+        } => served(rt, alloc, *port, *sessions, *workers, *options, writer),
     }
 }
 
@@ -150,9 +152,9 @@ fn replayed<H: Threads + Wait + Copy + Send + Sync, R: Read, W: Write>(
     reader: &mut R,
     writer: &mut W,
     workers: Workers,
-    reads: bool,
+    options: SessionOptions,
 ) -> Result<u8, CommandError> {
-    match replay(rt, alloc, reader, writer, workers.count(), reads) {
+    match replay(rt, alloc, reader, writer, workers.count(), options) {
         Ok(()) => Ok(0),
         Err(ReplayError::Session(SessionFault::Read(error))) => {
             Err(CommandError::Fault(Fault::Input(error)))
@@ -174,7 +176,7 @@ fn served<
     port: u16,
     sessions: Sessions,
     workers: Workers,
-    reads: bool,
+    options: SessionOptions,
     writer: &mut W,
 ) -> Result<u8, CommandError> {
     let served = serve(
@@ -183,7 +185,7 @@ fn served<
         port,
         sessions.count(),
         workers.count(),
-        reads,
+        options,
         writer,
     );
     match served {

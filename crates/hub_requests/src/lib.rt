@@ -2,8 +2,11 @@
 //! needs the other.
 #![tactic(auto)]
 
+pub mod limits;
+
 ghost use Rattle.std.specs.Prelude.{◌≡◌, ◌≤◌, SomeIff};
 
+use crate::limits::SessionOptions;
 use bpf_words::profile::Profile;
 use change_ops::attribute::Link;
 use std::marker::Model;
@@ -165,15 +168,13 @@ pub enum Request {
     /// To answer the session that its input is, line by line.
     Replay {
         workers: Workers,
-        /// Whether it may read of the text.
-        reads: bool,
+        options: SessionOptions,
     },
     /// To answer so many sessions over TCP, and then to end. At port 0 the system chooses one.
     Serve {
         port: u16,
         sessions: Sessions,
         workers: Workers,
-        /// Whether they may read of the text.
-        reads: bool,
+        options: SessionOptions,
     },
 }

@@ -1,9 +1,9 @@
 -- A session from its first line to its end: what came, and what was printed for it.
-use Rattle.std.specs.Prelude.{◌≡◌, ◌⊎◌, ℕ, ◌+◌, ◌≤◌, Bool, List, [], ◌∷◌, ◌++◌, Option, Result, Ok, Err, ⊤}
+use Rattle.std.specs.Prelude.{◌≡◌, ◌⊎◌, ℕ, List, [], ◌∷◌, ◌++◌, Option, Result, Ok, Err, ⊤}
 use Rattle.std.specs.List.{flat_map}
 use Rattle.std.specs.Io.KnownBytes.{Appends, Keeps}
-use Rattle.change_ops.specs.Changes.{Edit}
-use Rattle.ingest_workers.specs.Holdings.{InOneHolding, Ingests}
+use Rattle.hub_requests.specs.declared.limits.SessionLimits.{SessionLimits}
+use Rattle.hub_requests.specs.declared.limits.SessionOptions.{SessionOptions}
 use Rattle.refusals.specs.declared.reason.Reason.TheVariants as reason
 use Rattle.session_lines.specs.Replies.{reply_text, reason_of}
 use Rattle.session_lines.specs.Requests.{IsNext}
@@ -16,6 +16,7 @@ use Rattle.session_lines.specs.declared.request.SessionRequest.TheVariants as as
 use Rattle.session_subscribers.specs.Holding.{Watched, Adds, Closes, PullsAny, PullsShort}
 use Rattle.session_reads.specs.Found.{found_text}
 use Rattle.session_reads.specs.Reads.{Reads}
+use Rattle.hub_sessions.specs.Submitting.{Submits}
 use Rattle.hub_sessions.specs.declared.conversation.SessionFault.{SessionFault}
 use Rattle.hub_sessions.specs.declared.conversation.SessionFault.TheVariants as fault
 use Rattle.hub_sessions.specs.declared.replaying.ReplayError.{ReplayError}
@@ -25,32 +26,38 @@ use Rattle.hub_sessions.specs.declared.conversation.Turn.TheVariants.{More, Last
 use Rattle.hub_sessions.specs.declared.conversation.TurnFault.{TurnFault}
 use Rattle.hub_sessions.specs.declared.conversation.TurnFault.TheVariants as turn_fault
 
--- how many of its changes were accepted, the subscribers that it holds, and whether it may read of the text
+-- how many of its changes were accepted, the subscribers that it holds, what it may still have accepted, what it may do
 pub record Standing : Type 0 where
   pub count : ℕ
   pub held : List Watched
-  pub reads : Bool
+  pub left : SessionLimits
+  pub options : SessionOptions
 
--- a change is submitted to the hub, and counted where it is accepted
-abbrev pub Submits : Edit → ℕ → Reply → ℕ → Type 0
-Submits change count (reply.Version number) count' =
-    (count' ≡ count + 1) × (count' ≤ number) × InOneHolding (λ old new. Ingests old change (Ok number) new)
-Submits change count (reply.Refused (reason.Unaccepted error)) count' =
-    (count' ≡ count) × InOneHolding (λ old new. Ingests old change (Err error) new)
-Submits change count _ count' = ⊥
+abbrev pub stands : ℕ → List Watched → SessionLimits → SessionOptions → Standing
+stands count held left options = record { count = count; held = held; left = left; options = options }
 
 -- what is done for a request, the lines of items or of what is read that are printed, and the reply after them
 abbrev pub Answers : SessionRequest → Standing → List ℕ → List ℕ → Reply → Standing → Type 0
-Answers (asked.Change change) s out out' answer s' = Submits change s.count answer s'.count × (s'.held ≡ s.held) × (out' ≡ out) × (s'.reads ≡ s.reads)
-Answers (asked.Subscribe profile capacity program first) s out out' answer s' = Adds profile capacity program.items first s.held answer s'.held × (s'.count ≡ s.count) × (out' ≡ out) × (s'.reads ≡ s.reads)
-Answers (asked.Pull id count) s out out' answer s' = PullsAny id count s.held s'.held out out' answer × (s'.count ≡ s.count) × (s'.reads ≡ s.reads)
-Answers (asked.Close id) s out out' answer s' = Closes s.held id answer s'.held × (s'.count ≡ s.count) × (out' ≡ out) × (s'.reads ≡ s.reads)
-Answers (asked.Read query) s out out' answer s' = (text : List ℕ) × (out' ≡ out ++ text) × Reads s.reads query text answer × (s' ≡ s)
+Answers (asked.Change change) s out out' answer s' =
+    Submits s.options.counter_jump change s.count s.left answer s'.count s'.left
+    × (s'.held ≡ s.held) × (out' ≡ out) × (s'.options ≡ s.options)
+Answers (asked.Subscribe profile capacity program first) s out out' answer s' =
+    Adds profile capacity program.items first s.left s.held answer s'.left s'.held
+    × (s'.count ≡ s.count) × (out' ≡ out) × (s'.options ≡ s.options)
+Answers (asked.Pull id count) s out out' answer s' =
+    PullsAny id count s.held s'.held out out' answer
+    × (s'.count ≡ s.count) × (s'.left ≡ s.left) × (s'.options ≡ s.options)
+Answers (asked.Close id) s out out' answer s' =
+    Closes s.held id answer s'.held
+    × (s'.count ≡ s.count) × (out' ≡ out) × (s'.left ≡ s.left) × (s'.options ≡ s.options)
+Answers (asked.Read query) s out out' answer s' =
+    (text : List ℕ) × (out' ≡ out ++ text) × Reads s.options.reads query text answer × (s' ≡ s)
 
 -- a request is answered, or what is none is refused and changes nothing
 abbrev pub Meets : Next → Standing → List ℕ → List ℕ → Reply → Standing → Type 0
 Meets (next.Request request) s out out' answer s' = Answers request s out out' answer s'
-Meets (next.Refused refusal) s out out' answer s' = (answer ≡ reply.Refused (reason_of refusal)) × (s' ≡ s) × (out' ≡ out)
+Meets (next.Refused refusal) s out out' answer s' =
+    (answer ≡ reply.Refused (reason_of refusal)) × (s' ≡ s) × (out' ≡ out)
 Meets next.TooLong s out out' answer s' = ⊥
 Meets next.End s out out' answer s' = ⊥
 
@@ -80,18 +87,22 @@ Follow s left [] s' left' = (s' ≡ s) × (left' ≡ left)
 Follow s left (e ∷ more) s' left' = IsExchange s left e × Follow e.stands e.left more s' left'
 
 -- these were printed, one after another, after what a writer had
-pub record Converses (s : Standing) (left old : Option (List ℕ)) (s' : Standing) (left' new : Option (List ℕ)) : Type 0 where
-  pub exchanges : List Exchange
-  pub follow : Follow s left exchanges s' left'
-  pub written : Appends old new (flat_map printed exchanges)
+pub record Converses (s : Standing) (left old : Option (List ℕ)) (s' : Standing) (left' new : Option (List ℕ)) : Type 0
+  where
+    pub exchanges : List Exchange
+    pub follow : Follow s left exchanges s' left'
+    pub written : Appends old new (flat_map printed exchanges)
 
 -- nothing comes after it: the input's end, which prints nothing, or a line that is too long
 abbrev pub IsLast : Option (List ℕ) → Option (List ℕ) → List ℕ → Type 0
-IsLast left left' text = (IsNext left next.End left' × (text ≡ [])) ⊎ (IsNext left next.TooLong left' × (text ≡ reply_line (reply.Refused reason.LineTooLong)))
+IsLast left left' text =
+    (IsNext left next.End left' × (text ≡ []))
+    ⊎ (IsNext left next.TooLong left' × (text ≡ reply_line (reply.Refused reason.LineTooLong)))
 
 -- an exchange, or what ends the session
 abbrev pub TakesTurn : Turn → Standing → Option (List ℕ) → List ℕ → Standing → Option (List ℕ) → Type 0
-TakesTurn (More found) s left text s' left' = (e : Exchange) × IsExchange s left e × (text ≡ printed e) × (s' ≡ e.stands) × (left' ≡ e.left)
+TakesTurn (More found) s left text s' left' =
+    (e : Exchange) × IsExchange s left e × (text ≡ printed e) × (s' ≡ e.stands) × (left' ≡ e.left)
 TakesTurn Last s left text s' left' = IsLast left left' text × (s' ≡ s)
 
 -- what is printed for a request to read, and the lines of items that are printed for others: never both
@@ -157,8 +168,14 @@ Ends (Ok done) s left old count new = EndsAfter s left old count new ⊎ EndsSho
 Ends (Err (fault.Read error)) s left old count new = BreaksAfter s left old count new
 Ends (Err (fault.Write error)) s left old count new = ⊤
 
+-- how a session stands at its start: it holds nothing, and all that it may have accepted is left
+abbrev pub begins : ℕ → SessionOptions → Standing
+begins count options = stands count [] options.limits options
+
 -- a session on a hub of its own, which has no change yet; or no memory was found for the hub, and nothing was printed
-abbrev pub Replays : Bool → Result ⊤ ReplayError → Option (List ℕ) → Option (List ℕ) → Option (List ℕ) → Type 0
-Replays reads (Ok done) left old new = (count : ℕ) × Ends (Ok done) (record { count = 0; held = []; reads = reads }) left old count new
-Replays reads (Err (replay.Session why)) left old new = (count : ℕ) × Ends (Err why) (record { count = 0; held = []; reads = reads }) left old count new
-Replays reads (Err replay.OutOfMemory) left old new = Keeps old new
+abbrev pub Replays : SessionOptions → Result ⊤ ReplayError → Option (List ℕ) → Option (List ℕ) → Option (List ℕ)
+    → Type 0
+Replays options (Ok done) left old new = (count : ℕ) × Ends (Ok done) (begins 0 options) left old count new
+Replays options (Err (replay.Session why)) left old new =
+    (count : ℕ) × Ends (Err why) (begins 0 options) left old count new
+Replays options (Err replay.OutOfMemory) left old new = Keeps old new

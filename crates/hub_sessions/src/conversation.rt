@@ -4,12 +4,13 @@ ghost use Rattle.refusals.specs.declared.reason.Reason.TheVariants as why;
 ghost use Rattle.session_lines.specs.declared.fault.ReadFault.TheVariants as read_fault;
 ghost use Rattle.session_lines.specs.declared.reply.Reply.TheVariants as told;
 ghost use Rattle.session_reads.specs.Found.{found_text};
-ghost use Rattle.hub_sessions.specs.Sessions.{Submits, Answers, AreApart, FallsShort, found_in, read_in, TakesTurn, BreaksTurn, Ends, IsUnwritten, reply_line};
+ghost use Rattle.hub_sessions.specs.Sessions.{stands, begins, Answers, AreApart, FallsShort, found_in, read_in};
+ghost use Rattle.hub_sessions.specs.Sessions.{TakesTurn, BreaksTurn, Ends, IsUnwritten, reply_line};
 ghost use Rattle.hub_sessions.specs.declared.conversation.TurnFault.TheVariants as turn_fault;
 
-use change_ops::change::Change;
+use crate::submitting::submit;
+use hub_requests::limits::{SessionLimits, SessionOptions};
 use ingest_workers::hub::Hub;
-use ingest_workers::ingest::ingest_change;
 use ingest_workers::share::Share;
 use refusals::reason::Reason;
 use session_lines::fault::ReadFault;
@@ -28,8 +29,8 @@ use std::sync::ledger::Ledger;
 use std::thread::Threads;
 use version_history::published::{Naming, Published};
 
-/// Room for the lines that answer one request, but for what is read of the text: 1,024 items of 36 bytes, and one line more. What longer
-/// items take beyond is given back before the next request.
+/// Room for the lines that answer one request, but for what is read of the text: 1,024 items of 36 bytes, and one line
+/// more. What longer items take beyond is given back before the next request.
 const REPLY_ROOM: usize = 37_000;
 
 /// Why a session ended before its end.
@@ -91,7 +92,8 @@ fn write_lines<W: Write>(writer: &mut W, out: &str) -> Result<(), SessionFault>
 
 /// Writes that no memory was found. The session ends.
 fn write_no_memory<W: Write>(writer: &mut W) -> Result<(), SessionFault>
-    ensures ok { OnOk result (Appends (W.contents writer.old) (W.contents writer.new) (reply_line (told.Refused why.OutOfMemory))) }
+    ensures ok { OnOk result (Appends (W.contents writer.old) (W.contents writer.new)
+        (reply_line (told.Refused why.OutOfMemory))) }
     ensures err { IfErr result IsUnwritten }
 {
     write_lines(writer, "no 45 OutOfMemory\n")
@@ -115,54 +117,47 @@ fn write_reply<W: Write>(
     }
 }
 
-/// Submits a change.
-fn change<N: Naming + Ledger, R: Wait + Copy>(
-    rt: &R,
-    hub: &Hub<'_, N, R>,
-    share: &mut Share<N>,
-    change: Change,
-) -> Reply
-    ensures submits { Submits change share.old result share.new }
-    ensures share { share.old ≤ share.new }
-{
-    match ingest_change(rt, hub, share, change) {
-        Ok(number) => Reply::Version(number),
-        Err(error) => Reply::Refused(Reason::Unaccepted(error)),
-    }
-}
-
-/// Does what is asked, appends the lines of items to an empty string, and answers what was found and the line after that or those.
+/// Does what is asked, appends the lines of items to an empty string, and answers what was found and the line after
+/// that or those.
 fn answer<'s, N: Naming + Ledger + Send + Sync, R: Threads + Wait + Copy + Send + Sync>(
     hub: &SessionHub<'s, '_, N, R>,
     share: &mut Share<N>,
     held: &mut Vec<Held<N, R>>,
+    left: &mut SessionLimits,
     request: SessionRequest,
     out: &mut String,
 ) -> Result<Answer<'s>, AllocError>
     requires { string_bytes out.old ≡ [] }
-    ensures answers { IfOk result (λ answer. Answers request (record { count = share.old; held = held.old.items; reads = hub.now.reads }) (string_bytes out.old) (found_text answer.found ++ string_bytes out.new)
-        answer.reply (record { count = share.new; held = held.new.items; reads = hub.now.reads })) }
+    ensures answers { IfOk result (λ answer. Answers request
+        (stands share.old held.old.items left.old hub.now.options) (string_bytes out.old)
+        (found_text answer.found ++ string_bytes out.new)
+        answer.reply (stands share.new held.new.items left.new hub.now.options)) }
     ensures apart { IfOk result (λ answer. AreApart request (found_text answer.found) (string_bytes out.new)) }
-    ensures short { OnErr result (FallsShort (record { count = share.old; held = held.old.items; reads = hub.now.reads }) (string_bytes out.new)
-        (record { count = share.new; held = held.new.items; reads = hub.now.reads })) }
+    ensures short { OnErr result (FallsShort (stands share.old held.old.items left.old hub.now.options)
+        (string_bytes out.new)
+        (stands share.new held.new.items left.new hub.now.options)) }
     ensures share { share.old ≤ share.new }
 {
     match request {
-        SessionRequest::Change(asked) => {
-            Ok(Answer::line(change(&hub.rt, hub.hub, share, asked)))
-        }
+        SessionRequest::Change(change) => Ok(Answer::line(submit(hub, share, left, change))),
         SessionRequest::Subscribe {
             profile,
             capacity,
             program,
             first,
-        } => Ok(Answer::line(hub.subscribe(held, profile, capacity, &program, first))),
+        } => Ok(Answer::line(hub.subscribe(held, left, profile, capacity, &program, first))),
         SessionRequest::Pull { subscriber, count } => {
             let reply = hub.pull(held, subscriber, count, out)?;
             Ok(Answer::line(reply))
         }
         SessionRequest::Close { subscriber } => Ok(Answer::line(hub.close(held, subscriber))),
-        SessionRequest::Read(query) => Ok(read(&hub.rt, hub.hub, hub.published, hub.reads, query)),
+        SessionRequest::Read(query) => Ok(read(
+            &hub.rt,
+            hub.hub,
+            hub.published,
+            hub.options.reads,
+            query,
+        )),
     }
 }
 
@@ -174,25 +169,28 @@ fn empty_reply(out: &mut String)
     out.shrink_to(REPLY_ROOM);
 }
 
-/// Reads a request, does what it asks, and puts the lines of the reply in place of those of the one before. The last line is there
-/// before what was found is written, so that no want of memory can come between them.
+/// Reads a request, does what it asks, and puts the lines of the reply in place of those of the one before. The last
+/// line is there before what was found is written, so that no want of memory can come between them.
 fn take_turn<'s, N: Naming + Ledger + Send + Sync, R: Threads + Wait + Copy + Send + Sync, I: Read>(
     hub: &SessionHub<'s, '_, N, R>,
     share: &mut Share<N>,
     held: &mut Vec<Held<N, R>>,
+    left: &mut SessionLimits,
     lines: &mut LineReader<I>,
     out: &mut String,
 ) -> Result<Turn<'s>, TurnFault>
-    ensures ok { IfOk result (λ turn. TakesTurn turn (record { count = share.old; held = held.old.items; reads = hub.now.reads }) lines.old.left (found_in turn ++ string_bytes out.new)
-        (record { count = share.new; held = held.new.items; reads = hub.now.reads }) lines.new.left) }
-    ensures err { IfErr result (λ fault. BreaksTurn fault (record { count = share.old; held = held.old.items; reads = hub.now.reads }) (string_bytes out.new)
-        (record { count = share.new; held = held.new.items; reads = hub.now.reads })) }
+    ensures ok { IfOk result (λ turn. TakesTurn turn (stands share.old held.old.items left.old hub.now.options)
+        lines.old.left (found_in turn ++ string_bytes out.new)
+        (stands share.new held.new.items left.new hub.now.options) lines.new.left) }
+    ensures err { IfErr result (λ fault. BreaksTurn fault (stands share.old held.old.items left.old hub.now.options)
+        (string_bytes out.new)
+        (stands share.new held.new.items left.new hub.now.options)) }
     ensures share { share.old ≤ share.new }
 {
     empty_reply(out);
     match next_request(hub.alloc, lines)? {
         Next::Request(request) => {
-            let answer = answer(hub, share, held, request, out)?;
+            let answer = answer(hub, share, held, left, request, out)?;
             answer.reply.push_line(out)?;
             Ok(Turn::More(answer.found))
         }
@@ -218,15 +216,17 @@ fn converse<
     hub: &SessionHub<'_, '_, N, R>,
     share: &mut Share<N>,
     held: &mut Vec<Held<N, R>>,
+    left: &mut SessionLimits,
     lines: &mut LineReader<I>,
     out: &mut String,
     writer: &mut O,
 ) -> Result<(), SessionFault>
-    ensures ends { Ends result (record { count = share.old; held = held.old.items; reads = hub.now.reads }) lines.old.left (O.contents writer.old) share.new (O.contents writer.new) }
+    ensures ends { Ends result (stands share.old held.old.items left.old hub.now.options) lines.old.left
+        (O.contents writer.old) share.new (O.contents writer.new) }
     ensures share { share.old ≤ share.new }
 {
     for _ in hub.rt.forever() {
-        let turn = take_turn(hub, share, held, lines, out);
+        let turn = take_turn(hub, share, held, left, lines, out);
         write_reply(writer, &turn, out.as_str())?;
         match turn {
             Ok(Turn::More(_)) => hub.help_others(),
@@ -248,10 +248,12 @@ fn begin<
     hub: &SessionHub<'_, '_, N, R>,
     share: &mut Share<N>,
     held: &mut Vec<Held<N, R>>,
+    left: &mut SessionLimits,
     reader: I,
     writer: &mut O,
 ) -> Result<(), SessionFault>
-    ensures ends { Ends result (record { count = share.old; held = held.old.items; reads = hub.now.reads }) (I.remaining reader) (O.contents writer.old) share.new (O.contents writer.new) }
+    ensures ends { Ends result (stands share.old held.old.items left.old hub.now.options) (I.remaining reader)
+        (O.contents writer.old) share.new (O.contents writer.new) }
     ensures share { share.old ≤ share.new }
 {
     let Ok(mut lines) = LineReader::new(hub.alloc, reader) else {
@@ -260,11 +262,11 @@ fn begin<
     let Ok(mut out) = String::with_capacity(hub.alloc, REPLY_ROOM) else {
         return write_no_memory(writer);
     };
-    converse(hub, share, held, &mut lines, &mut out, writer)
+    converse(hub, share, held, left, &mut lines, &mut out, writer)
 }
 
-/// Runs one session on a hub, by its own share, over any reader and writer; only where it `reads` may it read of the text: each request is answered whole, and then flushed, before
-/// the next is read. However it ends, its subscribers are closed.
+/// Runs one session on a hub, by its own share and within its options, over any reader and writer: each request is
+/// answered whole, and then flushed, before the next is read. However it ends, its subscribers are closed.
 pub fn session<
     'p,
     N: Naming + Ledger + Send + Sync,
@@ -280,10 +282,11 @@ pub fn session<
     reader: I,
     writer: &mut O,
     workers: usize,
-    reads: bool,
+    options: SessionOptions,
 ) -> Result<(), SessionFault>
     requires workers { (1 ≤ workers) × (workers ≤ 16) }
-    ensures ends { Ends result (record { count = share.old; held = []; reads = reads }) (I.remaining reader) (O.contents writer.old) share.new (O.contents writer.new) }
+    ensures ends { Ends result (begins share.old options) (I.remaining reader) (O.contents writer.old) share.new
+        (O.contents writer.new) }
     ensures share { share.old ≤ share.new }
 {
     let session_hub = SessionHub {
@@ -292,11 +295,12 @@ pub fn session<
         hub,
         published,
         workers,
-        reads,
+        options,
         owes_help: Cell::new(false),
     };
     let mut held = Vec::new(alloc);
-    let ended = begin(&session_hub, share, &mut held, reader, writer);
+    let mut left = options.limits;
+    let ended = begin(&session_hub, share, &mut held, &mut left, reader, writer);
     for one in held {
         let _ = hub.close(rt, one.id);
     }

@@ -5,3 +5,4 @@ pub mod conversation;
 mod listening;
 pub mod replaying;
 pub mod server;
+mod submitting;

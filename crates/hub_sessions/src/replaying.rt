@@ -3,6 +3,7 @@ ghost use Rattle.hub_sessions.specs.Sessions.{Replays};
 ghost use Rattle.hub_sessions.specs.declared.replaying.ReplayError.TheVariants as replay_error;
 
 use crate::conversation::{SessionFault, session};
+use hub_requests::limits::SessionOptions;
 use ingest_workers::hub::Hub;
 use span_flatten::version::Version;
 use std::alloc::{AllocError, Global};
@@ -46,12 +47,12 @@ fn replay_on<
     reader: I,
     writer: &mut O,
     workers: usize,
-    reads: bool,
+    options: SessionOptions,
 ) -> Result<(), ReplayError>
     requires named { (versions.now ≡ N.versions) × (programs.now ≡ N.programs) }
     requires blank { (blank.name ≡ N.name) × (blank.parts ≡ N.parts) × (N.parts ≡ 1) }
     requires workers { (1 ≤ workers) × (workers ≤ 16) }
-    ensures { Replays reads result (I.remaining reader) (O.contents writer.old) (O.contents writer.new) }
+    ensures { Replays options result (I.remaining reader) (O.contents writer.old) (O.contents writer.new) }
 {
     let published = Published::<N>::new(versions, programs);
     let (hub, mut shares) = Hub::new(rt, alloc, blank, &published, 1)?;
@@ -59,7 +60,7 @@ fn replay_on<
         unreachable!()
     };
     match session(
-        rt, alloc, &hub, &published, &mut share, reader, writer, workers, reads,
+        rt, alloc, &hub, &published, &mut share, reader, writer, workers, options,
     ) {
         Ok(()) => Ok(()),
         Err(fault) => Err(ReplayError::Session(fault)),
@@ -73,10 +74,10 @@ pub fn replay<R: Threads + Wait + Copy + Send + Sync, I: Read + Drop, O: Write>(
     reader: I,
     writer: &mut O,
     workers: usize,
-    reads: bool,
+    options: SessionOptions,
 ) -> Result<(), ReplayError>
     requires workers { (1 ≤ workers) × (workers ≤ 16) }
-    ensures { Replays reads result (I.remaining reader) (O.contents writer.old) (O.contents writer.new) }
+    ensures { Replays options result (I.remaining reader) (O.contents writer.old) (O.contents writer.new) }
 {
     let versions = boxcar::Vec::new(alloc)?;
     let programs = boxcar::Vec::new(alloc)?;
@@ -89,6 +90,6 @@ pub fn replay<R: Threads + Wait + Copy + Send + Sync, I: Read + Drop, O: Write>(
         reader,
         writer,
         workers,
-        reads,
+        options,
     )
 }

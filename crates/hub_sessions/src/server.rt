@@ -3,6 +3,7 @@ ghost use Rattle.hub_sessions.specs.declared.server.ServeError.TheVariants as se
 
 use crate::conversation::{SessionFault, session};
 use crate::listening::listen;
+use hub_requests::limits::SessionOptions;
 use ingest_workers::hub::Hub;
 use ingest_workers::share::Share;
 use span_flatten::version::Version;
@@ -18,7 +19,8 @@ use std::{io, thread};
 use verifier::verify::Verified;
 use version_history::published::{Naming, Published};
 
-/// How many seconds each read waits for a client that still sends though its session has ended; all reads together wait at most
+/// How many seconds each read waits for a client that still sends though its session has ended; all reads together wait
+/// at most
 /// `DRAIN_READS` times that.
 const DRAIN_SECONDS: u64 = 1;
 
@@ -55,8 +57,9 @@ impl From<AllocError> for ServeError {
     }
 }
 
-/// Tells the client that no more replies come, and reads past what it still sends: a connection that is closed with bytes unread is
-/// reset, and the client may then miss replies. What fails here takes nothing from the session, which has ended.
+/// Tells the client that no more replies come, and reads past what it still sends: a connection that is closed with
+/// bytes unread is reset, and the client may then miss replies. What fails here takes nothing from the session, which
+/// has ended.
 fn read_rest(stream: &TcpStream) {
     let pause = Duration::from_secs(DRAIN_SECONDS);
     if stream.shutdown(Shutdown::Write).is_err() || stream.set_read_timeout(Some(pause)).is_err() {
@@ -81,7 +84,7 @@ fn serve_one<'p, N: Naming + Ledger + Send + Sync, R: Threads + Wait + Copy + Se
     share: Share<N>,
     stream: TcpStream,
     workers: usize,
-    reads: bool,
+    options: SessionOptions,
     failed: &OnceLock<ConnectionFault>,
 )
     requires { (1 ≤ workers) × (workers ≤ 16) }
@@ -98,7 +101,7 @@ fn serve_one<'p, N: Naming + Ledger + Send + Sync, R: Threads + Wait + Copy + Se
         &stream,
         &mut &stream,
         workers,
-        reads,
+        options,
     );
     if let Err(fault) = ended {
         let _ = failed.try_set(ConnectionFault::Session(fault));
@@ -124,7 +127,7 @@ pub fn serve_shares<
     shares: Vec<Share<N>>,
     listener: &L,
     workers: usize,
-    reads: bool,
+    options: SessionOptions,
 ) -> Result<(), ConnectionFault>
     requires { (1 ≤ workers) × (workers ≤ 16) }
 {
@@ -148,7 +151,7 @@ pub fn serve_shares<
                     requires { (1 ≤ workers) × (workers ≤ 16) }
                 {
                     serve_one(
-                        rt, alloc, hub, published, share, stream, workers, reads, told,
+                        rt, alloc, hub, published, share, stream, workers, options, told,
                     )
                 };
                 if let Err(refused) = scope.spawn(serving) {
@@ -177,7 +180,7 @@ fn serve_on<
     port: u16,
     sessions: usize,
     workers: usize,
-    reads: bool,
+    options: SessionOptions,
     writer: &mut W,
 ) -> Result<(), ServeError>
     requires named { (versions.now ≡ N.versions) × (programs.now ≡ N.programs) }
@@ -189,13 +192,13 @@ fn serve_on<
     let (hub, shares) = Hub::new(&rt, alloc, blank, &published, sessions)?;
     let listener = listen(&rt, port, writer)?;
     serve_shares(
-        &rt, alloc, &hub, &published, shares, &listener, workers, reads,
+        &rt, alloc, &hub, &published, shares, &listener, workers, options,
     )
     .map_err(ServeError::Connection)
 }
 
-/// Serves so many sessions over TCP on a port of 127.0.0.1, all on one hub and each in a thread of its own, and returns when
-/// all have ended. First it writes the line `port <number>`; at port 0 the system chooses one.
+/// Serves so many sessions over TCP on a port of 127.0.0.1, all on one hub and each in a thread of its own, and returns
+/// when all have ended. First it writes the line `port <number>`; at port 0 the system chooses one.
 pub fn serve<
     R: Threads + Wait + Net<Listener = TcpListener, Stream = TcpStream> + Copy + Send + Sync,
     W: Write,
@@ -205,7 +208,7 @@ pub fn serve<
     port: u16,
     sessions: usize,
     workers: usize,
-    reads: bool,
+    options: SessionOptions,
     writer: &mut W,
 ) -> Result<(), ServeError>
     requires sessions { (1 ≤ sessions) × (sessions ≤ 64) }
@@ -222,7 +225,7 @@ pub fn serve<
         port,
         sessions,
         workers,
-        reads,
+        options,
         writer,
     )
 }

@@ -92,7 +92,8 @@ impl Device {
     }
 }
 
-/// Whether each failure of the device is told and gives the status 3, and the answer is the ample one where it doesn't fail.
+/// Whether each failure of the device is told and gives the status 3, and the answer is the ample one where it doesn't
+/// fail.
 fn tells_failures<
     H: AllocGlobal
         + Threads

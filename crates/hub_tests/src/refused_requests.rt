@@ -1,7 +1,8 @@
 //! Requests of a session that are refused, of each kind, by the tables of docs/REFUSALS.md and docs/SESSIONS.md.
 
-/// Requests that are refused wherever they stand in a session that has the operation `1@1`, fewer than 64 subscribers, and no
-/// operation of the node 9, with their replies. The great counters of some would make all later operations of their node stale.
+/// Requests that are refused wherever they stand in a session that has the operation `1@1`, fewer than 64 subscribers,
+/// and no operation of the node 9, with their replies. The great counters of some would make all later operations of
+/// their node stale.
 pub static REFUSED: [(&str, &str); 68] = [
     ("sub 8 zz\n", "no 63 BadHex"),
     ("sub 8 b7000000010000009g00000000000000\n", "no 63 BadHex"),
@@ -196,7 +197,8 @@ pub static REFUSED: [(&str, &str); 68] = [
     ),
 ];
 
-/// Requests that are refused at the end of a session, whose last line has no LF or whose change isn't whole, with their replies.
+/// Requests that are refused at the end of a session, whose last line has no LF or whose change isn't whole, with their
+/// replies.
 pub static LAST: [(&str, &str); 4] = [
     ("close 0", "no 60 BadCommand"),
     ("change 1 1", "no 41 Truncated"),

@@ -1,4 +1,5 @@
-//! Random sessions, each also with refused requests among its own: those are refused by their numbers, and change no reply.
+//! Random sessions, each also with refused requests among its own: those are refused by their numbers, and change no
+//! reply.
 
 use crate::answers::{answer, is_answered};
 use crate::refused_requests::{LAST, REFUSED};
@@ -224,8 +225,8 @@ fn is_unchanged<
     }
 }
 
-/// The first of the sessions, with its refused requests, whose good requests are replied to otherwise than without them,
-/// if there is one.
+/// The first of the sessions, with its refused requests, whose good requests are replied to otherwise than without
+/// them, if there is one.
 fn first_spoiled<
     H: AllocGlobal
         + Threads

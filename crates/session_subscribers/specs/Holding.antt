@@ -1,5 +1,6 @@
 -- The subscribers of a session, and what requests do to them.
-use Rattle.std.specs.Prelude.{◌≡◌, ◌<◌, ◌≤◌, ◌⊎◌, ◌==◌, ℕ, Option, None, Some, Result, Ok, List, [], ◌∷◌, ◌++◌, length, position, slice_get, slice_set, ⊤}
+use Rattle.std.specs.Prelude.{◌≡◌, ◌<◌, ◌≤◌, ◌⊎◌, ◌==◌, ℕ, Option, None, Some, Result, Ok, List, [], ◌∷◌, ◌++◌, length}
+use Rattle.std.specs.Prelude.{position, slice_get, slice_set, IsTrue, IsFalse, ⊤}
 use Rattle.std.specs.List.{remove}
 use Rattle.bpf_words.specs.declared.profile.Profile.{Profile}
 use Rattle.bpf_words.specs.Words.{IsProgram, IsRefused, program_of}
@@ -13,6 +14,8 @@ use Rattle.hub_core.specs.Machine.{State, Subscribes, Closes as ClosesAtHub}
 use Rattle.hub_core.specs.declared.error.NoSubscriber.{NoSubscriber}
 use Rattle.subscriber_queues.specs.Queue.{Line, Sending, Taking, IsCapacity}
 use Rattle.ingest_workers.specs.Holdings.{InOneHolding}
+use Rattle.hub_requests.specs.Limits.{takes_subscriber, after_subscriber}
+use Rattle.hub_requests.specs.declared.limits.SessionLimits.{SessionLimits}
 use Rattle.refusals.specs.declared.reason.Reason.{Reason}
 use Rattle.refusals.specs.declared.reason.Reason.TheVariants as reason
 use Rattle.session_lines.specs.declared.reply.Reply.{Reply}
@@ -37,14 +40,18 @@ first_of (Some number) s = number
 abbrev pub promise_of : List ℕ → Option ℕ → Promise
 promise_of bytes first = record { program = program_of bytes; first = first }
 
--- the program of these bytes, each run of which on what the profile lends ends with a number, was subscribed under this id with the other end of
--- this queue, which is empty, of this capacity and with that promise, from its first version on
-pub record IsSubscribed (profile : Profile) (capacity : ℕ) (bytes : List ℕ) (first : Option ℕ) (id : ℕ) (line : Line) : Type 0 where
+-- the program of these bytes, each run of which on what the profile lends ends with a number, was subscribed under this
+-- id with the other end of this queue, which is empty, of this capacity and with that promise, from its first version
+-- on
+pub record IsSubscribed (profile : Profile) (capacity : ℕ) (bytes : List ℕ) (first : Option ℕ) (id : ℕ)
+    (line : Line) : Type 0 where
   pub program : IsProgram bytes
   pub safe : SafeIn profile (program_of bytes)
   pub token : Token Program
   pub same : token.value ≡ program_of bytes
-  pub holding : InOneHolding (λ old new. Subscribes old (first_of first old) token (record { line = line; sent = []; capacity = capacity; promise = Some (promise_of bytes first) }) (Ok id) new)
+  pub holding : InOneHolding
+      (λ old new. Subscribes old (first_of first old) token
+      (record { line = line; sent = []; capacity = capacity; promise = Some (promise_of bytes first) }) (Ok id) new)
 
 -- the bytes are a program, each run of which on what the profile lends ends with a number
 abbrev pub AreSafe : Profile → List ℕ → Type 0
@@ -53,29 +60,47 @@ AreSafe profile bytes = IsProgram bytes × SafeIn profile (program_of bytes)
 -- why it was not
 abbrev pub IsNotSubscribed : Profile → ℕ → List ℕ → Option ℕ → Reason → Type 0
 IsNotSubscribed profile capacity bytes first (reason.Words error) = IsRefused bytes error
-IsNotSubscribed profile capacity bytes first (reason.Unverified error) = IsProgram bytes × Rejects profile (program_of bytes) error
+IsNotSubscribed profile capacity bytes first (reason.Unverified error) =
+    IsProgram bytes × Rejects profile (program_of bytes) error
 IsNotSubscribed profile capacity bytes first reason.BadCapacity = AreSafe profile bytes × (¬ IsCapacity capacity)
-IsNotSubscribed profile capacity bytes first reason.SubscribersFull = AreSafe profile bytes × InOneHolding (λ old new. (new ≡ old) × (length old.subs ≡ 64))
-IsNotSubscribed profile capacity bytes (Some number) reason.NoVersion = AreSafe profile bytes × InOneHolding (λ old new. (new ≡ old) × (length old.changes < number))
+IsNotSubscribed profile capacity bytes first reason.SubscribersFull =
+    AreSafe profile bytes × InOneHolding (λ old new. (new ≡ old) × (length old.subs ≡ 64))
+IsNotSubscribed profile capacity bytes (Some number) reason.NoVersion =
+    AreSafe profile bytes × InOneHolding (λ old new. (new ≡ old) × (length old.changes < number))
 IsNotSubscribed profile capacity bytes first reason.OutOfMemory = AreSafe profile bytes
 IsNotSubscribed profile capacity bytes first _ = ⊥
 
--- one more is held, with the end of its queue, which has that promise and which nothing was taken from; or the same as before
-abbrev pub Adds : Profile → ℕ → List ℕ → Option ℕ → List Watched → Reply → List Watched → Type 0
-Adds profile capacity bytes first held (reply.Subscribed id) held' =
-    (line : Line) × (held' ≡ held ++ record { id = id; items = record { line = line; promise = Some (promise_of bytes first); taken = []; shown = [] } } ∷ [])
-    × IsSubscribed profile capacity bytes first id line
-Adds profile capacity bytes first held (reply.Refused why) held' = (held' ≡ held) × IsNotSubscribed profile capacity bytes first why
-Adds profile capacity bytes first held _ held' = ⊥
+-- the session may have no subscriber more, and the bytes were looked at first
+abbrev pub IsPastShare : Profile → List ℕ → SessionLimits → Reason → Type 0
+IsPastShare profile bytes left why =
+    (why ≡ reason.SubscribersFull) × AreSafe profile bytes × IsFalse (takes_subscriber left)
 
--- the hub was asked to close this one; where the hub has it as closed, it is refused and stays so; it says nothing of the hub, since a refusal (Err)
--- meets it for every id
+-- one more is held, with the end of its queue, which has that promise and which nothing was taken from, and the session
+-- has one less left; or the same as before
+abbrev pub Adds : Profile → ℕ → List ℕ → Option ℕ → SessionLimits → List Watched → Reply → SessionLimits → List Watched
+    → Type 0
+Adds profile capacity bytes first left held (reply.Subscribed id) left' held' =
+    (line : Line) × (held' ≡ held
+    ++ record {
+      id = id;
+      items = record { line = line; promise = Some (promise_of bytes first); taken = []; shown = [] };
+    } ∷ [])
+    × IsSubscribed profile capacity bytes first id line
+    × IsTrue (takes_subscriber left) × (left' ≡ after_subscriber left)
+Adds profile capacity bytes first left held (reply.Refused why) left' held' =
+    (held' ≡ held) × (left' ≡ left)
+    × (IsNotSubscribed profile capacity bytes first why ⊎ IsPastShare profile bytes left why)
+Adds profile capacity bytes first left held _ left' held' = ⊥
+
+-- the hub was asked to close this one; where the hub has it as closed, it is refused and stays so; it says nothing of
+-- the hub, since a refusal (Err) meets it for every id
 abbrev pub IsClosed : ℕ → Type 0
 IsClosed id = (found : Result ⊤ NoSubscriber) × InOneHolding (λ old new. ClosesAtHub old id found new)
 
 -- the one with the id is closed at the hub and held no more, and the others are; or none had it
 abbrev pub Closes : List Watched → ℕ → Reply → List Watched → Type 0
-Closes held id (reply.Closed closed) held' = (closed ≡ id) × (place : ℕ) × (place_in held id ≡ Some place) × (held' ≡ remove held place) × IsClosed id
+Closes held id (reply.Closed closed) held' =
+    (closed ≡ id) × (place : ℕ) × (place_in held id ≡ Some place) × (held' ≡ remove held place) × IsClosed id
 Closes held id (reply.Refused why) held' = (why ≡ reason.NoSubscriber) × (place_in held id ≡ None) × (held' ≡ held)
 Closes held id _ held' = ⊥
 
@@ -86,9 +111,9 @@ pub record Pulls (count : ℕ) (items items' : Taking) (out out' : List ℕ) (an
   pub takes : Takes many items items' out out'
   pub told : (answer ≡ reply.Items many) ⊎ (answer ≡ reply.Refused reason.OutOfMemory)
 
--- items of the subscriber with the id were taken, and of no other. All that the session ever took of it are the batches of one program on
--- versions one after another, the last perhaps unfinished; and as was promised: they begin the stream of its own program over accepted changes,
--- from its first version on
+-- items of the subscriber with the id were taken, and of no other. All that the session ever took of it are the batches
+-- of one program on versions one after another, the last perhaps unfinished; and as was promised: they begin the stream
+-- of its own program over accepted changes, from its first version on
 pub record PullsHeld (id count : ℕ) (held held' : List Watched) (out out' : List ℕ) (answer : Reply) : Type 0 where
   pub place : ℕ
   pub there : place_in held id ≡ Some place
@@ -108,9 +133,11 @@ pub record PullsNone (id : ℕ) (held held' : List Watched) (out out' : List ℕ
   pub told : answer ≡ reply.Refused reason.NoSubscriber
 
 abbrev pub PullsAny : ℕ → ℕ → List Watched → List Watched → List ℕ → List ℕ → Reply → Type 0
-PullsAny id count held held' out out' answer = PullsHeld id count held held' out out' answer ⊎ PullsNone id held held' out out' answer
+PullsAny id count held held' out out' answer =
+    PullsHeld id count held held' out out' answer ⊎ PullsNone id held held' out out' answer
 
--- no memory was found for the lines of a pull: items of the subscriber with the id were taken, and of no other, and whole lines of them stand
+-- no memory was found for the lines of a pull: items of the subscriber with the id were taken, and of no other, and
+-- whole lines of them stand
 pub record PullsShort (id count : ℕ) (held held' : List Watched) (out out' : List ℕ) : Type 0 where
   pub place : ℕ
   pub there : place_in held id ≡ Some place

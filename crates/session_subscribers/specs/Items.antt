@@ -25,8 +25,9 @@ pub record Takes (count : ℕ) (end end' : Taking) (out out' : List ℕ) : Type 
   pub printed : out' ≡ out ++ flat_map item_line items
   pub many : length items ≡ count
 
--- no memory was found for the line of an item, or for the one after it: at most so many items were taken of a queue after those that were taken before, and
--- their lines appended in the same order, each whole, but for the last item, which may have none
+-- no memory was found for the line of an item, or for the one after it: at most so many items were taken of a queue
+-- after those that were taken before, and their lines appended in the same order, each whole, but for the last item,
+-- which may have none
 pub record TakesShort (most : ℕ) (end end' : Taking) (out out' : List ℕ) : Type 0 where
   pub shown : List Entry
   pub unshown : List Entry

@@ -14,8 +14,8 @@ use std::thread::Threads;
 use subscriber_queues::ends::Subscription;
 use version_history::published::Naming;
 
-/// The most steps of a batch that a session computes for others: about half a millisecond, which its client's next request may have to
-/// wait.
+/// The most steps of a batch that a session computes for others: about half a millisecond, which its client's next
+/// request may have to wait.
 const STEPS_FOR_OTHERS: usize = 262_144;
 
 /// What is printed of an item.
@@ -42,7 +42,8 @@ fn take_waiting<N: Naming, R: Wait + Copy>(
     most: usize,
     out: &mut String,
 ) -> Result<usize, AllocError>
-    ensures ok { IfOk result (λ taken. (taken ≤ most) × Takes taken items.old items.new (string_bytes out.old) (string_bytes out.new)) }
+    ensures ok { IfOk result (λ taken. (taken ≤ most)
+        × Takes taken items.old items.new (string_bytes out.old) (string_bytes out.new)) }
     ensures err { OnErr result (TakesShort most items.old items.new (string_bytes out.old) (string_bytes out.new)) }
 {
     for taken in 0..most {
@@ -68,7 +69,8 @@ impl<N: Naming + Ledger + Send + Sync, R: Threads + Wait + Copy + Send + Sync> S
         most: usize,
         out: &mut String,
     ) -> Result<usize, AllocError>
-        ensures ok { IfOk result (λ taken. (taken ≤ most) × Takes taken items.old items.new (string_bytes out.old) (string_bytes out.new)) }
+        ensures ok { IfOk result (λ taken. (taken ≤ most)
+            × Takes taken items.old items.new (string_bytes out.old) (string_bytes out.new)) }
         ensures err { OnErr result (TakesShort most items.old items.new (string_bytes out.old) (string_bytes out.new)) }
     {
         let mut taken = 0;
@@ -83,8 +85,8 @@ impl<N: Naming + Ledger + Send + Sync, R: Threads + Wait + Copy + Send + Sync> S
         Ok(taken)
     }
 
-    /// Computes the first batch that this subscriber waits for, whoever else computes it, if its version is one of those up to this
-    /// one. It answers whether the subscriber waited for one.
+    /// Computes the first batch that this subscriber waits for, whoever else computes it, if its version is one of
+    /// those up to this one. It answers whether the subscriber waited for one.
     fn compute_own(&self, id: usize, last: u64) -> Result<bool, AllocError> {
         let waited = catch_up(
             &self.rt,
@@ -101,8 +103,9 @@ impl<N: Naming + Ledger + Send + Sync, R: Threads + Wait + Copy + Send + Sync> S
         Ok(waited)
     }
 
-    /// Where a pull computed something since the last call, computes one short batch for whichever subscriber is due, those of other
-    /// sessions too. To be called once the pull was answered. Where no memory is found, what a subscriber is owed is handed out again.
+    /// Where a pull computed something since the last call, computes one short batch for whichever subscriber is due,
+    /// those of other sessions too. To be called once the pull was answered. Where no memory is found, what a
+    /// subscriber is owed is handed out again.
     pub fn help_others(&self) {
         if self.owes_help.replace(false) {
             let _ = help(
@@ -115,10 +118,11 @@ impl<N: Naming + Ledger + Send + Sync, R: Threads + Wait + Copy + Send + Sync> S
         }
     }
 
-    /// Computes and takes items of the versions up to the one that is the latest now, until so many are taken or none is due.
+    /// Computes and takes items of the versions up to the one that is the latest now, until so many are taken or none
+    /// is due.
     ///
-    /// In a round where the subscriber waited for a batch, at least one item is taken. Where it waited for none and no item came, all
-    /// items of those versions were taken. What is published meanwhile is left to the next pull.
+    /// In a round where the subscriber waited for a batch, at least one item is taken. Where it waited for none and no
+    /// item came, all items of those versions were taken. What is published meanwhile is left to the next pull.
     fn pull_from(
         &self,
         id: usize,
@@ -127,7 +131,8 @@ impl<N: Naming + Ledger + Send + Sync, R: Threads + Wait + Copy + Send + Sync> S
         out: &mut String,
     ) -> Result<Reply, AllocError>
         ensures ok { IfOk result (Pulls count items.old items.new (string_bytes out.old) (string_bytes out.new)) }
-        ensures err { OnErr result (TakesShort count items.old items.new (string_bytes out.old) (string_bytes out.new)) }
+        ensures err { OnErr result (TakesShort count items.old items.new (string_bytes out.old)
+            (string_bytes out.new)) }
     {
         let last = self.hub.latest(&self.rt);
         let mut taken = 0;
@@ -153,8 +158,10 @@ impl<N: Naming + Ledger + Send + Sync, R: Threads + Wait + Copy + Send + Sync> S
         count: usize,
         out: &mut String,
     ) -> Result<Reply, AllocError>
-        ensures ok { IfOk result (PullsAny id count held.old.items held.new.items (string_bytes out.old) (string_bytes out.new)) }
-        ensures err { OnErr result (PullsShort id count held.old.items held.new.items (string_bytes out.old) (string_bytes out.new)) }
+        ensures ok { IfOk result (PullsAny id count held.old.items held.new.items (string_bytes out.old)
+            (string_bytes out.new)) }
+        ensures err { OnErr result (PullsShort id count held.old.items held.new.items (string_bytes out.old)
+            (string_bytes out.new)) }
     {
         let Some(place) = place_of(held.as_slice(), id) else {
             return Ok(Reply::Refused(Reason::NoSubscriber));

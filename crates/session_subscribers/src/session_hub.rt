@@ -1,6 +1,7 @@
 ghost use Rattle.std.specs.Prelude.{◌≡◌, ◌≤◌, ◌==◌};
 ghost use Rattle.session_subscribers.specs.Holding.{place_in};
 
+use hub_requests::limits::SessionOptions;
 use ingest_workers::hub::Hub;
 use std::alloc::Global;
 use std::cell::Cell;
@@ -18,8 +19,7 @@ pub struct SessionHub<'s, 'p, N: Naming + Ledger, R: Wait + Copy> {
     pub hub: &'s Hub<'p, N, R>,
     pub published: &'s Published<'p, N>,
     pub workers: usize,
-    /// Whether the session may read of the text.
-    pub reads: bool,
+    pub options: SessionOptions,
     /// Whether a pull computed a batch since others were last helped.
     pub owes_help: Cell<bool>,
     ghost range: { (1 ≤ workers) × (workers ≤ 16) },

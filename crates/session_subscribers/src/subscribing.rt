@@ -10,6 +10,7 @@ use crate::session_hub::{Held, SessionHub, place_of};
 use bpf_words::profile::Profile;
 use bpf_words::words::Words;
 use hub_core::error::SubscribeError;
+use hub_requests::limits::SessionLimits;
 use refusals::reason::Reason;
 use session_lines::reply::Reply;
 use std::alloc::Global;
@@ -27,9 +28,17 @@ fn ends<N: Naming, R: Wait + Copy>(
     program: &Verified,
     first: Option<u64>,
 ) -> Result<(QueueSink<N, R>, Subscription<N, R>), Reason>
-    ensures sink { IfOk result (λ q. (q.0.sent ≡ []) × (q.0.capacity ≡ capacity) × (q.0.promise ≡ Some (record { program = program.now; first = first }))) }
-    ensures end { IfOk result (λ q. q.1 ≡ record { line = q.0.line; promise = Some (record { program = program.now; first = first }); taken = []; shown = [] }) }
-    ensures err { IfErr result (λ why. (profile : TheProfile) (bytes : List ℕ) (from : Option ℕ) → AreSafe profile bytes → IsNotSubscribed profile capacity bytes from why) }
+    ensures sink { IfOk result (λ q. (q.0.sent ≡ []) × (q.0.capacity ≡ capacity)
+        × (q.0.promise ≡ Some (record { program = program.now; first = first }))) }
+    ensures end { IfOk result (λ q. q.1
+        ≡ record {
+          line = q.0.line;
+          promise = Some (record { program = program.now; first = first });
+          taken = [];
+          shown = [];
+        }) }
+    ensures err { IfErr result (λ why. (profile : TheProfile) (bytes : List ℕ) (from : Option ℕ)
+        → AreSafe profile bytes → IsNotSubscribed profile capacity bytes from why) }
 {
     match queue_for(rt, alloc, capacity, program, first) {
         Ok(ends) => Ok(ends),
@@ -40,8 +49,10 @@ fn ends<N: Naming, R: Wait + Copy>(
 
 /// The program of these bytes, accepted by what the profile lets it read.
 fn accepted(alloc: Global, profile: Profile, bytes: &[u8]) -> Result<Verified, Reason>
-    ensures ok { IfOk result (λ program. IsProgram bytes.now × (program ≡ program_of bytes.now) × SafeIn profile program) }
-    ensures err { IfErr result (λ why. (capacity : ℕ) (first : Option ℕ) → IsNotSubscribed profile capacity bytes.now first why) }
+    ensures ok { IfOk result (λ program. IsProgram bytes.now × (program ≡ program_of bytes.now)
+        × SafeIn profile program) }
+    ensures err { IfErr result (λ why. (capacity : ℕ) (first : Option ℕ)
+        → IsNotSubscribed profile capacity bytes.now first why) }
 {
     let words = match Words::new(bytes) {
         Ok(words) => words,
@@ -67,7 +78,8 @@ impl<N: Naming + Ledger, R: Wait + Copy> SessionHub<'_, '_, N, R> {
 
     /// Refuses what the hub would refuse whatever the program is.
     fn check(&self, first: Option<u64>) -> Result<(), Reason>
-        ensures { IfErr result (λ why. (profile : TheProfile) (capacity : ℕ) (bytes : List ℕ) → AreSafe profile bytes → IsNotSubscribed profile capacity bytes first why) }
+        ensures { IfErr result (λ why. (profile : TheProfile) (capacity : ℕ) (bytes : List ℕ) → AreSafe profile bytes
+            → IsNotSubscribed profile capacity bytes first why) }
     {
         if self.hub.is_full(&self.rt) {
             return Err(Reason::SubscribersFull);
@@ -107,8 +119,10 @@ impl<N: Naming + Ledger, R: Wait + Copy> SessionHub<'_, '_, N, R> {
     ) -> Result<usize, Reason>
         requires none { sink.sent ≡ [] }
         requires promise { sink.promise ≡ Some (record { program = token.value; first = first }) }
-        ensures ok { IfOk result (λ id. InOneHolding (λ old new. Subscribes old (first_of first old) token sink (Ok id) new)) }
-        ensures err { IfErr result (λ why. (profile : TheProfile) (capacity : ℕ) (bytes : List ℕ) → AreSafe profile bytes → IsNotSubscribed profile capacity bytes first why) }
+        ensures ok { IfOk result (λ id. InOneHolding
+            (λ old new. Subscribes old (first_of first old) token sink (Ok id) new)) }
+        ensures err { IfErr result (λ why. (profile : TheProfile) (capacity : ℕ) (bytes : List ℕ)
+            → AreSafe profile bytes → IsNotSubscribed profile capacity bytes first why) }
     {
         match self.subscribed(token, sink, first) {
             Ok(id) => Ok(id),
@@ -118,23 +132,29 @@ impl<N: Naming + Ledger, R: Wait + Copy> SessionHub<'_, '_, N, R> {
         }
     }
 
-    /// Adds a subscriber, and keeps it among those of the session.
+    /// Adds a subscriber, and keeps it among those of the session, unless the session has none left.
     ///
-    /// What is published stays for good, so the program is published last, and not at all once the hub is full, which it then
-    /// remains, or where the first version isn't there yet. Only where sessions race for the last place may each of them leave
-    /// one program that no subscriber has.
+    /// What is published stays for good, so the program is published last, and not at all once the hub is full, which
+    /// it then remains, or where the first version isn't there yet. Only where sessions race for the last place may
+    /// each of them leave one program that no subscriber has.
     fn add(
         &self,
         held: &mut Vec<Held<N, R>>,
+        left: &mut SessionLimits,
         profile: Profile,
         capacity: usize,
         bytes: &[u8],
         first: Option<u64>,
     ) -> Result<usize, Reason>
-        ensures ok { IfOk result (λ id. Adds profile capacity bytes.now first held.old.items (Reply.Subscribed id) held.new.items) }
-        ensures err { IfErr result (λ why. Adds profile capacity bytes.now first held.old.items (Reply.Refused why) held.new.items) }
+        ensures ok { IfOk result (λ id. Adds profile capacity bytes.now first left.old held.old.items
+            (Reply.Subscribed id) left.new held.new.items) }
+        ensures err { IfErr result (λ why. Adds profile capacity bytes.now first left.old held.old.items
+            (Reply.Refused why) left.new held.new.items) }
     {
         let program = accepted(self.alloc, profile, bytes)?;
+        if !left.takes_subscriber() {
+            return Err(Reason::SubscribersFull);
+        }
         self.check(first)?;
         if held.reserve(1).is_err() {
             return Err(Reason::OutOfMemory);
@@ -143,22 +163,24 @@ impl<N: Naming + Ledger, R: Wait + Copy> SessionHub<'_, '_, N, R> {
         let token = self.publish(program)?;
         let id = self.id_at_hub(token, sink, first)?;
         held.push_reserved(Held { id, items });
+        left.spend_subscriber();
         Ok(id)
     }
 
-    /// Adds a subscriber: its program and what it may read, how many items may wait for it, and its first version, the latest where none
-    /// is named.
+    /// Adds a subscriber, unless the session has none left: its program and what it may read, how many items may wait
+    /// for it, and its first version, the latest where none is named.
     pub fn subscribe(
         &self,
         held: &mut Vec<Held<N, R>>,
+        left: &mut SessionLimits,
         profile: Profile,
         capacity: usize,
         bytes: &[u8],
         first: Option<u64>,
     ) -> Reply
-        ensures { Adds profile capacity bytes.now first held.old.items result held.new.items }
+        ensures { Adds profile capacity bytes.now first left.old held.old.items result left.new held.new.items }
     {
-        match self.add(held, profile, capacity, bytes, first) {
+        match self.add(held, left, profile, capacity, bytes, first) {
             Ok(id) => Reply::Subscribed(id),
             Err(reason) => Reply::Refused(reason),
         }

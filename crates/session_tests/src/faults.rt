@@ -1,6 +1,7 @@
 ghost use Rattle.std.specs.Prelude.{◌≡◌};
 
 use crate::lines::{QUEUE_OF_ONE, QUEUE_OF_ONE_REPLIES};
+use hub_requests::limits::SessionOptions;
 use hub_sessions::conversation::{SessionFault, session};
 use ingest_workers::hub::Hub;
 use span_flatten::version::Version;
@@ -90,7 +91,7 @@ fn tried_on<N: Naming + Ledger + Send + Sync, R: Threads + Wait + Copy + Send + 
         &mut reader,
         &mut writer,
         1,
-        false,
+        SessionOptions::unlimited(false),
     );
     let closed = hub.pump(rt, 0).is_err();
     let mut next = Vec::new(alloc);
@@ -104,7 +105,7 @@ fn tried_on<N: Naming + Ledger + Send + Sync, R: Threads + Wait + Copy + Send + 
         other.as_bytes(),
         &mut next,
         1,
-        false,
+        SessionOptions::unlimited(false),
     );
     Ok(Outcome {
         ended,
@@ -130,7 +131,8 @@ fn is_sound(alloc: Global, outcome: &Outcome) -> Result<bool, Fail> {
     )
 }
 
-/// The first number of reads after which the session isn't told to have failed, or leaves its hub otherwise than it should.
+/// The first number of reads after which the session isn't told to have failed, or leaves its hub otherwise than it
+/// should.
 fn first_wrong_read<R: Threads + Wait + Copy + Send + Sync>(
     rt: &R,
     alloc: Global,

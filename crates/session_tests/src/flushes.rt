@@ -1,6 +1,7 @@
 ghost use Rattle.std.specs.Prelude.{◌≡◌};
 
 use crate::lines::{TWO_SUBSCRIBERS, TWO_SUBSCRIBERS_REPLIES};
+use hub_requests::limits::SessionOptions;
 use hub_sessions::conversation::session;
 use ingest_workers::hub::Hub;
 use span_flatten::version::Version;
@@ -71,7 +72,7 @@ fn two_subscribed<N: Naming + Ledger + Send + Sync, R: Threads + Wait + Abort + 
         TWO_SUBSCRIBERS.as_bytes(),
         &mut writer,
         1,
-        false,
+        SessionOptions::unlimited(false),
     );
     assert!(rt; ended.is_ok());
     assert_eq!(rt; writer.bytes.as_slice(), TWO_SUBSCRIBERS_REPLIES.as_bytes());

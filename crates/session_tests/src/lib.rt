@@ -1,4 +1,5 @@
-//! Tests of sessions: over readers and writers that fail, with the longest lines, flush by flush, and while others hold their subscribers' jobs.
+//! Tests of sessions: over readers and writers that fail, with the longest lines, flush by flush, and while others hold
+//! their subscribers' jobs.
 #![tactic(auto)]
 
 #[cfg(test)]

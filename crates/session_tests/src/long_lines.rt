@@ -1,3 +1,4 @@
+use hub_requests::limits::SessionOptions;
 use hub_sessions::replaying::replay;
 use std::alloc::{AllocError, Global};
 use std::test::Fail;
@@ -28,7 +29,14 @@ fn the_longest_program_comes_byte_by_byte(rt: HostRuntime) -> Result<(), Fail> {
         failed: false,
     };
     let mut out = Vec::new(rt.alloc());
-    let ended = replay(&rt, rt.alloc(), &mut reader, &mut out, 2, false);
+    let ended = replay(
+        &rt,
+        rt.alloc(),
+        &mut reader,
+        &mut out,
+        2,
+        SessionOptions::unlimited(false),
+    );
     assert!(rt; ended.is_ok());
     assert_eq!(rt; out.as_slice(), LONGEST_PROGRAM_REPLIES.as_bytes());
     Ok(())
@@ -49,7 +57,14 @@ fn longest_change(alloc: Global) -> Result<String, AllocError> {
 fn the_longest_links_are_one_change(rt: HostRuntime) -> Result<(), Fail> {
     let lines = longest_change(rt.alloc())?;
     let mut out = Vec::new(rt.alloc());
-    let ended = replay(&rt, rt.alloc(), lines.as_bytes(), &mut out, 1, false);
+    let ended = replay(
+        &rt,
+        rt.alloc(),
+        lines.as_bytes(),
+        &mut out,
+        1,
+        SessionOptions::unlimited(false),
+    );
     assert!(rt; ended.is_ok());
     assert_eq!(rt; out.as_slice(), "ok version 1\n".as_bytes());
     Ok(())

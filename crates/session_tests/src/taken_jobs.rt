@@ -1,6 +1,7 @@
 ghost use Rattle.std.specs.Prelude.{◌≡◌};
 
 use crate::lines::{TEN_VERSIONS, TEN_VERSIONS_REPLIES};
+use hub_requests::limits::SessionOptions;
 use hub_sessions::conversation::session;
 use ingest_workers::hub::Hub;
 use ingest_workers::share::Share;
@@ -16,8 +17,8 @@ use std::thread::Threads;
 use verifier::verify::Verified;
 use version_history::published::{Naming, Published};
 
-/// A reader that gives one line a read. Before each it takes all jobs of the hub and drops them, as workers of other sessions
-/// would that never come to an end.
+/// A reader that gives one line a read. Before each it takes all jobs of the hub and drops them, as workers of other
+/// sessions would that never come to an end.
 #[derive(Drop)]
 struct JobTaker<'a, 'h, 'p, N: Naming + Ledger, R: Wait + Copy> {
     rt: R,
@@ -98,6 +99,16 @@ fn with_jobs_taken<'p, N: Naming + Ledger + Send + Sync, R: Threads + Wait + Cop
         rest: TEN_VERSIONS.as_bytes(),
         jobs: 0,
     };
-    let _ = session(rt, alloc, hub, published, share, &mut reader, out, 2, false);
+    let _ = session(
+        rt,
+        alloc,
+        hub,
+        published,
+        share,
+        &mut reader,
+        out,
+        2,
+        SessionOptions::unlimited(false),
+    );
     reader.jobs
 }

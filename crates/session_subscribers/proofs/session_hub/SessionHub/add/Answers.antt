@@ -1,6 +1,8 @@
-use Rattle.std.proofs.Common.{rules, ◌≡◌, Some, [], ◌∷◌, ◌++◌, Ok, refl, sym, ap, subst, ◌∙◌}
+use Rattle.std.proofs.Common.{rules, ◌≡◌, Some, [], ◌∷◌, ◌++◌, Ok, refl, sym, ap, subst, ◌∙◌, inl, inr}
+use Rattle.std.specs.Prelude.{IsTrue, IsFalse}
 use Rattle.meaning.specs.Step.{Program}
 use Rattle.hub_core.specs.Machine.{Subscribes}
+use Rattle.hub_requests.specs.Limits.{takes_subscriber}
 use Rattle.subscriber_queues.specs.Queue.{Sending}
 use Rattle.ingest_workers.specs.Holdings.{InOneHolding}
 use Rattle.session_subscribers.specs.Holding.{first_of, promise_of, IsNotSubscribed}
@@ -9,33 +11,38 @@ use Rattle.session_subscribers.proofs.session_hub.SessionHub.add.Goals as goal
 
 pub returns-in_err-program-clause-err : goal.returns-in_err-program-clause-err
 returns-in_err-program-clause-err g c =
-    passed_on c.from_residual.result c.in_err-program.field-0.0 _ c.from_residual.ensures.1 (refl, c.in_err-program.ensures.err c.args.capacity c.args.first)
+    passed_on c.from_residual.result c.in_err-program.field-0.0 _ c.from_residual.ensures.1 (refl, refl, inl (c.in_err-program.ensures.err c.args.capacity c.args.first))
 
 pub returns-in_err-check-clause-err : goal.returns-in_err-check-clause-err
 returns-in_err-check-clause-err g c =
     let safe = safe_bytes c.args.profile c.in_ok-program.program c.args.bytes.now c.in_ok-program.ensures.ok in
-    passed_on c.from_residual-in_err-check.result c.in_err-check.field-0.0 _ c.from_residual-in_err-check.ensures.1 (refl, c.in_err-check.ensures c.args.profile c.args.capacity c.args.bytes.now safe)
+    passed_on c.from_residual-in_err-check.result c.in_err-check.field-0.0 _ c.from_residual-in_err-check.ensures.1 (refl, refl, inl (c.in_err-check.ensures c.args.profile c.args.capacity c.args.bytes.now safe))
+
+pub returns-then-not-takes_subscriber-clause-err : goal.returns-then-not-takes_subscriber-clause-err
+returns-then-not-takes_subscriber-clause-err g c =
+    let past : IsFalse (takes_subscriber c.args.left.now) = search rules in
+    (refl, refl, inr (refl, safe_bytes c.args.profile c.in_ok-program.program c.args.bytes.now c.in_ok-program.ensures.ok, past))
 
 pub returns-then-is_err-clause-err : goal.returns-then-is_err-clause-err
 returns-then-is_err-clause-err g c =
-    (c.reserve.ensures.items, safe_bytes c.args.profile c.in_ok-program.program c.args.bytes.now c.in_ok-program.ensures.ok)
+    (c.reserve.ensures.items, refl, inl (safe_bytes c.args.profile c.in_ok-program.program c.args.bytes.now c.in_ok-program.ensures.ok))
 
 pub returns-in_err-sink-clause-err : goal.returns-in_err-sink-clause-err
 returns-in_err-sink-clause-err g c =
     passed_on c.from_residual-in_err-sink.result c.in_err-sink.field-0.0 _ c.from_residual-in_err-sink.ensures.1
-    (c.reserve.ensures.items, c.in_err-sink.ensures.err c.args.profile c.args.bytes.now c.args.first (safe_bytes c.args.profile c.in_ok-program.program c.args.bytes.now c.in_ok-program.ensures.ok))
+    (c.reserve.ensures.items, refl, inl (c.in_err-sink.ensures.err c.args.profile c.args.bytes.now c.args.first (safe_bytes c.args.profile c.in_ok-program.program c.args.bytes.now c.in_ok-program.ensures.ok)))
 
 pub returns-in_err-token-clause-err : goal.returns-in_err-token-clause-err
 returns-in_err-token-clause-err g c =
     let safe = safe_bytes c.args.profile c.in_ok-program.program c.args.bytes.now c.in_ok-program.ensures.ok in
     passed_on c.from_residual-in_err-token.result c.in_err-token.field-0.0 _ c.from_residual-in_err-token.ensures.1
-    (c.reserve.ensures.items, subst (IsNotSubscribed c.args.profile c.args.capacity c.args.bytes.now c.args.first) (sym c.in_err-token.ensures.err) safe)
+    (c.reserve.ensures.items, refl, inl (subst (IsNotSubscribed c.args.profile c.args.capacity c.args.bytes.now c.args.first) (sym c.in_err-token.ensures.err) safe))
 
 pub returns-in_err-id-clause-err : goal.returns-in_err-id-clause-err
 returns-in_err-id-clause-err g c =
     let safe = safe_bytes c.args.profile c.in_ok-program.program c.args.bytes.now c.in_ok-program.ensures.ok in
     passed_on c.from_residual-in_err-id.result c.in_err-id.field-0.0 _ c.from_residual-in_err-id.ensures.1
-    (c.reserve.ensures.items, c.in_err-id.ensures.err c.args.profile c.args.capacity c.args.bytes.now safe)
+    (c.reserve.ensures.items, refl, inl (c.in_err-id.ensures.err c.args.profile c.args.capacity c.args.bytes.now safe))
 
 pub id_at_hub-requires-clause-promise : goal.id_at_hub-requires-clause-promise
 id_at_hub-requires-clause-promise g c =
@@ -43,6 +50,7 @@ id_at_hub-requires-clause-promise g c =
 
 pub returns-clause-ok : goal.returns-clause-ok
 returns-clause-ok g c =
+    let may : IsTrue (takes_subscriber c.args.left.now) = search rules in
     let queue = c.in_ok-sink.sink in
     let promise : queue.promise ≡ Some (promise_of c.args.bytes.now c.args.first) =
     c.in_ok-sink.ensures.sink.2 ∙ ap (λ (p : Program). Some (record { program = p; first = c.args.first })) c.in_ok-program.ensures.ok.1 in
@@ -60,4 +68,6 @@ returns-clause-ok g c =
         holding = subst (λ (q : Sending). InOneHolding (λ old new. Subscribes old (first_of c.args.first old) c.in_ok-token.token q (Ok c.in_ok-id.id) new))
             (λ i. record { line = queue.line; sent = c.in_ok-sink.ensures.sink.0 i; capacity = c.in_ok-sink.ensures.sink.1 i; promise = promise i }) c.in_ok-id.ensures.ok;
       },
+      may,
+      c.spend_subscriber.ensures,
     )
