@@ -1,7 +1,6 @@
 -- How the texts of accepted changes go on, and where they stop.
-use Rattle.std.proofs.Common.{◌≡◌, ◌≢◌, ◌⊎◌, ℕ, ◌<◌, ◌≤◌, eqb, true, false, List, [], ◌∷◌, ◌++◌, length, take, get_or, Some, sym, ap, subst, ◌∙◌, append_assoc, inl, inr, arith}
+use Rattle.std.proofs.Common.{◌≡◌, ◌≢◌, ◌⊎◌, ℕ, ◌<◌, ◌≤◌, eqb, false, List, [], ◌∷◌, ◌++◌, length, take, get_or, Some, sym, ap, subst, ◌∙◌, append_assoc, inl, inr, arith}
 use Rattle.std.specs.List.{flat_map, slice_get}
-use Rattle.std.proofs.lemmas.Bool.{eqb-true}
 use Rattle.std.proofs.lemmas.List.{append-nil, length-take}
 use Rattle.std.proofs.lemmas.Option.{slice_get-get_or}
 use Rattle.std.proofs.lemmas.List.Concat.{flat_map-append}
@@ -20,7 +19,7 @@ use Rattle.hub_commands.specs.declared.spans.Stop.{Stop}
 use Rattle.hub_commands.specs.declared.spans.Stop.TheVariants as stop
 use Rattle.hub_commands.specs.SpansReply.{Begins, next_number, unread, unaccepted}
 use Rattle.hub_commands.specs.Reasons.{in_change}
-use Rattle.hub_commands.specs.Stopping.{MatchStop, StopsAt, StopsWithin, Takes}
+use Rattle.hub_commands.specs.Stopping.{MatchStop, StopsAt, Takes}
 
 pub begins_more : (input rest after : List ℕ) (changes more : List Edit) → Begins input changes rest → Takes changes rest more after → Begins input more after
 begins_more input rest after changes more front taken = subst (λ (all : List Edit). Begins input all after) (sym taken.more) (record {
@@ -41,10 +40,6 @@ pub not_empty : (rest : List ℕ) → eqb (length rest) 0 ≡ false → rest ≢
 not_empty [] e = absurd cc
 not_empty (byte ∷ rest) e = λ same. cc
 
-pub none_left : (input rest : List ℕ) (changes : List Edit) → eqb (length rest) 0 ≡ true → Begins input changes rest → Begins input changes []
-none_left input [] changes e front = front
-none_left input (byte ∷ rest) changes e front = let none : length (byte ∷ rest) ≡ 0 = eqb-true (length (byte ∷ rest)) 0 e in absurd (omega arith)
-
 -- ---- where the changes stop
 pub unread_there : (changes : List Edit) (text : List ℕ) (number : ℕ) (error : ChangeError) (why : Stop) → number ≡ next_number changes
     → (error ≡ reading.OutOfMemory) ⊎ BeginsWithNoChange text error
@@ -62,10 +57,6 @@ pub unaccepted_there : (changes : List Edit) (text rest : List ℕ) (change : Ed
 unaccepted_there changes text rest change number error stop.Memory counted spells because given = tt
 unaccepted_there changes text rest change number error (stop.Refused reason) counted spells because given =
     unaccepted change rest error spells because given.0 (given.1 ∙ ap (λ (n : ℕ). in_change n (Unaccepted error)) counted)
-
-pub stops_within : (input rest : List ℕ) (changes : List Edit) (why : Stop) → Begins input changes rest → rest ≢ [] → StopsAt changes rest why → StopsWithin input why
-stops_within input rest changes stop.Memory front more here = tt
-stops_within input rest changes (stop.Refused reason) front more here = record { changes = changes; rest = rest; before = front; left = more; here = here }
 
 -- ---- at most 4,096 changes are accepted
 pub few_accepted : (changes : List Edit) → AreAccepted changes → length changes ≤ 4096

@@ -3,3 +3,5 @@ pub mod Accepting
 pub mod Explaining
 pub mod Decoding
 pub mod Gathering
+pub mod Appending
+pub mod ReadingChanges

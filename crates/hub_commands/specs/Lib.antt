@@ -8,5 +8,6 @@ pub mod Reasons
 pub mod Programs
 pub mod SpansReply
 pub mod Stopping
+pub mod ChangesInput
 pub mod Requests
 pub mod Explained

@@ -41,9 +41,10 @@ pub record Stops (input : List ℕ) (reason : ChangeReason) : Type 0 where
   pub left : rest ≢ []
   pub here : IsStopped changes rest reason
 
--- The spans of the changes' operations, or why the first change that isn't one of them is refused.
+-- The spans of the changes' operations, or why the first change that isn't one of them is refused; of an input that isn't
+-- UTF-8, only that.
 pub data IsSpansReply (input : List ℕ) (reply : Reply) : Type 0 where
   no_text : ¬ (IsUtf8 input) → reply ≡ refusal TextRefused → IsSpansReply input reply
   shown : (changes : List Edit) (spans : List Span) → Begins input changes [] → AreSpans (operations_of changes) spans → reply ≡ done (span_lines spans)
       → IsSpansReply input reply
-  stopped : (reason : ChangeReason) → Stops input reason → reply ≡ change_refusal reason → IsSpansReply input reply
+  stopped : (reason : ChangeReason) → IsUtf8 input → Stops input reason → reply ≡ change_refusal reason → IsSpansReply input reply

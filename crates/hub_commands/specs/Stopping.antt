@@ -3,7 +3,7 @@ use Rattle.std.specs.Prelude.{◌≡◌, ℕ, List, [], ◌∷◌, ◌++◌}
 use Rattle.change_ops.specs.Changes.{Edit}
 use Rattle.change_ops.specs.Spelling.{Spells}
 use Rattle.change_history.specs.Accepted.{IsAccepted}
-use Rattle.hub_commands.specs.SpansReply.{IsStopped, Stops}
+use Rattle.hub_commands.specs.SpansReply.{IsStopped}
 use Rattle.refusals.specs.declared.reason.ChangeReason.{ChangeReason}
 use Rattle.hub_commands.specs.declared.spans.Stop.{Stop}
 use Rattle.hub_commands.specs.declared.spans.Stop.TheVariants as stop
@@ -16,10 +16,6 @@ MatchStop (stop.Refused reason) Wanting Because = Because reason
 -- a stop at the front of a text, after these changes
 abbrev pub StopsAt : List Edit → List ℕ → Stop → Type 0
 StopsAt changes text why = MatchStop why (Unit {0}) (IsStopped changes text)
-
--- a stop somewhere in an input
-abbrev pub StopsWithin : List ℕ → Stop → Type 0
-StopsWithin input why = MatchStop why (Unit {0}) (Stops input)
 
 -- the change at the front of a text is taken in; this follows it
 pub record Takes (old : List Edit) (text : List ℕ) (new : List Edit) (rest : List ℕ) : Type 0 where

@@ -1,7 +1,7 @@
 ghost use Rattle.std.specs.Prelude.{◌≡◌, ◌+◌, ◌<◌, ◌^◌, take, IfOk, IfSome};
 
 use crate::failure::Failure;
-use crate::pieces::{Gather, read_pieces};
+use crate::pieces::{Gather, append, read_pieces};
 use std::alloc::{AllocError, Global};
 use std::io::Read;
 
@@ -16,13 +16,8 @@ impl Gather for Whole {
 
     ghost keeps = { λ input whole. whole.bytes.items ≡ input };
 
-    /// Room is made for a quarter more than is there, so that at most a quarter is held beside the input.
     fn push_piece(&mut self, piece: &[u8]) -> Result<(), AllocError> {
-        let bytes = &mut self.bytes;
-        if bytes.capacity() - bytes.len() < piece.len() {
-            bytes.reserve_exact(piece.len().max(bytes.len() / 4))?;
-        }
-        bytes.extend_from_slice(piece)
+        append(&mut self.bytes, piece)
     }
 }
 

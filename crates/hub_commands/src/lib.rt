@@ -3,6 +3,7 @@
 
 mod answer;
 mod asm;
+mod changes_input;
 mod check;
 mod digits;
 mod dis;

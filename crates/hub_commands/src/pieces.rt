@@ -19,6 +19,16 @@ pub(crate) trait Gather {
         ensures { OnOk result ((input : List ℕ) → keeps input self.old → keeps (input ++ piece.now) self.new) };
 }
 
+/// Appends a piece. Room is made for a quarter more than is there, so that at most a quarter is held beside the bytes.
+pub(crate) fn append(bytes: &mut Vec<u8>, piece: &[u8]) -> Result<(), AllocError>
+    ensures { OnOk result (bytes.new.items ≡ bytes.old.items ++ piece.now) }
+{
+    if bytes.capacity() - bytes.len() < piece.len() {
+        bytes.reserve_exact(piece.len().max(bytes.len() / 4))?;
+    }
+    bytes.extend_from_slice(piece)
+}
+
 /// Takes in all that a reader has, in pieces.
 fn take_from<R: Read, G: Gather>(
     reader: &mut R,

@@ -1,5 +1,5 @@
 //! The command `spans`: the spans of the version that the changes of its input make.
-ghost use Rattle.std.specs.Prelude.{◌≡◌, ◌≢◌, ◌<◌, List, [], length, IfOk, IfSome, MatchResult};
+ghost use Rattle.std.specs.Prelude.{◌≡◌, ◌≢◌, ◌<◌, List, ℕ, length, IfOk, IfSome, MatchResult, OnErr};
 ghost use Rattle.std.specs.Str.{IsUtf8};
 ghost use Rattle.change_ops.specs.declared.refusal.ChangeError.TheVariants.{OutOfMemory as NoMemory};
 ghost use Rattle.span_flatten.specs.Spans.{Span, AreSpans};
@@ -7,17 +7,17 @@ ghost use Rattle.change_history.specs.Accepted.{operations_of};
 ghost use Rattle.change_history.specs.declared.refusal.SubmitError.TheVariants.{OutOfMemory};
 ghost use Rattle.refusals.specs.declared.reason.Reason.TheVariants.{Unread, Unaccepted};
 ghost use Rattle.hub_commands.specs.Answers.{done, IsAnswered};
+ghost use Rattle.hub_commands.specs.ChangesInput.{IsWholeInput, fault_reply};
 ghost use Rattle.hub_commands.specs.Hints.{text_hint};
 ghost use Rattle.hub_commands.specs.Reasons.{in_change};
 ghost use Rattle.span_lines.specs.SpanLines.{span_lines};
-ghost use Rattle.hub_commands.specs.SpansReply.{Begins, IsSpansReply};
-ghost use Rattle.hub_commands.specs.Stopping.{MatchStop, StopsAt, StopsWithin, Takes};
+ghost use Rattle.hub_commands.specs.SpansReply.{IsSpansReply};
+ghost use Rattle.hub_commands.specs.Stopping.{MatchStop, StopsAt, Takes};
 
 use crate::answer::Answer;
+use crate::changes_input::{ChangesInput, Fault};
 use crate::ended::Ended;
 use crate::failure::Failure;
-use crate::hint::text_hint;
-use crate::input::read_input;
 use crate::output::write_answer;
 use change_history::history::History;
 use change_history::refusal::SubmitError;
@@ -30,7 +30,7 @@ use std::io::{Read, Write};
 
 /// Why the changes of an input make no version.
 #[derive(Drop)]
-enum Stop {
+pub(crate) enum Stop {
     /// A change can't be read, or isn't accepted after those before it.
     Refused(ChangeReason),
     /// No memory was found.
@@ -64,10 +64,15 @@ fn unaccepted(number: usize, error: SubmitError) -> Stop
 }
 
 /// Takes the change at the front of the text in, and lends what follows it.
-fn take_change<'a>(alloc: Global, history: &mut History, text: &'a str) -> Result<&'a str, Stop>
+pub(crate) fn take_change<'a>(
+    alloc: Global,
+    history: &mut History,
+    text: &'a str,
+) -> Result<&'a str, Stop>
     ensures taken { MatchResult result (λ rest. Takes history.old text.now history.new rest.now) (StopsAt history.old text.now) }
     ensures text { IfOk result (λ rest. IsUtf8 rest.now) }
     ensures shorter { IfOk result (λ rest. length rest.now < length text.now) }
+    ensures unchanged { OnErr result (history.new ≡ history.old) }
 {
     let number = history.len() + 1;
     let (change, rest) = match read_change(alloc, text) {
@@ -80,18 +85,6 @@ fn take_change<'a>(alloc: Global, history: &mut History, text: &'a str) -> Resul
     }
 }
 
-/// Reads and accepts changes one behind the other, to the end of the text.
-fn history_of(alloc: Global, text: &str) -> Result<History, Stop>
-    ensures { MatchResult result (λ changes. Begins text.now changes []) (StopsWithin text.now) }
-{
-    let mut history = History::new(alloc);
-    let mut rest: &str = text;
-    while !rest.is_empty() {
-        rest = take_change(alloc, &mut history, rest)?;
-    }
-    Ok(history)
-}
-
 /// The spans that the changes of a history make.
 fn shown(alloc: Global, history: &History) -> Result<Answer, AllocError>
     ensures { IfOk result (λ answer. (spans : List Span) × AreSpans (operations_of history.now) spans × (answer ≡ done (span_lines spans))) }
@@ -101,17 +94,23 @@ fn shown(alloc: Global, history: &History) -> Result<Answer, AllocError>
     Ok(Answer::done(lines))
 }
 
-/// What `spans` answers to its input.
-fn spans_answer(alloc: Global, input: &[u8]) -> Result<Answer, AllocError>
-    ensures { IfOk result (λ answer. IsSpansReply input.now answer) }
+/// What `spans` answers to an input that is refused.
+fn fault_answer(alloc: Global, fault: Fault) -> Result<Answer, AllocError>
+    ensures { IfOk result (λ answer. answer ≡ fault_reply fault) }
 {
-    let Ok(text) = std::str::from_utf8(input) else {
-        return Answer::refused(alloc, &Reason::TextRefused);
-    };
-    match history_of(alloc, text) {
-        Ok(history) => shown(alloc, &history),
-        Err(Stop::Refused(reason)) => Answer::refused(alloc, &reason),
-        Err(Stop::Memory) => Err(AllocError),
+    match fault {
+        Fault::NotText => Answer::refused(alloc, &Reason::TextRefused),
+        Fault::Change(reason) => Answer::refused(alloc, &reason),
+    }
+}
+
+/// What `spans` answers to its input.
+fn spans_answer(alloc: Global, input: &ChangesInput) -> Result<Answer, AllocError>
+    ensures { IfOk result (λ answer. (bytes : List ℕ) → IsWholeInput bytes input.now → IsSpansReply bytes answer) }
+{
+    match input.fault {
+        None => shown(alloc, &input.history),
+        Some(fault) => fault_answer(alloc, fault),
     }
 }
 
@@ -125,11 +124,11 @@ pub fn spans<R: Read, W: Write>(
         (W.contents writer.old) (W.contents writer.new) ended.status) }
     ensures hinted { IfOk result (λ ended. IfSome (R.remaining reader.old) (λ input. ended.hint ≡ text_hint input)) }
 {
-    let input = read_input(alloc, reader)?;
+    let input = ChangesInput::read(alloc, reader)?;
     let answer = spans_answer(alloc, &input)?;
     let status = write_answer(writer, &answer)?;
     Ok(Ended {
         status,
-        hint: text_hint(&input),
+        hint: input.hint(),
     })
 }

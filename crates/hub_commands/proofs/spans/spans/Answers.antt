@@ -1,7 +1,10 @@
-use Rattle.hub_commands.specs.SpansReply.{IsSpansReply}
-use Rattle.hub_commands.proofs.Replies.{answered}
+use Rattle.hub_commands.proofs.ReadingChanges.{whole_answered, whole_hinted}
 use Rattle.hub_commands.proofs.spans.spans.Goals as goal
 
 pub returns-clause-answered : goal.returns-clause-answered
-returns-clause-answered g c = answered IsSpansReply _ _ _ c.in_ok-input.input.items c.deref.result.now c.in_ok-answer.answer c.in_ok-status.status c.in_ok-input.ensures c.deref.ensures.value
-    c.in_ok-answer.ensures c.in_ok-status.ensures
+returns-clause-answered g c =
+    whole_answered (g.R.Read.remaining c.args.reader.now) (g.W.Write.contents c.args.writer.now) _ c.in_ok-input.input c.in_ok-answer.answer c.in_ok-status.status c.in_ok-input.ensures c.in_ok-answer.ensures
+    c.in_ok-status.ensures
+
+pub returns-clause-hinted : goal.returns-clause-hinted
+returns-clause-hinted g c = whole_hinted (g.R.Read.remaining c.args.reader.now) c.in_ok-input.input c.hint.result c.in_ok-input.ensures c.hint.ensures

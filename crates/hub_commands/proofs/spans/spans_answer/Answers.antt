@@ -1,19 +1,19 @@
-use Rattle.std.proofs.Common.{◌≡◌, ℕ, List, [], subst}
+use Rattle.std.proofs.Common.{ℕ, List}
 use Rattle.hub_commands.specs.Answers.{Reply}
-use Rattle.hub_commands.specs.Reasons.{change_refusal}
-use Rattle.hub_commands.specs.SpansReply.{Begins, Stops, shown, stopped, IsSpansReply}
+use Rattle.hub_commands.specs.ChangesInput.{IsWholeInput}
+use Rattle.hub_commands.specs.SpansReply.{IsSpansReply}
 use Rattle.hub_commands.proofs.Replies.{mapped}
+use Rattle.hub_commands.proofs.ReadingChanges.{answers_fault, answers_spans}
 use Rattle.hub_commands.proofs.spans.spans_answer.Goals as goal
 
-pub returns-in-Ok-history_of : goal.returns-in-Ok-history_of
-returns-in-Ok-history_of c =
-    let changes = c.in-Ok-history_of.history in
-    let whole : Begins c.args.input.now changes [] = subst (λ (bytes : List ℕ). Begins bytes changes []) c.in-Ok.ensures.cases.0 c.in-Ok-history_of.ensures in
-    mapped _ (IsSpansReply c.args.input.now) c.shown.result c.shown.ensures (λ (answer : Reply) made. shown changes made.0 whole made.1 made.2)
+pub returns-in-None : goal.returns-in-None
+returns-in-None c =
+    let input = c.args.input.now in
+    mapped _ (λ (answer : Reply). (bytes : List ℕ) → IsWholeInput bytes input → IsSpansReply bytes answer) c.shown.result c.shown.ensures (λ (answer : Reply) made bytes whole.
+    answers_spans bytes input.history input.fault answer c.in-None.is made whole.concluded)
 
-pub returns-in-Err-Refused : goal.returns-in-Err-Refused
-returns-in-Err-Refused c =
-    let reason = c.in-Err-Refused.reason in
-    let because : Stops c.in-Ok.text.now reason = rw c.in-Err-Refused.field-0-is at c.in-Err-Refused.ensures in
-    let here : Stops c.args.input.now reason = subst (λ (bytes : List ℕ). Stops bytes reason) c.in-Ok.ensures.cases.0 because in
-    mapped (λ (answer : Reply). answer ≡ change_refusal reason) (IsSpansReply c.args.input.now) c.refused-in-Err-Refused.result c.refused-in-Err-Refused.ensures (λ answer given. stopped reason here given)
+pub returns-in-Some : goal.returns-in-Some
+returns-in-Some c =
+    let input = c.args.input.now in
+    mapped _ (λ (answer : Reply). (bytes : List ℕ) → IsWholeInput bytes input → IsSpansReply bytes answer) c.fault_answer.result c.fault_answer.ensures (λ (answer : Reply) made bytes whole.
+    answers_fault bytes input.history input.fault c.in-Some.fault answer c.in-Some.is made whole.concluded)

@@ -1,0 +1,15 @@
+use Rattle.std.proofs.Common.{ℕ, List, ◌++◌, subst, sym}
+use Rattle.hub_commands.specs.ChangesInput.{Holds}
+use Rattle.hub_commands.proofs.ReadingChanges.{on_ok, pushed}
+use Rattle.hub_commands.proofs.changes_input.ChangesInputGather.push_piece.Goals as goal
+
+pub returns : goal.returns
+returns c =
+    let self = c.args.self.now in
+    let piece = c.args.piece.now in
+    on_ok _ _ c.read_lines.result c.read_lines.ensures (λ step input kept.
+    let P : List ℕ → Type 0 = λ l. Holds (input ++ piece) self.history l self.fault in
+    step (input ++ piece) (record {
+      front = c.in_ok-keep_front.ensures input kept.front;
+      held = subst P (sym c.in_ok-append.ensures) (pushed input self.left.items piece self.history self.fault kept.held);
+    }))
