@@ -40,4 +40,5 @@ pub record IsWritten (reply : Reply) (old new : Option (List ℕ)) (status : ℕ
 
 -- an input that is known was answered by such a reply
 abbrev pub IsAnswered : (List ℕ → Reply → Type 0) → Option (List ℕ) → Option (List ℕ) → Option (List ℕ) → ℕ → Type 0
-IsAnswered IsReply input old new status = IfSome input (λ bytes. (reply : Reply) × IsReply bytes reply × IsWritten reply old new status)
+IsAnswered IsReply input old new status =
+    IfSome input (λ bytes. (reply : Reply) × IsReply bytes reply × IsWritten reply old new status)

@@ -17,7 +17,8 @@ pub record IsTextUpTo (input left : List ℕ) : Type 0 where
   pub whole : input ≡ before ++ left
   pub text : IsUtf8 before
 
--- Changes at the front of a text were accepted after the old ones; the rest follows them, whatever stands behind the text.
+-- Changes at the front of a text were accepted after the old ones; the rest follows them, whatever stands behind the
+-- text.
 pub record Advances (old : List Edit) (text : List ℕ) (new : List Edit) (rest : List ℕ) : Type 0 where
   pub taken : IsTextUpTo text rest
   pub follows : (input behind : List ℕ) → Begins input old (text ++ behind) → Begins input new (rest ++ behind)
@@ -30,13 +31,15 @@ EndsWith changes rest (Some reason) = (rest ≢ []) × IsStopped changes rest re
 -- the changes of whole lines were accepted up to the rest, or one is refused, whatever stands behind the lines
 abbrev pub TakesLines : List Edit → List ℕ → List Edit → List ℕ → Option ChangeReason → Type 0
 TakesLines old lines new rest None = Advances old lines new rest
-TakesLines old lines new rest (Some reason) = (rest ≡ []) × ((input behind : List ℕ) → Begins input old (lines ++ behind) → Stops input reason)
+TakesLines old lines new rest (Some reason) =
+    (rest ≡ []) × ((input behind : List ℕ) → Begins input old (lines ++ behind) → Stops input reason)
 
 -- what the bytes that were read say of the input, whatever follows them
 abbrev pub Holds : List ℕ → List Edit → List ℕ → Option Fault → Type 0
 Holds input changes left None = IsTextUpTo input left × Begins input changes left
 Holds input changes left (Some NotText) = (more : List ℕ) → ¬ (IsUtf8 (input ++ more))
-Holds input changes left (Some (Change reason)) = IsTextUpTo input left × ((more : List ℕ) → Stops (input ++ more) reason)
+Holds input changes left (Some (Change reason)) =
+    IsTextUpTo input left × ((more : List ℕ) → Stops (input ++ more) reason)
 
 -- these bytes were read
 pub record IsChangesInput (input : List ℕ) (kept : ChangesInput) : Type 0 where

@@ -21,8 +21,8 @@ use Rattle.hub_commands.specs.Hexadecimal.{without_blanks}
 use Rattle.hub_commands.specs.Reasons.{refusal}
 use Rattle.hub_commands.specs.Programs.{IsProgramReply}
 
--- of an accepted program: a number of steps that no run goes beyond, and a list of what can be read that determines the outcome, with
--- further text behind
+-- of an accepted program: a number of steps that no run goes beyond, and a list of what can be read that determines the
+-- outcome, with further text behind
 pub record IsExplanation (profile : Profile) (code : Program) (text : List ℕ) : Type 0 where
   pub steps : ℕ
   pub most : (bytes : SpanBytes) → IsSpan bytes → outcome_from code bytes steps start ≡ outcome code bytes
@@ -33,10 +33,13 @@ pub record IsExplanation (profile : Profile) (code : Program) (text : List ℕ) 
 
 -- of a program: what `check` answers, and behind it what is known of the program
 pub data IsExplainedReply (profile : Profile) (bytes : List ℕ) (reply : Reply) : Type 0 where
-  accepted : (text : List ℕ) → IsStructured (program_of bytes) → SafeIn profile (program_of bytes) → IsExplanation profile (program_of bytes) text
-      → reply ≡ done (line (codes "accepted " ++ decimal (length (program_of bytes))) ++ text) → IsExplainedReply profile bytes reply
+  accepted : (text : List ℕ) → IsStructured (program_of bytes) → SafeIn profile (program_of bytes)
+      → IsExplanation profile (program_of bytes) text
+      → reply ≡ done (line (codes "accepted " ++ decimal (length (program_of bytes))) ++ text)
+      → IsExplainedReply profile bytes reply
   rejected : (text : List ℕ) (error : VerifyError) → Rejects profile (program_of bytes) error
-      → reply ≡ record (refusal (Unverified error)) { text = (refusal (Unverified error)).text ++ text } → IsExplainedReply profile bytes reply
+      → reply ≡ record (refusal (Unverified error)) { text = (refusal (Unverified error)).text ++ text }
+      → IsExplainedReply profile bytes reply
 
 -- `check --explain`: of digits that are a program's bytes, that
 unfoldable pub IsExplainReply : Profile → List ℕ → Reply → Type 0

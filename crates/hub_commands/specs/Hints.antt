@@ -21,7 +21,8 @@ text_hint input = if begins_with_mark input then Some ByteOrderMark else None
 
 -- to hexadecimal digits
 unfoldable pub digits_hint : List ℕ → Option Hint
-digits_hint input = if begins_with_mark input then Some ByteOrderMark else (if list_all is_printable input then None else Some Binary)
+digits_hint input =
+    if begins_with_mark input then Some ByteOrderMark else (if list_all is_printable input then None else Some Binary)
 
 -- to the input of a command
 abbrev pub hint_to : Command → List ℕ → Option Hint

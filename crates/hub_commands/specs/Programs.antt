@@ -10,7 +10,8 @@ use Rattle.bpf_words.specs.declared.refusal.WordError.{WordError}
 use Rattle.bpf_words.specs.Words.{IsProgram, IsRefused, program_of}
 use Rattle.bpf_words.specs.Context.{SpanBytes, span_bytes, context_bytes}
 use Rattle.meaning.specs.declared.FaultKind.{FaultKind}
-use Rattle.meaning.specs.declared.FaultKind.TheVariants.{UnsetRegister, BadAddress, ReadOnly, UnsetStack, BadInstruction, OutOfCode, WriteR10}
+use Rattle.meaning.specs.declared.FaultKind.TheVariants.{UnsetRegister, BadAddress, ReadOnly, UnsetStack}
+use Rattle.meaning.specs.declared.FaultKind.TheVariants.{BadInstruction, OutOfCode, WriteR10}
 use Rattle.meaning.specs.declared.Outcome.{Outcome}
 use Rattle.meaning.specs.declared.Outcome.TheVariants.{Done, Fault, OutOfSteps}
 use Rattle.meaning.specs.Outcomes.{outcome}
@@ -30,26 +31,34 @@ use Rattle.hub_commands.specs.Reasons.{refusal}
 -- `asm`: of a source that is UTF-8, the slots that it is text of, or the first line at fault
 pub data IsAsmReply (source : List ℕ) (reply : Reply) : Type 0 where
   no_text : ¬ (IsUtf8 source) → reply ≡ refusal TextRefused → IsAsmReply source reply
-  no_source : (error : AsmError) → IsUtf8 source → AsmFault source error → reply ≡ refusal (Source error) → IsAsmReply source reply
-  assembled : (bytes : List ℕ) → IsUtf8 source → AsmText source bytes → reply ≡ done (slot_lines bytes) → IsAsmReply source reply
+  no_source : (error : AsmError) → IsUtf8 source → AsmFault source error → reply ≡ refusal (Source error)
+      → IsAsmReply source reply
+  assembled : (bytes : List ℕ) → IsUtf8 source → AsmText source bytes → reply ≡ done (slot_lines bytes)
+      → IsAsmReply source reply
 
 -- of digits that are a program's bytes, what is answered to the program; else the first reason why they aren't
 pub data IsProgramReply (Replies : List ℕ → Reply → Type 0) (digits : List ℕ) (reply : Reply) : Type 0 where
-  no_hex : (error : FromHexError) → decode_of digits ≡ Err error → reply ≡ refusal BadHex → IsProgramReply Replies digits reply
-  no_program : (bytes : List ℕ) (error : WordError) → decode_of digits ≡ Ok bytes → IsRefused bytes error → reply ≡ refusal (Words error)
+  no_hex : (error : FromHexError) → decode_of digits ≡ Err error → reply ≡ refusal BadHex
       → IsProgramReply Replies digits reply
-  program : (bytes : List ℕ) → decode_of digits ≡ Ok bytes → IsProgram bytes → Replies bytes reply → IsProgramReply Replies digits reply
+  no_program : (bytes : List ℕ) (error : WordError) → decode_of digits ≡ Ok bytes → IsRefused bytes error
+      → reply ≡ refusal (Words error)
+      → IsProgramReply Replies digits reply
+  program : (bytes : List ℕ) → decode_of digits ≡ Ok bytes → IsProgram bytes → Replies bytes reply
+      → IsProgramReply Replies digits reply
 
 -- `dis`: a program's canonical text
 unfoldable pub IsDisReply : List ℕ → Reply → Type 0
-IsDisReply input reply = IsProgramReply (λ bytes given. given ≡ done (canonical (program_of bytes))) (without_blanks input) reply
+IsDisReply input reply =
+    IsProgramReply (λ bytes given. given ≡ done (canonical (program_of bytes))) (without_blanks input) reply
 
--- of a program: how many slots it has, where it is structured and every run of it on what the profile lends ends with a number; or why
--- it isn't accepted
+-- of a program: how many slots it has, where it is structured and every run of it on what the profile lends ends with a
+-- number; or why it isn't accepted
 pub data IsAcceptanceReply (profile : Profile) (bytes : List ℕ) (reply : Reply) : Type 0 where
-  accepted : IsStructured (program_of bytes) → SafeIn profile (program_of bytes) → reply ≡ done (line (codes "accepted " ++ decimal (length (program_of bytes))))
+  accepted : IsStructured (program_of bytes) → SafeIn profile (program_of bytes)
+      → reply ≡ done (line (codes "accepted " ++ decimal (length (program_of bytes))))
       → IsAcceptanceReply profile bytes reply
-  rejected : (error : VerifyError) → Rejects profile (program_of bytes) error → reply ≡ refusal (Unverified error) → IsAcceptanceReply profile bytes reply
+  rejected : (error : VerifyError) → Rejects profile (program_of bytes) error → reply ≡ refusal (Unverified error)
+      → IsAcceptanceReply profile bytes reply
 
 -- `check`: whether a program is accepted
 unfoldable pub IsCheckReply : Profile → List ℕ → Reply → Type 0
@@ -110,7 +119,8 @@ IsRunReply digits options text reply = IsProgramReply (IsSpanReply options text)
 -- of a program on a span with a text: what `run` answers, behind further text where the program is run
 pub data IsTracedReply (options : SpanOptions) (text : List ℕ) (bytes : List ℕ) (reply : Reply) : Type 0 where
   not_run : ¬ (IsSpanText text) → reply ≡ refusal TextRefused → IsTracedReply options text bytes reply
-  traced : (steps : List ℕ) → IsSpanText text → reply ≡ behind steps (outcome_reply (outcome (program_of bytes) (bytes_of options text)))
+  traced : (steps : List ℕ) → IsSpanText text
+      → reply ≡ behind steps (outcome_reply (outcome (program_of bytes) (bytes_of options text)))
       → IsTracedReply options text bytes reply
 
 -- `run --trace`: what `run` answers, behind the lines of the steps where the program is run

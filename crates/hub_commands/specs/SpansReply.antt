@@ -26,11 +26,13 @@ pub record Begins (input : List ℕ) (changes : List Edit) (rest : List ℕ) : T
 abbrev pub next_number : List Edit → ℕ
 next_number changes = length changes + 1
 
--- Why no change at the front of a text follows these: none can be read, by the grammar of changes, or the one that stands
--- there isn't accepted. Want of memory is no fault of the input.
+-- Why no change at the front of a text follows these: none can be read, by the grammar of changes, or the one that
+-- stands there isn't accepted. Want of memory is no fault of the input.
 pub data IsStopped (changes : List Edit) (text : List ℕ) (reason : ChangeReason) : Type 0 where
-  unread : (error : ChangeError) → BeginsWithNoChange text error → reason ≡ in_change (next_number changes) (Unread error) → IsStopped changes text reason
-  unaccepted : (change : Edit) (rest : List ℕ) (error : SubmitError) → Spells text change rest → IsRefused changes change error → error ≢ OutOfMemory
+  unread : (error : ChangeError) → BeginsWithNoChange text error
+      → reason ≡ in_change (next_number changes) (Unread error) → IsStopped changes text reason
+  unaccepted : (change : Edit) (rest : List ℕ) (error : SubmitError) → Spells text change rest
+      → IsRefused changes change error → error ≢ OutOfMemory
       → reason ≡ in_change (next_number changes) (Unaccepted error) → IsStopped changes text reason
 
 -- why the changes of an input end before it does
@@ -41,10 +43,12 @@ pub record Stops (input : List ℕ) (reason : ChangeReason) : Type 0 where
   pub left : rest ≢ []
   pub here : IsStopped changes rest reason
 
--- The spans of the changes' operations, or why the first change that isn't one of them is refused; of an input that isn't
--- UTF-8, only that.
+-- The spans of the changes' operations, or why the first change that isn't one of them is refused; of an input that
+-- isn't UTF-8, only that.
 pub data IsSpansReply (input : List ℕ) (reply : Reply) : Type 0 where
   no_text : ¬ (IsUtf8 input) → reply ≡ refusal TextRefused → IsSpansReply input reply
-  shown : (changes : List Edit) (spans : List Span) → Begins input changes [] → AreSpans (operations_of changes) spans → reply ≡ done (span_lines spans)
+  shown : (changes : List Edit) (spans : List Span) → Begins input changes [] → AreSpans (operations_of changes) spans
+      → reply ≡ done (span_lines spans)
       → IsSpansReply input reply
-  stopped : (reason : ChangeReason) → IsUtf8 input → Stops input reason → reply ≡ change_refusal reason → IsSpansReply input reply
+  stopped : (reason : ChangeReason) → IsUtf8 input → Stops input reason → reply ≡ change_refusal reason
+      → IsSpansReply input reply

@@ -44,7 +44,8 @@ pub(crate) struct ChangesInput {
 
 /// Keeps the first bytes of an input, of which a piece comes next.
 fn keep_front(front: &mut Vec<u8>, piece: &[u8]) -> Result<(), AllocError>
-    ensures { OnOk result ((input : List ℕ) → front.old.items ≡ take 3 input → front.new.items ≡ take 3 (input ++ piece.now)) }
+    ensures { OnOk result ((input : List ℕ) → front.old.items ≡ take 3 input
+        → front.new.items ≡ take 3 (input ++ piece.now)) }
 {
     for byte in piece {
         keep(front, MARK_BYTES, *byte)?;

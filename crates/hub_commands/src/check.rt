@@ -48,7 +48,8 @@ pub fn acceptance_answer(
 
 /// What `check` answers to a program in hexadecimal.
 pub fn check_answer(alloc: Global, profile: Profile, digits: &Digits) -> Result<Answer, AllocError>
-    ensures { IfOk result (λ answer. (input : List ℕ) → AreDigits (without_blanks input) digits.now → IsCheckReply profile input answer) }
+    ensures { IfOk result (λ answer. (input : List ℕ) → AreDigits (without_blanks input) digits.now
+        → IsCheckReply profile input answer) }
 {
     let Some(bytes) = digits.bytes(alloc)? else {
         return Answer::refused(alloc, &Reason::BadHex);

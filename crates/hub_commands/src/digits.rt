@@ -22,7 +22,8 @@ pub struct Digits {
 
 /// Appends a byte to the first ones of a text, where fewer are there than are kept.
 pub fn keep(kept: &mut Vec<u8>, most: usize, byte: u8) -> Result<(), AllocError>
-    ensures { OnOk result ((bytes : List ℕ) → kept.old.items ≡ take most bytes → kept.new.items ≡ take most (bytes ++ byte ∷ [])) }
+    ensures { OnOk result ((bytes : List ℕ) → kept.old.items ≡ take most bytes
+        → kept.new.items ≡ take most (bytes ++ byte ∷ [])) }
 {
     if kept.len() < most {
         kept.push(byte)?;
@@ -50,7 +51,8 @@ impl Digits {
 
     /// Takes in the next digit.
     pub fn push(&mut self, byte: u8) -> Result<(), AllocError>
-        ensures { OnOk result ((digits : List ℕ) → AreDigits digits self.old → AreDigits (digits ++ byte ∷ []) self.new) }
+        ensures { OnOk result ((digits : List ℕ) → AreDigits digits self.old
+            → AreDigits (digits ++ byte ∷ []) self.new) }
     {
         keep(&mut self.first, MOST_DIGITS, byte)?;
         self.is_odd = !self.is_odd;

@@ -19,7 +19,8 @@ use std::io::{Read, Write};
 
 /// What `dis` answers to a program in hexadecimal: its canonical text.
 pub fn dis_answer(alloc: Global, digits: &Digits) -> Result<Answer, AllocError>
-    ensures { IfOk result (λ answer. (input : List ℕ) → AreDigits (without_blanks input) digits.now → IsDisReply input answer) }
+    ensures { IfOk result (λ answer. (input : List ℕ) → AreDigits (without_blanks input) digits.now
+        → IsDisReply input answer) }
 {
     let Some(bytes) = digits.bytes(alloc)? else {
         return Answer::refused(alloc, &Reason::BadHex);

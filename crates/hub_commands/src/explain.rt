@@ -88,7 +88,8 @@ fn steps_from(steps: &[usize], slot: usize, insn: &Insn) -> usize
     past.max(behind) + 1
 }
 
-/// The greatest number of steps of a program whose jumps all lead forward: the instructions on its longest path. No run takes more.
+/// The greatest number of steps of a program whose jumps all lead forward: the instructions on its longest path. No run
+/// takes more.
 fn most_steps(alloc: Global, words: &Words<'_>) -> Result<usize, AllocError>
     requires structured { IsStructured (program_of words.now) }
     requires safe { Safe (program_of words.now) }
@@ -105,8 +106,8 @@ fn most_steps(alloc: Global, words: &Words<'_>) -> Result<usize, AllocError>
     Ok(steps[0])
 }
 
-/// Appends the instruction at which a program is refused, and the state before it where the instruction is refused for that; the same
-/// of all instructions up to there where the whole program is to be listed.
+/// Appends the instruction at which a program is refused, and the state before it where the instruction is refused for
+/// that; the same of all instructions up to there where the whole program is to be listed.
 fn push_refused(
     alloc: Global,
     text: &mut String,
@@ -165,8 +166,8 @@ fn listing(
     Ok(text)
 }
 
-/// What is answered to an accepted program: what `check` answers, the greatest number of its steps, and what it can read of a span; then
-/// its listing, where that is asked for.
+/// What is answered to an accepted program: what `check` answers, the greatest number of its steps, and what it can
+/// read of a span; then its listing, where that is asked for.
 fn accepted_answer(
     alloc: Global,
     words: &Words<'_>,
@@ -188,8 +189,8 @@ fn accepted_answer(
     Ok(Answer::done(text))
 }
 
-/// What `check` answers to a program, and behind it what is known of the program. The verifier is asked once, so that both are of one
-/// answer of it where memory is short.
+/// What `check` answers to a program, and behind it what is known of the program. The verifier is asked once, so that
+/// both are of one answer of it where memory is short.
 fn explained_answer(
     alloc: Global,
     words: &Words<'_>,
@@ -223,7 +224,8 @@ pub fn explain_answer(
     }
 }
 
-/// The commands `check --explain` and `check --explain=all`: whether a program in hexadecimal is accepted, and what the verifier knows of it.
+/// The commands `check --explain` and `check --explain=all`: whether a program in hexadecimal is accepted, and what the
+/// verifier knows of it.
 pub fn explain<R: Read, W: Write>(
     alloc: Global,
     profile: Profile,

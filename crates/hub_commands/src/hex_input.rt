@@ -39,7 +39,8 @@ impl HexInput {
 
     /// Takes in the next byte.
     fn push(&mut self, byte: u8) -> Result<(), AllocError>
-        ensures { OnOk result ((input : List ℕ) → IsHexInput input self.old → IsHexInput (input ++ byte ∷ []) self.new) }
+        ensures { OnOk result ((input : List ℕ) → IsHexInput input self.old
+            → IsHexInput (input ++ byte ∷ []) self.new) }
     {
         keep(&mut self.front, MARK_BYTES, byte)?;
         self.are_printable &= is_printable(byte);

@@ -102,8 +102,8 @@ fn push_slot(text: &mut String, index: usize, slot: Slot) -> Result<(), AllocErr
     text.push('\n')
 }
 
-/// Appends a line for each register and each eight bytes of the stack that are set, and one for the least length of each region that the
-/// profile lends.
+/// Appends a line for each register and each eight bytes of the stack that are set, and one for the least length of
+/// each region that the profile lends.
 pub fn push_state(text: &mut String, profile: Profile, state: &AbsState) -> Result<(), AllocError> {
     for number in 0..11 {
         push_register(text, number, state.registers[number])?;

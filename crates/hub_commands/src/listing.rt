@@ -79,7 +79,8 @@ pub fn push_instructions(
     Ok(())
 }
 
-/// Appends the instructions from one slot to another, at or behind which `verify` refuses the program, and what is known before each.
+/// Appends the instructions from one slot to another, at or behind which `verify` refuses the program, and what is
+/// known before each.
 pub fn push_listing_until(
     alloc: Global,
     text: &mut String,

@@ -25,7 +25,8 @@ pub fn perform<R: Read, W: Write>(
 ) -> Result<Ended, Failure>
     ensures answered { IfOk result (λ ended. IsAnswered (IsReplyTo command.now) (R.remaining reader.old)
         (W.contents writer.old) (W.contents writer.new) ended.status) }
-    ensures hinted { IfOk result (λ ended. IfSome (R.remaining reader.old) (λ input. ended.hint ≡ hint_to command.now input)) }
+    ensures hinted { IfOk result (λ ended. IfSome (R.remaining reader.old)
+        (λ input. ended.hint ≡ hint_to command.now input)) }
 {
     match command {
         Command::Asm => asm(alloc, reader, writer),

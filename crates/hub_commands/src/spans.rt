@@ -39,7 +39,8 @@ pub(crate) enum Stop {
 
 /// Where the change of this number can't be read.
 fn unread(number: usize, error: ChangeError) -> Stop
-    ensures { MatchStop result (error ≡ NoMemory) (λ reason. (error ≢ NoMemory) × (reason ≡ in_change number (Unread error))) }
+    ensures { MatchStop result (error ≡ NoMemory) (λ reason. (error ≢ NoMemory)
+        × (reason ≡ in_change number (Unread error))) }
 {
     match error {
         ChangeError::OutOfMemory => Stop::Memory,
@@ -52,7 +53,8 @@ fn unread(number: usize, error: ChangeError) -> Stop
 
 /// Where the change of this number isn't accepted.
 fn unaccepted(number: usize, error: SubmitError) -> Stop
-    ensures { MatchStop result (error ≡ OutOfMemory) (λ reason. (error ≢ OutOfMemory) × (reason ≡ in_change number (Unaccepted error))) }
+    ensures { MatchStop result (error ≡ OutOfMemory) (λ reason. (error ≢ OutOfMemory)
+        × (reason ≡ in_change number (Unaccepted error))) }
 {
     match error {
         SubmitError::OutOfMemory => Stop::Memory,
@@ -69,7 +71,8 @@ pub(crate) fn take_change<'a>(
     history: &mut History,
     text: &'a str,
 ) -> Result<&'a str, Stop>
-    ensures taken { MatchResult result (λ rest. Takes history.old text.now history.new rest.now) (StopsAt history.old text.now) }
+    ensures taken { MatchResult result (λ rest. Takes history.old text.now history.new rest.now)
+        (StopsAt history.old text.now) }
     ensures text { IfOk result (λ rest. IsUtf8 rest.now) }
     ensures shorter { IfOk result (λ rest. length rest.now < length text.now) }
     ensures unchanged { OnErr result (history.new ≡ history.old) }
@@ -87,7 +90,8 @@ pub(crate) fn take_change<'a>(
 
 /// The spans that the changes of a history make.
 fn shown(alloc: Global, history: &History) -> Result<Answer, AllocError>
-    ensures { IfOk result (λ answer. (spans : List Span) × AreSpans (operations_of history.now) spans × (answer ≡ done (span_lines spans))) }
+    ensures { IfOk result (λ answer. (spans : List Span) × AreSpans (operations_of history.now) spans
+        × (answer ≡ done (span_lines spans))) }
 {
     let version = history.version(alloc)?;
     let lines = lines_of(alloc, &version)?;

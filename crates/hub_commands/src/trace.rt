@@ -21,7 +21,8 @@ use refusals::reason::Reason;
 use std::alloc::{AllocError, Global};
 use std::io::{Read, Write};
 
-/// The regions of a run by their names, with the address of the first byte, and how far the address behind the last byte can be from it.
+/// The regions of a run by their names, with the address of the first byte, and how far the address behind the last
+/// byte can be from it.
 static REGIONS: [(&str, u64, u64); 3] = [
     ("context", CONTEXT, 72),
     ("text", TEXT, TEXT_LIMIT as u64),
@@ -139,8 +140,8 @@ fn steps_answer(
     outcome_answer(alloc, outcome)?.behind(steps.text)
 }
 
-/// What `run --trace` answers to a program in hexadecimal, on the span whose text is the input. The text is read only where the bytes are
-/// a program.
+/// What `run --trace` answers to a program in hexadecimal, on the span whose text is the input. The text is read only
+/// where the bytes are a program.
 fn trace_answer<R: Read>(
     alloc: Global,
     digits: &[u8],
@@ -162,7 +163,8 @@ fn trace_answer<R: Read>(
     }
 }
 
-/// The command `run --trace`: the steps of one program, in hexadecimal, on one span, whose text is the input, and then what `run` answers.
+/// The command `run --trace`: the steps of one program, in hexadecimal, on one span, whose text is the input, and then
+/// what `run` answers.
 pub fn trace<R: Read, W: Write>(
     alloc: Global,
     digits: &[u8],
