@@ -35,17 +35,17 @@ void begin_change(Changes *changes, uint32_t node, uint32_t count) {
     add(changes, "change %u %u\n", node, count);
 }
 
-static void add_place(Changes *changes, Id place) {
-    if (place.node == 0) {
+static void add_parent(Changes *changes, Id parent) {
+    if (parent.node == 0) {
         add(changes, "-");
     } else {
-        add(changes, "%llu@%u", (unsigned long long)place.counter, place.node);
+        add(changes, "%llu@%u", (unsigned long long)parent.counter, parent.node);
     }
 }
 
-void insert_line(Changes *changes, Id id, Id place, uint32_t code) {
+void insert_line(Changes *changes, Id id, Id parent, uint32_t code) {
     add(changes, "i %llu@%u ", (unsigned long long)id.counter, id.node);
-    add_place(changes, place);
+    add_parent(changes, parent);
     add(changes, " %x\n", code);
 }
 
@@ -58,21 +58,21 @@ void mark_line(Changes *changes, Id id, const char *key_and_value, Id from, Id t
         (unsigned long long)from.counter, from.node, (unsigned long long)to.counter, to.node);
 }
 
-Id type_change(Changes *changes, Id first, Id place, uint32_t count) {
+Id type_change(Changes *changes, Id first, Id parent, uint32_t count) {
     begin_change(changes, first.node, count);
     Id id = first;
     for (uint32_t at = 0; at < count; at++) {
-        insert_line(changes, id, place, 'a' + at % 26);
-        place = id;
+        insert_line(changes, id, parent, 'a' + at % 26);
+        parent = id;
         id.counter++;
     }
-    return place;
+    return parent;
 }
 
-Id run_change(Changes *changes, Id first, Id place, uint32_t count) {
+Id run_change(Changes *changes, Id first, Id parent, uint32_t count) {
     changes->changes++;
     add(changes, "change2 %u 1\nr %llu@%u ", first.node, (unsigned long long)first.counter, first.node);
-    add_place(changes, place);
+    add_parent(changes, parent);
     add(changes, " %u", count);
     for (uint32_t at = 0; at < count; at++) {
         add(changes, " %x", 'a' + at % 26);

@@ -43,7 +43,8 @@ static uint32_t with_node(uint64_t state, uint32_t node) {
 
 static uint64_t chosen[NODES][OF_A_NODE];
 
-/* Finds counters that rise over so many nodes, in so many groups, since an id's counter must be above that of the character that it names. */
+/* Finds counters in the first `first_groups` groups. They rise over the nodes from 1 to `nodes`, since an id's counter must be above that of the
+   character that it names. */
 static void choose(uint32_t nodes, uint32_t first_groups) {
     uint64_t counter = 1;
     for (uint32_t node = 0; node < nodes; node++) {
@@ -64,7 +65,7 @@ static Id id_at(int are_chosen, uint32_t place) {
     return id;
 }
 
-/* A change of 256 characters by each of so many nodes, typed on at the end. */
+/* A change of 256 characters by each of the nodes from 1 to `nodes`, typed on at the end. */
 static Changes text_of(int are_chosen, uint32_t nodes) {
     Changes text = no_changes();
     Id last = START;

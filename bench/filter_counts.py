@@ -32,7 +32,7 @@ OF_THE_INDEX = b"".join([slot(0x61, 0x10, 40, 0), slot(0x77, 0, 0, 9), slot(0x95
 
 
 def compiled(count):
-    """So many lines `sub` of the compiled filters, in turn."""
+    """`count` lines `sub` of the compiled filters, in turn."""
     lines = []
     for at in range(count):
         name = SILENT[at % len(SILENT)]
@@ -55,7 +55,7 @@ FRONT, MIDDLE, END = (lambda length: 0), (lambda length: (length + LENGTH) // 2)
 
 
 def keys(text, behind, count):
-    """Changes that type so many characters, each behind the one before it."""
+    """Changes that type `count` characters, each behind the one before it."""
     places = [behind(text.characters)] + [text.newest() + at for at in range(1, count)]
     ids = [text.newest() + at for at in range(1, count + 1)]
     return [f"change 1 1\ni {own}@1 {f'{place}@1' if place else '-'} 61\n" for own, place in zip(ids, places)]
@@ -72,7 +72,7 @@ class Row(NamedTuple):
 
 
 def refuse_hits(hub, lines, spans):
-    """Stops where a session has other items than the ends of versions of so many spans."""
+    """Stops where a session has other items than the ends of versions of `spans` spans."""
     told = subprocess.run([hub, "replay"], input="".join(lines).encode(), stdout=subprocess.PIPE, check=True).stdout.decode().splitlines()
     if any(line.startswith("hit ") or line.startswith("end ") and not line.endswith(f" {spans}") for line in told):
         sys.exit(f"a session of {spans} spans isn't what is counted here")

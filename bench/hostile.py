@@ -20,7 +20,7 @@ SPANS = 4000
 
 
 class Server:
-    """A server of so many sessions."""
+    """A server of `sessions` sessions."""
 
     def __init__(self, hub, sessions):
         words = [hub, "serve", "--port", "0", "--sessions", str(sessions)]

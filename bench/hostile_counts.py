@@ -71,7 +71,7 @@ def heading():
 
 
 def beside(row, what, value, other, unit, times, least=0.0):
-    """A figure that is to be at most so many times another one, or at most another limit where that is greater."""
+    """A figure that is to be at most `times` times another one, or at most another limit where that is greater."""
     aim = f"at most {times:g} times" + (f", or {least:g} {unit}" if least else "")
     return Figure(row, what, value, unit, other, max(times * other, least), aim)
 
@@ -209,7 +209,7 @@ def idle_subscribers(hub):
 
 
 class Server:
-    """A server of so many sessions, which a client may leave in the midst of a reply."""
+    """A server of `sessions` sessions, which a client may leave in the midst of a reply."""
 
     def __init__(self, hub, sessions, *words, environment=None):
         words = [hub, "serve", "--port", "0", "--sessions", str(sessions), *words]

@@ -12,7 +12,7 @@ GREATEST = (1 << 48) - 1
 
 
 class Text(NamedTuple):
-    """A text of so many characters by node 1, with marks: pairs of a line's first word and its words behind the mark's own id."""
+    """A text of `characters` characters by node 1, with marks: pairs of a line's first word and its words behind the mark's own id."""
 
     characters: int
     marks: list
@@ -134,7 +134,7 @@ def of_one_character(key):
 
 
 def all_kinds(longest):
-    """Marks of all kinds over random ranges of up to so many characters, where bench/texts.c has them."""
+    """Marks of all kinds over random ranges of up to `longest` characters, where bench/texts.c has them."""
     characters, state, marks = 8 * MARKS, 7, []
 
     def chosen(below):
@@ -170,7 +170,7 @@ def under_review(threads=300, others=3796, characters=32768):
 
 
 def spans_of_one_character(spans):
-    """A text of so many spans: every other character is strong."""
+    """A text of `spans` spans: every other character is strong."""
     return Text(spans, [mark("strong -", place, place) for place in range(1, spans, 2)])
 
 
@@ -198,27 +198,27 @@ def greatest_counter():
 
 
 def too_long_program(size):
-    """So many bytes of hexadecimal digits, more than a program has."""
+    """`size` bytes of hexadecimal digits, more than a program has."""
     return b"b700000001000000" * (size // 16)
 
 
 def program_before_blanks(size):
-    """A program of two slots, and then line feeds up to so many bytes."""
+    """A program of two slots, and then line feeds up to `size` bytes."""
     program = b"b7000000010000009500000000000000"
     return program + b"\n" * (size - len(program))
 
 
 def exits(count):
-    """Assembler text of so many `exit` lines."""
+    """Assembler text of `count` `exit` lines."""
     return b"exit\n" * count
 
 
 def fault_before(size):
-    """Assembler text with a fault in its first line, and then so many bytes of right lines."""
+    """Assembler text with a fault in its first line, and then `size` bytes of right lines."""
     return b"nothing\n" + b"exit\n" * (size // 5)
 
 
 def refused_change_before(size):
-    """A change that is refused at its first line, and then so many bytes of lines of changes."""
+    """A change that is refused at its first line, and then `size` bytes of lines of changes."""
     line = b"i 1@1 - 61\n"
     return b"change 0 1\n" + line * (size // len(line))

@@ -25,7 +25,7 @@ SPANS = 8000
 PULLS = 5
 # About what 20 million instructions take on the machine of docs/BENCHMARKS.md.
 REVIEWED = 3
-# Of the client beside a writer that never pauses: so many of each kind, or as many as there are in so many seconds.
+# Of the client beside a writer that never pauses: this number of requests of each kind, or as many as there are in this number of seconds.
 REQUESTS, SECONDS = 200, 40
 # First come, first served: the change that has the lock, the one whose turn was before, and one that was answered but not yet read. A pull takes
 # the lock some six times.
@@ -130,8 +130,8 @@ def measure_all_kinds(hub):
 
 
 def pulls_beside(hub, workers, program, subscribers):
-    """How many milliseconds a client waits for pulls of one item each, and the hub works for each until it does nothing more, beside so many
-    subscribers of another session that never pull: medians."""
+    """How many milliseconds a client waits for pulls of one item each, and the hub works for each until it does nothing more, beside
+    `subscribers` subscribers of another session that never pull: medians."""
     server, text = Server(hub, 3, "--workers", str(workers)), inputs.spans_of_one_character(SPANS)
     writer, idle, puller = (Client(server.port) for _ in range(3))
     for change in text.changes():

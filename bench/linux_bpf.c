@@ -12,7 +12,7 @@
 #include <sys/syscall.h>
 #include <unistd.h>
 
-enum { RUNS = 9, PACKET_LENGTH_PLACE = 0, LOG_STATISTICS = 4 };
+enum { RUNS = 9, PACKET_LENGTH_OFFSET = 0, LOG_STATISTICS = 4 };
 
 static long bpf(int command, union bpf_attr *attributes) {
     return syscall(SYS_bpf, command, attributes, sizeof *attributes);
@@ -96,14 +96,14 @@ void measure_linux(void) {
     report("a flag", &program, 0);
     make_straight(&program, 4000);
     report("arithmetic", &program, 1);
-    make_branches(&program, 4000, PACKET_LENGTH_PLACE);
+    make_branches(&program, 4000, PACKET_LENGTH_OFFSET);
     report("comparisons and additions", &program, 1);
     make_stack(&program, 4000);
     report("stores to the stack and loads from it", &program, 1);
     make_straight(&program, 2000);
     report("arithmetic", &program, 1);
-    make_branches(&program, 4096, PACKET_LENGTH_PLACE);
+    make_branches(&program, 4096, PACKET_LENGTH_OFFSET);
     report("a join at every other", &program, 1);
-    make_fan(&program, 4096, PACKET_LENGTH_PLACE);
+    make_fan(&program, 4096, PACKET_LENGTH_OFFSET);
     report("2,047 jumps that wait at once", &program, 1);
 }

@@ -10,7 +10,7 @@
 #include <stdlib.h>
 #include <string.h>
 
-enum { RUNS = 25, TEXT_LEN = 64, CONTEXT_BYTES = 56, TEXT_LENGTH_PLACE = 16 };
+enum { RUNS = 25, TEXT_LEN = 64, CONTEXT_BYTES = 56, TEXT_LENGTH_OFFSET = 16 };
 
 static uint8_t text[TEXT_LEN + 1] = "TODO: the quick brown fox jumps over http://a.example/, or not ?";
 
@@ -44,7 +44,7 @@ static const struct rte_bpf *unvalidated(const Program *program) {
     return (const struct rte_bpf *)room;
 }
 
-/* So many runs, each with a context of its own, as bench_run has. */
+/* `rounds` runs, each with a context of its own, as bench_run has. */
 static uint64_t sum_of_peer(const struct rte_bpf *program, uint32_t rounds) {
     uint64_t sum = 0;
     for (uint32_t round = 0; round < rounds; round++) {

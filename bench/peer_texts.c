@@ -21,7 +21,7 @@ static Id at(uint32_t place) {
     return id;
 }
 
-/* The microseconds of accepting so many changes, and then so many with a version after each. */
+/* The microseconds of accepting `alone` changes, and then `followed` more with a version after each. */
 static double time_of(const Changes *text, uint32_t alone, uint32_t followed) {
     return LEAST_TIME(RUNS, bench_accept((const uint8_t *)text->bytes, text->length, alone, followed)) / 1000;
 }
@@ -87,7 +87,7 @@ static double a_removal(void) {
     return time_of_an_edit(&text, EDITS);
 }
 
-/* Marks over random ranges of up to so many characters, so many in a change. peer_texts.mjs takes the same numbers. */
+/* Marks over random ranges of up to `longest` characters, `of_a_change` in a change. peer_texts.mjs takes the same numbers. */
 static void add_marks(Changes *text, uint32_t count, uint32_t longest, uint32_t of_a_change) {
     static const char *const kinds[] = {"strong -", "em -", "link https://example.org/a", "color 3366cc"};
     char comment[32];

@@ -7,7 +7,7 @@
 
 #include <stdio.h>
 
-enum { RUNS = 9, TEXT_LEN = 64, TEXT_LENGTH_PLACE = 16 };
+enum { RUNS = 9, TEXT_LEN = 64, TEXT_LENGTH_OFFSET = 16 };
 
 static const uint8_t text[TEXT_LEN] = "The quick brown fox jumps over the lazy dog, and then it sleeps";
 
@@ -75,7 +75,7 @@ void measure_programs(void) {
     puts("\nPrograms");
     make_straight(&program, 4000);
     steps_of("arithmetic", &program);
-    make_branches(&program, 4000, TEXT_LENGTH_PLACE);
+    make_branches(&program, 4000, TEXT_LENGTH_OFFSET);
     steps_of("comparisons and additions", &program);
     make_text_loads(&program, 4000);
     steps_of("loads from the text", &program);
@@ -93,10 +93,10 @@ void measure_programs(void) {
     verified("arithmetic", &program);
     make_straight(&program, 4096);
     verified("arithmetic", &program);
-    make_branches(&program, 4096, TEXT_LENGTH_PLACE);
+    make_branches(&program, 4096, TEXT_LENGTH_OFFSET);
     verified("a join at every other", &program);
     make_text_loads(&program, 4096);
     verified("loads from the text", &program);
-    make_fan(&program, 4096, TEXT_LENGTH_PLACE);
+    make_fan(&program, 4096, TEXT_LENGTH_OFFSET);
     verified("2,047 jumps that wait at once", &program);
 }

@@ -30,7 +30,7 @@ def slot(opcode, registers, offset, immediate):
 
 
 def long_program(slots):
-    """A program of so many slots that answers 0: it adds to r2 and ends."""
+    """A program of `slots` slots that answers 0: it adds to r2 and ends."""
     program = [slot(0xB7, 0, 0, 0), slot(0xB7, 2, 0, 1)]
     while len(program) < slots - 1:
         program.append(slot(0x07, 2, 0, 3))
@@ -48,7 +48,7 @@ def typed(node, first, parent, count, code="61"):
 
 
 def text_of(count, code="61"):
-    """So many characters by node 1, in changes of 256."""
+    """`count` characters by node 1, in changes of 256."""
     changes = []
     for first in range(1, count + 1, 256):
         parent = f"{first - 1}@1" if first > 1 else "-"
@@ -136,7 +136,7 @@ def measure_refusals(hub):
 
 
 def spans_session(hub, count, workers, processors):
-    """A session over a text of so many spans of one character."""
+    """A session over a text of `count` spans of one character."""
     session = Replay(hub, workers, processors)
     for change in text_of(count):
         session.ask(change)
@@ -255,7 +255,7 @@ def client(port, node, changes, size, ready, go, times):
 
 
 def serve_with(hub, clients, size):
-    """The changes a second of so many clients, each a process, and how long each of them waited."""
+    """The changes a second of `clients` clients, each a process, and how long each of them waited."""
     words = [hub, "serve", "--port", "0", "--sessions", str(clients)]
     server = subprocess.Popen(words, stdout=subprocess.PIPE)
     port = int(server.stdout.readline().split()[1])
@@ -336,7 +336,7 @@ def catch_up(port, ready, go, found):
 
 
 def write_beside(hub, count):
-    """How long a writer that has a subscriber of its own waits for its changes and its pulls while so many others catch up from
+    """How long a writer that has a subscriber of its own waits for its changes and its pulls while `count` others catch up from
     version 0, and how many items a second each of these gets. 2,048 versions are there when they begin."""
     server = subprocess.Popen([hub, "serve", "--port", "0", "--sessions", str(count + 1)], stdout=subprocess.PIPE)
     port = int(server.stdout.readline().split()[1])

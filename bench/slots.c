@@ -68,9 +68,9 @@ void make_moves(Program *program, size_t slots) {
     slot(program, EXIT, 0, 0, 0, 0);
 }
 
-void make_branches(Program *program, size_t slots, int place) {
+void make_branches(Program *program, size_t slots, int offset) {
     start(program);
-    slot(program, LOAD32, 0, 1, place, 0);
+    slot(program, LOAD32, 0, 1, offset, 0);
     for (int turn = 0; program->slots + 1 < slots; turn++) {
         switch (turn % 4) {
         case 0: slot(program, JEQ_IMMEDIATE, 0, 0, 0, -1); break;
@@ -85,11 +85,11 @@ void make_stack(Program *program, size_t slots) {
     start(program);
     slot(program, MOV_IMMEDIATE, 0, 0, 0, 1);
     for (int turn = 0; program->slots + 1 < slots; turn++) {
-        int place = -8 * (1 + turn / 2 % 16);
+        int offset = -8 * (1 + turn / 2 % 16);
         if (turn % 2 == 0) {
-            slot(program, STORE64_REGISTER, 10, 0, place, 0);
+            slot(program, STORE64_REGISTER, 10, 0, offset, 0);
         } else {
-            slot(program, LOAD64, 0, 10, place, 0);
+            slot(program, LOAD64, 0, 10, offset, 0);
         }
     }
     slot(program, EXIT, 0, 0, 0, 0);
@@ -104,12 +104,12 @@ void make_text_loads(Program *program, size_t slots) {
     slot(program, ADD_IMMEDIATE, 4, 0, 0, 64);
     slot(program, JGT_REGISTER, 4, 3, (int)(slots - program->slots - 2), 0);
     for (int turn = 0; program->slots + 1 < slots; turn++) {
-        int place = turn * 5 % 56;
+        int offset = turn * 5 % 56;
         switch (turn % 4) {
-        case 0: slot(program, LOAD8, 0, 2, place, 0); break;
-        case 1: slot(program, LOAD64, 5, 2, place, 0); break;
-        case 2: slot(program, LOAD16, 6, 2, place, 0); break;
-        case 3: slot(program, LOAD32, 7, 2, place, 0); break;
+        case 0: slot(program, LOAD8, 0, 2, offset, 0); break;
+        case 1: slot(program, LOAD64, 5, 2, offset, 0); break;
+        case 2: slot(program, LOAD16, 6, 2, offset, 0); break;
+        case 3: slot(program, LOAD32, 7, 2, offset, 0); break;
         }
     }
     slot(program, EXIT, 0, 0, 0, 0);
@@ -124,9 +124,9 @@ void make_context_loads(Program *program, size_t slots) {
     slot(program, EXIT, 0, 0, 0, 0);
 }
 
-void make_fan(Program *program, size_t slots, int place) {
+void make_fan(Program *program, size_t slots, int offset) {
     start(program);
-    slot(program, LOAD32, 0, 1, place, 0);
+    slot(program, LOAD32, 0, 1, offset, 0);
     int half = (int)slots / 2;
     while (program->slots + 1 < slots) {
         if ((int)program->slots < half) {

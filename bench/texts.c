@@ -136,7 +136,7 @@ static void versions_of(const char *what, const Changes *text, uint32_t rounds) 
     row("  memory beside the history's, the version and what makes it", ((double)most_memory() - before) / 1024, "KiB");
 }
 
-/* Marks over random ranges of up to so many characters. */
+/* Marks over random ranges of up to `longest` characters. */
 static void random_marks(Changes *text, uint32_t longest) {
     uint32_t state = 7;
     Id id = {FIRST.counter + CHARACTERS, 3};

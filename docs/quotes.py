@@ -2,7 +2,7 @@
 """Says which quotations of THEOREM.md don't stand where it says they do. Run it at the top of the repository.
 
 A quotation is an indented line. It stands in the file that the line `FILE` or `FILE: CALL, CALL` above it names, and there, where calls are
-named, in the contract of one of them."""
+named, in the contract of one of them, as one whole line or as several whole lines one after another."""
 import pathlib
 import re
 import sys
@@ -18,6 +18,11 @@ def contract(lines, call):
     return []
 
 
+def stands(text, lines):
+    """Whether a text is one line of these, or some of them joined by spaces."""
+    return any(text == " ".join(lines[start:end]) for start in range(len(lines)) for end in range(start + 1, start + 9))
+
+
 lines, quoted, wrong = [], 0, 0
 for number, line in enumerate(pathlib.Path("docs/THEOREM.md").read_text().splitlines(), 1):
     if not line.startswith("    "):
@@ -30,7 +35,7 @@ for number, line in enumerate(pathlib.Path("docs/THEOREM.md").read_text().splitl
             lines = [it for call in calls.split(", ") for it in contract(lines, call)]
         continue
     quoted += 1
-    if text not in lines:
+    if not stands(text, lines):
         print(f"line {number} quotes what isn't there: {text}")
         wrong += 1
 print(f"{quoted} quotations, {wrong} wrong")

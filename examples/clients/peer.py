@@ -87,7 +87,7 @@ def word_of(own):
 
 
 def above(newest, ids, count=1):
-    """The first of so many counters in a row that are above a peer's newest one and above those of some ids (or None)."""
+    """The first of `count` counters in a row that are above a peer's newest one and above those of some ids (or None)."""
     greatest = max((own for own in ids if own), default=(0, 0))
     counter = max(newest, greatest[0]) + 1
     if counter + count - 1 > GREATEST:
@@ -417,7 +417,7 @@ class Peer:
         return [f"change2 {node} 1", f"r {counter}@{node} {word_of(parent)} {len(codes)} {' '.join(codes)}"]
 
     def way_behind(self, node, newest, behind, count):
-        """The counter and the parent by which so many characters come to stand behind one. The parent is the character to their left;
+        """The counter and the parent by which `count` characters come to stand behind one. The parent is the character to their left;
         where no counter is above it, or above the sibling that they must stand before, another one by which they stand there too."""
         wrong = None
         for left in self.replica.gaps(behind):

@@ -22,7 +22,7 @@ VALUES = {"link": ["https://a.b/?q=\\n", "-", "x"], "color": ["0000ff", "cc0000"
 
 
 class Hub:
-    """A hub of so many sessions, as a process."""
+    """A hub of `sessions` sessions, as a process."""
 
     def __init__(self, sessions, *options):
         words = [HUB, "serve", *options, "--port", "0", "--sessions", str(sessions), "--workers", "2"]
@@ -40,7 +40,7 @@ class Hub:
 
 
 def shown(session, version, at_once):
-    """The span lines of a version, asked for so many at a time."""
+    """The span lines of a version, asked for `at_once` at a time."""
     lines, count = session.ask(f"show {version} 0 {at_once}")
     while len(lines) < count:
         some, _ = session.ask(f"show {version} {len(lines)} {at_once}")

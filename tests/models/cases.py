@@ -1,4 +1,4 @@
-"""Cases for crates/hub_cases: what goes to its stdin, and what it must print."""
+"""Cases for crates/test_cases: what goes to its stdin, and what it must print."""
 
 
 def escaped(text):

@@ -1,8 +1,8 @@
 #!/usr/bin/env python3
-"""A plain machine for the scripts that crates/core_cases plays, apart from the code: what a hub's core, its queues and its workers are to answer.
+"""A plain machine for the scripts that crates/test_scripts plays, apart from the code: what a hub's core, its queues and its workers are to answer.
 
     core_events.py random             writes the random scripts, whose seeds are fixed
-    core_events.py answers < stdin    writes what the scripts of crates/hub_cases/stdin are to answer
+    core_events.py answers < stdin    writes what the scripts of crates/test_cases/stdin are to answer
 
 A version is the list of the operations before it. Its spans are found the slow way: the characters in their order, and for each one the
 last mark that covers it. A program is known by what it says of a span. A subscriber is where it stands, how many items it was sent, and
@@ -73,8 +73,8 @@ def read_place(word):
 
 
 def read_run(line, number):
-    _, first, place, count, *codes = line.split(' ')
-    (counter, node), parent = read_id(first), None if place == '-' else read_id(place)
+    _, first, written, count, *codes = line.split(' ')
+    (counter, node), parent = read_id(first), None if written == '-' else read_id(written)
     if len(codes) != int(count):
         raise Bad(f'40 BadLine line {number}')
     ids = [(counter + at, node) for at in range(len(codes))]
@@ -223,7 +223,7 @@ class Subscriber:
 
 
 class Machine:
-    """The core. A queue has room for what isn't taken yet, a list only for so many items in all."""
+    """The core. A queue has room again for each item that was taken, a list takes as many items in all as its capacity says."""
 
     def __init__(self, is_queue):
         self.is_queue = is_queue

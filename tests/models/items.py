@@ -80,8 +80,8 @@ class Editor:
     def typed(self, own, there):
         """A character or a run at the front, in the middle or at the end."""
         rng = self.rng
-        place = rng.choice([None, there[-1], there[-1], rng.choice(there)]) if there else None
-        return text.run_of(own, place, self.letters(8))
+        parent = rng.choice([None, there[-1], there[-1], rng.choice(there)]) if there else None
+        return text.run_of(own, parent, self.letters(8))
 
     def removed(self, own, there):
         """A few characters side by side, or one at an end, or at times all of a short text."""
@@ -147,12 +147,12 @@ class Editor:
         return text.change_lines(1, node, [[("i", (self.known.counters.get(node, 1), node), None, 0x61)]])
 
     def beginning(self, characters, marks):
-        """Changes that make a text of so many characters with so many marks, each over one character of two; each is to be
+        """Changes that make a text of `characters` characters with `marks` marks, each over one character of two; each is to be
         accepted before the next one is asked for."""
         for start in range(0, characters, 256):
-            place, own = (self.visible() or [None])[-1], self.next_id()
+            parent, own = (self.visible() or [None])[-1], self.next_id()
             codes = [ord(self.rng.choice(LETTERS)) for _ in range(min(256, characters - start))]
-            yield self.spelled(own[1], [text.run_of(own, place, codes)])
+            yield self.spelled(own[1], [text.run_of(own, parent, codes)])
         there = self.visible()
         for start in range(0, marks, 256):
             own, lines = self.next_id(), []
@@ -217,7 +217,7 @@ class Script:
 
 
 def session(rng, kinds, steps):
-    """A session of so many steps, over a text of one span to a few hundred."""
+    """A session of `steps` steps, over a text of one span to a few hundred."""
     script = Script(rng, kinds)
     characters, marks = rng.choice([(1, 0), (12, 2), (40, 6), (80, 20), (80, 40), (200, 100), (620, 300)])
     for digits in rng.sample(list(kinds), rng.randrange(1, 8)):

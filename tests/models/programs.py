@@ -372,7 +372,7 @@ def number_sessions(cases, rng):
         add_session(cases, f"session-of-numbers-{at // 40 + 1}", "a", None, batch)
 
 
-# Programs that load from the text behind a test of its end, and what is said of them: a test that so many bytes are there, then
+# Programs that load from the text behind a test of its end, and what is said of them: a test that a number of bytes are there, then
 # a load of the first ones. It is accepted exactly where the load ends at or before them. With the link's fields they load from it.
 def guarded(rng, start=0, end=8):
     opcode = rng.choice(list(LOADS))
@@ -383,7 +383,7 @@ def guarded(rng, start=0, end=8):
 
 
 def masked(rng, start=0, length=16):
-    """A byte at the masked color, of a text that has so many bytes; accepted exactly where the last one is one of them."""
+    """A byte at the masked color, of a text that has `length` bytes; accepted exactly where the last one is one of them."""
     opcode = rng.choice(list(LOADS))
     size, there, mask, more = LOADS[opcode][1], rng.randrange(4, 20), rng.choice([1, 3, 7]), rng.randrange(0, 6)
     data = (slot(0x79, 2, 1, start) + slot(0x61, 3, 1, length) + slot(0x61, 4, 1, 28) + slot(0xb7, 0)
@@ -514,7 +514,7 @@ def lent_runs(cases, rng):
 # Programs that load from the link, or from both: as those that may they are accepted where it is said with each, as others they
 # are refused with 18 at the first load of the link's start.
 def before_the_end(rng):
-    """Bytes before the link's end behind a test that so many are there; accepted exactly where they are among these."""
+    """Bytes before the link's end behind a test that a number of bytes are there; accepted exactly where they are among these."""
     opcode = rng.choice(list(LOADS))
     size, there, back = LOADS[opcode][1], rng.randrange(1, 13), rng.randrange(0, 13)
     data = (slot(0x79, 2, 1, 56) + slot(0x79, 3, 1, 64) + slot(0xbf, 4, 2) + slot(0x07, 4, 0, 0, there) + slot(0xb7, 0)

@@ -34,7 +34,7 @@ def unless(test, register, number, body):
 
 
 def behind_an_end_test(region, there, opcode, offset, from_end=False):
-    """A load of the region's bytes, behind a test of its addresses that so many are there: by r2 its start, or r3 its end."""
+    """A load of the region's bytes, behind a test of its addresses that `there` of them are there: by r2 its start, or r3 its end."""
     start, end, _ = REGIONS[region]
     body = slot(opcode, 9, 3 if from_end else 2, offset) + folded(9)
     test = slot(0xbf, 4, 2) + slot(0x07, 4, 0, 0, there) + slot(0x2d, 4, 3, len(body) // 8)
@@ -47,7 +47,7 @@ def behind_a_length_test(region, there, opcode, offset):
 
 
 def at_a_number(region, number, mask):
-    """The region's byte at a masked field, if it has so many."""
+    """The region's byte at a masked field, if the region reaches so far."""
     start, _, length = REGIONS[region]
     body = slot(0x0f, 2, 9) + slot(0x71, 9, 2, 0) + folded(9)
     test = load(9, number) + slot(0x57, 9, 0, 0, mask) + load(5, length) + slot(0x3d, 9, 5, len(body) // 8)
@@ -64,7 +64,7 @@ def whole(*pieces):
 
 
 def padded(data, slots):
-    """The same program in so many slots, of which it jumps over those that are added: it takes one step more."""
+    """The same program in `slots` slots, of which it jumps over those that are added: it takes one step more."""
     added = slots - len(data) // 8 - 1
     return slot(0x05, 0, 0, added) + slot(0xb7, 0) * added + data
 

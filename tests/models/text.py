@@ -2,7 +2,7 @@
 
     text.py spans < CHANGES              prints what `hub spans` prints of them
     text.py replay [WORDS..] < LINES     prints what `hub replay` prints with these options, where all programs are of PROGRAMS
-    text.py check STDIN STDOUT           compares the cases of `spans` and of such sessions, as crates/hub_cases has them, with this model
+    text.py check STDIN STDOUT           compares the cases of `spans` and of such sessions, as crates/test_cases has them, with this model
     text.py rows FOLDER..                compares folders of worked rows (NAME, NAME.args, NAME.stdout) with it
     text.py cases FOLDER                 writes random cases of both forms, FOLDER/text.stdin and FOLDER/text.stdout
 
@@ -54,7 +54,7 @@ def id_in(word):
     return number_in(parts[0]), number_in(parts[1])
 
 
-def place_in(word):
+def parent_in(word):
     return None if word == "-" else id_in(word)
 
 
@@ -103,9 +103,9 @@ def shape_of(form, line):
     """What a line says, of numbers of any size: (kind, own id, named ids, kind's own part)."""
     words = line.split(" ")
     if words[0] == "i":
-        own, place, code = fields(words, 4)
-        own, place, code = id_in(own), place_in(place), code_in(code)
-        return "i", own, [place] if place else [], (place, [code])
+        own, parent, code = fields(words, 4)
+        own, parent, code = id_in(own), parent_in(parent), code_in(code)
+        return "i", own, [parent] if parent else [], (parent, [code])
     if words[0] == "d":
         own, target = fields(words, 3)
         return "d", id_in(own), [id_in(target)], id_in(target)
@@ -115,11 +115,11 @@ def shape_of(form, line):
         value = value_in(key, value[0]) if value else None
         return words[0], own, [at for _, at in ends if at], (key, value, ends)
     if words[0] == "r" and form == 2 and len(words) >= 4:
-        own, place, count = id_in(words[1]), place_in(words[2]), number_in(words[3])
+        own, parent, count = id_in(words[1]), parent_in(words[2]), number_in(words[3])
         codes = [code_in(word) for word in words[4:]]
         if len(codes) != count:
             raise Refused(40)
-        return "r", own, [place] if place else [], (place, codes)
+        return "r", own, [parent] if parent else [], (parent, codes)
     raise Refused(40)
 
 
@@ -136,15 +136,15 @@ def are_within(shape):
     return True
 
 
-def run_of(own, place, codes):
+def run_of(own, parent, codes):
     """The inserts of characters of which each stands behind the one before it."""
     counter, node = own
     ids = [(counter + at, node) for at in range(len(codes))]
-    return [("i", own, behind, code) for own, behind, code in zip(ids, [place] + ids, codes)]
+    return [("i", own, behind, code) for own, behind, code in zip(ids, [parent] + ids, codes)]
 
 
 def operations_of(shape):
-    """The operations that a line stands for: ("i", id, place, code), ("d", id, id), ("m" or "u", id, key, value, ends)."""
+    """The operations that a line stands for: ("i", id, parent, code), ("d", id, id), ("m" or "u", id, key, value, ends)."""
     kind, own, _, part = shape
     if kind == "d":
         return [("d", own, part)]
@@ -163,7 +163,7 @@ def is_character(code):
 
 
 def read_line(form, peer, before, line):
-    """The operations of a line that stands behind so many operations of its change."""
+    """The operations of a line, behind the `before` operations of its change's earlier lines."""
     shape = shape_of(form, line)
     ops = operations_of(shape)
     if not are_within(shape) or before + len(ops) > OPERATIONS:
@@ -213,7 +213,7 @@ def read_change(text):
 
 class Text:
     def __init__(self):
-        self.places, self.codes, self.removed, self.marks, self.counters, self.changes = {}, {}, set(), [], {}, 0
+        self.parents, self.codes, self.removed, self.marks, self.counters, self.changes = {}, {}, set(), [], {}, 0
 
     def fault(self, op):
         counter, node = op[1]
@@ -233,7 +233,7 @@ class Text:
         last, was_removed = self.counters.get(node), op[2] in self.removed if op[0] == "d" else None
         self.counters[node] = counter
         if op[0] == "i":
-            self.places[op[1]], self.codes[op[1]] = op[2], op[3]
+            self.parents[op[1]], self.codes[op[1]] = op[2], op[3]
         elif op[0] == "d":
             self.removed.add(op[2])
         else:
@@ -247,7 +247,7 @@ class Text:
         else:
             self.counters[node] = last
         if op[0] == "i":
-            del self.places[op[1]], self.codes[op[1]]
+            del self.parents[op[1]], self.codes[op[1]]
         elif op[0] == "d":
             if not was_removed:
                 self.removed.discard(op[2])
@@ -270,10 +270,10 @@ class Text:
         self.changes += 1
 
     def order(self):
-        """All characters, removed ones too: each behind its place, that with the greatest id nearest to it."""
+        """All characters, removed ones too: each behind its parent, that with the greatest id nearest to it."""
         behind = {}
-        for own in sorted(self.places):
-            behind.setdefault(self.places[own], []).append(own)
+        for own in sorted(self.parents):
+            behind.setdefault(self.parents[own], []).append(own)
         out, waiting = [], behind.get(None, [])
         while waiting:
             out.append(waiting.pop())
@@ -527,7 +527,7 @@ def bytes_of(text):
 
 
 def read_case(block):
-    """The name, the words and the input of a case, by the head of crates/hub_cases/src/main.rt."""
+    """The name, the words and the input of a case, by the head of crates/test_cases/src/main.rt."""
     name, words, data = "", [], b""
     for line in block.split("\n"):
         key, _, rest = line.partition(" ")
@@ -685,11 +685,11 @@ class Writer:
         return kind, (key, number), value, (self.anchor(known), self.anchor(known))
 
     def typed(self, form, known):
-        """The place of a character or a run, and its codes."""
+        """The parent of a character or a run, and its codes."""
         rng = self.rng
-        place = rng.choice([None, rng.choice(known), known[-1], known[-1]]) if known else None
+        parent = rng.choice([None, rng.choice(known), known[-1], known[-1]]) if known else None
         length = rng.choice([2, 2, 3, 3, 4, 5, 8]) if form == 2 and rng.random() < 0.7 else 1
-        return place, [rng.choice(CODES) for _ in range(length)]
+        return parent, [rng.choice(CODES) for _ in range(length)]
 
     def line(self, form, node, last, known):
         """The operations of a line, in which the counters are right."""
@@ -700,8 +700,8 @@ class Writer:
 
         what = rng.choice("iiiidmmmm" if known else "iiim")
         if what == "i":
-            place, codes = self.typed(form, known)
-            return run_of(above([place] if place else []), place, codes)
+            parent, codes = self.typed(form, known)
+            return run_of(above([parent] if parent else []), parent, codes)
         if what == "d":
             target = rng.choice(known)
             return [("d", above([target]), target)]

@@ -47,13 +47,13 @@ def constant(value):
 
 
 def anything(bits):
-    """Every number of so many bits."""
+    """Every number of `bits` bits."""
     greatest = (1 << bits) - 1
     return Quantity(0, greatest, 0, greatest)
 
 
 def up_to_end(bits, region):
-    """Every number of so many bits up to the region's length."""
+    """Every number of `bits` bits up to the region's length."""
     return normal(anything(bits)._replace(tails=ending(region)))
 
 

@@ -1,7 +1,7 @@
 #!/usr/bin/env python3
 """Checks by the model of the verifier, whose rules are in verifier.py.
 
-    verifier_checks.py                      compares with what the cases `check-..` and `explain-..` of crates/hub_cases must print
+    verifier_checks.py                      compares with what the cases `check-..` and `explain-..` of crates/test_cases must print
     verifier_checks.py random COUNT SEED    tests that random programs which the first profile accepts are accepted by the second
 """
 
@@ -14,7 +14,7 @@ from machine import ARITHMETIC, JUMPS, LOADS, MASK, STORES, fields, slot
 from programs import EXIT, wide
 from verifier import LIMITS, Walk, answer, distance_of, starts
 
-CASES = Path(__file__).resolve().parents[2] / "crates" / "hub_cases"
+CASES = Path(__file__).resolve().parents[2] / "crates" / "test_cases"
 
 
 # Comparison with the cases.
@@ -139,7 +139,7 @@ def great_piece(rng):
 
 
 def tail_piece(rng):
-    """A number is below the text's length by some bytes, behind a test that the text has so many."""
+    """A number is below the text's length by some bytes, behind a test that the text has these."""
     bytes_less, dst = rng.choice([1, 2, 8, 16, 100, 1000]), rng.choice([4, 5, 6, 7])
     data = slot(0x61, 8, 1, 16) + slot(0xa5, 8, 0, END, bytes_less) + slot(0x17, 8, 0, 0, bytes_less)
     return data + slot(rng.choice([0x3d, 0x2d]), dst, 8, END)
@@ -220,7 +220,7 @@ def known_behind(data, register):
 
 
 def test_of_length(register, length):
-    """The text has so many bytes, or the run ends here."""
+    """The text has `length` bytes, or the run ends here."""
     return slot(0x61, register, 1, 16) + slot(0xa5, register, 0, END, length)
 
 

@@ -4,7 +4,7 @@ use Rattle.bpf_words.specs.declared.instruction.Width.{Width}
 use Rattle.bpf_words.specs.declared.instruction.Width.TheVariants.{Full}
 use Rattle.bpf_words.specs.declared.instruction.Arithmetic.{Arithmetic}
 use Rattle.bpf_words.specs.declared.instruction.Arithmetic.TheVariants.{Add, Sub}
-use Rattle.meaning.specs.Value.{cut, value_of}
+use Rattle.semantics.specs.Value.{cut, value_of}
 use Rattle.abstract_state.specs.declared.region.Region.{Region}
 use Rattle.abstract_state.specs.declared.region.Region.TheVariants.{Text, Link}
 use Rattle.abstract_state.specs.declared.known.Known.{Known}
@@ -12,7 +12,7 @@ use Rattle.abstract_state.specs.declared.known.Known.TheVariants.{Number, Contex
 use Rattle.abstract_state.specs.Lent.{Lengths, base_of}
 use Rattle.abstract_state.specs.Known.{ContainsKnown, WithinKnown}
 
--- no place near a lent region wraps
+-- no address near a lent region wraps
 pub near_fits : (region : Region) (x : ℕ) → x ≤ 2 ^ 20 → base_of region + x < 2 ^ 64
 near_fits Text x h = omega arith
 near_fits Link x h = omega arith
@@ -31,8 +31,8 @@ subtracts op w x y is_op is_w =
     ap (λ (o : Arithmetic). value_of o w (cut w x) (cut w y)) is_op
     ∙ ap (λ (v : Width). value_of Sub v (cut v x) (cut v y)) is_w ∙ omega arith
 
-pub moved_place : (op : Arithmetic) (w : Width) (x y base place r : ℕ) → x ≡ base + place → value_of op w (cut w (base + place)) (cut w y) ≡ (base + r) % 2 ^ 64 → base + r < 2 ^ 64 → value_of op w (cut w x) (cut w y) ≡ base + r
-moved_place op w x y base place r e h small = ap (λ (n : ℕ). value_of op w (cut w n) (cut w y)) e ∙ h ∙ omega arith
+pub moved_offset : (op : Arithmetic) (w : Width) (x y base offset r : ℕ) → x ≡ base + offset → value_of op w (cut w (base + offset)) (cut w y) ≡ (base + r) % 2 ^ 64 → base + r < 2 ^ 64 → value_of op w (cut w x) (cut w y) ≡ base + r
+moved_offset op w x y base offset r e h small = ap (λ (n : ℕ). value_of op w (cut w n) (cut w y)) e ∙ h ∙ omega arith
 
 -- a number of which something is known has 64 bits
 pub known_fits : (k : Known) (lengths : Lengths) (n : ℕ) → ContainsKnown k lengths n → n < 2 ^ 64

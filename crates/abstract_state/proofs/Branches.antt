@@ -7,8 +7,8 @@ use Rattle.std.specs.List.{slice_get}
 use Rattle.bpf_words.specs.declared.instruction.Width.TheVariants.{Full}
 use Rattle.bpf_words.specs.declared.instruction.Comparison.{Comparison}
 use Rattle.bpf_words.specs.declared.instruction.Comparison.TheVariants as is
-use Rattle.meaning.specs.State.{State, set_value, register_of}
-use Rattle.meaning.specs.Value.{cut, holds_of}
+use Rattle.semantics.specs.State.{State, set_value, register_of}
+use Rattle.semantics.specs.Value.{cut, holds_of}
 use Rattle.abstract_state.specs.declared.region.Region.{Region}
 use Rattle.abstract_state.specs.declared.region.Region.TheVariants.{Text, Link}
 use Rattle.abstract_state.specs.declared.branch.Pair.{Pair}
@@ -43,7 +43,7 @@ lent_cut : (region : Region) (m x : ℕ) → m ≡ base_of region + x → x ≤ 
 lent_cut Text m x e h = omega arith
 lent_cut Link m x e h = omega arith
 
--- addresses in one region stand as their places
+-- addresses in one region compare as their offsets
 pub lent_holds : (region : Region) (c : Comparison) (m n x y : ℕ) → IsOrder c → m ≡ base_of region + x → n ≡ base_of region + y → x ≤ 2 ^ 20 → y ≤ 2 ^ 20 → holds_of c Full (cut Full m) (cut Full n) ≡ holds_of c Full (cut Full x) (cut Full y)
 lent_holds region c m n x y o em en hx hy =
     let px : cut Full x ≡ x = omega arith in

@@ -12,7 +12,7 @@ use Rattle.abstract_state.specs.declared.region.Region.{Region}
 use Rattle.abstract_state.specs.Lent.{tail_of}
 use Rattle.abstract_state.specs.declared.known.Known.{Known}
 use Rattle.abstract_state.specs.declared.known.Known.TheVariants.{Number, Context, Stack, Lent}
-use Rattle.abstract_state.specs.declared.place.LentPlace.{LentPlace}
+use Rattle.abstract_state.specs.declared.address.LentAddress.{LentAddress}
 use Rattle.abstract_state.specs.declared.state.AbsReg.{AbsReg}
 use Rattle.abstract_state.specs.declared.state.AbsReg.TheVariants.{Unset, Set}
 use Rattle.abstract_state.specs.Kinds.{IsNumberReg}
@@ -46,7 +46,7 @@ one_made region o bits range tails n t narrows keeps lies tail one = where_some 
 
 -- what an address in a lent region is
 pub lent_set : (region : Region) (low high : ℕ) (t : Option ℕ) (reg : AbsReg) → Holds (LentIn region low high t) reg
-    → (p : LentPlace) × (reg ≡ Set (Lent p)) × (p.region ≡ region) × IsIn region p.offset low high t
+    → (p : LentAddress) × (reg ≡ Set (Lent p)) × (p.region ≡ region) × IsIn region p.offset low high t
 lent_set region low high t Unset h = absurd h
 lent_set region low high t (Set (Number q)) h = absurd h
 lent_set region low high t (Set (Context p)) h = absurd h
@@ -87,7 +87,7 @@ pub moved_number : (a : Quantity) (o : Option Quantity) (r : Option Known) → N
 moved_number a None r narrows keeps none some = subst (λ (v : Option Known). IfSome v (λ k. IsNoLess (Number a) k)) (sym (none refl)) tt
 moved_number a (Some q) r narrows keeps none some = subst (λ (v : Option Known). IfSome v (λ k. IsNoLess (Number a) k)) (sym (some q refl)) (q, refl, refines a (Some q) q narrows keeps refl)
 
-pub moved_lent : (a : LentPlace) (o : Option Quantity) (r : Result (Option Known) Refusal) → Narrows o a.offset.range a.offset.tails → KeepsBits o a.offset.bits → (o ≡ None → r ≡ Ok None) → ((q : Quantity) → o ≡ Some q → q.range.high ≤ 2 ^ 20 → (p : LentPlace) × (r ≡ Ok (Some (Lent p))) × (p.region ≡ a.region) × (p.offset ≡ q)) → IsOk r × IfOk r (λ v. IfSome v (λ k. IsNoLess (Lent a) k))
+pub moved_lent : (a : LentAddress) (o : Option Quantity) (r : Result (Option Known) Refusal) → Narrows o a.offset.range a.offset.tails → KeepsBits o a.offset.bits → (o ≡ None → r ≡ Ok None) → ((q : Quantity) → o ≡ Some q → q.range.high ≤ 2 ^ 20 → (p : LentAddress) × (r ≡ Ok (Some (Lent p))) × (p.region ≡ a.region) × (p.offset ≡ q)) → IsOk r × IfOk r (λ v. IfSome v (λ k. IsNoLess (Lent a) k))
 moved_lent a None r narrows keeps none some = subst (λ (v : Result (Option Known) Refusal). IsOk v × IfOk v (λ u. IfSome u (λ k. IsNoLess (Lent a) k))) (sym (none refl)) (refl, tt)
 moved_lent a (Some q) r narrows keeps none some =
     let given = refines a.offset (Some q) q narrows keeps refl in

@@ -1,19 +1,19 @@
--- Fields of a context by place and size.
+-- Fields of a context by offset and size.
 use Rattle.std.proofs.Common.{◌≡◌, ℕ, zero, suc, ◌+◌, ◌-◌, ◌*◌, ◌/◌, ◌<◌, ◌≤◌, ◌⊎◌, inl, inr, refl, sym, subst, arith}
-use Rattle.bpf_words.specs.declared.context_field.ContextField.{ContextField}
-use Rattle.bpf_words.specs.declared.context_field.ContextField.TheVariants.{Text, Length, Characters, Flags, Color, LinkLength, Comments, Index, Count, Version, Link, End, LinkEnd}
-use Rattle.bpf_words.specs.declared.instruction.Size.{Size}
-use Rattle.bpf_words.specs.declared.instruction.Size.TheVariants.{Byte, Half, Word, Double}
-use Rattle.bpf_words.specs.ContextField.{offset_of, size_of}
-use Rattle.meaning.specs.Memory.{bytes_in}
+use Rattle.span_context.specs.declared.context_field.ContextField.{ContextField}
+use Rattle.span_context.specs.declared.context_field.ContextField.TheVariants.{Text, Length, Characters, Flags, Color, LinkLength, Comments, Index, Count, Version, Link, End, LinkEnd}
+use Rattle.span_context.specs.declared.size.Size.{Size}
+use Rattle.span_context.specs.declared.size.Size.TheVariants.{Byte, Half, Word, Double}
+use Rattle.span_context.specs.ContextField.{offset_of, size_of}
+use Rattle.semantics.specs.Memory.{bytes_in}
 use Rattle.abstract_state.specs.declared.region.Region.{Region}
 use Rattle.abstract_state.specs.declared.region.Region.TheVariants as TheRegions
 use Rattle.abstract_state.specs.Lent.{begin_field, end_field}
 use Rattle.abstract_state.specs.Kinds.{IsNumberField}
 
--- some field begins at a place and has a size
+-- some field begins at an offset and has a size
 abbrev pub IsField : Size → ℕ → Type 0
-IsField size place = (f : ContextField) × (offset_of f ≡ place) × (size_of f ≡ size)
+IsField size offset = (f : ContextField) × (offset_of f ≡ offset) × (size_of f ≡ size)
 
 pub begin_is_field : (at : Region) → IsField Double (begin_field at)
 begin_is_field TheRegions.Text = (Text, refl, refl)
@@ -35,13 +35,13 @@ word_field (suc (suc (suc (suc (suc (suc zero)))))) few = (Index, refl, refl)
 word_field (suc (suc (suc (suc (suc (suc (suc zero))))))) few = (Count, refl, refl)
 word_field (suc (suc (suc (suc (suc (suc (suc (suc k)))))))) few = absurd (omega arith)
 
-pub number_is_field : (size : Size) (place : ℕ) → IsNumberField size place → IsField size place
-number_is_field Byte place number = absurd number
-number_is_field Half place number = absurd number
-number_is_field Word place number =
-    let at : 16 + 4 * ((place - 16) / 4) ≡ place = omega (arith, number) in
-    subst (λ (p : ℕ). IsField Word p) at (word_field ((place - 16) / 4) (omega (arith, number)))
-number_is_field Double place number = (Version, sym number, refl)
+pub number_is_field : (size : Size) (offset : ℕ) → IsNumberField size offset → IsField size offset
+number_is_field Byte offset number = absurd number
+number_is_field Half offset number = absurd number
+number_is_field Word offset number =
+    let at : 16 + 4 * ((offset - 16) / 4) ≡ offset = omega (arith, number) in
+    subst (λ (p : ℕ). IsField Word p) at (word_field ((offset - 16) / 4) (omega (arith, number)))
+number_is_field Double offset number = (Version, sym number, refl)
 
 -- a field of which no more is known than that it is a number
 abbrev pub IsPlain : ContextField → Type 0

@@ -5,16 +5,16 @@ use Rattle.std.specs.Int.{cast_unsigned, w64}
 use Rattle.std.proofs.lemmas.Option.{same_Some}
 use Rattle.std.proofs.lemmas.Bool.{cases_eq}
 use Rattle.std.proofs.lemmas.Bool.Decides.{nat_tests}
-use Rattle.bpf_words.specs.declared.instruction.Size.{Size}
-use Rattle.bpf_words.specs.declared.instruction.Size.TheVariants.{Double}
+use Rattle.span_context.specs.declared.size.Size.{Size}
+use Rattle.span_context.specs.declared.size.Size.TheVariants.{Double}
 use Rattle.bpf_words.specs.declared.instruction.Operand.{Operand}
 use Rattle.bpf_words.specs.declared.instruction.Operand.TheVariants.{Source}
 use Rattle.bpf_words.specs.declared.instruction.Insn.{Insn}
 use Rattle.bpf_words.specs.declared.instruction.Insn.TheVariants.{Store}
-use Rattle.meaning.specs.Memory.{bytes_in}
+use Rattle.semantics.specs.Memory.{bytes_in}
 use Rattle.abstract_state.specs.declared.known.Known.{Known}
 use Rattle.abstract_state.specs.declared.known.Known.TheVariants.{Number, Context, Stack, Lent}
-use Rattle.abstract_state.specs.declared.place.StackPlace.{StackPlace}
+use Rattle.abstract_state.specs.declared.address.StackAddress.{StackAddress}
 use Rattle.abstract_state.specs.declared.slot.Slot.{Slot}
 use Rattle.abstract_state.specs.declared.slot.Slot.TheVariants.{Spilled}
 use Rattle.abstract_state.specs.declared.state.AbsReg.TheVariants.{Set}
@@ -26,15 +26,15 @@ use Rattle.abstract_state.specs.Exact.{Says, Holds, Exactly}
 use Rattle.abstract_state.specs.Frame.{IsStackByte, StoresSlots, SpillsSlot}
 use Rattle.abstract_state.specs.Guard.{Stores, stored, Spills, spilled}
 
-pub place_is : (p offset : ℕ) (k : Known) → IsStackByte p offset (Set k) → (q : StackPlace) × (k ≡ Stack q) × ((q.place + offset) % 2 ^ 64 ≡ p)
-place_is p offset (Number q) h = absurd h
-place_is p offset (Context q) h = absurd h
-place_is p offset (Stack q) h = (q, refl, h)
-place_is p offset (Lent q) h = absurd h
+pub address_is : (p offset : ℕ) (k : Known) → IsStackByte p offset (Set k) → (q : StackAddress) × (k ≡ Stack q) × ((q.offset + offset) % 2 ^ 64 ≡ p)
+address_is p offset (Number q) h = absurd h
+address_is p offset (Context q) h = absurd h
+address_is p offset (Stack q) h = (q, refl, h)
+address_is p offset (Lent q) h = absurd h
 
--- the place of an address that is known to be in the stack
-pub place_of : (p offset : ℕ) (k : Known) (q : StackPlace) → k ≡ Stack q → IsStackByte p offset (Set k) → (q.place + offset) % 2 ^ 64 ≡ p
-place_of p offset k q e h = subst (λ (v : Known). IsStackByte p offset (Set v)) e h
+-- the byte of an address that is known to be in the stack
+pub stack_byte_of : (p offset : ℕ) (k : Known) (q : StackAddress) → k ≡ Stack q → IsStackByte p offset (Set k) → (q.offset + offset) % 2 ^ 64 ≡ p
+stack_byte_of p offset k q e h = subst (λ (v : Known). IsStackByte p offset (Set v)) e h
 
 pub no_number : (p offset : ℕ) (k : Known) → IsNumber k → IsStackByte p offset (Set k) → ⊥
 no_number p offset (Number q) n h = h
@@ -54,9 +54,9 @@ spilled_number (Some k) slot j is m = subst (λ (s : Slot). IsMarked s j) is m
 pub mark_kept : (was now : Bool) → was ≡ true → (was || now) ≡ true
 mark_kept was now e = rw e refl
 
-pub mark_set : (was : Bool) (place first j count : ℕ) → place ≤ first + j → first + j < place + count → (was || (nat_le place (first + j) && nat_lt (first + j) (place + count))) ≡ true
-mark_set true place first j count a b = refl
-mark_set false place first j count a b = grind (arith, nat_tests)
+pub mark_set : (was : Bool) (offset first j count : ℕ) → offset ≤ first + j → first + j < offset + count → (was || (nat_le offset (first + j) && nat_lt (first + j) (offset + count))) ≡ true
+mark_set true offset first j count a b = refl
+mark_set false offset first j count a b = grind (arith, nat_tests)
 
 -- a number that is spilled into a slot is stored in its eight bytes
 pub spill_stores : (p count slot : ℕ) (known : Known) (a b : List Slot) → count ≡ 8 → p ≡ 8 * slot → IsNumber known → SpillsSlot slot known a b → StoresSlots p count a b

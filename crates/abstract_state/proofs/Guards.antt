@@ -7,15 +7,15 @@ use Rattle.bpf_words.specs.declared.instruction.Arithmetic.{Arithmetic}
 use Rattle.bpf_words.specs.declared.instruction.Arithmetic.TheVariants.{Mov, Add}
 use Rattle.bpf_words.specs.declared.instruction.Operand.{Operand}
 use Rattle.bpf_words.specs.declared.instruction.Operand.TheVariants.{Immediate, Source}
-use Rattle.bpf_words.specs.declared.instruction.Size.{Size}
-use Rattle.bpf_words.specs.declared.instruction.Size.TheVariants.{Double}
-use Rattle.bpf_words.specs.declared.profile.Profile.{Profile}
+use Rattle.span_context.specs.declared.size.Size.{Size}
+use Rattle.span_context.specs.declared.size.Size.TheVariants.{Double}
+use Rattle.span_context.specs.declared.profile.Profile.{Profile}
 use Rattle.bpf_words.specs.declared.instruction.Insn.{Insn}
 use Rattle.bpf_words.specs.declared.instruction.Insn.TheVariants.{Compute, Load, LoadSigned, LoadWide}
 use Rattle.std.specs.Int.{cast_unsigned, w64}
 use Rattle.bpf_words.specs.declared.instruction.SignedSize.{SignedSize}
-use Rattle.meaning.specs.Memory.{bytes_in, bytes_in_signed}
-use Rattle.meaning.specs.Value.{value_of}
+use Rattle.semantics.specs.Memory.{bytes_in, bytes_in_signed}
+use Rattle.semantics.specs.Value.{value_of}
 use Rattle.abstract_state.specs.declared.region.Region.{Region}
 use Rattle.abstract_state.specs.Lent.{begin_field, end_field, limit_of, bound_of, Lends}
 use Rattle.abstract_state.specs.declared.state.AbsState.{AbsState}
@@ -23,7 +23,7 @@ use Rattle.abstract_state.specs.declared.refusal.Refusal.{Refusal}
 use Rattle.abstract_state.specs.declared.step.Flow.{Flow}
 use Rattle.abstract_state.specs.declared.known.Known.{Known}
 use Rattle.abstract_state.specs.declared.known.Known.TheVariants.{Lent}
-use Rattle.abstract_state.specs.declared.place.LentPlace.{LentPlace}
+use Rattle.abstract_state.specs.declared.address.LentAddress.{LentAddress}
 use Rattle.abstract_state.specs.declared.state.AbsReg.TheVariants.{Set}
 use Rattle.abstract_state.specs.declared.slot.Slot.TheVariants.{Spilled}
 use Rattle.abstract_state.specs.State.{register_at, slot_at}
@@ -78,7 +78,7 @@ byte_moves : (a : AbsState) (p : ℕ) (o offset : ℤ) (r base : ℕ) → o ≡ 
 byte_moves a p o offset r base far from h =
     subst (λ (k : ℕ). IsStackByte p (cast_unsigned w64 offset) (register_at a.registers k)) from (subst (λ (z : ℤ). IsStackByte p (cast_unsigned w64 z) (register_at a.registers r)) far h)
 
-pub load_rows : (profile : Profile) (a : AbsState) (insn : Insn) (d : ℕ) (fact : Fact) (z : Size) (dest base : ℕ) (offset : ℤ) (result : Result Flow Refusal) (b : AbsState) → Yields profile a insn d fact → insn ≡ Load z dest base offset → ((region : Region) → Lends region profile → offset ≡ pos (begin_field region) → z ≡ Double → IsContextAt 0 (register_at a.registers base) → Keeps result b dest (LentIn region 0 0 (Some 0))) → ((region : Region) → Lends region profile → offset ≡ pos (end_field region) → z ≡ Double → IsContextAt 0 (register_at a.registers base) → Keeps result b dest (LentIn region 0 (limit_of region) (Some 0))) → ((o : ℕ) (p : LentPlace) → offset ≡ pos o → register_at a.registers base ≡ Set (Lent p) → o < 2 ^ 15 → p.offset.range.high + o + bytes_in z ≤ bound_of a.bounds p.region → Keeps result b dest AnyNumber) → ((p : ℕ) → IsStackByte p (cast_unsigned w64 offset) (register_at a.registers base) → AreMarked a.stack p (bytes_in z) → Keeps result b dest AnyNumber) → ((i : ℕ) (known : Known) → IsStackByte (8 * i) (cast_unsigned w64 offset) (register_at a.registers base) → i < 64 → z ≡ Double → slot_at a.stack i ≡ Spilled known → Keeps result b dest (Exactly known)) → Keeps result b d fact
+pub load_rows : (profile : Profile) (a : AbsState) (insn : Insn) (d : ℕ) (fact : Fact) (z : Size) (dest base : ℕ) (offset : ℤ) (result : Result Flow Refusal) (b : AbsState) → Yields profile a insn d fact → insn ≡ Load z dest base offset → ((region : Region) → Lends region profile → offset ≡ pos (begin_field region) → z ≡ Double → IsContextAt 0 (register_at a.registers base) → Keeps result b dest (LentIn region 0 0 (Some 0))) → ((region : Region) → Lends region profile → offset ≡ pos (end_field region) → z ≡ Double → IsContextAt 0 (register_at a.registers base) → Keeps result b dest (LentIn region 0 (limit_of region) (Some 0))) → ((o : ℕ) (p : LentAddress) → offset ≡ pos o → register_at a.registers base ≡ Set (Lent p) → o < 2 ^ 15 → p.offset.range.high + o + bytes_in z ≤ bound_of a.bounds p.region → Keeps result b dest AnyNumber) → ((p : ℕ) → IsStackByte p (cast_unsigned w64 offset) (register_at a.registers base) → AreMarked a.stack p (bytes_in z) → Keeps result b dest AnyNumber) → ((i : ℕ) (known : Known) → IsStackByte (8 * i) (cast_unsigned w64 offset) (register_at a.registers base) → i < 64 → z ≡ Double → slot_at a.stack i ≡ Spilled known → Keeps result b dest (Exactly known)) → Keeps result b d fact
 load_rows profile a insn d fact z dest base offset result b (lent_begin region d' base' lends h) e begin end read marked spilled_so =
     let size : z ≡ Double = cc in
     let at : dest ≡ d' = cc in
@@ -140,7 +140,7 @@ wide_rows profile a insn d fact dest value out (stack_read size d' base' p o h m
 wide_rows profile a insn d fact dest value out (stack_read_signed size d' base' p o h m) e one = absurd (cc)
 wide_rows profile a insn d fact dest value out (refilled d' base' i o known h less is) e one = absurd (cc)
 
-pub signed_rows : (profile : Profile) (a : AbsState) (insn : Insn) (d : ℕ) (fact : Fact) (z : SignedSize) (dest base : ℕ) (offset : ℤ) (result : Result Flow Refusal) (b : AbsState) → Yields profile a insn d fact → insn ≡ LoadSigned z dest base offset → ((o : ℕ) (p : LentPlace) → offset ≡ pos o → register_at a.registers base ≡ Set (Lent p) → o < 2 ^ 15 → p.offset.range.high + o + bytes_in_signed z ≤ bound_of a.bounds p.region → Keeps result b dest AnyNumber) → ((p : ℕ) → IsStackByte p (cast_unsigned w64 offset) (register_at a.registers base) → AreMarked a.stack p (bytes_in_signed z) → Keeps result b dest AnyNumber) → Keeps result b d fact
+pub signed_rows : (profile : Profile) (a : AbsState) (insn : Insn) (d : ℕ) (fact : Fact) (z : SignedSize) (dest base : ℕ) (offset : ℤ) (result : Result Flow Refusal) (b : AbsState) → Yields profile a insn d fact → insn ≡ LoadSigned z dest base offset → ((o : ℕ) (p : LentAddress) → offset ≡ pos o → register_at a.registers base ≡ Set (Lent p) → o < 2 ^ 15 → p.offset.range.high + o + bytes_in_signed z ≤ bound_of a.bounds p.region → Keeps result b dest AnyNumber) → ((p : ℕ) → IsStackByte p (cast_unsigned w64 offset) (register_at a.registers base) → AreMarked a.stack p (bytes_in_signed z) → Keeps result b dest AnyNumber) → Keeps result b d fact
 signed_rows profile a insn d fact z dest base offset result b (lent_begin region d' base' lends h) e read marked = absurd (cc)
 signed_rows profile a insn d fact z dest base offset result b (lent_end region d' base' lends h) e read marked = absurd (cc)
 signed_rows profile a insn d fact z dest base offset result b (lent_moved region d' r n t h) e read marked = absurd (cc)

@@ -3,7 +3,7 @@ use Rattle.std.proofs.Common.{◌≡◌, ℕ, ◌⊎◌, inl, inr, Option, Some,
 use Rattle.std.specs.Option.{IsSome, IfSome}
 use Rattle.abstract_state.specs.declared.known.Known.{Known}
 use Rattle.abstract_state.specs.declared.known.Known.TheVariants.{Number, Lent}
-use Rattle.abstract_state.specs.declared.place.LentPlace.{LentPlace}
+use Rattle.abstract_state.specs.declared.address.LentAddress.{LentAddress}
 use Rattle.abstract_state.specs.declared.quantity.Quantity.{Quantity}
 use Rattle.abstract_state.specs.declared.state.AbsReg.{AbsReg}
 use Rattle.abstract_state.specs.declared.state.AbsReg.TheVariants.{Unset, Set}
@@ -32,7 +32,7 @@ both_set : (a b : Known) → (Set a ≡ Unset) ⊎ (Set b ≡ Unset) → ⊥
 both_set a b (inl e) = cc
 both_set a b (inr e) = cc
 
-pub joins_held : (a b : Known) (o : Option Known) → (IsNumber a → IsNumber b → IsSome o × AreNumbers o) → ((p q : Quantity) → a ≡ Number p → b ≡ Number q → (r : Quantity) × (o ≡ Some (Number r)) × JoinsNumber p q r) → ((p q : LentPlace) → a ≡ Lent p → b ≡ Lent q → p.region ≡ q.region → (r : LentPlace) × (o ≡ Some (Lent r)) × (r.region ≡ p.region) × JoinsNumber p.offset q.offset r.offset) → ((n : ℕ) → IsContextAt n (Set a) → IsContextAt n (Set b) → IsSome o × IfSome o (λ k. IsContextAt n (Set k))) → ((n : ℕ) → IsStackAt n (Set a) → IsStackAt n (Set b) → IsSome o × IfSome o (λ k. IsStackAt n (Set k))) → JoinsReg (Set a) (Set b) (held o)
+pub joins_held : (a b : Known) (o : Option Known) → (IsNumber a → IsNumber b → IsSome o × AreNumbers o) → ((p q : Quantity) → a ≡ Number p → b ≡ Number q → (r : Quantity) × (o ≡ Some (Number r)) × JoinsNumber p q r) → ((p q : LentAddress) → a ≡ Lent p → b ≡ Lent q → p.region ≡ q.region → (r : LentAddress) × (o ≡ Some (Lent r)) × (r.region ≡ p.region) × JoinsNumber p.offset q.offset r.offset) → ((n : ℕ) → IsContextAt n (Set a) → IsContextAt n (Set b) → IsSome o × IfSome o (λ k. IsContextAt n (Set k))) → ((n : ℕ) → IsStackAt n (Set a) → IsStackAt n (Set b) → IsSome o × IfSome o (λ k. IsStackAt n (Set k))) → JoinsReg (Set a) (Set b) (held o)
 joins_held a b None numbers values lent context stack = record {
   unset = λ either. refl;
   numbers = λ p q. absurd (some_none None refl (numbers p q).0);

@@ -10,54 +10,54 @@ use Rattle.std.specs.Int.{byte_at, bytes_low_first}
 use Rattle.std.proofs.lemmas.List.{length-map}
 use Rattle.byteorder.specs.Endian.{little_number, little_bytes}
 use Rattle.byteorder.specs.Numbers.{length-bytes_low_first}
-use Rattle.bpf_words.specs.Context.{context_base, text_base, text_limit, link_base, SpanBytes}
-use Rattle.meaning.specs.Memory.{in_context, in_text, in_link, in_stack, stack_base, load, store, stored, stack_number, or_unset}
+use Rattle.span_context.specs.Context.{context_base, text_base, text_limit, link_base, SpanBytes}
+use Rattle.semantics.specs.Memory.{in_context, in_text, in_link, in_stack, stack_base, load, store, stored, stack_number, or_unset}
 use Rattle.abstract_state.specs.State.{bytes_of, HasByte}
 
 -- ---- which region
-pub loads_context : (bytes : SpanBytes) (stack : List (Option ℕ)) (place count : ℕ) → place + count ≤ length bytes.context → load bytes stack (context_base + place) count ≡ Ok (little_number count (drop place bytes.context))
-loads_context bytes stack place count h =
-    let yes : in_context bytes.context (context_base + place) count ≡ true = grind (arith, nat_tests) in
-    let at : context_base + place - context_base ≡ place = omega arith in
+pub loads_context : (bytes : SpanBytes) (stack : List (Option ℕ)) (offset count : ℕ) → offset + count ≤ length bytes.context → load bytes stack (context_base + offset) count ≡ Ok (little_number count (drop offset bytes.context))
+loads_context bytes stack offset count h =
+    let yes : in_context bytes.context (context_base + offset) count ≡ true = grind (arith, nat_tests) in
+    let at : context_base + offset - context_base ≡ offset = omega arith in
     simp (yes, at)
 
-pub loads_text : (bytes : SpanBytes) (stack : List (Option ℕ)) (place count : ℕ) → length bytes.context ≤ 72 → place + count ≤ length bytes.text → load bytes stack (text_base + place) count ≡ Ok (little_number count (drop place bytes.text))
-loads_text bytes stack place count long h =
-    let no : in_context bytes.context (text_base + place) count ≡ false = grind (arith, nat_tests) in
-    let yes : in_text bytes.text (text_base + place) count ≡ true = grind (arith, nat_tests) in
-    let at : text_base + place - text_base ≡ place = omega arith in
+pub loads_text : (bytes : SpanBytes) (stack : List (Option ℕ)) (offset count : ℕ) → length bytes.context ≤ 72 → offset + count ≤ length bytes.text → load bytes stack (text_base + offset) count ≡ Ok (little_number count (drop offset bytes.text))
+loads_text bytes stack offset count long h =
+    let no : in_context bytes.context (text_base + offset) count ≡ false = grind (arith, nat_tests) in
+    let yes : in_text bytes.text (text_base + offset) count ≡ true = grind (arith, nat_tests) in
+    let at : text_base + offset - text_base ≡ offset = omega arith in
     simp (no, yes, at)
 
-pub loads_link : (bytes : SpanBytes) (stack : List (Option ℕ)) (place count : ℕ) → length bytes.context ≤ 72 → length bytes.text ≤ text_limit → place + count ≤ length bytes.link → load bytes stack (link_base + place) count ≡ Ok (little_number count (drop place bytes.link))
-loads_link bytes stack place count long short h =
-    let no : in_context bytes.context (link_base + place) count ≡ false = grind (arith, nat_tests) in
-    let neither : in_text bytes.text (link_base + place) count ≡ false = grind (arith, nat_tests) in
-    let yes : in_link bytes.link (link_base + place) count ≡ true = grind (arith, nat_tests) in
-    let at : link_base + place - link_base ≡ place = omega arith in
+pub loads_link : (bytes : SpanBytes) (stack : List (Option ℕ)) (offset count : ℕ) → length bytes.context ≤ 72 → length bytes.text ≤ text_limit → offset + count ≤ length bytes.link → load bytes stack (link_base + offset) count ≡ Ok (little_number count (drop offset bytes.link))
+loads_link bytes stack offset count long short h =
+    let no : in_context bytes.context (link_base + offset) count ≡ false = grind (arith, nat_tests) in
+    let neither : in_text bytes.text (link_base + offset) count ≡ false = grind (arith, nat_tests) in
+    let yes : in_link bytes.link (link_base + offset) count ≡ true = grind (arith, nat_tests) in
+    let at : link_base + offset - link_base ≡ offset = omega arith in
     simp (no, neither, yes, at)
 
-pub loads_stack : (bytes : SpanBytes) (stack : List (Option ℕ)) (place count : ℕ) → length bytes.context ≤ 72 → place + count ≤ 512 → load bytes stack (stack_base + place) count ≡ or_unset (stack_number stack place count)
-loads_stack bytes stack place count long h =
-    let no : in_context bytes.context (stack_base + place) count ≡ false = grind (arith, nat_tests) in
-    let neither : in_text bytes.text (stack_base + place) count ≡ false = grind (arith, nat_tests) in
-    let nor : in_link bytes.link (stack_base + place) count ≡ false = grind (arith, nat_tests) in
-    let yes : in_stack (stack_base + place) count ≡ true = grind (arith, nat_tests) in
-    let at : stack_base + place - stack_base ≡ place = omega arith in
+pub loads_stack : (bytes : SpanBytes) (stack : List (Option ℕ)) (offset count : ℕ) → length bytes.context ≤ 72 → offset + count ≤ 512 → load bytes stack (stack_base + offset) count ≡ or_unset (stack_number stack offset count)
+loads_stack bytes stack offset count long h =
+    let no : in_context bytes.context (stack_base + offset) count ≡ false = grind (arith, nat_tests) in
+    let neither : in_text bytes.text (stack_base + offset) count ≡ false = grind (arith, nat_tests) in
+    let nor : in_link bytes.link (stack_base + offset) count ≡ false = grind (arith, nat_tests) in
+    let yes : in_stack (stack_base + offset) count ≡ true = grind (arith, nat_tests) in
+    let at : stack_base + offset - stack_base ≡ offset = omega arith in
     simp (no, neither, nor, yes, at)
 
-pub stores_stack : (bytes : SpanBytes) (stack : List (Option ℕ)) (place count value : ℕ) → place + count ≤ 512 → store bytes stack (stack_base + place) count value ≡ Ok (stored stack place count value)
-stores_stack bytes stack place count value h =
-    let yes : in_stack (stack_base + place) count ≡ true = grind (arith, nat_tests) in
-    let at : stack_base + place - stack_base ≡ place = omega arith in
+pub stores_stack : (bytes : SpanBytes) (stack : List (Option ℕ)) (offset count value : ℕ) → offset + count ≤ 512 → store bytes stack (stack_base + offset) count value ≡ Ok (stored stack offset count value)
+stores_stack bytes stack offset count value h =
+    let yes : in_stack (stack_base + offset) count ≡ true = grind (arith, nat_tests) in
+    let at : stack_base + offset - stack_base ≡ offset = omega arith in
     simp (yes, at)
 
 -- ---- bytes of the stack that are set make a number
-pub number_set : (stack : List (Option ℕ)) (place count : ℕ) → ((j : ℕ) → j < count → HasByte (bytes_of stack) (place + j)) → (n : ℕ) × (stack_number stack place count ≡ Some n) × (n < 256 ^ count)
+pub number_set : (stack : List (Option ℕ)) (offset count : ℕ) → ((j : ℕ) → j < count → HasByte (bytes_of stack) (offset + j)) → (n : ℕ) × (stack_number stack offset count ≡ Some n) × (n < 256 ^ count)
 unfolding stack_number
-number_set stack place zero h = (0, refl, omega arith)
-number_set stack place (suc count) h =
-    let first : HasByte (bytes_of stack) place = subst (λ (k : ℕ). HasByte (bytes_of stack) k) (omega arith) (h 0 (omega arith)) in
-    let rest = number_set stack (place + 1) count (λ j l. subst (λ (k : ℕ). HasByte (bytes_of stack) k) (let e : place + suc j ≡ place + 1 + j = omega arith in e) (h (suc j) (omega arith))) in
+number_set stack offset zero h = (0, refl, omega arith)
+number_set stack offset (suc count) h =
+    let first : HasByte (bytes_of stack) offset = subst (λ (k : ℕ). HasByte (bytes_of stack) k) (omega arith) (h 0 (omega arith)) in
+    let rest = number_set stack (offset + 1) count (λ j l. subst (λ (k : ℕ). HasByte (bytes_of stack) k) (let e : offset + suc j ≡ offset + 1 + j = omega arith in e) (h (suc j) (omega arith))) in
     let low = first.1 in
     let high = rest.1 in
     (first.0 + 256 * rest.0, simp (low, high), omega (arith, pow-succ' 256 count, first.2, rest.2))
@@ -76,23 +76,23 @@ next_quotient n j =
     let small = pow256 j in
     rw (large, small) (sym parts)
 
-first_byte : (stack : List (Option ℕ)) (place n : ℕ) → bytes_of stack (place + 0) ≡ Some (n / 256 ^ 0 % 256) → bytes_of stack place ≡ Some (n % 256)
-first_byte stack place n e =
-    let at : place ≡ place + 0 = omega arith in
+first_byte : (stack : List (Option ℕ)) (offset n : ℕ) → bytes_of stack (offset + 0) ≡ Some (n / 256 ^ 0 % 256) → bytes_of stack offset ≡ Some (n % 256)
+first_byte stack offset n e =
+    let at : offset ≡ offset + 0 = omega arith in
     ap (bytes_of stack) at ∙ e ∙ ap (λ (m : ℕ). Some m) (omega arith)
 
-next_byte : (stack : List (Option ℕ)) (place j n : ℕ) → bytes_of stack (place + suc j) ≡ Some (n / 256 ^ suc j % 256) → bytes_of stack (place + 1 + j) ≡ Some (n / 256 / 256 ^ j % 256)
-next_byte stack place j n e =
-    let at : place + 1 + j ≡ place + suc j = omega arith in
+next_byte : (stack : List (Option ℕ)) (offset j n : ℕ) → bytes_of stack (offset + suc j) ≡ Some (n / 256 ^ suc j % 256) → bytes_of stack (offset + 1 + j) ≡ Some (n / 256 / 256 ^ j % 256)
+next_byte stack offset j n e =
+    let at : offset + 1 + j ≡ offset + suc j = omega arith in
     ap (bytes_of stack) at ∙ e ∙ ap (λ (m : ℕ). Some (m % 256)) (next_quotient n j)
 
 -- the bytes of a number, read again
-pub number_back : (stack : List (Option ℕ)) (place count n : ℕ) → ((j : ℕ) → j < count → bytes_of stack (place + j) ≡ Some (n / 256 ^ j % 256)) → stack_number stack place count ≡ Some (n % 256 ^ count)
+pub number_back : (stack : List (Option ℕ)) (offset count n : ℕ) → ((j : ℕ) → j < count → bytes_of stack (offset + j) ≡ Some (n / 256 ^ j % 256)) → stack_number stack offset count ≡ Some (n % 256 ^ count)
 unfolding stack_number
-number_back stack place zero n h = ap (λ (m : ℕ). Some m) (omega arith)
-number_back stack place (suc count) n h =
-    let low : bytes_of stack place ≡ Some (n % 256) = first_byte stack place n (h 0 (omega arith)) in
-    let high = number_back stack (place + 1) count (n / 256) (λ j l. next_byte stack place j n (h (suc j) (omega arith))) in
+number_back stack offset zero n h = ap (λ (m : ℕ). Some m) (omega arith)
+number_back stack offset (suc count) n h =
+    let low : bytes_of stack offset ≡ Some (n % 256) = first_byte stack offset n (h 0 (omega arith)) in
+    let high = number_back stack (offset + 1) count (n / 256) (λ j l. next_byte stack offset j n (h (suc j) (omega arith))) in
     simp (low, high) (ap (λ (m : ℕ). Some m) (low_and_high n count))
 
 -- ---- what a store leaves on the stack
@@ -107,56 +107,56 @@ byte_there i (suc n) x zero h =
 byte_there i (suc n) x (suc j) h =
     let at : suc i + j ≡ i + suc j = omega arith in byte_there (suc i) n x j (omega arith) ∙ ap (λ (k : ℕ). Some (x / 256 ^ k % 256)) at
 
-length_stored : (stack : List (Option ℕ)) (place count value : ℕ) → place + count ≤ length stack → (length (take place stack) ≡ place) × (length (map Some (little_bytes count value)) ≡ count)
-length_stored stack place count value h =
+length_stored : (stack : List (Option ℕ)) (offset count value : ℕ) → offset + count ≤ length stack → (length (take offset stack) ≡ offset) × (length (map Some (little_bytes count value)) ≡ count)
+length_stored stack offset count value h =
     (grind (arith, common_steps), simp length-map (length-bytes_low_first 0 count value))
 
-pub stored_long : (stack : List (Option ℕ)) (place count value : ℕ) → place + count ≤ length stack → length (stored stack place count value) ≡ length stack
-stored_long stack place count value h =
-    let sizes = length_stored stack place count value h in
-    let taken : length (take place stack) ≡ place = sizes.0 in
+pub stored_long : (stack : List (Option ℕ)) (offset count value : ℕ) → offset + count ≤ length stack → length (stored stack offset count value) ≡ length stack
+stored_long stack offset count value h =
+    let sizes = length_stored stack offset count value h in
+    let taken : length (take offset stack) ≡ offset = sizes.0 in
     let added : length (map Some (little_bytes count value)) ≡ count = sizes.1 in
     simp (length-append, length-drop, taken, added) (omega arith)
 
-pub stored_before : (stack : List (Option ℕ)) (place count value k : ℕ) → place + count ≤ length stack → k < place → bytes_of (stored stack place count value) k ≡ bytes_of stack k
-stored_before stack place count value k h before =
-    let front = take place stack in
+pub stored_before : (stack : List (Option ℕ)) (offset count value k : ℕ) → offset + count ≤ length stack → k < offset → bytes_of (stored stack offset count value) k ≡ bytes_of stack k
+stored_before stack offset count value k h before =
+    let front = take offset stack in
     let mid = map Some (little_bytes count value) in
-    let back = drop (place + count) stack in
-    let sizes = length_stored stack place count value h in
-    let taken : length (take place stack) ≡ place = sizes.0 in
+    let back = drop (offset + count) stack in
+    let sizes = length_stored stack offset count value h in
+    let taken : length (take offset stack) ≡ offset = sizes.0 in
     let both : length (front ++ mid) ≡ length front + length mid = length-append front mid in
-    get_or_append_left (front ++ mid) back None k (omega arith) ∙ get_or_append_left front mid None k (omega arith) ∙ get_or-take place stack k None before
+    get_or_append_left (front ++ mid) back None k (omega arith) ∙ get_or_append_left front mid None k (omega arith) ∙ get_or-take offset stack k None before
 
-pub stored_at : (stack : List (Option ℕ)) (place count value j : ℕ) → place + count ≤ length stack → j < count → bytes_of (stored stack place count value) (place + j) ≡ Some (value / 256 ^ j % 256)
-stored_at stack place count value j h within =
-    let front = take place stack in
+pub stored_at : (stack : List (Option ℕ)) (offset count value j : ℕ) → offset + count ≤ length stack → j < count → bytes_of (stored stack offset count value) (offset + j) ≡ Some (value / 256 ^ j % 256)
+stored_at stack offset count value j h within =
+    let front = take offset stack in
     let mid = map Some (little_bytes count value) in
-    let back = drop (place + count) stack in
-    let sizes = length_stored stack place count value h in
-    let taken : length (take place stack) ≡ place = sizes.0 in
+    let back = drop (offset + count) stack in
+    let sizes = length_stored stack offset count value h in
+    let taken : length (take offset stack) ≡ offset = sizes.0 in
     let added : length (map Some (little_bytes count value)) ≡ count = sizes.1 in
     let both : length (front ++ mid) ≡ length front + length mid = length-append front mid in
-    let at : place + j ≡ length front + j = omega arith in
+    let at : offset + j ≡ length front + j = omega arith in
     let zeroth : 0 + j ≡ j = omega arith in
-    get_or_append_left (front ++ mid) back None (place + j) (omega arith)
+    get_or_append_left (front ++ mid) back None (offset + j) (omega arith)
     ∙ ap (λ (k : ℕ). get_or (front ++ mid) k None) at
     ∙ get_or-append-add front mid j None
     ∙ byte_there 0 count value j within
     ∙ ap (λ (k : ℕ). Some (value / 256 ^ k % 256)) zeroth
 
-pub stored_after : (stack : List (Option ℕ)) (place count value k : ℕ) → place + count ≤ length stack → place + count ≤ k → bytes_of (stored stack place count value) k ≡ bytes_of stack k
-stored_after stack place count value k h after =
-    let front = take place stack in
+pub stored_after : (stack : List (Option ℕ)) (offset count value k : ℕ) → offset + count ≤ length stack → offset + count ≤ k → bytes_of (stored stack offset count value) k ≡ bytes_of stack k
+stored_after stack offset count value k h after =
+    let front = take offset stack in
     let mid = map Some (little_bytes count value) in
-    let back = drop (place + count) stack in
-    let sizes = length_stored stack place count value h in
-    let taken : length (take place stack) ≡ place = sizes.0 in
+    let back = drop (offset + count) stack in
+    let sizes = length_stored stack offset count value h in
+    let taken : length (take offset stack) ≡ offset = sizes.0 in
     let added : length (map Some (little_bytes count value)) ≡ count = sizes.1 in
     let both : length (front ++ mid) ≡ length front + length mid = length-append front mid in
-    let at : k ≡ length (front ++ mid) + (k - (place + count)) = omega arith in
-    let again : place + count + (k - (place + count)) ≡ k = omega arith in
+    let at : k ≡ length (front ++ mid) + (k - (offset + count)) = omega arith in
+    let again : offset + count + (k - (offset + count)) ≡ k = omega arith in
     ap (λ (i : ℕ). get_or ((front ++ mid) ++ back) i None) at
-    ∙ get_or-append-add (front ++ mid) back (k - (place + count)) None
-    ∙ get_or-drop (place + count) stack (k - (place + count)) None
+    ∙ get_or-append-add (front ++ mid) back (k - (offset + count)) None
+    ∙ get_or-drop (offset + count) stack (k - (offset + count)) None
     ∙ ap (bytes_of stack) again

@@ -4,15 +4,15 @@ use Rattle.std.proofs.lemmas.Bool.{cases_lt}
 use Rattle.std.proofs.lemmas.List.{get_or-drop}
 use Rattle.byteorder.specs.Endian.{little_number}
 use Rattle.byteorder.specs.Numbers.{little_from-lt}
-use Rattle.bpf_words.specs.Context.{context_base, text_base, link_base, SaysLink, LendsLink}
-use Rattle.bpf_words.specs.Profile.{context_length}
-use Rattle.bpf_words.specs.declared.profile.Profile.{Profile}
-use Rattle.bpf_words.specs.declared.profile.Profile.TheVariants.{One, Two}
-use Rattle.bpf_words.specs.declared.instruction.Size.{Size}
-use Rattle.bpf_words.specs.declared.instruction.Size.TheVariants.{Double, Word}
-use Rattle.meaning.specs.State.{State}
-use Rattle.meaning.specs.Safe.{AreBytes}
-use Rattle.meaning.specs.Memory.{stack_base, load, stored, or_unset, bytes_in}
+use Rattle.span_context.specs.Context.{context_base, text_base, link_base, SaysLink, LendsLink}
+use Rattle.span_context.specs.Profile.{context_length}
+use Rattle.span_context.specs.declared.profile.Profile.{Profile}
+use Rattle.span_context.specs.declared.profile.Profile.TheVariants.{One, Two}
+use Rattle.span_context.specs.declared.size.Size.{Size}
+use Rattle.span_context.specs.declared.size.Size.TheVariants.{Double, Word}
+use Rattle.semantics.specs.State.{State}
+use Rattle.semantics.specs.Safe.{AreBytes}
+use Rattle.semantics.specs.Memory.{stack_base, load, stored, or_unset, bytes_in}
 use Rattle.abstract_state.specs.declared.region.Region.{Region}
 use Rattle.abstract_state.specs.declared.region.Region.TheVariants.{Text, Link}
 use Rattle.abstract_state.specs.declared.bounds.Bounds.{Bounds}
@@ -34,107 +34,107 @@ pub near_small : (region : Region) (x : ℕ) → x ≤ 2 ^ 20 → base_of region
 near_small Text x h = omega arith
 near_small Link x h = omega arith
 
-pub number_fits : (count place : ℕ) (bytes : List ℕ) → AreBytes bytes → little_number count (drop place bytes) < 256 ^ count
-number_fits count place bytes small = little_from-lt 0 count (drop place bytes) (λ k. subst (λ (n : ℕ). n < 256) (sym (get_or-drop place bytes k 0)) (small (place + k)))
+pub number_fits : (count offset : ℕ) (bytes : List ℕ) → AreBytes bytes → little_number count (drop offset bytes) < 256 ^ count
+number_fits count offset bytes small = little_from-lt 0 count (drop offset bytes) (λ k. subst (λ (n : ℕ). n < 256) (sym (get_or-drop offset bytes k 0)) (small (offset + k)))
 
 -- a load from a lent region
-pub loads_lent : (span : Span) (stack : List (Option ℕ)) (region : Region) (address place count : ℕ) → address ≡ base_of region + place → place + count ≤ length_of (lengths_of span) region → (v : ℕ) × (load span.bytes stack address count ≡ Ok v) × (v < 256 ^ count)
-loads_lent span stack Text address place count at within = (
-  little_number count (drop place span.bytes.text),
-  ap (λ (a : ℕ). load span.bytes stack a count) at ∙ loads_text span.bytes stack place count (context_short span) within,
-  number_fits count place span.bytes.text span.whole.text_bytes,
+pub loads_lent : (span : Span) (stack : List (Option ℕ)) (region : Region) (address offset count : ℕ) → address ≡ base_of region + offset → offset + count ≤ length_of (lengths_of span) region → (v : ℕ) × (load span.bytes stack address count ≡ Ok v) × (v < 256 ^ count)
+loads_lent span stack Text address offset count at within = (
+  little_number count (drop offset span.bytes.text),
+  ap (λ (a : ℕ). load span.bytes stack a count) at ∙ loads_text span.bytes stack offset count (context_short span) within,
+  number_fits count offset span.bytes.text span.whole.text_bytes,
 )
-loads_lent span stack Link address place count at within = (
-  little_number count (drop place span.bytes.link),
+loads_lent span stack Link address offset count at within = (
+  little_number count (drop offset span.bytes.link),
   ap (λ (a : ℕ). load span.bytes stack a count) at
-      ∙ loads_link span.bytes stack place count (context_short span) span.whole.fits.short within,
-  number_fits count place span.bytes.link span.whole.link_bytes,
+      ∙ loads_link span.bytes stack offset count (context_short span) span.whole.fits.short within,
+  number_fits count offset span.bytes.link span.whole.link_bytes,
 )
 
 -- a load of set bytes of the stack
-pub loads_set : (span : Span) (stack : List (Option ℕ)) (address place count : ℕ) → address ≡ stack_base + place → place + count ≤ 512 → ((j : ℕ) → j < count → HasByte (bytes_of stack) (place + j)) → (v : ℕ) × (load span.bytes stack address count ≡ Ok v) × (v < 256 ^ count)
-loads_set span stack address place count at within set =
-    let number = number_set stack place count set in (
+pub loads_set : (span : Span) (stack : List (Option ℕ)) (address offset count : ℕ) → address ≡ stack_base + offset → offset + count ≤ 512 → ((j : ℕ) → j < count → HasByte (bytes_of stack) (offset + j)) → (v : ℕ) × (load span.bytes stack address count ≡ Ok v) × (v < 256 ^ count)
+loads_set span stack address offset count at within set =
+    let number = number_set stack offset count set in (
       number.0,
-      ap (λ (a : ℕ). load span.bytes stack a count) at ∙ loads_stack span.bytes stack place count (context_short span) within ∙ ap or_unset number.1,
+      ap (λ (a : ℕ). load span.bytes stack a count) at ∙ loads_stack span.bytes stack offset count (context_short span) within ∙ ap or_unset number.1,
       number.2,
     )
 
 -- a load of all that was spilled
-pub loads_back : (span : Span) (stack : List (Option ℕ)) (address place n : ℕ) → address ≡ stack_base + place → place + 8 ≤ 512 → HasNumber (bytes_of stack) place n → n < 2 ^ 64 → load span.bytes stack address 8 ≡ Ok n
-loads_back span stack address place n at within bytes fits =
+pub loads_back : (span : Span) (stack : List (Option ℕ)) (address offset n : ℕ) → address ≡ stack_base + offset → offset + 8 ≤ 512 → HasNumber (bytes_of stack) offset n → n < 2 ^ 64 → load span.bytes stack address 8 ≡ Ok n
+loads_back span stack address offset n at within bytes fits =
     ap (λ (a : ℕ). load span.bytes stack a 8) at
-    ∙ loads_stack span.bytes stack place 8 (context_short span) within
-    ∙ ap or_unset (number_back stack place 8 n bytes)
+    ∙ loads_stack span.bytes stack offset 8 (context_short span) within
+    ∙ ap or_unset (number_back stack offset 8 n bytes)
     ∙ ap (λ (m : ℕ). Ok m) (omega arith)
 
 -- a load of a field
-pub loads_field : (span : Span) (stack : List (Option ℕ)) (address place count : ℕ) → address ≡ context_base + place → place + count ≤ context_length span.profile → load span.bytes stack address count ≡ Ok (little_number count (drop place span.bytes.context))
-loads_field span stack address place count at within =
-    ap (λ (a : ℕ). load span.bytes stack a count) at ∙ loads_context span.bytes stack place count (let long = span.whole.fits.long in omega arith)
+pub loads_field : (span : Span) (stack : List (Option ℕ)) (address offset count : ℕ) → address ≡ context_base + offset → offset + count ≤ context_length span.profile → load span.bytes stack address count ≡ Ok (little_number count (drop offset span.bytes.context))
+loads_field span stack address offset count at within =
+    ap (λ (a : ℕ). load span.bytes stack a count) at ∙ loads_context span.bytes stack offset count (let long = span.whole.fits.long in omega arith)
 
 -- the state after a store on the stack
-pub after_store : (a b : AbsState) (lengths : Lengths) (s : State) (place count v : ℕ) → Contains a lengths s → place + count ≤ 512 → b.registers ≡ a.registers → b.bounds ≡ a.bounds → ContainsStack b.stack lengths (bytes_of (stored s.stack place count v)) → Contains b lengths (with_stack s (stored s.stack place count v))
-after_store a b lengths s place count v c within registers bounds stack =
+pub after_store : (a b : AbsState) (lengths : Lengths) (s : State) (offset count v : ℕ) → Contains a lengths s → offset + count ≤ 512 → b.registers ≡ a.registers → b.bounds ≡ a.bounds → ContainsStack b.stack lengths (bytes_of (stored s.stack offset count v)) → Contains b lengths (with_stack s (stored s.stack offset count v))
+after_store a b lengths s offset count v c within registers bounds stack =
     let size = c.long in
     record {
       eleven = c.eleven;
-      long = stored_long s.stack place count v (omega arith) ∙ c.long;
+      long = stored_long s.stack offset count v (omega arith) ∙ c.long;
       bounds = subst (λ (x : Bounds). IsLong x lengths) (sym bounds) c.bounds;
       registers = λ i h. subst (λ (r : List AbsReg). ContainsRegister (register_at r i) lengths (get_or s.registers i None)) (sym registers) (c.registers i h);
       stack = stack;
     }
 
-pub store_spares : (stack : List (Option ℕ)) (place count v : ℕ) → length stack ≡ 512 → place + count ≤ 512 → Spares place count (bytes_of stack) (bytes_of (stored stack place count v))
-store_spares stack place count v long within k outside =
+pub store_spares : (stack : List (Option ℕ)) (offset count v : ℕ) → length stack ≡ 512 → offset + count ≤ 512 → Spares offset count (bytes_of stack) (bytes_of (stored stack offset count v))
+store_spares stack offset count v long within k outside =
     ⊎_elim
-    (λ (before : k < place). stored_before stack place count v k (omega arith) before)
-    (λ (here : place ≤ k).
+    (λ (before : k < offset). stored_before stack offset count v k (omega arith) before)
+    (λ (here : offset ≤ k).
     ⊎_elim
-    (λ (inside : k < place + count). absurd (outside here inside))
-    (λ (after : place + count ≤ k). stored_after stack place count v k (omega arith) after)
-    (cases_lt k (place + count)))
-    (cases_lt k place)
+    (λ (inside : k < offset + count). absurd (outside here inside))
+    (λ (after : offset + count ≤ k). stored_after stack offset count v k (omega arith) after)
+    (cases_lt k (offset + count)))
+    (cases_lt k offset)
 
-pub store_fills : (stack : List (Option ℕ)) (place count v : ℕ) → length stack ≡ 512 → place + count ≤ 512 → Fills place count (bytes_of (stored stack place count v))
-store_fills stack place count v long within k from to =
-    let at : place + (k - place) ≡ k = omega arith in
-    (v / 256 ^ (k - place) % 256, ap (bytes_of (stored stack place count v)) (sym at) ∙ stored_at stack place count v (k - place) (omega arith) (omega arith), omega arith)
+pub store_fills : (stack : List (Option ℕ)) (offset count v : ℕ) → length stack ≡ 512 → offset + count ≤ 512 → Fills offset count (bytes_of (stored stack offset count v))
+store_fills stack offset count v long within k from to =
+    let at : offset + (k - offset) ≡ k = omega arith in
+    (v / 256 ^ (k - offset) % 256, ap (bytes_of (stored stack offset count v)) (sym at) ∙ stored_at stack offset count v (k - offset) (omega arith) (omega arith), omega arith)
 
-pub store_number : (stack : List (Option ℕ)) (place v : ℕ) → length stack ≡ 512 → place + 8 ≤ 512 → HasNumber (bytes_of (stored stack place 8 v)) place v
-store_number stack place v long within j h = stored_at stack place 8 v j (omega arith) h
+pub store_number : (stack : List (Option ℕ)) (offset v : ℕ) → length stack ≡ 512 → offset + 8 ≤ 512 → HasNumber (bytes_of (stored stack offset 8 v)) offset v
+store_number stack offset v long within j h = stored_at stack offset 8 v j (omega arith) h
 
 -- ---- the fields of a context
-pub read_as : (size size' : Size) (place place' : ℕ) (context : List ℕ) → size ≡ size' → place ≡ place' → little_number (bytes_in size) (drop place context) ≡ little_number (bytes_in size') (drop place' context)
-read_as size size' place place' context es ep =
-    ap (λ (z : Size). little_number (bytes_in z) (drop place context)) es ∙ ap (λ (p : ℕ). little_number (bytes_in size') (drop p context)) ep
+pub read_as : (size size' : Size) (offset offset' : ℕ) (context : List ℕ) → size ≡ size' → offset ≡ offset' → little_number (bytes_in size) (drop offset context) ≡ little_number (bytes_in size') (drop offset' context)
+read_as size size' offset offset' context es ep =
+    ap (λ (z : Size). little_number (bytes_in z) (drop offset context)) es ∙ ap (λ (p : ℕ). little_number (bytes_in size') (drop p context)) ep
 
-pub field_begin : (span : Span) (size : Size) (place : ℕ) → size ≡ Double → place ≡ 0 → little_number (bytes_in size) (drop place span.bytes.context) ≡ text_base + 0
-field_begin span size place es ep = read_as size Double place 0 span.bytes.context es ep ∙ span.whole.fits.begins ∙ omega arith
+pub field_begin : (span : Span) (size : Size) (offset : ℕ) → size ≡ Double → offset ≡ 0 → little_number (bytes_in size) (drop offset span.bytes.context) ≡ text_base + 0
+field_begin span size offset es ep = read_as size Double offset 0 span.bytes.context es ep ∙ span.whole.fits.begins ∙ omega arith
 
-pub field_end : (span : Span) (size : Size) (place : ℕ) → size ≡ Double → place ≡ 8 → (base_of Text + length span.bytes.text) % 2 ^ 64 ≡ little_number (bytes_in size) (drop place span.bytes.context)
-field_end span size place es ep =
-    let is = read_as size Double place 8 span.bytes.context es ep ∙ span.whole.fits.ends in
+pub field_end : (span : Span) (size : Size) (offset : ℕ) → size ≡ Double → offset ≡ 8 → (base_of Text + length span.bytes.text) % 2 ^ 64 ≡ little_number (bytes_in size) (drop offset span.bytes.context)
+field_end span size offset es ep =
+    let is = read_as size Double offset 8 span.bytes.context es ep ∙ span.whole.fits.ends in
     let limit = span.whole.fits.short in
     let small : (base_of Text + length span.bytes.text) % 2 ^ 64 ≡ text_base + length span.bytes.text = omega arith in
     small ∙ sym is
 
-pub field_count : (span : Span) (size : Size) (place : ℕ) → size ≡ Word → place ≡ 16 → length span.bytes.text ≡ little_number (bytes_in size) (drop place span.bytes.context)
-field_count span size place es ep = sym (read_as size Word place 16 span.bytes.context es ep ∙ span.whole.fits.counts)
+pub field_count : (span : Span) (size : Size) (offset : ℕ) → size ≡ Word → offset ≡ 16 → length span.bytes.text ≡ little_number (bytes_in size) (drop offset span.bytes.context)
+field_count span size offset es ep = sym (read_as size Word offset 16 span.bytes.context es ep ∙ span.whole.fits.counts)
 
 -- what a context says of the link, where the profile lends it
 says_link : (span : Span) → span.profile ≡ Two → SaysLink span.bytes
 says_link span same = subst (λ (p : Profile). LendsLink p span.bytes) same span.whole.fits.link
 
-pub link_begin : (span : Span) (size : Size) (place : ℕ) → span.profile ≡ Two → size ≡ Double → place ≡ 56 → little_number (bytes_in size) (drop place span.bytes.context) ≡ link_base + 0
-link_begin span size place same es ep = read_as size Double place 56 span.bytes.context es ep ∙ (says_link span same).begins ∙ omega arith
+pub link_begin : (span : Span) (size : Size) (offset : ℕ) → span.profile ≡ Two → size ≡ Double → offset ≡ 56 → little_number (bytes_in size) (drop offset span.bytes.context) ≡ link_base + 0
+link_begin span size offset same es ep = read_as size Double offset 56 span.bytes.context es ep ∙ (says_link span same).begins ∙ omega arith
 
-pub link_end : (span : Span) (size : Size) (place : ℕ) → span.profile ≡ Two → size ≡ Double → place ≡ 64 → (base_of Link + length span.bytes.link) % 2 ^ 64 ≡ little_number (bytes_in size) (drop place span.bytes.context)
-link_end span size place same es ep =
-    let is = read_as size Double place 64 span.bytes.context es ep ∙ (says_link span same).ends in
+pub link_end : (span : Span) (size : Size) (offset : ℕ) → span.profile ≡ Two → size ≡ Double → offset ≡ 64 → (base_of Link + length span.bytes.link) % 2 ^ 64 ≡ little_number (bytes_in size) (drop offset span.bytes.context)
+link_end span size offset same es ep =
+    let is = read_as size Double offset 64 span.bytes.context es ep ∙ (says_link span same).ends in
     let limit = span.whole.fits.link_short in
     let small : (base_of Link + length span.bytes.link) % 2 ^ 64 ≡ link_base + length span.bytes.link = omega arith in
     small ∙ sym is
 
-pub link_count : (span : Span) (size : Size) (place : ℕ) → span.profile ≡ Two → size ≡ Word → place ≡ 32 → length span.bytes.link ≡ little_number (bytes_in size) (drop place span.bytes.context)
-link_count span size place same es ep = sym (read_as size Word place 32 span.bytes.context es ep ∙ (says_link span same).counts)
+pub link_count : (span : Span) (size : Size) (offset : ℕ) → span.profile ≡ Two → size ≡ Word → offset ≡ 32 → length span.bytes.link ≡ little_number (bytes_in size) (drop offset span.bytes.context)
+link_count span size offset same es ep = sym (read_as size Word offset 32 span.bytes.context es ep ∙ (says_link span same).counts)

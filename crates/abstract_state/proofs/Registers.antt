@@ -3,7 +3,7 @@ use Rattle.std.proofs.Common.{◌≡◌, ℕ, ◌<◌, Option, Some, None, Ok, L
 use Rattle.std.proofs.lemmas.Option.{slice_get-get_or, same_Some}
 use Rattle.std.proofs.lemmas.Grind.{common_steps}
 use Rattle.abstract_state.specs.declared.slot.Slot.{Slot}
-use Rattle.meaning.specs.State.{State, set_value, register_of}
+use Rattle.semantics.specs.State.{State, set_value, register_of}
 use Rattle.abstract_state.specs.declared.state.AbsReg.{AbsReg}
 use Rattle.abstract_state.specs.declared.state.AbsReg.TheVariants.{Set}
 use Rattle.abstract_state.specs.declared.state.AbsState.{AbsState}

@@ -29,21 +29,21 @@ or_cases false b e n = e
 bool_cases : (P : Type 0) (a : Bool) → (a ≡ true → P) → (a ≡ false → P) → P
 bool_cases P a if_true if_false = ⊎_elim if_true if_false (cases_Bool a)
 
-inside_true : (place first j count : ℕ) → (nat_le place (first + j) && nat_lt (first + j) (place + count)) ≡ true → (place ≤ first + j) × (first + j < place + count)
-inside_true place first j count e = grind (arith, nat_tests)
+inside_true : (offset first j count : ℕ) → (nat_le offset (first + j) && nat_lt (first + j) (offset + count)) ≡ true → (offset ≤ first + j) × (first + j < offset + count)
+inside_true offset first j count e = grind (arith, nat_tests)
 
-inside_false : (place first j count : ℕ) → (nat_le place (first + j) && nat_lt (first + j) (place + count)) ≡ false → place ≤ first + j → first + j < place + count → ⊥
-inside_false place first j count e a b = grind (arith, nat_tests)
+inside_false : (offset first j count : ℕ) → (nat_le offset (first + j) && nat_lt (first + j) (offset + count)) ≡ false → offset ≤ first + j → first + j < offset + count → ⊥
+inside_false offset first j count e a b = grind (arith, nat_tests)
 
 -- a byte that is marked after a store was marked before, or the store wrote it
-pub stored_byte : (old new : Bytes) (was : Bool) (first place count i j : ℕ) → first ≡ 8 * i → (was ≡ true → HasByte old (8 * i + j)) → Spares place count old new → Fills place count new → (was || (nat_le place (first + j) && nat_lt (first + j) (place + count))) ≡ true → HasByte new (8 * i + j)
-stored_byte old new was first place count i j at before spares fills marked =
-    let inside = nat_le place (first + j) && nat_lt (first + j) (place + count) in
+pub stored_byte : (old new : Bytes) (was : Bool) (first offset count i j : ℕ) → first ≡ 8 * i → (was ≡ true → HasByte old (8 * i + j)) → Spares offset count old new → Fills offset count new → (was || (nat_le offset (first + j) && nat_lt (first + j) (offset + count))) ≡ true → HasByte new (8 * i + j)
+stored_byte old new was first offset count i j at before spares fills marked =
+    let inside = nat_le offset (first + j) && nat_lt (first + j) (offset + count) in
     let here : first + j ≡ 8 * i + j = omega arith in
     bool_cases (HasByte new (8 * i + j)) inside
-    (λ yes. let range = inside_true place first j count yes in fills (8 * i + j) (omega (arith, range.0)) (omega (arith, range.1)))
+    (λ yes. let range = inside_true offset first j count yes in fills (8 * i + j) (omega (arith, range.0)) (omega (arith, range.1)))
     (λ no.
-    let kept = spares (8 * i + j) (λ a b. inside_false place first j count no (omega arith) (omega arith)) in
+    let kept = spares (8 * i + j) (λ a b. inside_false offset first j count no (omega arith) (omega arith)) in
     let marked_before : was ≡ true = bool_cases (was ≡ true) was (λ e. e) (λ e. absurd (let again = or_cases was inside marked e in cc)) in
     byte_kept old new (8 * i + j) kept (before marked_before))
 

@@ -15,16 +15,16 @@ use Rattle.bpf_words.specs.declared.instruction.Conversion.{Conversion}
 use Rattle.bpf_words.specs.declared.instruction.Conversion.TheVariants.{ToLittleEndian, ToBigEndian, Swap}
 use Rattle.bpf_words.specs.declared.instruction.ConvertedBits.{ConvertedBits}
 use Rattle.bpf_words.specs.declared.instruction.ConvertedBits.TheVariants.{Bits16, Bits32, Bits64}
-use Rattle.bpf_words.specs.declared.instruction.Size.{Size}
+use Rattle.span_context.specs.declared.size.Size.{Size}
 use Rattle.bpf_words.specs.declared.instruction.SignedSize.{SignedSize}
 use Rattle.bpf_words.specs.declared.instruction.SignedSize.TheVariants.{SignedByte, SignedHalf, SignedWord}
-use Rattle.bpf_words.specs.declared.profile.Profile.{Profile}
+use Rattle.span_context.specs.declared.profile.Profile.{Profile}
 use Rattle.bpf_words.specs.declared.instruction.Insn.{Insn}
 use Rattle.bpf_words.specs.declared.instruction.Insn.TheVariants.{Compute, Negate, Extend, Convert, Load, LoadSigned, Store, LoadWide, Exit}
-use Rattle.meaning.specs.State.{State, register_of, operand_in}
-use Rattle.meaning.specs.Memory.{address_of, load, store, bytes_in, bytes_in_signed}
-use Rattle.meaning.specs.Value.{cut, value_of, negated, extended, converted, bytes_kept, with_sign}
-use Rattle.meaning.specs.Step.{Moved, On, Returns, first_of, write_and_go}
+use Rattle.semantics.specs.State.{State, register_of, operand_in}
+use Rattle.semantics.specs.Memory.{address_of, load, store, bytes_in, bytes_in_signed}
+use Rattle.semantics.specs.Value.{cut, value_of, negated, extended, converted, bytes_kept, with_sign}
+use Rattle.semantics.specs.Step.{Moved, On, Returns, first_of, write_and_go}
 use Rattle.abstract_state.specs.Quantity.{Fits}
 use Rattle.abstract_state.specs.declared.state.AbsState.{AbsState}
 use Rattle.abstract_state.specs.Lent.{Lengths}

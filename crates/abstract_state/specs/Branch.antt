@@ -5,8 +5,8 @@ use Rattle.bpf_words.specs.declared.instruction.Operand.{Operand}
 use Rattle.bpf_words.specs.declared.instruction.Operand.TheVariants.{Immediate, Source}
 use Rattle.bpf_words.specs.declared.instruction.Comparison.{Comparison}
 use Rattle.bpf_words.specs.declared.instruction.Comparison.TheVariants as is
-use Rattle.meaning.specs.State.{State, register_of, operand_in}
-use Rattle.meaning.specs.Value.{cut, holds_of}
+use Rattle.semantics.specs.State.{State, register_of, operand_in}
+use Rattle.semantics.specs.Value.{cut, holds_of}
 use Rattle.abstract_state.specs.declared.branch.Pair.{Pair}
 use Rattle.abstract_state.specs.declared.state.AbsReg.TheVariants.{Unset}
 use Rattle.abstract_state.specs.declared.state.AbsState.{AbsState}

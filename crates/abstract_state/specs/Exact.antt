@@ -6,7 +6,7 @@ use Rattle.known_bits.specs.declared.Bits.{Bits}
 use Rattle.known_bits.specs.Bits.{bit}
 use Rattle.abstract_state.specs.Quantity.{InBits}
 use Rattle.abstract_state.specs.declared.quantity.Quantity.{Quantity}
-use Rattle.abstract_state.specs.declared.place.LentPlace.{LentPlace}
+use Rattle.abstract_state.specs.declared.address.LentAddress.{LentAddress}
 use Rattle.abstract_state.specs.declared.region.Region.{Region}
 use Rattle.abstract_state.specs.Lent.{tail_of}
 use Rattle.abstract_state.specs.declared.known.Known.{Known}
@@ -75,7 +75,7 @@ abbrev pub IsNoLess : Known → Known → Type 0
 IsNoLess (Number q) k = (r : Quantity) × (k ≡ Number r) × Refines q r
 IsNoLess (Context p) k = k ≡ Context p
 IsNoLess (Stack p) k = k ≡ Stack p
-IsNoLess (Lent p) k = (r : LentPlace) × (k ≡ Lent r) × (r.region ≡ p.region) × Refines p.offset r.offset
+IsNoLess (Lent p) k = (r : LentAddress) × (k ≡ Lent r) × (r.region ≡ p.region) × Refines p.offset r.offset
 
 -- what may be known of a value
 pub data Fact : Type 0 where

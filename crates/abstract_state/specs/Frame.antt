@@ -14,19 +14,19 @@ abbrev pub IsStackByte : ℕ → ℕ → AbsReg → Type 0
 IsStackByte p offset Unset = ⊥
 IsStackByte p offset (Set (Number q)) = ⊥
 IsStackByte p offset (Set (Context q)) = ⊥
-IsStackByte p offset (Set (Stack q)) = (q.place + offset) % 2 ^ 64 ≡ p
+IsStackByte p offset (Set (Stack q)) = (q.offset + offset) % 2 ^ 64 ≡ p
 IsStackByte p offset (Set (Lent q)) = ⊥
 
 -- byte p is set for sure
 abbrev pub IsMarkedAt : List Slot → ℕ → Type 0
 IsMarkedAt slots p = IsMarked (slot_at slots (p / 8)) (p % 8)
 
--- so many bytes from p on lie in the stack and are set for sure
+-- the count bytes from p on lie in the stack and are set for sure
 pub record AreMarked (slots : List Slot) (p count : ℕ) : Type 0 where
   pub within : p + count ≤ 512
   pub marked : (j : ℕ) → j < count → IsMarkedAt slots (p + j)
 
--- slot i after a store of so many bytes of a number from p on: outside it is as it was, the bytes are set, and none is
+-- slot i after a store of count bytes of a number from p on: outside it is as it was, the bytes are set, and none is
 -- unset
 pub record StoresSlot (p count i : ℕ) (a b : Slot) : Type 0 where
   pub before : 8 * i + 8 ≤ p → b ≡ a

@@ -1,7 +1,7 @@
 -- What a step writes, case by case, and what it leaves: all that guarded reads, constants and the frame need.
 use Rattle.std.specs.Prelude.{◌≡◌, ◌≢◌, ℕ, ℤ, pos, ◌+◌, ◌*◌, ◌^◌, ◌<◌, ◌≤◌, Option, Some, None, Result, IsOk, IfOk}
 use Rattle.std.specs.Prelude.{IfSome}
-use Rattle.bpf_words.specs.declared.profile.Profile.{Profile}
+use Rattle.span_context.specs.declared.profile.Profile.{Profile}
 use Rattle.bpf_words.specs.declared.instruction.Insn.{Insn}
 use Rattle.bpf_words.specs.declared.instruction.Insn.TheVariants.{Compute, Negate, Extend, Convert, Jump, JumpLong}
 use Rattle.bpf_words.specs.declared.instruction.Insn.TheVariants.{Branch, Load, LoadSigned, Store, LoadWide, Exit}
@@ -11,14 +11,14 @@ use Rattle.bpf_words.specs.declared.instruction.Arithmetic.TheVariants.{Mov, Add
 use Rattle.std.specs.Int.{cast_unsigned, w64}
 use Rattle.bpf_words.specs.declared.instruction.Operand.{Operand}
 use Rattle.bpf_words.specs.declared.instruction.Operand.TheVariants.{Immediate, Source}
-use Rattle.bpf_words.specs.declared.instruction.Size.{Size}
-use Rattle.bpf_words.specs.declared.instruction.Size.TheVariants.{Double}
+use Rattle.span_context.specs.declared.size.Size.{Size}
+use Rattle.span_context.specs.declared.size.Size.TheVariants.{Double}
 use Rattle.bpf_words.specs.declared.instruction.SignedSize.{SignedSize}
-use Rattle.meaning.specs.Memory.{bytes_in, bytes_in_signed}
-use Rattle.meaning.specs.Value.{value_of}
+use Rattle.semantics.specs.Memory.{bytes_in, bytes_in_signed}
+use Rattle.semantics.specs.Value.{value_of}
 use Rattle.abstract_state.specs.declared.region.Region.{Region}
 use Rattle.abstract_state.specs.Lent.{begin_field, end_field, limit_of, bound_of, Lends}
-use Rattle.abstract_state.specs.declared.place.LentPlace.{LentPlace}
+use Rattle.abstract_state.specs.declared.address.LentAddress.{LentAddress}
 use Rattle.abstract_state.specs.declared.state.AbsReg.TheVariants.{Unset, Set}
 use Rattle.abstract_state.specs.declared.state.AbsState.{AbsState}
 use Rattle.abstract_state.specs.declared.refusal.Refusal.{Refusal}
@@ -59,10 +59,10 @@ pub data Yields (profile : Profile) (a : AbsState) : Insn → ℕ → Fact → T
       → Yields profile a (Compute Full operation d o) d
       (NumberIn region (value_of operation Full m n) (value_of operation Full m n) None)
   wide : (region : Region) (d n : ℕ) → Yields profile a (LoadWide d n) d (NumberIn region n n None)
-  lent_read : (size : Size) (d r o : ℕ) (p : LentPlace) → register_at a.registers r ≡ Set (Lent p) → o < 2 ^ 15
+  lent_read : (size : Size) (d r o : ℕ) (p : LentAddress) → register_at a.registers r ≡ Set (Lent p) → o < 2 ^ 15
       → p.offset.range.high + o + bytes_in size ≤ bound_of a.bounds p.region
       → Yields profile a (Load size d r (pos o)) d AnyNumber
-  lent_read_signed : (size : SignedSize) (d r o : ℕ) (p : LentPlace) → register_at a.registers r ≡ Set (Lent p)
+  lent_read_signed : (size : SignedSize) (d r o : ℕ) (p : LentAddress) → register_at a.registers r ≡ Set (Lent p)
       → o < 2 ^ 15 → p.offset.range.high + o + bytes_in_signed size ≤ bound_of a.bounds p.region
       → Yields profile a (LoadSigned size d r (pos o)) d AnyNumber
   stack_read : (size : Size) (d base p : ℕ) (offset : ℤ)
@@ -75,7 +75,7 @@ pub data Yields (profile : Profile) (a : AbsState) : Insn → ℕ → Fact → T
       → IsStackByte (8 * i) (cast_unsigned w64 offset) (register_at a.registers base) → i < 64
       → slot_at a.stack i ≡ Spilled known → Yields profile a (Load Double d base offset) d (Exactly known)
 
--- a store that isn't refused: of a number, so many bytes from byte p of the stack on
+-- a store that isn't refused: of the bytes_in size low bytes of a number, from byte p of the stack on
 pub data Stores (a : AbsState) : Insn → ℕ → ℕ → Type 0 where
   stored : (size : Size) (base p : ℕ) (offset : ℤ) (value : Operand)
       → IsStackByte p (cast_unsigned w64 offset) (register_at a.registers base) → p + bytes_in size ≤ 512

@@ -1,7 +1,7 @@
 -- The kinds of registers, for what is never refused.
 use Rattle.std.specs.Prelude.{◌≡◌, ◌≢◌, ◌⊎◌, ℕ, ◌<◌, ◌≤◌, ◌%◌, true, false, Option, Some, None, slice_index_or}
-use Rattle.bpf_words.specs.declared.instruction.Size.{Size}
-use Rattle.bpf_words.specs.declared.instruction.Size.TheVariants.{Byte, Half, Word, Double}
+use Rattle.span_context.specs.declared.size.Size.{Size}
+use Rattle.span_context.specs.declared.size.Size.TheVariants.{Byte, Half, Word, Double}
 use Rattle.std.specs.Int.{cast_unsigned, w64}
 use Rattle.bpf_words.specs.declared.instruction.Operand.{Operand}
 use Rattle.bpf_words.specs.declared.instruction.Operand.TheVariants.{Immediate, Source}
@@ -15,7 +15,7 @@ use Rattle.abstract_state.specs.declared.state.AbsReg.{AbsReg}
 use Rattle.abstract_state.specs.declared.state.AbsReg.TheVariants.{Unset, Set}
 use Rattle.abstract_state.specs.declared.state.AbsState.{AbsState}
 use Rattle.abstract_state.specs.declared.branch.Pair.{Pair}
-use Rattle.abstract_state.specs.declared.place.LentPlace.{LentPlace}
+use Rattle.abstract_state.specs.declared.address.LentAddress.{LentAddress}
 use Rattle.abstract_state.specs.declared.quantity.Quantity.{Quantity}
 use Rattle.abstract_state.specs.declared.slot.Slot.{Slot}
 use Rattle.abstract_state.specs.declared.slot.Slot.TheVariants.{Marks, Spilled}
@@ -60,11 +60,11 @@ ReadsFirst a operation d = HasNumberAt a d
 abbrev pub IsContextAt : ℕ → AbsReg → Type 0
 IsContextAt n Unset = ⊥
 IsContextAt n (Set (Number q)) = ⊥
-IsContextAt n (Set (Context p)) = p.place ≡ n
+IsContextAt n (Set (Context p)) = p.offset ≡ n
 IsContextAt n (Set (Stack p)) = ⊥
 IsContextAt n (Set (Lent p)) = ⊥
 
--- the fields of a context that are numbers, by place and size
+-- the fields of a context that are numbers, by offset and size
 abbrev pub IsNumberField : Size → ℕ → Type 0
 IsNumberField Byte n = ⊥
 IsNumberField Half n = ⊥
@@ -118,7 +118,7 @@ abbrev pub IsStackAt : ℕ → AbsReg → Type 0
 IsStackAt n Unset = ⊥
 IsStackAt n (Set (Number q)) = ⊥
 IsStackAt n (Set (Context p)) = ⊥
-IsStackAt n (Set (Stack p)) = p.place ≡ n
+IsStackAt n (Set (Stack p)) = p.offset ≡ n
 IsStackAt n (Set (Lent p)) = ⊥
 
 -- what is alike in both is so in c: a number, or an address in the context or the stack; of two numbers, and of two
@@ -130,8 +130,8 @@ pub record JoinsReg (a b c : AbsReg) : Type 0 where
   pub stack : (n : ℕ) → IsStackAt n a → IsStackAt n b → IsStackAt n c
   pub values : (p q : Quantity) → a ≡ Set (Number p) → b ≡ Set (Number q)
       → (r : Quantity) × (c ≡ Set (Number r)) × JoinsNumber p q r
-  pub lent : (p q : LentPlace) → a ≡ Set (Lent p) → b ≡ Set (Lent q) → p.region ≡ q.region
-      → (r : LentPlace) × (c ≡ Set (Lent r)) × (r.region ≡ p.region) × JoinsNumber p.offset q.offset r.offset
+  pub lent : (p q : LentAddress) → a ≡ Set (Lent p) → b ≡ Set (Lent q) → p.region ≡ q.region
+      → (r : LentAddress) × (c ≡ Set (Lent r)) × (r.region ≡ p.region) × JoinsNumber p.offset q.offset r.offset
 
 -- what is spilled in a slot
 abbrev pub spilled_in : Slot → AbsReg

@@ -1,8 +1,8 @@
 -- The regions that a run is lent to read, and what a tail says of a number.
 use Rattle.std.specs.Prelude.{◌≡◌, ℕ, ◌+◌, ◌≤◌, Option, Some}
-use Rattle.bpf_words.specs.declared.profile.Profile.{Profile}
-use Rattle.bpf_words.specs.declared.profile.Profile.TheVariants.{One, Two}
-use Rattle.bpf_words.specs.Context.{text_base, text_limit, link_base, link_limit}
+use Rattle.span_context.specs.declared.profile.Profile.{Profile}
+use Rattle.span_context.specs.declared.profile.Profile.TheVariants.{One, Two}
+use Rattle.span_context.specs.Context.{text_base, text_limit, link_base, link_limit}
 use Rattle.intervals.specs.declared.Range.{Range}
 use Rattle.intervals.specs.Range as interval
 use Rattle.abstract_state.specs.declared.region.Region.{Region}
@@ -30,7 +30,7 @@ abbrev pub limit_of : Region → ℕ
 limit_of Text = text_limit
 limit_of Link = link_limit
 
--- the places in the context of the addresses at which each begins and ends
+-- the offsets in the context of the addresses at which each begins and ends
 abbrev pub begin_field : Region → ℕ
 begin_field Text = 0
 begin_field Link = 56

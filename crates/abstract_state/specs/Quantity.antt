@@ -6,7 +6,7 @@ use Rattle.abstract_state.specs.declared.region.Region.{Region}
 use Rattle.abstract_state.specs.declared.region.Tails.{Tails}
 use Rattle.known_bits.specs.Bits as known
 use Rattle.bpf_words.specs.declared.instruction.Width.{Width}
-use Rattle.meaning.specs.Value.{bits_of}
+use Rattle.semantics.specs.Value.{bits_of}
 use Rattle.abstract_state.specs.declared.quantity.Quantity.{Quantity}
 use Rattle.abstract_state.specs.Lent.{Lengths, tail_of, HasTails, InRange}
 

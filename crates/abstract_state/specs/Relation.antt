@@ -3,7 +3,7 @@ use Rattle.std.specs.Prelude.{◌≡◌, ◌≢◌, ℕ, ◌*◌, ◌<◌, ◌�
 use Rattle.bpf_words.specs.declared.instruction.Width.{Width}
 use Rattle.bpf_words.specs.declared.instruction.Comparison.{Comparison}
 use Rattle.bpf_words.specs.declared.instruction.Comparison.TheVariants as is
-use Rattle.meaning.specs.Value.{bits_of}
+use Rattle.semantics.specs.Value.{bits_of}
 use Rattle.abstract_state.specs.declared.relation.Relation.{Relation}
 use Rattle.abstract_state.specs.declared.relation.Relation.TheVariants.{Less, AtMost, Same, Apart, AtLeast, Greater}
 use Rattle.abstract_state.specs.declared.relation.Sides.{Sides}

@@ -1,13 +1,13 @@
 -- Which machine states an abstract state contains.
 use Rattle.std.specs.Prelude.{◌≡◌, ℕ, ℤ, ◌+◌, ◌*◌, ◌/◌, ◌%◌, ◌^◌, ◌<◌, ◌≤◌, true, false, Option, Some, None, Ok, List}
 use Rattle.std.specs.Prelude.{[], length, slice_index_or, slice_set}
-use Rattle.bpf_words.specs.Context.{SpanBytes}
+use Rattle.span_context.specs.Context.{SpanBytes}
 use Rattle.bpf_words.specs.declared.instruction.Insn.{Insn}
-use Rattle.bpf_words.specs.declared.profile.Profile.{Profile}
-use Rattle.meaning.specs.State.{State}
-use Rattle.meaning.specs.Safe.{IsSpanIn}
-use Rattle.meaning.specs.Memory.{load, store}
-use Rattle.meaning.specs.Step.{Moved, On, perform}
+use Rattle.span_context.specs.declared.profile.Profile.{Profile}
+use Rattle.semantics.specs.State.{State}
+use Rattle.semantics.specs.Safe.{IsSpanIn}
+use Rattle.semantics.specs.Memory.{load, store}
+use Rattle.semantics.specs.Step.{Moved, On, perform}
 use Rattle.abstract_state.specs.declared.bounds.Bounds.{Bounds}
 use Rattle.abstract_state.specs.declared.slot.Slot.{Slot}
 use Rattle.abstract_state.specs.declared.slot.Slot.TheVariants.{Marks, Spilled}
@@ -52,23 +52,23 @@ register_at registers i = slice_index_or registers i Unset
 abbrev pub Bytes : Type 0
 Bytes = ℕ → Option ℕ
 
--- each byte of a stack by its place, if it is set
+-- each byte of a stack by its offset, if it is set
 abbrev pub bytes_of : List (Option ℕ) → Bytes
-bytes_of stack place = slice_index_or stack place None
+bytes_of stack offset = slice_index_or stack offset None
 
 abbrev pub HasByte : Bytes → ℕ → Type 0
-HasByte bytes place = (v : ℕ) × (bytes place ≡ Some v) × (v < 256)
+HasByte bytes offset = (v : ℕ) × (bytes offset ≡ Some v) × (v < 256)
 
--- the eight bytes from a place on are those of a number, the lowest first
+-- the eight bytes from an offset on are those of a number, the lowest first
 abbrev pub HasNumber : Bytes → ℕ → ℕ → Type 0
-HasNumber bytes place n = (j : ℕ) → j < 8 → bytes (place + j) ≡ Some (n / 256 ^ j % 256)
+HasNumber bytes offset n = (j : ℕ) → j < 8 → bytes (offset + j) ≡ Some (n / 256 ^ j % 256)
 
--- a store of so many bytes at a place changes no byte outside, and leaves all inside set
+-- a store of count bytes at an offset changes no byte outside, and leaves all inside set
 abbrev pub Spares : ℕ → ℕ → Bytes → Bytes → Type 0
-Spares place count old new = (k : ℕ) → (place ≤ k → k < place + count → ⊥) → new k ≡ old k
+Spares offset count old new = (k : ℕ) → (offset ≤ k → k < offset + count → ⊥) → new k ≡ old k
 
 abbrev pub Fills : ℕ → ℕ → Bytes → Type 0
-Fills place count new = (k : ℕ) → place ≤ k → k < place + count → HasByte new k
+Fills offset count new = (k : ℕ) → offset ≤ k → k < offset + count → HasByte new k
 
 abbrev pub ContainsSlot : Slot → Lengths → Bytes → ℕ → Type 0
 ContainsSlot (Marks marks) lengths bytes i =
@@ -114,7 +114,7 @@ StepsBy a insn distance o =
     (span : Span) (s : State) → Contains a (lengths_of span) s
     → (next : State) × (does span s insn ≡ Ok (On next distance)) × WithinState o (lengths_of span) next
 
--- from each contained state of a run of the profile, a load of so many bytes at an offset from an address of the base
+-- from each contained state of a run of the profile, a load of count bytes at an offset from an address of the base
 -- gives a number of which P holds
 abbrev pub LoadsIn : Profile → AbsState → Known → ℕ → ℕ → (Lengths → ℕ → Type 0) → Type 0
 LoadsIn profile a base offset count P =
@@ -131,7 +131,7 @@ LoadsAs a base offset count P =
 abbrev pub with_stack : State → List (Option ℕ) → State
 with_stack s stack = record s { stack = stack }
 
--- from each contained state, a store of so many bytes of a number of the value, at an address of the base, leads to one
+-- from each contained state, a store of count bytes of a number of the value, at an address of the base, leads to one
 -- that b contains
 abbrev pub StoresAs : AbsState → Known → ℕ → ℕ → Known → AbsState → Type 0
 StoresAs a base offset count value b =

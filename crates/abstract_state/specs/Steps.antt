@@ -1,11 +1,11 @@
 -- What a step of the machine leads to, at an instruction that is no comparison.
 use Rattle.std.specs.Prelude.{◌≡◌, ◌≢◌, ℤ, pos, Option, Some, None, Ok, Err}
-use Rattle.bpf_words.specs.declared.profile.Profile.{Profile}
+use Rattle.span_context.specs.declared.profile.Profile.{Profile}
 use Rattle.bpf_words.specs.declared.instruction.Insn.{Insn}
 use Rattle.bpf_words.specs.declared.instruction.Insn.TheVariants.{Compute, Negate, Extend, Convert, Jump, JumpLong}
 use Rattle.bpf_words.specs.declared.instruction.Insn.TheVariants.{Branch, Load, LoadSigned, Store, LoadWide, Exit}
-use Rattle.meaning.specs.State.{State}
-use Rattle.meaning.specs.Step.{Moved, On, Returns}
+use Rattle.semantics.specs.State.{State}
+use Rattle.semantics.specs.Step.{Moved, On, Returns}
 use Rattle.abstract_state.specs.declared.state.AbsState.{AbsState}
 use Rattle.abstract_state.specs.declared.step.Flow.{Flow}
 use Rattle.abstract_state.specs.declared.step.Flow.TheVariants.{Live, Dead}

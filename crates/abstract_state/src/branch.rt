@@ -2,8 +2,8 @@
 ghost use Rattle.std.specs.Prelude.{◌≡◌, ◌≢◌, ◌⊎◌, IfErr, [], ◌∷◌, ℕ, true, false, ◌+◌, ◌%◌, ◌^◌, ◌<◌, ◌≤◌, Option};
 ghost use Rattle.std.specs.Prelude.{Some, Ok, IfSome, IfOk, IsOk, IsTrue, ◌↔◌};
 ghost use Rattle.bpf_words.specs.declared.instruction.Width.TheVariants.{Narrow, Full};
-ghost use Rattle.meaning.specs.State.{State, register_of, operand_in};
-ghost use Rattle.meaning.specs.Value.{cut, holds_of};
+ghost use Rattle.semantics.specs.State.{State, register_of, operand_in};
+ghost use Rattle.semantics.specs.Value.{cut, holds_of};
 ghost use Rattle.std.specs.Int.{cast_unsigned, w64};
 ghost use Rattle.abstract_state.specs.Lent.{Lengths, base_of, bound_of, tail_of};
 ghost use Rattle.abstract_state.specs.declared.region.Region.{Region};
@@ -20,8 +20,8 @@ ghost use Rattle.abstract_state.specs.Steps.{after};
 ghost use Rattle.abstract_state.specs.Unset.{HasUnset};
 ghost use Rattle.bpf_words.specs.Flow.{read_operand};
 
+use crate::address::LentAddress;
 use crate::known::Known;
-use crate::place::LentPlace;
 use crate::quantity::Quantity;
 use crate::refusal::Refusal;
 use crate::relation::{Sides, edge};
@@ -80,21 +80,21 @@ fn numbers_on(
     })
 }
 
-/// A place of which more is known.
-fn narrowed(place: LentPlace, offset: Quantity) -> Known
-    requires { offset.range.high ≤ place.offset.range.high }
-    ensures sound { (lengths : Lengths) (n x : ℕ) → n ≡ base_of place.region + x → ContainsNumber offset lengths x
+/// An address of which more is known.
+fn narrowed(address: LentAddress, offset: Quantity) -> Known
+    requires { offset.range.high ≤ address.offset.range.high }
+    ensures sound { (lengths : Lengths) (n x : ℕ) → n ≡ base_of address.region + x → ContainsNumber offset lengths x
         → ContainsKnown result lengths n }
     ensures ends { (region : Region) (n : ℕ) → EndsFrom region n offset → LongFrom region n result }
 {
-    Known::Lent(LentPlace {
-        region: place.region,
+    Known::Lent(LentAddress {
+        region: address.region,
         offset,
     })
 }
 
 /// Both sides on an edge of a comparison of two addresses in one lent region.
-fn places_on(comparison: Comparison, taken: bool, x: LentPlace, y: LentPlace) -> Option<Pair>
+fn addresses_on(comparison: Comparison, taken: bool, x: LentAddress, y: LentAddress) -> Option<Pair>
     requires order { IsOrder comparison }
     requires region { x.region ≡ y.region }
     ensures sound { (lengths : Lengths) (m n : ℕ) → ContainsKnown (Known.Lent x) lengths m
@@ -123,9 +123,9 @@ fn pair_on(
     ensures sound { IfOk result (λ o. (lengths : Lengths) (m n : ℕ) → ContainsKnown a lengths m
         → ContainsKnown b lengths n → holds_of comparison width (cut width m) (cut width n) ≡ taken
         → WithinPair o lengths m n) }
-    ensures regions { (p q : LentPlace) → width ≡ Full → IsOrder comparison → a ≡ Known.Lent p → b ≡ Known.Lent q
+    ensures regions { (p q : LentAddress) → width ≡ Full → IsOrder comparison → a ≡ Known.Lent p → b ≡ Known.Lent q
         → p.region ≡ q.region → IsOk result }
-    ensures guards { (p q : LentPlace) (t : ℕ) → width ≡ Full → comparison ≡ Comparison.Greater → taken ≡ false
+    ensures guards { (p q : LentAddress) (t : ℕ) → width ≡ Full → comparison ≡ Comparison.Greater → taken ≡ false
         → a ≡ Known.Lent p → b ≡ Known.Lent q → p.region ≡ q.region → tail_of q.offset.tails p.region ≡ Some t
         → IfOk result (λ o. IfSome o (λ sides. LongFrom p.region p.offset.range.low sides.left)) }
     ensures floor { IsNumber a → IsNumber b → IsOk result }
@@ -136,7 +136,7 @@ fn pair_on(
         (Known::Number(x), Known::Number(y), _) => Ok(numbers_on(width, comparison, taken, x, y)),
         (Known::Lent(x), Known::Lent(y), Width::Full) => {
             if x.region == y.region && is_order(comparison) {
-                Ok(places_on(comparison, taken, x, y))
+                Ok(addresses_on(comparison, taken, x, y))
             } else {
                 Err(Refusal::PointerCompare)
             }
@@ -250,7 +250,7 @@ impl AbsState {
     {
         match known {
             Known::Number(quantity) => self.lengthen(quantity),
-            Known::Lent(place) => self.lengthen(place.offset),
+            Known::Lent(address) => self.lengthen(address.offset),
             Known::Context(_) => Flow::Live,
             Known::Stack(_) => Flow::Live,
         }
@@ -311,10 +311,10 @@ impl AbsState {
         ensures others { IfOk result (λ flow. IfSome (after flow self.new)
             (λ b. LeavesSides left right.now self.old b)) }
         ensures memory { IfOk result (λ flow. IfSome (after flow self.new) (λ b. LengthensMemory self.old b)) }
-        ensures regions { (r : ℕ) (p q : LentPlace) → right.now ≡ Operand.Source r → width ≡ Full → IsOrder comparison
+        ensures regions { (r : ℕ) (p q : LentAddress) → right.now ≡ Operand.Source r → width ≡ Full → IsOrder comparison
             → register_at self.old.registers left ≡ Set (Known.Lent p)
             → register_at self.old.registers r ≡ Set (Known.Lent q) → p.region ≡ q.region → IsOk result }
-        ensures guards { (r t : ℕ) (p q : LentPlace) → right.now ≡ Operand.Source r → left ≢ r → width ≡ Full
+        ensures guards { (r t : ℕ) (p q : LentAddress) → right.now ≡ Operand.Source r → left ≢ r → width ≡ Full
             → comparison ≡ Comparison.Greater → taken ≡ false
             → register_at self.old.registers left ≡ Set (Known.Lent p)
             → register_at self.old.registers r ≡ Set (Known.Lent q) → p.region ≡ q.region
@@ -351,10 +351,10 @@ impl AbsState {
             (λ b. LeavesSides left right.now self.now b)) }
         ensures taken_memory { IfOk result (λ edges. IfSome edges.taken (λ b. LengthensMemory self.now b)) }
         ensures untaken_memory { IfOk result (λ edges. IfSome edges.untaken (λ b. LengthensMemory self.now b)) }
-        ensures regions { (r : ℕ) (p q : LentPlace) → right.now ≡ Operand.Source r → width ≡ Full → IsOrder comparison
+        ensures regions { (r : ℕ) (p q : LentAddress) → right.now ≡ Operand.Source r → width ≡ Full → IsOrder comparison
             → register_at self.now.registers left ≡ Set (Known.Lent p)
             → register_at self.now.registers r ≡ Set (Known.Lent q) → p.region ≡ q.region → IsOk result }
-        ensures guards { (r t : ℕ) (p q : LentPlace) → right.now ≡ Operand.Source r → left ≢ r → width ≡ Full
+        ensures guards { (r t : ℕ) (p q : LentAddress) → right.now ≡ Operand.Source r → left ≢ r → width ≡ Full
             → comparison ≡ Comparison.Greater → register_at self.now.registers left ≡ Set (Known.Lent p)
             → register_at self.now.registers r ≡ Set (Known.Lent q) → p.region ≡ q.region
             → tail_of q.offset.tails p.region ≡ Some t

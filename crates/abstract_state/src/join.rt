@@ -1,6 +1,6 @@
 //! What either of two states contains.
 ghost use Rattle.std.specs.Prelude.{◌≡◌, ℕ, ◌<◌, ◌≤◌, min, Option, slice_index_or};
-ghost use Rattle.meaning.specs.State.{State};
+ghost use Rattle.semantics.specs.State.{State};
 ghost use Rattle.abstract_state.specs.Lent.{Lengths, bound_of};
 ghost use Rattle.abstract_state.specs.declared.region.Region.{Region};
 ghost use Rattle.abstract_state.specs.Kinds.{JoinsReg, JoinsSlot};

@@ -7,24 +7,24 @@ ghost use Rattle.abstract_state.specs.declared.state.AbsReg.TheVariants as TheRe
 ghost use Rattle.abstract_state.specs.Kinds.{IsContextAt, IsStackAt};
 ghost use Rattle.abstract_state.specs.Exact.{tail_after, Folds, IsIn, IsNumberIn, IsLentIn, IsNoLess};
 ghost use Rattle.abstract_state.specs.declared.region.Region.{Region as TheRegion};
-ghost use Rattle.meaning.specs.Value.{cut, value_of, negated, extended, converted};
+ghost use Rattle.semantics.specs.Value.{cut, value_of, negated, extended, converted};
 
-use crate::place::{ContextPlace, LentPlace, StackPlace};
+use crate::address::{ContextAddress, LentAddress, StackAddress};
 use crate::quantity::Quantity;
 use crate::refusal::Refusal;
 use crate::region::Region;
 use crate::transfer::transfer;
-use bpf_words::context::STACK_BYTES;
 use bpf_words::instruction::{Arithmetic, Conversion, ConvertedBits, Extension, Width};
-use bpf_words::profile::Profile;
+use span_context::context::STACK_BYTES;
+use span_context::profile::Profile;
 
 /// What is known of a number that a register or a stack slot holds.
 #[derive(Clone, Copy)]
 pub enum Known {
     Number(Quantity),
-    Context(ContextPlace),
-    Stack(StackPlace),
-    Lent(LentPlace),
+    Context(ContextAddress),
+    Stack(StackAddress),
+    Lent(LentAddress),
 }
 
 /// How far a result may lie from the start of a lent region.
@@ -50,7 +50,7 @@ pub fn lent(region: Region, offset: Option<Quantity>) -> Result<Option<Known>, R
         → WithinKnown o lengths ((base_of region + x) % 2 ^ 64)) }
     ensures none { offset ≡ None → result ≡ Ok None }
     ensures some { (q : Quantity) → offset ≡ Some q → q.range.high ≤ 2 ^ 20
-        → (p : LentPlace) × (result ≡ Ok (Some (Known.Lent p))) × (p.region ≡ region) × (p.offset ≡ q) }
+        → (p : LentAddress) × (result ≡ Ok (Some (Known.Lent p))) × (p.region ≡ region) × (p.offset ≡ q) }
     ensures there { (at : TheRegion) (low high : ℕ) (t : Option ℕ) → region ≡ at
         → IfSome offset (λ q. IsIn at q low high t) → high ≤ 2 ^ 20
         → IsOk result × IfOk result (λ o. IfSome o (λ k. IsLentIn at low high t k)) }
@@ -62,18 +62,18 @@ pub fn lent(region: Region, offset: Option<Quantity>) -> Result<Option<Known>, R
     if offset.range.high > NEAR {
         return Err(Refusal::TextOffset);
     }
-    Ok(Some(Known::Lent(LentPlace { region, offset })))
+    Ok(Some(Known::Lent(LentAddress { region, offset })))
 }
 
-/// A place moved by a constant, modulo 2^64.
-fn displaced(operation: Arithmetic, width: Width, place: u64, by: Quantity) -> Option<u64>
+/// An offset moved by a constant, modulo 2^64.
+fn displaced(operation: Arithmetic, width: Width, offset: u64, by: Quantity) -> Option<u64>
     ensures { IfSome result (λ r. (lengths : Lengths) (base y : ℕ) → Contains by lengths y
-        → value_of operation width (cut width (base + place)) (cut width y) ≡ (base + r) % 2 ^ 64) }
+        → value_of operation width (cut width (base + offset)) (cut width y) ≡ (base + r) % 2 ^ 64) }
 {
     let c = by.only()?;
     match (width, operation) {
-        (Width::Full, Arithmetic::Add) => Some(place.wrapping_add(c)),
-        (Width::Full, Arithmetic::Sub) => Some(place.wrapping_sub(c)),
+        (Width::Full, Arithmetic::Add) => Some(offset.wrapping_add(c)),
+        (Width::Full, Arithmetic::Sub) => Some(offset.wrapping_sub(c)),
         _ => None,
     }
 }
@@ -82,16 +82,16 @@ fn from_context(
     profile: Profile,
     operation: Arithmetic,
     width: Width,
-    place: ContextPlace,
+    address: ContextAddress,
     by: Quantity,
 ) -> Result<Known, Refusal>
-    ensures sound { IfOk result (λ k. (lengths : Lengths) (x y : ℕ) → ContainsKnown (Known.Context place) lengths x
+    ensures sound { IfOk result (λ k. (lengths : Lengths) (x y : ℕ) → ContainsKnown (Known.Context address) lengths x
         → Contains by lengths y → ContainsKnown k lengths (value_of operation width (cut width x) (cut width y))) }
     ensures not_unset { IfErr result (λ e. e ≢ Refusal.UnsetRegister) }
 {
-    match displaced(operation, width, place.place, by) {
-        Some(place) if place <= profile.context_length() => Ok(Known::Context(ContextPlace {
-            place,
+    match displaced(operation, width, address.offset, by) {
+        Some(offset) if offset <= profile.context_length() => Ok(Known::Context(ContextAddress {
+            offset,
         })),
         _ => Err(Refusal::PointerArithmetic),
     }
@@ -100,15 +100,15 @@ fn from_context(
 fn from_stack(
     operation: Arithmetic,
     width: Width,
-    place: StackPlace,
+    address: StackAddress,
     by: Quantity,
 ) -> Result<Known, Refusal>
-    ensures sound { IfOk result (λ k. (lengths : Lengths) (x y : ℕ) → ContainsKnown (Known.Stack place) lengths x
+    ensures sound { IfOk result (λ k. (lengths : Lengths) (x y : ℕ) → ContainsKnown (Known.Stack address) lengths x
         → Contains by lengths y → ContainsKnown k lengths (value_of operation width (cut width x) (cut width y))) }
     ensures not_unset { IfErr result (λ e. e ≢ Refusal.UnsetRegister) }
 {
-    match displaced(operation, width, place.place, by) {
-        Some(place) if place <= STACK_BYTES as u64 => Ok(Known::Stack(StackPlace { place })),
+    match displaced(operation, width, address.offset, by) {
+        Some(offset) if offset <= STACK_BYTES as u64 => Ok(Known::Stack(StackAddress { offset })),
         _ => Err(Refusal::PointerArithmetic),
     }
 }
@@ -116,19 +116,19 @@ fn from_stack(
 fn from_lent(
     operation: Arithmetic,
     width: Width,
-    place: LentPlace,
+    address: LentAddress,
     by: Quantity,
 ) -> Result<Option<Known>, Refusal>
-    ensures sound { IfOk result (λ o. (lengths : Lengths) (x y : ℕ) → ContainsKnown (Known.Lent place) lengths x
+    ensures sound { IfOk result (λ o. (lengths : Lengths) (x y : ℕ) → ContainsKnown (Known.Lent address) lengths x
         → Contains by lengths y → WithinKnown o lengths (value_of operation width (cut width x) (cut width y))) }
-    ensures adds { (at : TheRegion) → operation ≡ Arithmetic.Add → width ≡ Width.Full → place.region ≡ at
-        → (m n : ℕ) (t : Option ℕ) → IsIn at place.offset m m t → IsIn at by n n None → m + n ≤ 2 ^ 20
+    ensures adds { (at : TheRegion) → operation ≡ Arithmetic.Add → width ≡ Width.Full → address.region ≡ at
+        → (m n : ℕ) (t : Option ℕ) → IsIn at address.offset m m t → IsIn at by n n None → m + n ≤ 2 ^ 20
         → IsOk result × IfOk result (λ o. IfSome o (λ k. IsLentIn at (m + n) (m + n) (tail_after t n) k)) }
     ensures not_unset { IfErr result (λ e. e ≢ Refusal.UnsetRegister) }
 {
     match (width, operation) {
-        (Width::Full, Arithmetic::Add) => lent(place.region, place.offset.add(by, Width::Full)),
-        (Width::Full, Arithmetic::Sub) => lent(place.region, place.offset.sub(by, Width::Full)),
+        (Width::Full, Arithmetic::Add) => lent(address.region, address.offset.add(by, Width::Full)),
+        (Width::Full, Arithmetic::Sub) => lent(address.region, address.offset.sub(by, Width::Full)),
         _ => Err(Refusal::PointerArithmetic),
     }
 }
@@ -137,15 +137,15 @@ fn onto_lent(
     operation: Arithmetic,
     width: Width,
     by: Quantity,
-    place: LentPlace,
+    address: LentAddress,
 ) -> Result<Option<Known>, Refusal>
     ensures sound { IfOk result (λ o. (lengths : Lengths) (x y : ℕ) → Contains by lengths x
-        → ContainsKnown (Known.Lent place) lengths y
+        → ContainsKnown (Known.Lent address) lengths y
         → WithinKnown o lengths (value_of operation width (cut width x) (cut width y))) }
     ensures not_unset { IfErr result (λ e. e ≢ Refusal.UnsetRegister) }
 {
     match (width, operation) {
-        (Width::Full, Arithmetic::Add) => lent(place.region, by.add(place.offset, Width::Full)),
+        (Width::Full, Arithmetic::Add) => lent(address.region, by.add(address.offset, Width::Full)),
         _ => Err(Refusal::PointerArithmetic),
     }
 }
@@ -219,7 +219,7 @@ impl Known {
         }
     }
 
-    /// What either is; `None` where they are of different kinds or places.
+    /// What either is; `None` where they are of different kinds, or different addresses.
     pub fn join(self, other: Known) -> Option<Known>
         ensures left { IfSome result (λ k. (lengths : Lengths) (x : ℕ) → ContainsKnown self lengths x
             → ContainsKnown k lengths x) }
@@ -228,8 +228,8 @@ impl Known {
         ensures numbers { IsNumber self → IsNumber other → IsSome result × AreNumbers result }
         ensures values { (p q : Quantity) → self ≡ Known.Number p → other ≡ Known.Number q
             → (r : Quantity) × (result ≡ Some (Known.Number r)) × JoinsNumber p q r }
-        ensures lent { (p q : LentPlace) → self ≡ Known.Lent p → other ≡ Known.Lent q → p.region ≡ q.region
-            → (r : LentPlace) × (result ≡ Some (Known.Lent r)) × (r.region ≡ p.region)
+        ensures lent { (p q : LentAddress) → self ≡ Known.Lent p → other ≡ Known.Lent q → p.region ≡ q.region
+            → (r : LentAddress) × (result ≡ Some (Known.Lent r)) × (r.region ≡ p.region)
             × JoinsNumber p.offset q.offset r.offset }
         ensures context { (n : ℕ) → IsContextAt n (TheRegs.Set self) → IsContextAt n (TheRegs.Set other)
             → IsSome result × IfSome result (λ k. IsContextAt n (TheRegs.Set k)) }
@@ -246,48 +246,48 @@ impl Known {
     }
 }
 
-/// What either place may be.
-fn join_lent(a: LentPlace, b: LentPlace) -> Option<Known>
+/// What either address may be.
+fn join_lent(a: LentAddress, b: LentAddress) -> Option<Known>
     ensures left { IfSome result (λ k. (lengths : Lengths) (x : ℕ) → ContainsKnown (Known.Lent a) lengths x
         → ContainsKnown k lengths x) }
     ensures right { IfSome result (λ k. (lengths : Lengths) (x : ℕ) → ContainsKnown (Known.Lent b) lengths x
         → ContainsKnown k lengths x) }
-    ensures joins { a.region ≡ b.region → (r : LentPlace) × (result ≡ Some (Known.Lent r)) × (r.region ≡ a.region)
+    ensures joins { a.region ≡ b.region → (r : LentAddress) × (result ≡ Some (Known.Lent r)) × (r.region ≡ a.region)
         × JoinsNumber a.offset b.offset r.offset }
 {
     if a.region != b.region {
         return None;
     }
     let offset = a.offset.join(b.offset);
-    Some(Known::Lent(LentPlace {
+    Some(Known::Lent(LentAddress {
         region: a.region,
         offset,
     }))
 }
 
-/// The one place, where both are it.
-fn join_context(a: ContextPlace, b: ContextPlace) -> Option<Known>
+/// The address, where both are the same.
+fn join_context(a: ContextAddress, b: ContextAddress) -> Option<Known>
     ensures left { IfSome result (λ k. (lengths : Lengths) (x : ℕ) → ContainsKnown (Known.Context a) lengths x
         → ContainsKnown k lengths x) }
     ensures right { IfSome result (λ k. (lengths : Lengths) (x : ℕ) → ContainsKnown (Known.Context b) lengths x
         → ContainsKnown k lengths x) }
-    ensures same { a.place ≡ b.place → result ≡ Some (Known.Context a) }
+    ensures same { a.offset ≡ b.offset → result ≡ Some (Known.Context a) }
 {
-    if a.place != b.place {
+    if a.offset != b.offset {
         return None;
     }
     Some(Known::Context(a))
 }
 
-/// The one place, where both are it.
-fn join_stack(a: StackPlace, b: StackPlace) -> Option<Known>
+/// The address, where both are the same.
+fn join_stack(a: StackAddress, b: StackAddress) -> Option<Known>
     ensures left { IfSome result (λ k. (lengths : Lengths) (x : ℕ) → ContainsKnown (Known.Stack a) lengths x
         → ContainsKnown k lengths x) }
     ensures right { IfSome result (λ k. (lengths : Lengths) (x : ℕ) → ContainsKnown (Known.Stack b) lengths x
         → ContainsKnown k lengths x) }
-    ensures same { a.place ≡ b.place → result ≡ Some (Known.Stack a) }
+    ensures same { a.offset ≡ b.offset → result ≡ Some (Known.Stack a) }
 {
-    if a.place != b.place {
+    if a.offset != b.offset {
         return None;
     }
     Some(Known::Stack(a))

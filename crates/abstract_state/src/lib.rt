@@ -6,12 +6,12 @@
 //! text is at least. It contains machine states, and each call keeps that: `entry`, `step`, `branch`, `join`.
 #![tactic(auto)]
 
+pub mod address;
 pub mod bounds;
 pub mod branch;
 mod join;
 pub mod known;
 pub mod memory;
-pub mod place;
 pub mod quantity;
 pub mod refusal;
 pub mod region;

@@ -2,8 +2,8 @@
 ghost use Rattle.std.specs.Prelude.{◌≡◌, ◌≢◌, IfErr, ℕ, ◌+◌, ◌-◌, ◌*◌, ◌/◌, ◌%◌, ◌^◌, ◌<◌, ◌≤◌, Option, Some, Ok};
 ghost use Rattle.std.specs.Prelude.{IfSome, IfOk, IsOk, IsTrue, ◌↔◌, List, length, drop};
 ghost use Rattle.byteorder.specs.Endian.{little_number};
-ghost use Rattle.meaning.specs.State.{State};
-ghost use Rattle.meaning.specs.Memory.{address_of, bytes_in, bytes_in_signed, load as load_of, store as store_of};
+ghost use Rattle.semantics.specs.State.{State};
+ghost use Rattle.semantics.specs.Memory.{address_of, bytes_in, bytes_in_signed, load as load_of, store as store_of};
 ghost use Rattle.abstract_state.specs.Lent.{Lengths, base_of, length_of, limit_of, bound_of, begin_field, end_field};
 ghost use Rattle.abstract_state.specs.Lent.{Lends};
 ghost use Rattle.abstract_state.specs.declared.region.Region.{Region as TheRegion};
@@ -15,42 +15,43 @@ ghost use Rattle.abstract_state.specs.Exact.{IsLentIn};
 ghost use Rattle.abstract_state.specs.Frame.{IsStackByte, AreMarked, StoresSlots, SpillsSlot};
 ghost use Rattle.abstract_state.specs.declared.slot.Slot.{Slot};
 ghost use Rattle.abstract_state.specs.declared.state.AbsReg.TheVariants as TheRegs;
-ghost use Rattle.bpf_words.specs.ContextField.{offset_of, size_of};
-ghost use Rattle.bpf_words.specs.Profile.{context_length};
-ghost use Rattle.bpf_words.specs.declared.profile.Profile.TheVariants.{Two};
+ghost use Rattle.span_context.specs.ContextField.{offset_of, size_of};
+ghost use Rattle.span_context.specs.Profile.{context_length};
+ghost use Rattle.span_context.specs.declared.profile.Profile.TheVariants.{Two};
 ghost use Rattle.abstract_state.specs.State.{Span, lengths_of, IsLong, Contains, LoadsAs, LoadsIn, StoresAs, slot_at};
 
+use crate::address::{ContextAddress, LentAddress, StackAddress};
 use crate::bounds::Bounds;
 use crate::known::{Known, lent, number};
-use crate::place::{ContextPlace, LentPlace, StackPlace};
 use crate::quantity::Quantity;
 use crate::refusal::Refusal;
 use crate::region::Region;
 use crate::stack::{are_set, filled, overwrite, spill};
 use crate::state::AbsState;
-use bpf_words::context::STACK_BYTES;
-use bpf_words::context_field::ContextField;
-use bpf_words::instruction::{SignedSize, Size};
-use bpf_words::profile::Profile;
-use meaning::sizes::{count, count_signed};
+use bpf_words::instruction::SignedSize;
+use semantics::sizes::{count, count_signed};
+use span_context::context::STACK_BYTES;
+use span_context::context_field::ContextField;
+use span_context::profile::Profile;
+use span_context::size::Size;
 
-/// A place moved by an offset modulo 2^64, where it isn't before the start.
-fn moved(place: u64, offset: u64) -> Option<u64>
-    requires { place ≤ 2 ^ 20 }
-    ensures small { IfSome result (λ a. a ≤ place + 2 ^ 16) }
-    ensures at { IfSome result (λ a. (base x : ℕ) → place ≤ x → base + x < 2 ^ 63
-        → (base + x + offset) % 2 ^ 64 ≡ base + (a + (x - place))) }
-    ensures there { offset ≤ 2 ^ 16 → result ≡ Some (place + offset) }
-    ensures near { (a : ℕ) → (place + offset) % 2 ^ 64 ≡ a → a ≤ 2 ^ 16 → result ≡ Some a }
+/// The sum of `start` and an offset modulo 2^64, where it isn't below 0.
+fn moved(start: u64, offset: u64) -> Option<u64>
+    requires { start ≤ 2 ^ 20 }
+    ensures small { IfSome result (λ a. a ≤ start + 2 ^ 16) }
+    ensures at { IfSome result (λ a. (base x : ℕ) → start ≤ x → base + x < 2 ^ 63
+        → (base + x + offset) % 2 ^ 64 ≡ base + (a + (x - start))) }
+    ensures there { offset ≤ 2 ^ 16 → result ≡ Some (start + offset) }
+    ensures near { (a : ℕ) → (start + offset) % 2 ^ 64 ≡ a → a ≤ 2 ^ 16 → result ≡ Some a }
 {
-    let sum = place.wrapping_add(offset);
-    if sum > place + 65_536 {
+    let sum = start.wrapping_add(offset);
+    if sum > start + 65_536 {
         return None;
     }
     Some(sum)
 }
 
-/// The numbers that so many bytes make.
+/// The numbers that the bytes of a size make.
 fn loaded(size: Size) -> Quantity
     ensures { (lengths : Lengths) (v : ℕ) → v < 256 ^ bytes_in size → ContainsNumber result lengths v }
 {
@@ -77,7 +78,7 @@ fn text_field(field: ContextField) -> Result<Option<Known>, Refusal>
     ensures not_unset { IfErr result (λ e. e ≢ Refusal.UnsetRegister) }
 {
     match field {
-        ContextField::Text => Ok(Some(Known::Lent(LentPlace {
+        ContextField::Text => Ok(Some(Known::Lent(LentAddress {
             region: Region::Text,
             offset: Quantity::begin(Region::Text),
         }))),
@@ -114,7 +115,7 @@ fn link_field(field: ContextField) -> Result<Option<Known>, Refusal>
     ensures not_unset { IfErr result (λ e. e ≢ Refusal.UnsetRegister) }
 {
     match field {
-        ContextField::Link => Ok(Some(Known::Lent(LentPlace {
+        ContextField::Link => Ok(Some(Known::Lent(LentAddress {
             region: Region::Link,
             offset: Quantity::begin(Region::Link),
         }))),
@@ -144,44 +145,44 @@ fn lent_field(profile: Profile, field: ContextField) -> Result<Option<Known>, Re
     }
 }
 
-/// What so many bytes of the context hold, where they are a field that a program of the profile may read.
-fn field(profile: Profile, place: u64, size: Size) -> Result<Option<Known>, Refusal>
-    ensures within { IfOk result (λ _. place + bytes_in size ≤ context_length profile) }
+/// What the context holds at an offset, where that is a field of that size that a program of the profile may read.
+fn field(profile: Profile, offset: u64, size: Size) -> Result<Option<Known>, Refusal>
+    ensures within { IfOk result (λ _. offset + bytes_in size ≤ context_length profile) }
     ensures sound { IfOk result (λ o. (span : Span) → span.profile ≡ profile
-        → WithinKnown o (lengths_of span) (little_number (bytes_in size) (drop place span.bytes.context))) }
-    ensures begin { (at : TheRegion) → Lends at profile → size ≡ Size.Double → place ≡ begin_field at
+        → WithinKnown o (lengths_of span) (little_number (bytes_in size) (drop offset span.bytes.context))) }
+    ensures begin { (at : TheRegion) → Lends at profile → size ≡ Size.Double → offset ≡ begin_field at
         → IsOk result × IfOk result (λ o. IfSome o (λ k. IsLentIn at 0 0 (Some 0) k)) }
-    ensures end { (at : TheRegion) → Lends at profile → size ≡ Size.Double → place ≡ end_field at
+    ensures end { (at : TheRegion) → Lends at profile → size ≡ Size.Double → offset ≡ end_field at
         → IsOk result × IfOk result (λ o. IfSome o (λ k. IsLentIn at 0 (limit_of at) (Some 0) k)) }
-    ensures floor { IsNumberField size place → IsOk result }
-    ensures numbers { IsNumberField size place → IfOk result (λ o. AreNumbers o) }
+    ensures floor { IsNumberField size offset → IsOk result }
+    ensures numbers { IsNumberField size offset → IfOk result (λ o. AreNumbers o) }
     ensures not_unset { IfErr result (λ e. e ≢ Refusal.UnsetRegister) }
 {
-    match ContextField::at(place, size) {
+    match ContextField::at(offset, size) {
         Some(field) => lent_field(profile, field),
         None => Err(Refusal::ContextField),
     }
 }
 
-/// Whether so many bytes at a place in a lent region lie in it.
-fn reaches(bounds: Bounds, place: LentPlace, offset: u64, count: usize) -> bool
+/// Whether `count` bytes at an offset from an address in a lent region lie in it.
+fn reaches(bounds: Bounds, address: LentAddress, offset: u64, count: usize) -> bool
     requires { count ≤ 8 }
     ensures sound { IsTrue result → (lengths : Lengths) (x : ℕ) → IsLong bounds lengths
-        → ContainsNumber place.offset lengths x
-        → (a : ℕ) × ((base_of place.region + x + offset) % 2 ^ 64 ≡ base_of place.region + a)
-        × (a + count ≤ length_of lengths place.region) }
-    ensures floor { offset ≤ 2 ^ 15 → (at : TheRegion) (bound : ℕ) → place.region ≡ at → bound_of bounds at ≡ bound
-        → place.offset.range.high + offset + count ≤ bound → IsTrue result }
+        → ContainsNumber address.offset lengths x
+        → (a : ℕ) × ((base_of address.region + x + offset) % 2 ^ 64 ≡ base_of address.region + a)
+        × (a + count ≤ length_of lengths address.region) }
+    ensures floor { offset ≤ 2 ^ 15 → (at : TheRegion) (bound : ℕ) → address.region ≡ at → bound_of bounds at ≡ bound
+        → address.offset.range.high + offset + count ≤ bound → IsTrue result }
 {
-    let range = place.offset.range;
+    let range = address.offset.range;
     let Some(least) = moved(range.low, offset) else {
         return false;
     };
     let end = least + count as u64;
-    if end + (range.high - range.low) <= bounds.of(place.region) {
+    if end + (range.high - range.low) <= bounds.of(address.region) {
         return true;
     }
-    let Some(tail) = place.offset.tails.of(place.region) else {
+    let Some(tail) = address.offset.tails.of(address.region) else {
         return false;
     };
     if end <= range.low.saturating_add(u64::from(tail)) {
@@ -190,15 +191,15 @@ fn reaches(bounds: Bounds, place: LentPlace, offset: u64, count: usize) -> bool
     false
 }
 
-/// The place of so many bytes on the stack.
-fn place_on_stack(place: StackPlace, offset: u64, count: usize) -> Result<usize, Refusal>
+/// The offset in the stack of `count` bytes at an offset from an address.
+fn offset_in_stack(address: StackAddress, offset: u64, count: usize) -> Result<usize, Refusal>
     requires { count ≤ 8 }
     ensures within { IfOk result (λ p. p + count ≤ 512) }
-    ensures at { IfOk result (λ p. (base : ℕ) → base < 2 ^ 62 → (base + place.place + offset) % 2 ^ 64 ≡ base + p) }
-    ensures floor { (p : ℕ) → (place.place + offset) % 2 ^ 64 ≡ p → p + count ≤ 512 → result ≡ Ok p }
+    ensures at { IfOk result (λ p. (base : ℕ) → base < 2 ^ 62 → (base + address.offset + offset) % 2 ^ 64 ≡ base + p) }
+    ensures floor { (p : ℕ) → (address.offset + offset) % 2 ^ 64 ≡ p → p + count ≤ 512 → result ≡ Ok p }
     ensures not_unset { IfErr result (λ e. e ≢ Refusal.UnsetRegister) }
 {
-    let Some(p) = moved(place.place, offset) else {
+    let Some(p) = moved(address.offset, offset) else {
         return Err(Refusal::StackBounds);
     };
     if p + count as u64 > STACK_BYTES as u64 {
@@ -208,11 +209,11 @@ fn place_on_stack(place: StackPlace, offset: u64, count: usize) -> Result<usize,
 }
 
 impl AbsState {
-    /// Checks that so many bytes can be loaded as a number.
+    /// Checks that `count` bytes can be loaded as a number.
     fn bytes(&self, base: Known, offset: u64, count: usize) -> Result<(), Refusal>
         requires { count ≤ 8 }
         ensures sound { IfOk result (λ _. LoadsAs self.now base offset count (λ lengths v. v < 256 ^ count)) }
-        ensures lent { (at : TheRegion) (p : LentPlace) → base ≡ Known.Lent p → p.region ≡ at → offset ≤ 2 ^ 15
+        ensures lent { (at : TheRegion) (p : LentAddress) → base ≡ Known.Lent p → p.region ≡ at → offset ≤ 2 ^ 15
             → p.offset.range.high + offset + count ≤ bound_of self.now.bounds at → IsOk result }
         ensures stack { (p : ℕ) → IsStackByte p offset (TheRegs.Set base) → AreMarked self.now.stack p count
             → IsOk result }
@@ -221,15 +222,15 @@ impl AbsState {
         match base {
             Known::Number(_) => Err(Refusal::NotAnAddress),
             Known::Context(_) => Err(Refusal::ContextField),
-            Known::Lent(place) => {
-                if reaches(self.bounds, place, offset, count) {
+            Known::Lent(address) => {
+                if reaches(self.bounds, address, offset, count) {
                     Ok(())
                 } else {
                     Err(Refusal::TextBounds)
                 }
             }
-            Known::Stack(place) => {
-                let p = place_on_stack(place, offset, count)?;
+            Known::Stack(address) => {
+                let p = offset_in_stack(address, offset, count)?;
                 if are_set(&self.stack, p, count) {
                     Ok(())
                 } else {
@@ -243,42 +244,42 @@ impl AbsState {
     fn field(
         &self,
         profile: Profile,
-        place: ContextPlace,
+        address: ContextAddress,
         offset: u64,
         size: Size,
     ) -> Result<Option<Known>, Refusal>
-        ensures sound { IfOk result (λ o. LoadsIn profile self.now (Known.Context place) offset (bytes_in size)
+        ensures sound { IfOk result (λ o. LoadsIn profile self.now (Known.Context address) offset (bytes_in size)
             (λ lengths v. WithinKnown o lengths v)) }
-        ensures begin { (at : TheRegion) → Lends at profile → place.place ≡ 0 → size ≡ Size.Double → offset ≤ 64
+        ensures begin { (at : TheRegion) → Lends at profile → address.offset ≡ 0 → size ≡ Size.Double → offset ≤ 64
             → offset ≡ begin_field at → IsOk result × IfOk result (λ o. IfSome o (λ k. IsLentIn at 0 0 (Some 0) k)) }
-        ensures end { (at : TheRegion) → Lends at profile → place.place ≡ 0 → size ≡ Size.Double → offset ≤ 64
+        ensures end { (at : TheRegion) → Lends at profile → address.offset ≡ 0 → size ≡ Size.Double → offset ≤ 64
             → offset ≡ end_field at
             → IsOk result × IfOk result (λ o. IfSome o (λ k. IsLentIn at 0 (limit_of at) (Some 0) k)) }
-        ensures floor { place.place ≡ 0 → IsNumberField size offset → IsOk result }
-        ensures numbers { place.place ≡ 0 → IsNumberField size offset → IfOk result (λ o. AreNumbers o) }
+        ensures floor { address.offset ≡ 0 → IsNumberField size offset → IsOk result }
+        ensures numbers { address.offset ≡ 0 → IsNumberField size offset → IfOk result (λ o. AreNumbers o) }
         ensures not_unset { IfErr result (λ e. e ≢ Refusal.UnsetRegister) }
     {
-        let Some(p) = moved(place.place, offset) else {
+        let Some(p) = moved(address.offset, offset) else {
             return Err(Refusal::ContextField);
         };
         let known = field(profile, p, size)?;
         Ok(known)
     }
 
-    /// What was spilled at a place, where a load takes all of it.
+    /// What was spilled at an address, where a load takes all of it.
     fn fill(&self, base: Known, offset: u64, size: Size) -> Option<Known>
         ensures sound { IfSome result (λ k. LoadsAs self.now base offset (bytes_in size)
             (λ lengths v. ContainsKnown k lengths v)) }
-        ensures stack_alone { IfSome result (λ _. (p : LentPlace) → base ≡ Known.Lent p → ⊥) }
+        ensures stack_alone { IfSome result (λ _. (p : LentAddress) → base ≡ Known.Lent p → ⊥) }
         ensures spilled { (i : ℕ) (known : Known) → IsStackByte (8 * i) offset (TheRegs.Set base) → i < 64
             → size ≡ Size.Double → slot_at self.now.stack i ≡ Slot.Spilled known → result ≡ Some known }
         ensures marked { (p : ℕ) → IsStackByte p offset (TheRegs.Set base)
             → AreMarked self.now.stack p (bytes_in size) → AreNumbers result }
     {
-        let (Known::Stack(place), Size::Double) = (base, size) else {
+        let (Known::Stack(address), Size::Double) = (base, size) else {
             return None;
         };
-        let Ok(p) = place_on_stack(place, offset, 8) else {
+        let Ok(p) = offset_in_stack(address, offset, 8) else {
             return None;
         };
         if p % 8 != 0 {
@@ -306,17 +307,17 @@ impl AbsState {
         ensures floor { IsContextAt 0 (TheRegs.Set base) → IsNumberField size offset → IsOk result }
         ensures numbers { IsContextAt 0 (TheRegs.Set base) → IsNumberField size offset
             → IfOk result (λ o. AreNumbers o) }
-        ensures lent { (at : TheRegion) (p : LentPlace) → base ≡ Known.Lent p → p.region ≡ at → offset ≤ 2 ^ 15
+        ensures lent { (at : TheRegion) (p : LentAddress) → base ≡ Known.Lent p → p.region ≡ at → offset ≤ 2 ^ 15
             → p.offset.range.high + offset + bytes_in size ≤ bound_of self.now.bounds at → IsOk result }
-        ensures lent_numbers { (p : LentPlace) → base ≡ Known.Lent p → IfOk result (λ o. AreNumbers o) }
+        ensures lent_numbers { (p : LentAddress) → base ≡ Known.Lent p → IfOk result (λ o. AreNumbers o) }
         ensures spilled { (i : ℕ) (known : Known) → IsStackByte (8 * i) offset (TheRegs.Set base) → i < 64
             → size ≡ Size.Double → slot_at self.now.stack i ≡ Slot.Spilled known → result ≡ Ok (Some known) }
         ensures marked { (p : ℕ) → IsStackByte p offset (TheRegs.Set base)
             → AreMarked self.now.stack p (bytes_in size) → IsOk result × IfOk result (λ o. AreNumbers o) }
         ensures not_unset { IfErr result (λ e. e ≢ Refusal.UnsetRegister) }
     {
-        if let Known::Context(place) = base {
-            return self.field(profile, place, offset, size);
+        if let Known::Context(address) = base {
+            return self.field(profile, address, offset, size);
         }
         if let Some(known) = self.fill(base, offset, size) {
             return Ok(Some(known));
@@ -329,7 +330,7 @@ impl AbsState {
     pub fn load_signed(&self, base: Known, offset: u64, size: SignedSize) -> Result<(), Refusal>
         ensures sound { IfOk result (λ _. LoadsAs self.now base offset (bytes_in_signed size)
             (λ lengths v. v < 256 ^ bytes_in_signed size)) }
-        ensures lent { (at : TheRegion) (p : LentPlace) → base ≡ Known.Lent p → p.region ≡ at → offset ≤ 2 ^ 15
+        ensures lent { (at : TheRegion) (p : LentAddress) → base ≡ Known.Lent p → p.region ≡ at → offset ≤ 2 ^ 15
             → p.offset.range.high + offset + bytes_in_signed size ≤ bound_of self.now.bounds at → IsOk result }
         ensures marked { (p : ℕ) → IsStackByte p offset (TheRegs.Set base)
             → AreMarked self.now.stack p (bytes_in_signed size) → IsOk result }
@@ -358,11 +359,11 @@ impl AbsState {
         if base.is_number() {
             return Err(Refusal::NotAnAddress);
         }
-        let Known::Stack(place) = base else {
+        let Known::Stack(address) = base else {
             return Err(Refusal::ReadOnlyStore);
         };
         let count = count(size);
-        let p = place_on_stack(place, offset, count)?;
+        let p = offset_in_stack(address, offset, count)?;
         if count == 8 && p % 8 == 0 {
             spill(&mut self.stack, p / 8, value);
             return Ok(());

@@ -6,7 +6,7 @@ ghost use Rattle.abstract_state.specs.Quantity.{InBits, Contains, Within, Fits, 
 ghost use Rattle.abstract_state.specs.Quantity.{KnowsHigh, JoinsNumber, LiesInBits};
 ghost use Rattle.known_bits.specs.Bits.{most};
 ghost use Rattle.abstract_state.specs.Exact.{IsIn};
-ghost use Rattle.meaning.specs.Value.{cut, value_of};
+ghost use Rattle.semantics.specs.Value.{cut, value_of};
 
 use crate::region::{Region, Tails};
 use bpf_words::instruction::Width;
@@ -120,7 +120,7 @@ impl Quantity {
 }
 
 impl Quantity {
-    /// The number 0, as a place in a region.
+    /// The number 0, as an offset in a region.
     pub fn begin(region: Region) -> Quantity
         ensures contains { (lengths : Lengths) → Contains result lengths 0 }
         ensures is { IsIn region result 0 0 (Some 0) }

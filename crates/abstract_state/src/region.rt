@@ -5,8 +5,8 @@ ghost use Rattle.abstract_state.specs.declared.region.Region.{Region as TheRegio
 ghost use Rattle.abstract_state.specs.Exact.{tail_after};
 
 use crate::tail;
-use bpf_words::context::{LINK, LINK_LIMIT, TEXT, TEXT_LIMIT};
 use intervals::Range;
+use span_context::context::{LINK, LINK_LIMIT, TEXT, TEXT_LIMIT};
 
 /// Memory that a run is lent to read, of a length that differs from run to run.
 #[derive(Clone, Copy)]

@@ -6,7 +6,7 @@ ghost use Rattle.abstract_state.specs.Lent.{Lengths, tail_of, HasTails, InRange,
 ghost use Rattle.abstract_state.specs.declared.region.Region.{Region};
 ghost use Rattle.abstract_state.specs.Quantity.{InBits, Contains, Within, Fits};
 ghost use Rattle.abstract_state.specs.Relation.{Stands, WithinBoth, NarrowsBoth, EndsFrom, IsSigned, SignsAgree};
-ghost use Rattle.meaning.specs.Value.{bits_of, cut, holds_of};
+ghost use Rattle.semantics.specs.Value.{bits_of, cut, holds_of};
 
 use crate::quantity::Quantity;
 use crate::transfer::half;

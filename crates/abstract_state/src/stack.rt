@@ -82,58 +82,58 @@ pub fn join_slots(a: &mut [Slot; 64], b: &[Slot; 64])
     }
 }
 
-/// A slot's marks, with those that a store of so many bytes at a place sets.
-fn with_store(marks: &[bool; 8], first: usize, place: usize, count: usize) -> [bool; 8]
+/// A slot's marks, with those that a store of `count` bytes at an offset sets.
+fn with_store(marks: &[bool; 8], first: usize, offset: usize, count: usize) -> [bool; 8]
     requires first { first ≤ 504 }
-    requires place { place + count ≤ 512 }
+    requires offset { offset + count ≤ 512 }
     ensures { (j : ℕ) → j < 8 → slice_index_or result j false
-        ≡ (slice_index_or marks.now j false || (nat_le place (first + j) && nat_lt (first + j) (place + count))) }
+        ≡ (slice_index_or marks.now j false || (nat_le offset (first + j) && nat_lt (first + j) (offset + count))) }
 {
     let mut result = *marks;
     for j in 0..8 {
-        result[j] = is_marked(marks, j, first, place, count);
+        result[j] = is_marked(marks, j, first, offset, count);
     }
     result
 }
 
 /// Whether a byte is set after the store.
-fn is_marked(marks: &[bool; 8], j: usize, first: usize, place: usize, count: usize) -> bool
+fn is_marked(marks: &[bool; 8], j: usize, first: usize, offset: usize, count: usize) -> bool
     requires j { j < 8 }
     requires first { first ≤ 504 }
-    requires place { place + count ≤ 512 }
+    requires offset { offset + count ≤ 512 }
     ensures { result ≡ (slice_index_or marks.now j false
-        || (nat_le place (first + j) && nat_lt (first + j) (place + count))) }
+        || (nat_le offset (first + j) && nat_lt (first + j) (offset + count))) }
 {
-    marks[j] || (place <= first + j && first + j < place + count)
+    marks[j] || (offset <= first + j && first + j < offset + count)
 }
 
-/// The slot of eight bytes from `first` on after a store of so many bytes at a place.
-fn rewritten(slot: Slot, first: usize, place: usize, count: usize) -> Slot
+/// The slot of eight bytes from `first` on after a store of `count` bytes at an offset.
+fn rewritten(slot: Slot, first: usize, offset: usize, count: usize) -> Slot
     requires first { first ≤ 504 }
-    requires place { place + count ≤ 512 }
-    ensures stores { (i : ℕ) → first ≡ 8 * i → StoresSlot place count i slot result }
+    requires offset { offset + count ≤ 512 }
+    ensures stores { (i : ℕ) → first ≡ 8 * i → StoresSlot offset count i slot result }
     ensures contains { (lengths : Lengths) (old new : Bytes) (i : ℕ) → first ≡ 8 * i → ContainsSlot slot lengths old i
-        → Spares place count old new → Fills place count new → ContainsSlot result lengths new i }
+        → Spares offset count old new → Fills offset count new → ContainsSlot result lengths new i }
 {
-    if first + 8 <= place {
+    if first + 8 <= offset {
         return slot;
     }
-    if place + count <= first {
+    if offset + count <= first {
         return slot;
     }
     let marks = marks(slot);
-    Slot::Marks(with_store(&marks, first, place, count))
+    Slot::Marks(with_store(&marks, first, offset, count))
 }
 
-/// Notes a store of so many bytes of a number.
-pub fn overwrite(slots: &mut [Slot; 64], place: usize, count: usize)
-    requires { place + count ≤ 512 }
-    ensures stores { StoresSlots place count slots.old slots.new }
+/// Notes a store of `count` bytes of a number.
+pub fn overwrite(slots: &mut [Slot; 64], offset: usize, count: usize)
+    requires { offset + count ≤ 512 }
+    ensures stores { StoresSlots offset count slots.old slots.new }
     ensures contains { (lengths : Lengths) (old new : Bytes) → ContainsStack slots.old lengths old
-        → Spares place count old new → Fills place count new → ContainsStack slots.new lengths new }
+        → Spares offset count old new → Fills offset count new → ContainsStack slots.new lengths new }
 {
     for i in 0..64 {
-        slots[i] = rewritten(slots[i], 8 * i, place, count);
+        slots[i] = rewritten(slots[i], 8 * i, offset, count);
     }
 }
 
@@ -163,25 +163,25 @@ pub fn filled(slots: &[Slot; 64], slot: usize) -> Option<Known>
 }
 
 /// Whether a byte is set for sure.
-fn is_set(slots: &[Slot; 64], place: usize) -> bool
-    requires { place < 512 }
-    ensures marked { IsMarkedAt slots.now place → IsTrue result }
+fn is_set(slots: &[Slot; 64], offset: usize) -> bool
+    requires { offset < 512 }
+    ensures marked { IsMarkedAt slots.now offset → IsTrue result }
     ensures contains { IsTrue result → (lengths : Lengths) (bytes : Bytes) → ContainsStack slots.now lengths bytes
-        → HasByte bytes place }
+        → HasByte bytes offset }
 {
-    let marks = marks(slots[place / 8]);
-    marks[place % 8]
+    let marks = marks(slots[offset / 8]);
+    marks[offset % 8]
 }
 
-/// Whether so many bytes are set for sure.
-pub fn are_set(slots: &[Slot; 64], place: usize, count: usize) -> bool
-    requires { place + count ≤ 512 }
-    ensures marked { ((j : ℕ) → j < count → IsMarkedAt slots.now (place + j)) → IsTrue result }
+/// Whether the `count` bytes from an offset on are set for sure.
+pub fn are_set(slots: &[Slot; 64], offset: usize, count: usize) -> bool
+    requires { offset + count ≤ 512 }
+    ensures marked { ((j : ℕ) → j < count → IsMarkedAt slots.now (offset + j)) → IsTrue result }
     ensures contains { IsTrue result → (lengths : Lengths) (bytes : Bytes) → ContainsStack slots.now lengths bytes
-        → (j : ℕ) → j < count → HasByte bytes (place + j) }
+        → (j : ℕ) → j < count → HasByte bytes (offset + j) }
 {
     for j in 0..count {
-        if !is_set(slots, place + j) {
+        if !is_set(slots, offset + j) {
             return false;
         }
     }

@@ -15,19 +15,19 @@ ghost use Rattle.abstract_state.specs.Frame.{IsStackByte};
 ghost use Rattle.abstract_state.specs.Steps.{after};
 ghost use Rattle.abstract_state.specs.Unset.{HasUnset};
 ghost use Rattle.bpf_words.specs.Flow.{read_operand};
-ghost use Rattle.meaning.specs.State.{State, start, register_of, operand_in};
+ghost use Rattle.semantics.specs.State.{State, start, register_of, operand_in};
 
+use crate::address::{ContextAddress, StackAddress};
 use crate::bounds::Bounds;
 use crate::known::Known;
-use crate::place::{ContextPlace, StackPlace};
 use crate::quantity::Quantity;
 use crate::refusal::Refusal;
 use crate::region::Region;
 use crate::slot::Slot;
 use crate::step::Flow;
-use bpf_words::context::STACK_BYTES;
 use bpf_words::instruction::Operand;
 use bpf_words::register::Register;
+use span_context::context::STACK_BYTES;
 
 /// What is known of a register.
 #[derive(Clone, Copy)]
@@ -187,9 +187,9 @@ fn first_registers() -> [AbsReg; 11]
     ensures unset { (i : ℕ) → i ≢ 1 → i ≢ 10 → register_at result i ≡ AbsReg.Unset }
 {
     let mut registers = [AbsReg::Unset; 11];
-    registers[1] = AbsReg::Set(Known::Context(ContextPlace { place: 0 }));
-    registers[10] = AbsReg::Set(Known::Stack(StackPlace {
-        place: STACK_BYTES as u64,
+    registers[1] = AbsReg::Set(Known::Context(ContextAddress { offset: 0 }));
+    registers[10] = AbsReg::Set(Known::Stack(StackAddress {
+        offset: STACK_BYTES as u64,
     }));
     registers
 }

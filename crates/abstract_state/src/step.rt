@@ -2,8 +2,8 @@
 ghost use Rattle.std.specs.Prelude.{◌≡◌, ◌≢◌, ◌↔◌, ◌++◌, IfErr, [], ◌∷◌, ℕ, pos, ◌+◌, ◌*◌, ◌%◌, ◌^◌, ◌<◌, ◌≤◌, Option};
 ghost use Rattle.std.specs.Prelude.{Some, None, Ok, IfSome, IfOk, IsOk};
 ghost use Rattle.std.specs.Int.{cast_unsigned, w64};
-ghost use Rattle.meaning.specs.State.{State, register_of};
-ghost use Rattle.meaning.specs.Step.{Returns};
+ghost use Rattle.semantics.specs.State.{State, register_of};
+ghost use Rattle.semantics.specs.Step.{Returns};
 ghost use Rattle.abstract_state.specs.State.{Span, lengths_of, Contains, StepsIn, StepsBy, does, register_at, slot_at};
 ghost use Rattle.abstract_state.specs.Kinds.{HasNumberAt, HasNumberIn, ReadsFirst, ReadsNumbers, WritesNumber, Carries};
 ghost use Rattle.abstract_state.specs.Kinds.{IsNumberField, IsContextAt};
@@ -13,24 +13,25 @@ ghost use Rattle.abstract_state.specs.declared.region.Region.{Region};
 ghost use Rattle.abstract_state.specs.Lent.{begin_field, end_field, limit_of, bound_of, Lends};
 ghost use Rattle.abstract_state.specs.Guard.{Yields, Stores, Spills, Keeps, IsOperand, Writes, LeavesOthers};
 ghost use Rattle.abstract_state.specs.Guard.{SameMemory, LeavesMemory};
-ghost use Rattle.meaning.specs.Value.{value_of};
+ghost use Rattle.semantics.specs.Value.{value_of};
 ghost use Rattle.abstract_state.specs.Unset.{HasUnset};
 ghost use Rattle.bpf_words.specs.Flow.{read_by, read_first, read_operand};
-ghost use Rattle.meaning.specs.Memory.{bytes_in, bytes_in_signed};
+ghost use Rattle.semantics.specs.Memory.{bytes_in, bytes_in_signed};
 ghost use Rattle.abstract_state.specs.Frame.{IsStackByte, AreMarked, StoresSlots, SpillsSlot};
 ghost use Rattle.abstract_state.specs.declared.slot.Slot.{Slot};
 ghost use Rattle.abstract_state.specs.declared.state.AbsReg.TheVariants.{Set};
-ghost use Rattle.abstract_state.specs.declared.place.LentPlace.{LentPlace};
+ghost use Rattle.abstract_state.specs.declared.address.LentAddress.{LentAddress};
 
 use crate::known::Known;
 use crate::quantity::Quantity;
 use crate::refusal::Refusal;
 use crate::state::AbsState;
 use bpf_words::instruction::{
-    Arithmetic, Conversion, ConvertedBits, Extension, Insn, Operand, SignedSize, Size, Width,
+    Arithmetic, Conversion, ConvertedBits, Extension, Insn, Operand, SignedSize, Width,
 };
-use bpf_words::profile::Profile;
 use bpf_words::register::Register;
+use span_context::profile::Profile;
+use span_context::size::Size;
 
 /// Whether a run can come past an instruction.
 #[derive(Clone, Copy)]
@@ -199,7 +200,7 @@ impl AbsState {
             → IsStackByte (8 * i) (cast_unsigned w64 offset) (register_at self.old.registers base) → i < 64
             → size ≡ Size.Double → slot_at self.old.stack i ≡ Slot.Spilled known
             → Keeps result self.new destination (Fact.Exactly known) }
-        ensures lent { (o : ℕ) (p : LentPlace) → offset ≡ pos o → o < 2 ^ 15
+        ensures lent { (o : ℕ) (p : LentAddress) → offset ≡ pos o → o < 2 ^ 15
             → register_at self.old.registers base ≡ Set (Known.Lent p)
             → p.offset.range.high + o + bytes_in size ≤ bound_of self.old.bounds p.region
             → Keeps result self.new destination Fact.AnyNumber }
@@ -228,7 +229,7 @@ impl AbsState {
             (after flow self.new)) }
         ensures others { IfOk result (λ flow. IfSome (after flow self.new) (λ b. Writes destination self.old b)) }
         ensures memory { IfOk result (λ flow. IfSome (after flow self.new) (λ b. SameMemory self.old b)) }
-        ensures lent { (o : ℕ) (p : LentPlace) → offset ≡ pos o → o < 2 ^ 15
+        ensures lent { (o : ℕ) (p : LentAddress) → offset ≡ pos o → o < 2 ^ 15
             → register_at self.old.registers base ≡ Set (Known.Lent p)
             → p.offset.range.high + o + bytes_in_signed size ≤ bound_of self.old.bounds p.region
             → Keeps result self.new destination Fact.AnyNumber }

@@ -5,7 +5,7 @@ ghost use Rattle.abstract_state.specs.Lent.{Lengths, HasTails, InRange, InRanges
 ghost use Rattle.abstract_state.specs.declared.region.Region.{Region};
 ghost use Rattle.abstract_state.specs.Quantity.{InBits, Contains, Within, Fits, Maps, MapsBoth, Narrows, KeepsBits};
 ghost use Rattle.abstract_state.specs.Exact.{tail_after, HasBits, IsIn, IsConstant, Folds};
-ghost use Rattle.meaning.specs.Value.{bits_of, cut, value_of};
+ghost use Rattle.semantics.specs.Value.{bits_of, cut, value_of};
 
 use crate::quantity::Quantity;
 use crate::region::Tails;

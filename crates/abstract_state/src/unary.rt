@@ -4,7 +4,7 @@ ghost use Rattle.abstract_state.specs.Lent.{Lengths};
 ghost use Rattle.abstract_state.specs.Quantity.{Contains, Fits};
 ghost use Rattle.abstract_state.specs.Known.{ContainsKnown, WithinKnown, IsNumber, AreNumbers};
 ghost use Rattle.bpf_words.specs.declared.instruction.Width.TheVariants.{Narrow, Full};
-ghost use Rattle.meaning.specs.Value.{cut, negated, extended, converted, bytes_kept};
+ghost use Rattle.semantics.specs.Value.{cut, negated, extended, converted, bytes_kept};
 
 use crate::known::Known;
 use crate::quantity::Quantity;

@@ -6,7 +6,7 @@ use Rattle.std.proofs.lemmas.Grind.{flat_map-append}
 use Rattle.std.proofs.lemmas.List.{append-nil}
 use Rattle.std.proofs.lemmas.Bool.{cases_lt}
 use Rattle.std.proofs.lemmas.List.Sums.{sum_by-cons}
-use Rattle.assembler_lines.specs.Places.{insn_at, lines_of}
+use Rattle.assembler_lines.specs.Slots.{insn_at, lines_of}
 use Rattle.assembler.specs.Text.{bytes_of, bytes_before, AreRight, AreTextOf}
 
 range_more : (a n : ℕ) → range_with_len a (suc n) ≡ range_with_len a n ++ (a + n) ∷ []

@@ -9,7 +9,7 @@ use Rattle.std.proofs.lemmas.List.{take_more, length-take-le}
 use Rattle.std.proofs.lemmas.Slice.Eq.{bytes_eq-Decides}
 use Rattle.assembler.specs.declared.labels.Definition.{Definition}
 use Rattle.assembler_lines.specs.Shapes.{either}
-use Rattle.assembler_lines.specs.Places.{definition, has_label, label_of, place, slots}
+use Rattle.assembler_lines.specs.Slots.{definition, has_label, label_of, first_slot, slots}
 use Rattle.assembler.specs.Labels.{Table, held, defined_at, HoldsLabels, Defines, DefinesLabel}
 
 either_none : {A : Type 0} (o : Option A) → either o None ≡ o
@@ -72,9 +72,9 @@ defines_set old new word d none updates other =
     updates other ∙ set_on (bytes_eq word other) (held old other) d
     (λ same. subst (λ (w : List ℕ). is_some (held old w) ≡ false) ((bytes_eq-Decides word other).0 same) none)
 
-pub place_more : (lines : List (List ℕ)) (i : ℕ) → i < length lines → place lines (i + 1) ≡ place lines i + slots (get_or lines i [])
-unfolding place
-place_more lines i lt = sum_by_more slots lines i [] lt
+pub first_slot_more : (lines : List (List ℕ)) (i : ℕ) → i < length lines → first_slot lines (i + 1) ≡ first_slot lines i + slots (get_or lines i [])
+unfolding first_slot
+first_slot_more lines i lt = sum_by_more slots lines i [] lt
 
 -- a line is within what is left of the lengths
 pub room_for : (lines : List (List ℕ)) (i slot : ℕ) (line : List ℕ) → i < length lines → get_or lines i [] ≡ line → slot ≤ sum_by length (take i lines) → slot + length line ≤ sum_by length lines
@@ -84,15 +84,15 @@ pub fits_more : (lines : List (List ℕ)) (i slot more : ℕ) (line : List ℕ) 
     → slot + more ≤ sum_by length (take (i + 1) lines)
 fits_more lines i slot more line lt here fits le = omega (arith, ap length here, sum_by_more length lines i [] lt)
 
-pub labels_more_at : (lines : List (List ℕ)) (i slot : ℕ) (old new : Table) (word : List ℕ) → i < length lines → slot ≡ place lines i → label_of (get_or lines i []) ≡ Some word
+pub labels_more_at : (lines : List (List ℕ)) (i slot : ℕ) (old new : Table) (word : List ℕ) → i < length lines → slot ≡ first_slot lines i → label_of (get_or lines i []) ≡ Some word
     → HoldsLabels lines i old → Defines old new word (record { index = i; slot = slot }) → HoldsLabels lines (i + 1) new
-labels_more_at lines i slot old new word lt placed some h defines =
-    labels_more lines i old new word lt some h (subst (λ (s : ℕ). Defines old new word (record { index = i; slot = s })) placed defines)
+labels_more_at lines i slot old new word lt at_slot some h defines =
+    labels_more lines i old new word lt some h (subst (λ (s : ℕ). Defines old new word (record { index = i; slot = s })) at_slot defines)
 
 -- one line more, by what its label is
-pub labels_step : (lines : List (List ℕ)) (i slot : ℕ) (old new : Table) (line : List ℕ) → i < length lines → get_or lines i [] ≡ line → slot ≡ place lines i
+pub labels_step : (lines : List (List ℕ)) (i slot : ℕ) (old new : Table) (line : List ℕ) → i < length lines → get_or lines i [] ≡ line → slot ≡ first_slot lines i
     → HoldsLabels lines i old → DefinesLabel old new (label_of line) (record { index = i; slot = slot }) → HoldsLabels lines (i + 1) new
-labels_step lines i slot old new line lt here placed h step = go (label_of line) refl step where
+labels_step lines i slot old new line lt here at_slot h step = go (label_of line) refl step where
   go : (o : Option (List ℕ)) → label_of line ≡ o → DefinesLabel old new o (record { index = i; slot = slot }) → HoldsLabels lines (i + 1) new
-  go (Some word) is defines = labels_more_at lines i slot old new word lt placed (ap label_of here ∙ is) h defines
+  go (Some word) is defines = labels_more_at lines i slot old new word lt at_slot (ap label_of here ∙ is) h defines
   go None is same = λ name. same name ∙ labels_same lines i old lt (ap label_of here ∙ is) h name

@@ -10,7 +10,7 @@ use Rattle.std.proofs.lemmas.List.Elements.{All-nil, All-cons}
 use Rattle.std.proofs.lemmas.List.Quantifiers.{position-Some}
 use Rattle.std.proofs.lemmas.List.Splits.{length-slice_split, slice_split_first, slice_split_none}
 use Rattle.std.proofs.lemmas.List.Sums.{count_by-le-length, fails_before_first, position_or_len_is}
-use Rattle.assembler_lines.specs.Places.{lines_of}
+use Rattle.assembler_lines.specs.Slots.{lines_of}
 use Rattle.assembler.specs.Lines.{lines_left}
 
 abbrev first_of : List (List ℕ) → List ℕ
@@ -21,7 +21,7 @@ abbrev others_of : List (List ℕ) → List (List ℕ)
 others_of [] = []
 others_of (line ∷ lines) = lines
 
--- where a line is left, it stands at the place of the first that is left
+-- where a line is left, the count of those before it is the index of the first that is left
 pub left_within : (lines : List (List ℕ)) (count : ℕ) (line : List ℕ) (others : List (List ℕ)) → line ∷ others ≡ drop count lines → count < length lines
 left_within lines count line others left = elim (cases_lt count (length lines)) [
   | inl lt ↦ lt

@@ -7,7 +7,7 @@ use Rattle.std.proofs.lemmas.Bool.{cases_lt, lt-ltb, le-ltb}
 use Rattle.std.proofs.lemmas.List.{take_all, take-take}
 use Rattle.assembler_lines.specs.declared.statement.Jump.{Jump}
 use Rattle.assembler_lines.specs.Statements.{Judged, Statement, reach, jump_by, reading_of}
-use Rattle.assembler_lines.specs.Places.{definition, has_label, insn_at, jump_between, line_at, resolved}
+use Rattle.assembler_lines.specs.Slots.{definition, has_label, insn_at, jump_between, line_at, resolved}
 use Rattle.assembler.specs.declared.labels.Definition.{Definition}
 use Rattle.assembler.specs.Labels.{defined_at, is_before}
 

@@ -21,11 +21,11 @@ use Rattle.assembler_lines.specs.Terms.{Term, Symbol, Name, Number, begins_digit
 use Rattle.assembler_lines.specs.Mnemonics.{name_of, form_named, all_forms}
 use Rattle.assembler_lines.specs.Shapes.{Target, AtLabel, Distance, lone_name, two_names, name_and_value, name_and_wide, name_and_address, address_and_constant, address_and_name, lone_target, name_value_and_target}
 use Rattle.assembler_lines.specs.Statements.{Statement, Blank, Label, Plain, Onto, Judged, demand, register, within, offset, immediate, operand, reach, jump_by, jump_over, jump_to, instruction_of, instruction_in, colon_at, name_first, number_first, statement_of, reading_of, ◌>>=◌}
-use Rattle.assembler_lines.specs.Places.{begins_colon, slots_of as slots_in, slots, line_at, place, jump_between, jump_onto, definition, resolved, insn_at}
+use Rattle.assembler_lines.specs.Slots.{begins_colon, slots_of as slots_in, slots, line_at, first_slot, jump_between, jump_onto, definition, resolved, insn_at}
 use Rattle.assembler_lines.proofs.Naming.{form_again}
 use Rattle.assembler_lines.proofs.Lengths.{bind_some}
 use Rattle.assembler.specs.Text.{bytes_of}
-use Rattle.assembler.proofs.Labelling.{place_more}
+use Rattle.assembler.proofs.Labelling.{first_slot_more}
 
 -- the slots of what a line says
 abbrev said : Statement → ℕ
@@ -296,12 +296,12 @@ of_resolved lines k (Label name) found e = go _ e where
   go false e = let none : None ≡ found = cc in ap (λ (o : Option Insn). length (bytes_of (Ok o))) (sym none)
 of_resolved lines k (Plain i) found e = let some : Some i ≡ found = cc in ap (λ (o : Option Insn). length (bytes_of (Ok o))) (sym some) ∙ encoded_len i
 of_resolved lines k (Onto jump name) found e = go (definition lines name) e where
-  go : (o : Option ℕ) → jump_onto lines jump (place lines k) o ≡ Ok found → length (bytes_of (Ok found)) ≡ 8
+  go : (o : Option ℕ) → jump_onto lines jump (first_slot lines k) o ≡ Ok found → length (bytes_of (Ok found)) ≡ 8
   go None e = absurd cc
   go (Some j) e =
-      let a = bound (jump_between jump (place lines k) (place lines j)) _ found e in
+      let a = bound (jump_between jump (first_slot lines k) (first_slot lines j)) _ found e in
       let some : Some a.0 ≡ found = let f = a.2 in cc in
-      ap (λ (o : Option Insn). length (bytes_of (Ok o))) (sym some) ∙ encoded_len a.0 ∙ ap (λ n. 8 * n) (of_between jump (place lines k) (place lines j) a.0 a.1)
+      ap (λ (o : Option Insn). length (bytes_of (Ok o))) (sym some) ∙ encoded_len a.0 ∙ ap (λ n. 8 * n) (of_between jump (first_slot lines k) (first_slot lines j) a.0 a.1)
 
 pub bytes_at : (lines : List (List ℕ)) (k : ℕ) (found : Option Insn) → insn_at lines k ≡ Ok found → length (bytes_of (insn_at lines k)) ≡ 8 * slots (line_at lines k)
 unfolding insn_at
@@ -313,10 +313,10 @@ bytes_at lines k found e = go (reading_of (line_at lines k)) refl e where
       ap (λ (j : Judged (Option Insn)). length (bytes_of j)) here ∙ of_resolved lines k s found e ∙ ap (λ n. 8 * n) (sym (of_line (line_at lines k) s is))
 
 -- the bytes of one line more end where the next line begins
-pub placed_more : (lines : List (List ℕ)) (k : ℕ) (old new : List ℕ) → k < length lines → length old ≡ 8 * place lines k → IsOk (insn_at lines k)
-    → new ≡ old ++ bytes_of (insn_at lines k) → length new ≡ 8 * place lines (k + 1)
-placed_more lines k old new lt placed right more = go (insn_at lines k) refl right where
-  go : (r : Judged (Option Insn)) → insn_at lines k ≡ r → IsOk r → length new ≡ 8 * place lines (k + 1)
+pub at_slot_more : (lines : List (List ℕ)) (k : ℕ) (old new : List ℕ) → k < length lines → length old ≡ 8 * first_slot lines k → IsOk (insn_at lines k)
+    → new ≡ old ++ bytes_of (insn_at lines k) → length new ≡ 8 * first_slot lines (k + 1)
+at_slot_more lines k old new lt at_slot right more = go (insn_at lines k) refl right where
+  go : (r : Judged (Option Insn)) → insn_at lines k ≡ r → IsOk r → length new ≡ 8 * first_slot lines (k + 1)
   go (Err fault) is right = absurd cc
   go (Ok found) is right =
-      omega (arith, ap length more, length-append old (bytes_of (insn_at lines k)), bytes_at lines k found is, place_more lines k lt, placed)
+      omega (arith, ap length more, length-append old (bytes_of (insn_at lines k)), bytes_at lines k found is, first_slot_more lines k lt, at_slot)

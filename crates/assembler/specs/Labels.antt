@@ -12,7 +12,7 @@ use Rattle.bpf_words.specs.declared.instruction.Insn.{Insn}
 use Rattle.assembler_lines.specs.declared.fault.LineFault.TheVariants.{UnknownLabel}
 use Rattle.assembler_lines.specs.declared.statement.Jump.{Jump}
 use Rattle.assembler_lines.specs.Statements.{Judged, ◌>>=◌}
-use Rattle.assembler_lines.specs.Places.{definition, place, jump_between}
+use Rattle.assembler_lines.specs.Slots.{definition, first_slot, jump_between}
 
 abbrev pub Table : Type 0
 Table = BTreeMap (Bor (List ℕ)) Definition
@@ -22,9 +22,9 @@ abbrev pub held : Table → List ℕ → Option Definition
 held labels name = get_by (λ key. slice_cmp nat_cmp name key.now) labels
 
 abbrev pub defined_at : List (List ℕ) → ℕ → Definition
-defined_at lines k = record { index = k; slot = place lines k }
+defined_at lines k = record { index = k; slot = first_slot lines k }
 
--- a table of the labels of the first lines: at each name, the line that defines it and its place
+-- a table of the labels of the first lines: at each name, the line that defines it and that line's slot
 abbrev pub HoldsLabels : List (List ℕ) → ℕ → Table → Type 0
 HoldsLabels lines count labels =
     (name : List ℕ) → held labels name ≡ option_map (defined_at lines) (definition (take count lines) name)

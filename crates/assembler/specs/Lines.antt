@@ -1,7 +1,7 @@
 -- The lines of a text that are still to be read.
 use Rattle.std.specs.Prelude.{ℕ, List, [], Option, Some, None}
 use Rattle.std.specs.Borrow.{Bor}
-use Rattle.assembler_lines.specs.Places.{lines_of}
+use Rattle.assembler_lines.specs.Slots.{lines_of}
 
 -- the lines of the text that is left, none where no text is
 abbrev pub lines_left : Option (Bor (List ℕ)) → List (List ℕ)

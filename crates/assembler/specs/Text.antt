@@ -7,7 +7,7 @@ use Rattle.assembler_lines.specs.declared.fault.LineFault.{LineFault}
 use Rattle.assembler.specs.declared.fault.AsmError.{AsmError}
 use Rattle.assembler.specs.declared.fault.AsmError.TheVariants.{Line, OutOfMemory}
 use Rattle.assembler_lines.specs.Statements.{Judged}
-use Rattle.assembler_lines.specs.Places.{lines_of, insn_at}
+use Rattle.assembler_lines.specs.Slots.{lines_of, insn_at}
 
 abbrev pub bytes_of : Judged (Option Insn) → List ℕ
 bytes_of (Ok (Some insn)) = encoded insn

@@ -1,5 +1,5 @@
 ghost use Rattle.std.specs.Prelude.{◌≡◌, ◌+◌, ◌++◌, ◌<◌, ◌^◌, IfOk, IfErr, IsOk, Ok, OnOk};
-ghost use Rattle.assembler_lines.specs.Places.{insn_at, jump_between, line_at, lines_of, place, resolved};
+ghost use Rattle.assembler_lines.specs.Slots.{insn_at, jump_between, line_at, lines_of, first_slot, resolved};
 ghost use Rattle.assembler_lines.specs.Statements.{Label, Onto};
 ghost use Rattle.assembler.specs.declared.fault.AsmError.TheVariants.{Line};
 ghost use Rattle.assembler.specs.Labels.{onto_held};
@@ -16,7 +16,7 @@ use bpf_words::instruction::Insn;
 use std::alloc::{AllocError, Global};
 
 /// The jump at a slot to another.
-#[tactic(auto, unfolding(assembler_lines::specs::Places::jump_between))]
+#[tactic(auto, unfolding(assembler_lines::specs::Slots::jump_between))]
 fn jump_between(jump: Jump, here: usize, target: usize) -> Result<Insn, LineFault>
     ensures { result ≡ jump_between jump here target }
 {
@@ -81,7 +81,7 @@ fn at_jump<'a>(
     jump: Jump,
     name: &'a [u8],
 ) -> Result<Option<Insn>, AsmError>
-    requires slot { slot ≡ place (lines_of labels.old.source.now) index }
+    requires slot { slot ≡ first_slot (lines_of labels.old.source.now) index }
     requires room { index + 1 < 2 ^ 64 }
     ensures same { OnOk result (labels.new.source ≡ labels.old.source) }
     ensures insn { IfOk result (λ insn. Ok insn
@@ -104,7 +104,7 @@ fn instruction_at<'a>(
     slot: usize,
 ) -> Result<Option<Insn>, AsmError>
     requires line { line.now ≡ line_at (lines_of labels.old.source.now) index }
-    requires slot { slot ≡ place (lines_of labels.old.source.now) index }
+    requires slot { slot ≡ first_slot (lines_of labels.old.source.now) index }
     requires room { index + 1 < 2 ^ 64 }
     ensures same { OnOk result (labels.new.source ≡ labels.old.source) }
     ensures insn { IfOk result (λ insn. Ok insn ≡ insn_at (lines_of labels.old.source.now) index) }
@@ -138,7 +138,7 @@ fn append_line<'a>(
     slot: usize,
 ) -> Result<(), AsmError>
     requires line { line.now ≡ line_at (lines_of labels.old.source.now) index }
-    requires slot { slot ≡ place (lines_of labels.old.source.now) index }
+    requires slot { slot ≡ first_slot (lines_of labels.old.source.now) index }
     requires room { index + 1 < 2 ^ 64 }
     ensures same { OnOk result (labels.new.source ≡ labels.old.source) }
     ensures right { OnOk result (IsOk (insn_at (lines_of labels.old.source.now) index)) }

@@ -1,7 +1,7 @@
 ghost use Rattle.std.specs.Prelude.{◌≡◌, ◌≤◌, ◌<◌, length, take, drop, sum_by, option_map, IfOk, OnOk, OnErr};
 ghost use Rattle.std.specs.List.{list_any};
 ghost use Rattle.assembler_lines.specs.Lending.{bytes_seen};
-ghost use Rattle.assembler_lines.specs.Places.{definition, has_label, lines_of, place, slots, label_of};
+ghost use Rattle.assembler_lines.specs.Slots.{definition, has_label, lines_of, first_slot, slots, label_of};
 ghost use Rattle.assembler.specs.Labels.{defined_at, Defines, DefinesLabel, held, HoldsLabels, HoldsSame, is_before};
 ghost use Rattle.assembler.specs.Lines.{lines_left};
 
@@ -26,7 +26,7 @@ pub(crate) struct Definition {
 type Definitions<'a> = BTreeMap<&'a [u8], Definition>;
 
 /// The slots that a line takes, right or at fault.
-#[tactic(auto, unfolding(assembler_lines::specs::Places::slots, assembler_lines::specs::Mnemonics::name_of))]
+#[tactic(auto, unfolding(assembler_lines::specs::Slots::slots, assembler_lines::specs::Mnemonics::name_of))]
 fn slots(line: &[u8]) -> usize
     ensures value { result ≡ slots line.now }
     ensures bound { result ≤ length line.now }
@@ -48,7 +48,7 @@ fn slots(line: &[u8]) -> usize
 }
 
 /// The name of a line that is a label.
-#[tactic(auto, unfolding(assembler_lines::specs::Places::label_of))]
+#[tactic(auto, unfolding(assembler_lines::specs::Slots::label_of))]
 fn label(line: &[u8]) -> Option<&[u8]>
     ensures { option_map bytes_seen result ≡ label_of line.now }
 {
@@ -122,7 +122,7 @@ pub(crate) struct Labels<'a> {
     rest: Option<&'a [u8]>,
     ghost left: { lines_left rest ≡ drop count (lines_of source.now) },
     ghost held: { HoldsLabels (lines_of source.now) count known },
-    ghost placed: { slot ≡ place (lines_of source.now) count },
+    ghost at_slot: { slot ≡ first_slot (lines_of source.now) count },
     ghost fits: { slot ≤ sum_by length (take count (lines_of source.now)) },
 }
 

@@ -1,10 +1,10 @@
 ghost use Rattle.std.specs.Prelude.{◌≡◌, ◌<◌, ◌==◌, ◌∷◌, IfSome, length, position};
 ghost use Rattle.assembler.specs.Lines.{lines_left};
-ghost use Rattle.assembler_lines.specs.Places.{lines_of};
+ghost use Rattle.assembler_lines.specs.Slots.{lines_of};
 
 /// Where the first LF is.
 fn feed_in(text: &[u8]) -> Option<usize>
-    ensures place { result ≡ position (λ b. b == 10) text.now }
+    ensures index { result ≡ position (λ b. b == 10) text.now }
     ensures bound { IfSome result (λ at. at < length text.now) }
 {
     text.iter().position(|byte| *byte == b'\n')

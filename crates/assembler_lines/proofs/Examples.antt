@@ -3,7 +3,7 @@ use Rattle.std.proofs.Common.{◌≡◌, Ok, Err, refl, codes, pos, negsuc}
 use Rattle.bpf_words.specs.declared.instruction.Width.TheVariants.{Full}
 use Rattle.bpf_words.specs.declared.instruction.Arithmetic.TheVariants.{Mov}
 use Rattle.bpf_words.specs.declared.instruction.Comparison.TheVariants.{AnyBit}
-use Rattle.bpf_words.specs.declared.instruction.Size.TheVariants.{Word, Double}
+use Rattle.span_context.specs.declared.size.Size.TheVariants.{Word, Double}
 use Rattle.bpf_words.specs.declared.instruction.Operand.TheVariants.{Immediate}
 use Rattle.bpf_words.specs.declared.instruction.Insn.TheVariants as insn
 use Rattle.assembler_lines.specs.declared.fault.LineFault.TheVariants.{Syntax, UnknownName, NumberRange, JumpRange}

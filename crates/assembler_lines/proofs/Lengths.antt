@@ -17,7 +17,7 @@ pub bind_some : {A B : Type 0} (o : Option A) (f : A → Option B) (y : B) → (
 bind_some None f y e = absurd cc
 bind_some (Some x) f y e = (x, refl, e)
 
--- a reader takes so many terms at most
+-- a reader takes `n` terms at most
 abbrev Takes : {A : Type 0} → ℕ → List Term → Option (A × List Term) → Type 0
 Takes {A} n terms found = (x : A × List Term) → found ≡ Some x → length terms ≤ n + length x.1
 

@@ -6,7 +6,7 @@ use Rattle.bpf_words.specs.declared.instruction.Extension.TheVariants.{FromByte,
 use Rattle.bpf_words.specs.declared.instruction.Conversion.TheVariants.{ToLittleEndian, ToBigEndian, Swap}
 use Rattle.bpf_words.specs.declared.instruction.ConvertedBits.TheVariants.{Bits16, Bits32, Bits64}
 use Rattle.bpf_words.specs.declared.instruction.Comparison.TheVariants.{Equal, Greater, GreaterOrEqual, AnyBit, NotEqual, SignedGreater, SignedGreaterOrEqual, Less, LessOrEqual, SignedLess, SignedLessOrEqual}
-use Rattle.bpf_words.specs.declared.instruction.Size.TheVariants.{Byte, Half, Word, Double}
+use Rattle.span_context.specs.declared.size.Size.TheVariants.{Byte, Half, Word, Double}
 use Rattle.bpf_words.specs.declared.instruction.SignedSize.TheVariants.{SignedByte, SignedHalf, SignedWord}
 use Rattle.assembler_lines.specs.declared.form.Form.{Form}
 use Rattle.assembler_lines.specs.declared.form.Form.TheVariants.{Compute, Negate, Extend, Convert, Jump, JumpLong, Branch, Load, LoadSigned, StoreImmediate, StoreRegister, LoadWide, Exit}

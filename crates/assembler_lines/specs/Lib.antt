@@ -5,6 +5,6 @@ pub mod Mnemonics
 pub mod Shapes
 pub mod Grammar
 pub mod Statements
-pub mod Places
+pub mod Slots
 pub mod Scanning
 pub mod Lending

@@ -19,8 +19,8 @@ use Rattle.bpf_words.specs.declared.instruction.Comparison.TheVariants.{Equal, G
 use Rattle.bpf_words.specs.declared.instruction.Comparison.TheVariants.{NotEqual, SignedGreater, SignedGreaterOrEqual}
 use Rattle.bpf_words.specs.declared.instruction.Comparison.TheVariants.{Less, LessOrEqual, SignedLess}
 use Rattle.bpf_words.specs.declared.instruction.Comparison.TheVariants.{SignedLessOrEqual}
-use Rattle.bpf_words.specs.declared.instruction.Size.{Size}
-use Rattle.bpf_words.specs.declared.instruction.Size.TheVariants.{Byte, Half, Word, Double}
+use Rattle.span_context.specs.declared.size.Size.{Size}
+use Rattle.span_context.specs.declared.size.Size.TheVariants.{Byte, Half, Word, Double}
 use Rattle.bpf_words.specs.declared.instruction.SignedSize.{SignedSize}
 use Rattle.bpf_words.specs.declared.instruction.SignedSize.TheVariants.{SignedByte, SignedHalf, SignedWord}
 use Rattle.assembler_lines.specs.declared.form.Form.{Form}
@@ -144,6 +144,6 @@ all_forms =
 unfoldable pub form_named : List ℕ → Option Form
 form_named word = find (λ form. bytes_eq (name_of form) word) all_forms
 
--- the forms whose mnemonics have a byte at their second place
+-- the forms whose mnemonics have a second byte
 unfoldable pub forms_on : ℕ → List Form
 forms_on byte = filter (λ form. slice_index (name_of form) 1 == byte) all_forms

@@ -1,6 +1,7 @@
 use bpf_words::instruction::{
-    Arithmetic, Comparison, Conversion, ConvertedBits, Extension, SignedSize, Size, Width,
+    Arithmetic, Comparison, Conversion, ConvertedBits, Extension, SignedSize, Width,
 };
+use span_context::size::Size;
 
 /// The form of an instruction, which its mnemonic names: all but its registers, numbers and distance.
 #[derive(Clone, Copy)]

@@ -6,8 +6,9 @@ ghost use Rattle.assembler_lines.specs.Mnemonics.{name_of, form_named, forms_on}
 
 use crate::form::Form;
 use bpf_words::instruction::{
-    Arithmetic, Comparison, Conversion, ConvertedBits, Extension, SignedSize, Size, Width,
+    Arithmetic, Comparison, Conversion, ConvertedBits, Extension, SignedSize, Width,
 };
+use span_context::size::Size;
 
 // The forms by the second byte of their mnemonics, in the order of `all_forms`.
 static ON_A: [Form; 2] = [Form::Jump, Form::JumpLong];

@@ -4,7 +4,7 @@ ghost use Rattle.assembler_lines.specs.Lending.{value_seen, target_seen, judged_
 ghost use Rattle.assembler_lines.specs.Statements.{register_named, register, within, offset, immediate, operand};
 ghost use Rattle.assembler_lines.specs.Statements.{hexadecimal_value, reach, jump_by, jump_over, jump_to};
 ghost use Rattle.assembler_lines.specs.Statements.{instruction_of, name_first, statement_of, colon_at, reading_of};
-ghost use Rattle.assembler_lines.specs.Places.{is_reached};
+ghost use Rattle.assembler_lines.specs.Slots.{is_reached};
 ghost use Rattle.assembler_lines.specs.declared.form.Form.TheVariants as form;
 
 use crate::fault::LineFault;
@@ -16,10 +16,10 @@ use crate::token::{Sign, SignedNumeral, Term};
 use crate::words::read_terms;
 use arrayvec::ArrayVec;
 use bpf_words::instruction::{
-    Arithmetic, Comparison, Conversion, ConvertedBits, Extension, Insn, Operand, SignedSize, Size,
-    Width,
+    Arithmetic, Comparison, Conversion, ConvertedBits, Extension, Insn, Operand, SignedSize, Width,
 };
 use bpf_words::register::Register;
+use span_context::size::Size;
 
 /// The register of a name.
 #[tactic(auto, unfolding(crate::specs::Statements::register_named))]

@@ -1,12 +1,12 @@
 //! Programs: verified, and run on one span.
 ghost use Rattle.std.specs.Prelude.{◌≤◌, [], length};
-ghost use Rattle.bpf_words.specs.Context.{Fits, span_bytes};
+ghost use Rattle.span_context.specs.Context.{Fits, span_bytes};
 
-use bpf_words::context::{Context, Facts, TEXT_LIMIT};
-use bpf_words::profile::Profile;
 use bpf_words::words::Words;
 use interpreter::run::{run, run_checked};
-use meaning::Outcome;
+use semantics::Outcome;
+use span_context::context::{Context, Facts, TEXT_LIMIT};
+use span_context::profile::Profile;
 use std::alloc::Global;
 use verifier::verify::{Verified, verify};
 
@@ -33,7 +33,7 @@ fn is_accepted(alloc: Global, words: &Words<'_>) -> bool {
     verify(alloc, words, Profile::One).is_ok()
 }
 
-/// Verifies a program so many times. It answers how many times it was accepted before it was first refused.
+/// Verifies a program `rounds` times. It answers how many times it was accepted before it was first refused.
 #[unsafe(no_mangle)]
 pub extern "C" fn bench_verify(alloc: Global, program: &[u8], rounds: u32) -> u32 {
     let Ok(words) = Words::new(program) else {
@@ -47,7 +47,7 @@ pub extern "C" fn bench_verify(alloc: Global, program: &[u8], rounds: u32) -> u3
     rounds
 }
 
-/// The sum of the verdicts of so many runs.
+/// The sum of the verdicts of `rounds` runs.
 fn sum_of_runs(program: &Verified, text: &[u8], rounds: u32) -> u64
     requires { length text.now ≤ 131072 }
 {
@@ -78,8 +78,8 @@ fn sum_of_checked_runs(words: &Words<'_>, text: &[u8], rounds: u32) -> u64
     sum
 }
 
-/// Verifies a program once and runs it so many times, each time with a new context. It answers the sum of the verdicts,
-/// 0 where the program isn't accepted.
+/// Verifies a program once and runs it `rounds` times, each time with a new context. It answers the sum of the
+/// verdicts, 0 where the program isn't accepted.
 #[unsafe(no_mangle)]
 pub extern "C" fn bench_run(alloc: Global, program: &[u8], text: &[u8], rounds: u32) -> u64 {
     if text.len() > TEXT_LIMIT {

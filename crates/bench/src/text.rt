@@ -22,7 +22,7 @@ fn take_change<'a>(alloc: Global, history: &mut History, text: &'a str) -> Optio
     }
 }
 
-/// Takes in so many changes of a text, and answers what follows them.
+/// Takes in `count` changes of a text, and answers what follows them.
 fn take_changes<'a>(
     alloc: Global,
     history: &mut History,
@@ -44,7 +44,7 @@ fn spans_of(alloc: Global, history: &History) -> u64 {
     }
 }
 
-/// Takes in so many changes of a text, each with its version.
+/// Takes in `count` changes of a text, each with its version.
 fn follow_changes(alloc: Global, history: &mut History, text: &str, count: u32) -> u64 {
     let mut rest: &str = text;
     let mut spans = 0;
@@ -58,7 +58,7 @@ fn follow_changes(alloc: Global, history: &mut History, text: &str, count: u32) 
     spans
 }
 
-/// Reads so many changes of a text. It answers how many bytes follow them.
+/// Reads `count` changes of a text. It answers how many bytes follow them.
 #[unsafe(no_mangle)]
 pub extern "C" fn bench_read(alloc: Global, text: &[u8], count: u32) -> u64 {
     let Ok(mut rest) = std::str::from_utf8(text) else {
@@ -73,8 +73,8 @@ pub extern "C" fn bench_read(alloc: Global, text: &[u8], count: u32) -> u64 {
     rest.len() as u64
 }
 
-/// Takes in so many changes of a text, and then so many more, each of these with its version. It answers how many spans
-/// the last version has.
+/// Takes in `alone` changes of a text, and then `followed` more, each of these with its version. It answers how many
+/// spans the last version has.
 #[unsafe(no_mangle)]
 pub extern "C" fn bench_accept(alloc: Global, text: &[u8], alone: u32, followed: u32) -> u64 {
     let Ok(text) = std::str::from_utf8(text) else {
@@ -87,7 +87,7 @@ pub extern "C" fn bench_accept(alloc: Global, text: &[u8], alone: u32, followed:
     }
 }
 
-/// Takes in so many changes of a text, and then makes its version so many times. It answers how many spans the version
+/// Takes in `count` changes of a text, and then makes its version `rounds` times. It answers how many spans the version
 /// has.
 #[unsafe(no_mangle)]
 pub extern "C" fn bench_version(alloc: Global, text: &[u8], count: u32, rounds: u32) -> u64 {

@@ -39,8 +39,8 @@ all_at test from zero k h less = absurd (omega arith)
 all_at test from (suc count) zero h less = rw add-zero (both (test from) (list_all test (range_with_len (from + 1) count)) h).0
 all_at test from (suc count) (suc k) h less =
     let there = all_at test (from + 1) count k (both (test from) (list_all test (range_with_len (from + 1) count)) h).1 (omega arith) in
-    let place : from + 1 + k ≡ from + suc k = omega arith in
-    ap test (sym place) ∙ there
+    let same_index : from + 1 + k ≡ from + suc k = omega arith in
+    ap test (sym same_index) ∙ there
 
 tested : (byte : ℕ) (opcode : Opcode) → is_byte_of byte opcode ≡ true → IsByteOf byte opcode
 unfolding is_byte_of
@@ -63,8 +63,8 @@ tested byte Undefined h = tt
 pub byte-of-opcode : (byte : ℕ) → byte < 256 → IsByteOf byte (opcode_of byte)
 byte-of-opcode byte less =
     let here : is_byte_of (0 + byte) (opcode_of (0 + byte)) ≡ true = all_at (λ b. is_byte_of b (opcode_of b)) 0 256 byte all-bytes less in
-    let place : 0 + byte ≡ byte = omega arith in
-    tested byte (opcode_of byte) (ap (λ b. is_byte_of b (opcode_of b)) (sym place) ∙ here)
+    let same_byte : 0 + byte ≡ byte = omega arith in
+    tested byte (opcode_of byte) (ap (λ b. is_byte_of b (opcode_of b)) (sym same_byte) ∙ here)
 
 pub byte-named : (byte : ℕ) (opcode : Opcode) → byte < 256 → opcode ≡ opcode_of byte → IsByteOf byte opcode
 byte-named byte opcode less e = rw e (byte-of-opcode byte less)
@@ -77,7 +77,7 @@ pub byte-mapped : (byte : ℕ) (opcode : Opcode) → byte < 256 → opcode ≡ o
 byte-mapped byte opcode less e =
     let here : (letter_of (opcode_of (0 + byte)) == slice_index opcode_map (0 + byte)) ≡ true =
     all_at (λ b. letter_of (opcode_of b) == slice_index opcode_map b) 0 256 byte all-mapped less in
-    let place : 0 + byte ≡ byte = omega arith in
+    let same_byte : 0 + byte ≡ byte = omega arith in
     let there : (letter_of (opcode_of byte) == slice_index opcode_map byte) ≡ true =
-    ap (λ b. letter_of (opcode_of b) == slice_index opcode_map b) (sym place) ∙ here in
+    ap (λ b. letter_of (opcode_of b) == slice_index opcode_map b) (sym same_byte) ∙ here in
     ap (λ (o : Opcode). letter_of o) e ∙ eqb-true (letter_of (opcode_of byte)) (slice_index opcode_map byte) there

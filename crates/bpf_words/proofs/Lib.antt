@@ -1,6 +1,4 @@
 pub mod Bytes
-pub mod ContextFits
-pub mod FieldAt
 pub mod Numbers
 pub mod Paired
 pub mod ReadsBack

@@ -20,8 +20,8 @@ use Rattle.bpf_words.specs.declared.instruction.ConvertedBits.{ConvertedBits}
 use Rattle.bpf_words.specs.declared.instruction.ConvertedBits.TheVariants.{Bits16, Bits32, Bits64}
 use Rattle.bpf_words.specs.declared.instruction.Comparison.{Comparison}
 use Rattle.bpf_words.specs.declared.instruction.Comparison.TheVariants.{Equal, Greater, GreaterOrEqual, AnyBit, NotEqual, SignedGreater, SignedGreaterOrEqual, Less, LessOrEqual, SignedLess, SignedLessOrEqual}
-use Rattle.bpf_words.specs.declared.instruction.Size.{Size}
-use Rattle.bpf_words.specs.declared.instruction.Size.TheVariants.{Byte, Half, Word, Double}
+use Rattle.span_context.specs.declared.size.Size.{Size}
+use Rattle.span_context.specs.declared.size.Size.TheVariants.{Byte, Half, Word, Double}
 use Rattle.bpf_words.specs.declared.instruction.SignedSize.{SignedSize}
 use Rattle.bpf_words.specs.declared.instruction.SignedSize.TheVariants.{SignedByte, SignedHalf, SignedWord}
 use Rattle.bpf_words.specs.declared.instruction.Operand.{Operand}
@@ -251,9 +251,9 @@ slot-here : (before tail : List ℕ) (index n : ℕ) → length before ≡ 8 * i
 slot-here before tail index n long small =
     let at : (k : ℕ) → slice_index (before ++ (little_bytes 8 n ++ tail)) (8 * index + k) ≡ slice_index (little_bytes 8 n ++ tail) k =
     λ k. ap (λ (m : ℕ). slice_index (before ++ (little_bytes 8 n ++ tail)) (m + k)) (sym long) ∙ get_or-append-add before (little_bytes 8 n ++ tail) k 0 in
-    let place : 8 * index + 0 ≡ 8 * index = omega arith in
+    let same_offset : 8 * index + 0 ≡ 8 * index = omega arith in
     let e0 : slice_index (before ++ (little_bytes 8 n ++ tail)) (8 * index) ≡ n % 256 =
-    ap (λ (m : ℕ). slice_index (before ++ (little_bytes 8 n ++ tail)) m) (sym place) ∙ at 0 in
+    ap (λ (m : ℕ). slice_index (before ++ (little_bytes 8 n ++ tail)) m) (sym same_offset) ∙ at 0 in
     let e1 : slice_index (before ++ (little_bytes 8 n ++ tail)) (8 * index + 1) ≡ n / 256 % 256 = at 1 in
     let e2 : slice_index (before ++ (little_bytes 8 n ++ tail)) (8 * index + 2) ≡ n / 65536 % 256 = at 2 in
     let e3 : slice_index (before ++ (little_bytes 8 n ++ tail)) (8 * index + 3) ≡ n / 16777216 % 256 = at 3 in

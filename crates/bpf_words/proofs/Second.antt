@@ -12,7 +12,7 @@ use Rattle.bpf_words.specs.declared.instruction.Conversion.{Conversion}
 use Rattle.bpf_words.specs.declared.instruction.SignedSize.{SignedSize}
 use Rattle.bpf_words.specs.declared.instruction.Arithmetic.{Arithmetic}
 use Rattle.bpf_words.specs.declared.instruction.Width.{Width}
-use Rattle.bpf_words.specs.declared.instruction.Size.{Size}
+use Rattle.span_context.specs.declared.size.Size.{Size}
 use Rattle.bpf_words.specs.declared.instruction.Comparison.{Comparison}
 use Rattle.bpf_words.specs.declared.instruction.Insn.{Insn}
 use Rattle.bpf_words.specs.declared.instruction.Insn.TheVariants.{LoadWide}
@@ -138,8 +138,8 @@ slice_get-range f a zero i h = absurd (omega arith)
 slice_get-range f a (suc n) zero h = rw add-zero refl
 slice_get-range f a (suc n) (suc i) h =
     let within : i < n = omega arith in
-    let place : a + 1 + i ≡ a + suc i = omega arith in
-    slice_get-range f (a + 1) n i within ∙ ap (λ k. Some (f k)) place
+    let same_index : a + 1 + i ≡ a + suc i = omega arith in
+    slice_get-range f (a + 1) n i within ∙ ap (λ k. Some (f k)) same_index
 
 pub length-program_of : (bytes : List ℕ) → length (program_of bytes) ≡ length bytes / 8
 unfolding program_of
@@ -148,8 +148,8 @@ length-program_of bytes = length-map-range_with_len (insn_at bytes) 0 (length by
 pub program-entry : (bytes : List ℕ) (index : ℕ) → index < length bytes / 8 → slice_get (program_of bytes) index ≡ Some (insn_at bytes index)
 unfolding program_of
 program-entry bytes index h =
-    let place : 0 + index ≡ index = omega arith in
-    slice_get-range (insn_at bytes) 0 (length bytes / 8) index h ∙ ap (λ k. Some (insn_at bytes k)) place
+    let same_index : 0 + index ≡ index = omega arith in
+    slice_get-range (insn_at bytes) 0 (length bytes / 8) index h ∙ ap (λ k. Some (insn_at bytes k)) same_index
 
 pub entry-ok : (bytes : List ℕ) (index : ℕ) (insn : Insn) → index < length bytes / 8 → read_at bytes index ≡ Ok insn → slice_get (program_of bytes) index ≡ Some (Some insn)
 entry-ok bytes index insn h e =

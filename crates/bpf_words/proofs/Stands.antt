@@ -15,7 +15,7 @@ use Rattle.bpf_words.specs.RoundTrip.{Follows, StandsAt}
 use Rattle.bpf_words.proofs.Numbers.{slot-of-fields}
 
 abbrev pub AreBytes : List ℕ → Type 0
-AreBytes bytes = (place : ℕ) → slice_index bytes place < 256
+AreBytes bytes = (offset : ℕ) → slice_index bytes offset < 256
 
 slot-small : (bytes : List ℕ) (index : ℕ) → AreBytes bytes → slot_at bytes index < 2 ^ 64
 slot-small bytes index are =
@@ -71,17 +71,17 @@ slot-bytes bytes index are within =
     (slot_at bytes index)
     (are (8 * index)) (are (8 * index + 1)) (are (8 * index + 2)) (are (8 * index + 3)) (are (8 * index + 4)) (are (8 * index + 5)) (are (8 * index + 6)) (are (8 * index + 7)) refl
 
-two-parts : (xs : List ℕ) (place next : ℕ) (a b : List ℕ) → next ≡ place + 8 → slice_range xs place (place + 8) ≡ a → slice_range xs next (next + 8) ≡ b → slice_range xs place (place + 16) ≡ a ++ b
-two-parts xs place next a b there first second =
-    let whole : place + 16 - place ≡ 8 + 8 = omega arith in
-    let eight_first : place + 8 - place ≡ 8 = omega arith in
+two-parts : (xs : List ℕ) (start next : ℕ) (a b : List ℕ) → next ≡ start + 8 → slice_range xs start (start + 8) ≡ a → slice_range xs next (next + 8) ≡ b → slice_range xs start (start + 16) ≡ a ++ b
+two-parts xs start next a b there first second =
+    let whole : start + 16 - start ≡ 8 + 8 = omega arith in
+    let eight_first : start + 8 - start ≡ 8 = omega arith in
     let eight_second : next + 8 - next ≡ 8 = omega arith in
-    let front : take 8 (drop place xs) ≡ a = ap (λ (n : ℕ). take n (drop place xs)) (sym eight_first) ∙ first in
+    let front : take 8 (drop start xs) ≡ a = ap (λ (n : ℕ). take n (drop start xs)) (sym eight_first) ∙ first in
     let back : take 8 (drop next xs) ≡ b = ap (λ (n : ℕ). take n (drop next xs)) (sym eight_second) ∙ second in
-    let moved : drop 8 (drop place xs) ≡ drop next xs = drop-drop 8 place xs ∙ ap (λ (n : ℕ). drop n xs) (sym there) in
-    ap (λ (n : ℕ). take n (drop place xs)) whole
-    ∙ take-add 8 8 (drop place xs)
-    ∙ ap (λ (ys : List ℕ). take 8 (drop place xs) ++ take 8 ys) moved
+    let moved : drop 8 (drop start xs) ≡ drop next xs = drop-drop 8 start xs ∙ ap (λ (n : ℕ). drop n xs) (sym there) in
+    ap (λ (n : ℕ). take n (drop start xs)) whole
+    ∙ take-add 8 8 (drop start xs)
+    ∙ ap (λ (ys : List ℕ). take 8 (drop start xs) ++ take 8 ys) moved
     ∙ ap (λ (ys : List ℕ). ys ++ take 8 (drop next xs)) front
     ∙ ap (λ (ys : List ℕ). a ++ ys) back
 

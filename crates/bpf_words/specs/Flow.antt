@@ -1,5 +1,5 @@
--- What an instruction does with registers and with the run's place, as far as it shows without a state (RFC 9669,
--- sections 4 and 5).
+-- What an instruction does with registers and with the run's position, as far as it shows without a state
+-- (RFC 9669, sections 4 and 5).
 use Rattle.std.specs.Prelude.{◌≡◌, ℕ, ℤ, ◌+◌, List, [], ◌∷◌, ◌++◌, Option, Some, None, Bool, true, false, slice_get}
 use Rattle.bpf_words.specs.declared.instruction.Arithmetic.{Arithmetic}
 use Rattle.bpf_words.specs.declared.instruction.Arithmetic.TheVariants.{Mov}

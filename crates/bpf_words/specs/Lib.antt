@@ -2,11 +2,8 @@ pub mod Opcodes
 pub mod Slots
 pub mod Reading
 pub mod Words
-pub mod Context
-pub mod ContextField
 pub mod Encoding
 pub mod RoundTrip
 pub mod Table
 pub mod Faults
 pub mod Flow
-pub mod Profile

@@ -7,10 +7,10 @@ ghost use Rattle.bpf_words.specs.RoundTrip.{ReadsBack};
 
 use crate::fields::Fields;
 use crate::instruction::{
-    Arithmetic, Comparison, Conversion, ConvertedBits, Extension, Insn, Operand, SignedSize, Size,
-    Width,
+    Arithmetic, Comparison, Conversion, ConvertedBits, Extension, Insn, Operand, SignedSize, Width,
 };
 use byteorder::{ByteOrder, LittleEndian};
+use span_context::size::Size;
 
 /// The bytes of an instruction: 8, or 16 of a wide load (RFC 9669, section 3).
 #[derive(Clone, Copy)]

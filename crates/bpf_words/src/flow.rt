@@ -1,4 +1,4 @@
-//! What an instruction does with registers and with the run's place, as far as it shows without a state.
+//! What an instruction does with registers and with the run's position, as far as it shows without a state.
 ghost use Rattle.std.specs.Prelude.{◌≡◌, ◌≤◌};
 ghost use Rattle.bpf_words.specs.Flow.{written_by, jump_of, slots_of};
 

@@ -1,4 +1,5 @@
 use crate::register::Register;
+use span_context::size::Size;
 
 /// Whether an instruction works on all 64 bits, or on the low 32 (RFC 9669, section 4.1).
 #[derive(Clone, Copy)]
@@ -67,15 +68,6 @@ pub enum Comparison {
     LessOrEqual,
     SignedLess,
     SignedLessOrEqual,
-}
-
-/// How many bytes a load or a store moves: 1, 2, 4 or 8 (RFC 9669, section 5).
-#[derive(Clone, Copy, PartialEq, Eq)]
-pub enum Size {
-    Byte,
-    Half,
-    Word,
-    Double,
 }
 
 /// How many bytes a sign-extending load moves: 1, 2 or 4 (RFC 9669, section 5.2).

@@ -3,7 +3,8 @@ ghost use Rattle.bpf_words.specs.Opcodes.{arithmetic_of, comparison_of, size_of,
 ghost use Rattle.bpf_words.specs.Opcodes.{arithmetic_class, jump_class, wide_class, load_class, store_class};
 ghost use Rattle.bpf_words.specs.Opcodes.{register_store_class};
 
-use crate::instruction::{Arithmetic, Comparison, Conversion, SignedSize, Size, Width};
+use crate::instruction::{Arithmetic, Comparison, Conversion, SignedSize, Width};
+use span_context::size::Size;
 
 /// What an opcode byte names (RFC 9669, sections 3 to 5). `by_register`: the second operand is a register.
 /// `LeftOut` is defined there and not taken here (calls, atomic and packet instructions), `Undefined` names nothing.

@@ -8,12 +8,12 @@ ghost use Rattle.bpf_words.specs.Reading.{exit_in};
 
 use crate::fields::Fields;
 use crate::instruction::{
-    Arithmetic, Comparison, Conversion, ConvertedBits, Extension, Insn, Operand, SignedSize, Size,
-    Width,
+    Arithmetic, Comparison, Conversion, ConvertedBits, Extension, Insn, Operand, SignedSize, Width,
 };
 use crate::opcode::Opcode;
 use crate::refusal::SlotFault;
 use crate::register::Register;
+use span_context::size::Size;
 
 /// What the offset of an arithmetic instruction chooses.
 #[derive(Clone, Copy)]

@@ -46,7 +46,7 @@ impl Register {
         self.number
     }
 
-    /// The number as a place among the registers.
+    /// The number as an index among the registers.
     pub fn index(self) -> usize
         ensures value { result ≡ self }
         ensures small { result < 11 }

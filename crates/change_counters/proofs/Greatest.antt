@@ -2,7 +2,7 @@
 use Rattle.std.proofs.Common.{◌≡◌, ℕ, ◌+◌, ◌-◌, ◌<◌, ◌≤◌, max, List, [], ◌∷◌, ◌++◌, Option, Some, refl, sym, ap, ◌∙◌, arith, length, get_or, drop, add-one, drop-cons}
 use Rattle.std.proofs.lemmas.List.{drop_all}
 use Rattle.std.specs.Ordering.{nat_cmp, ord_max}
-use Rattle.change_ops.specs.Ids.{Id}
+use Rattle.change_ops.specs.Ids.{OpId}
 use Rattle.change_ops.specs.Lines.{ops_of, ops_of_lines}
 use Rattle.change_ops.specs.Operations.{id_of}
 use Rattle.change_ops.specs.Runs.{inserts_from, next_id}
@@ -29,13 +29,13 @@ greatest_append [] more = omega arith
 greatest_append (op ∷ ops) more =
     ap (max (id_of op).counter) (greatest_append ops more) ∙ sym (max_of_three (id_of op).counter (greatest_counter ops) (greatest_counter more))
 
-run_from : (characters : List ℕ) (c : ℕ) (id : Id) (parent : Option Id) → greatest_counter (inserts_from id parent (c ∷ characters)) ≡ id.counter + length characters
+run_from : (characters : List ℕ) (c : ℕ) (id : OpId) (parent : Option OpId) → greatest_counter (inserts_from id parent (c ∷ characters)) ≡ id.counter + length characters
 unfolding greatest_counter inserts_from
 run_from [] c id parent = omega arith
 run_from (d ∷ characters) c id parent = omega (arith, run_from characters d (next_id id) (Some id))
 
 -- of a run it is that of the last character's
-pub greatest_of_run : (characters : List ℕ) (id : Id) (parent : Option Id) (counter : ℕ) → 1 ≤ length characters → counter ≡ id.counter + (length characters - 1)
+pub greatest_of_run : (characters : List ℕ) (id : OpId) (parent : Option OpId) (counter : ℕ) → 1 ≤ length characters → counter ≡ id.counter + (length characters - 1)
     → counter ≡ greatest_counter (inserts_from id parent characters)
 greatest_of_run [] id parent counter some is = absurd (omega (arith, some))
 greatest_of_run (c ∷ characters) id parent counter some is = omega (arith, is, run_from characters c id parent)

@@ -19,7 +19,7 @@ fn greatest_of_line(line: &Line) -> u64
     }
 }
 
-/// Whether an operation of the line has a counter more than so much above this one.
+/// Whether an operation of the line has a counter more than `jump` above `counter`.
 fn goes_above(line: &Line, counter: u64, jump: u64) -> bool
     ensures { result ≡ goes_above (counter + jump) line.now }
 {
@@ -45,9 +45,9 @@ pub fn greatest_with(counter: u64, change: &Change) -> u64
     greatest_with_lines(counter, change.lines())
 }
 
-/// The first of these lines with an operation whose counter is more than so much above this one, by its index.
-fn place_of_jump(lines: &[Line], counter: u64, jump: u64) -> Option<usize>
-    ensures place { result ≡ position (goes_above (counter + jump)) lines.now }
+/// The index of the first of these lines with an operation whose counter is more than `jump` above `counter`.
+fn index_of_jump(lines: &[Line], counter: u64, jump: u64) -> Option<usize>
+    ensures index { result ≡ position (goes_above (counter + jump)) lines.now }
     ensures bound { IfSome result (λ at. at < length lines.now) }
 {
     lines
@@ -55,12 +55,12 @@ fn place_of_jump(lines: &[Line], counter: u64, jump: u64) -> Option<usize>
         .position(|line| goes_above(line, counter, jump))
 }
 
-/// The first line of a change with an operation whose counter is more than so much above this one, as the lines of its
+/// The first line of a change with an operation whose counter is more than `jump` above `counter`, as the lines of its
 /// text are counted: from 1 on, and the first begins the change.
 pub fn first_jump(change: &Change, counter: u64, jump: u64) -> Option<usize>
     ensures { result ≡ line_above (counter + jump) change.now }
 {
-    match place_of_jump(change.lines(), counter, jump) {
+    match index_of_jump(change.lines(), counter, jump) {
         Some(index) => Some(index + 2),
         None => None,
     }

@@ -5,7 +5,7 @@ use Rattle.std.proofs.lemmas.List.{length_push, take_at, append-nil}
 use Rattle.std.proofs.lemmas.Option.{none-some, same_Some, slice_get_within, slice_get-get_or}
 use Rattle.std.proofs.Math.Seq.{take-length}
 use Rattle.change_ops.specs.declared.operation.Op.{Op}
-use Rattle.change_ops.specs.Changes.{Edit, operations}
+use Rattle.change_ops.specs.Changes.{Change, operations}
 use Rattle.change_ops.specs.Lines.{ops_of, ops_of_lines}
 use Rattle.change_ops.specs.declared.line.Line.{Line}
 use Rattle.change_history.specs.declared.parts.Parts.{Parts}
@@ -22,32 +22,32 @@ use Rattle.change_history.specs.declared.refusal.SubmitError.TheVariants as subm
 use Rattle.change_history.specs.declared.history.Draft.{Draft}
 use Rattle.change_history.specs.Kept.{Keeps, IsHistory, IsSpare, IsDraft, StandAt, IsApplied, AreAllAccepted, IsNotAccepted, error_at}
 
-pub operations_of-push : (changes : List Edit) (change : Edit) → operations_of (changes ++ change ∷ []) ≡ operations_of changes ++ operations change
+pub operations_of-push : (changes : List Change) (change : Change) → operations_of (changes ++ change ∷ []) ≡ operations_of changes ++ operations change
 unfolding operations_of
 operations_of-push [] change = search rules
 operations_of-push (c ∷ changes) change = ap (λ ops. operations c ++ ops) (operations_of-push changes change) ∙ sym (append_assoc (operations c) (operations_of changes) (operations change))
 
 -- an element of a list with one more at its end is one of the list, after the same elements, or the last
-pub pushed_place : {X : Type 0} (xs : List X) (y : X) (n : ℕ) (x : X) → slice_get (xs ++ y ∷ []) n ≡ Some x → ((slice_get xs n ≡ Some x) × (take n (xs ++ y ∷ []) ≡ take n xs)) ⊎ ((y ≡ x) × (take n (xs ++ y ∷ []) ≡ xs))
-pushed_place [] y zero x g = inr (same_Some y x g, refl)
-pushed_place [] y (suc n) x g = absurd (none-some x g)
-pushed_place (z ∷ zs) y zero x g = inl (g, refl)
-pushed_place (z ∷ zs) y (suc n) x g =
+pub pushed_index : {X : Type 0} (xs : List X) (y : X) (n : ℕ) (x : X) → slice_get (xs ++ y ∷ []) n ≡ Some x → ((slice_get xs n ≡ Some x) × (take n (xs ++ y ∷ []) ≡ take n xs)) ⊎ ((y ≡ x) × (take n (xs ++ y ∷ []) ≡ xs))
+pushed_index [] y zero x g = inr (same_Some y x g, refl)
+pushed_index [] y (suc n) x g = absurd (none-some x g)
+pushed_index (z ∷ zs) y zero x g = inl (g, refl)
+pushed_index (z ∷ zs) y (suc n) x g =
     ⊎_elim (λ (a : (slice_get zs n ≡ Some x) × (take n (zs ++ y ∷ []) ≡ take n zs)). inl (a.0, ap (λ ts. z ∷ ts) a.1))
-    (λ (b : (y ≡ x) × (take n (zs ++ y ∷ []) ≡ zs)). inr (b.0, ap (λ ts. z ∷ ts) b.1)) (pushed_place zs y n x g)
+    (λ (b : (y ≡ x) × (take n (zs ++ y ∷ []) ≡ zs)). inr (b.0, ap (λ ts. z ∷ ts) b.1)) (pushed_index zs y n x g)
 
-pub accepted_more : (changes : List Edit) (change : Edit) → AreAccepted changes → IsAccepted changes change → AreAccepted (changes ++ change ∷ [])
+pub accepted_more : (changes : List Change) (change : Change) → AreAccepted changes → IsAccepted changes change → AreAccepted (changes ++ change ∷ [])
 accepted_more changes change all last = λ n c g.
     ⊎_elim
     (λ (a : (slice_get changes n ≡ Some c) × (take n (changes ++ change ∷ []) ≡ take n changes)).
-    subst (λ (cs : List Edit). IsAccepted cs c) (sym a.1) (all n c a.0))
+    subst (λ (cs : List Change). IsAccepted cs c) (sym a.1) (all n c a.0))
     (λ (b : (change ≡ c) × (take n (changes ++ change ∷ []) ≡ changes)).
-    subst (λ (cs : List Edit). IsAccepted cs c) (sym b.1) (subst (λ (d : Edit). IsAccepted changes d) b.0 last))
-    (pushed_place changes change n c g)
+    subst (λ (cs : List Change). IsAccepted cs c) (sym b.1) (subst (λ (d : Change). IsAccepted changes d) b.0 last))
+    (pushed_index changes change n c g)
 
-pub history_new : (changes : List Edit) (parts : Parts) → changes ≡ [] → Keeps [] parts → IsHistory changes parts
+pub history_new : (changes : List Change) (parts : Parts) → changes ≡ [] → Keeps [] parts → IsHistory changes parts
 unfolding operations_of
-history_new changes parts e k = subst (λ (cs : List Edit). IsHistory cs parts) (sym e) (record { accepted = λ n c g. absurd (none-some c g); kept = k })
+history_new changes parts e k = subst (λ (cs : List Change). IsHistory cs parts) (sym e) (record { accepted = λ n c g. absurd (none-some c g); kept = k })
 
 -- ---- one operation more of a change
 pub cases_below : (i n : ℕ) → i < n + 1 → (i < n) ⊎ (i ≡ n)
@@ -75,11 +75,11 @@ follow_more ops added count o here before m = λ i op below g.
 -- ---- the operations of a change are admitted
 -- an operation that stands alone
 pub stand_one : (added : List Op) (at : ℕ) (op : Op) → slice_get added at ≡ Some op → StandAt added at (op ∷ [])
-stand_one added at op here zero o g = let place : at + 0 ≡ at = omega arith in ap (slice_get added) place ∙ here ∙ g
+stand_one added at op here zero o g = let same_index : at + 0 ≡ at = omega arith in ap (slice_get added) same_index ∙ here ∙ g
 stand_one added at op here (suc i) o g = absurd (none-some o g)
 
 pub stand_first : (added : List Op) (at : ℕ) (op : Op) → StandAt added at (op ∷ []) → slice_get added at ≡ Some op
-stand_first added at op stand = let place : at + 0 ≡ at = omega arith in ap (slice_get added) (sym place) ∙ stand 0 op refl
+stand_first added at op stand = let same_index : at + 0 ≡ at = omega arith in ap (slice_get added) (sym same_index) ∙ stand 0 op refl
 
 pub own_at : (added : List Op) (node at : ℕ) (op : Op) → AreOf node added → slice_get added at ≡ Some op → (id_of op).node ≡ node
 own_at added node at op own here = own op (contains_from added at op here)
@@ -107,8 +107,8 @@ run_more ops added from index node parts tally a = let same : from + index + 1 �
 pub run_refused : (ops added : List Op) (from index count node : ℕ) (parts : Parts) (tally : Tally) (error : ApplyError) → index < count → StretchAdmitted ops added (from + index) 1 node parts tally (Err error) → StretchAdmitted ops added from count node parts tally (Err error)
 run_refused ops added from index count node parts tally (apply.Refused refusal) below h =
     let low : h.0 < 1 = h.1 in
-    let place : (from + index) + h.0 ≡ from + index = omega arith in
-    (index, below, subst (λ (n : ℕ). IsFirstRefused ops added n refusal) place h.2)
+    let same_index : (from + index) + h.0 ≡ from + index = omega arith in
+    (index, below, subst (λ (n : ℕ). IsFirstRefused ops added n refusal) same_index h.2)
 run_refused ops added from index count node parts tally apply.OutOfMemory below h = tt
 
 -- ---- the operations of a change are applied
@@ -152,13 +152,13 @@ line_stands [] index line g = absurd (none-some line g)
 line_stands (first ∷ lines) zero line g = λ i op here.
     let same : first ≡ line = same_Some first line g in
     let none = none_before (first ∷ lines) in
-    let place : begin_of (first ∷ lines) 0 + i ≡ i = omega arith in
-    ap (slice_get (ops_of first ++ ops_of_lines lines)) place ∙ get_left (ops_of first) (ops_of_lines lines) i op (subst (λ (l : Line). slice_get (ops_of l) i ≡ Some op) (sym same) here)
+    let same_index : begin_of (first ∷ lines) 0 + i ≡ i = omega arith in
+    ap (slice_get (ops_of first ++ ops_of_lines lines)) same_index ∙ get_left (ops_of first) (ops_of_lines lines) i op (subst (λ (l : Line). slice_get (ops_of l) i ≡ Some op) (sym same) here)
 line_stands (first ∷ lines) (suc index) line g = λ i op here.
     let front = ops_of first in
     let rest = ops_of_lines (take index lines) in
-    let place : length (front ++ rest) + i ≡ length front + (length rest + i) = omega (arith, length-append front rest) in
-    ap (slice_get (front ++ ops_of_lines lines)) place ∙ get_right front (ops_of_lines lines) (length rest + i) ∙ line_stands lines index line g i op here
+    let same_index : length (front ++ rest) + i ≡ length front + (length rest + i) = omega (arith, length-append front rest) in
+    ap (slice_get (front ++ ops_of_lines lines)) same_index ∙ get_right front (ops_of_lines lines) (length rest + i) ∙ line_stands lines index line g i op here
 
 ops_pushed : (ls : List Line) (l : Line) → length (ops_of_lines (ls ++ l ∷ [])) ≡ length (ops_of_lines ls) + length (ops_of l)
 unfolding ops_of_lines
@@ -182,7 +182,7 @@ line_admitted ops lines index line node parts tally g h =
 
 pub refused_at : (ops : List Op) (lines : List Line) (index : ℕ) (line : Line) (node : ℕ) (parts : Parts) (new : Tally) (error : ApplyError) → slice_get lines index ≡ Some line
     → StretchAdmitted ops (ops_of_lines lines) (begin_of lines index) (length (ops_of line)) node parts new (Err error) → IsNotAccepted ops lines (error_at index error)
-refused_at ops lines index line node parts new (apply.Refused refusal) here h = record { line = line; here = here; place = h.0; within = h.1; first = h.2 }
+refused_at ops lines index line node parts new (apply.Refused refusal) here h = record { line = line; here = here; offset = h.0; within = h.1; first = h.2 }
 refused_at ops lines index line node parts new apply.OutOfMemory here h = tt
 
 pub admitted_all : (ops : List Op) (lines : List Line) (count node : ℕ) (parts : Parts) (tally : Tally) → count ≡ length lines → IsAdmitted ops (ops_of_lines lines) (begin_of lines count) node parts tally → AreAllAccepted ops lines
@@ -203,26 +203,26 @@ applied_all ops lines count parts whole a =
 
 -- ---- a change more
 -- the operations of the change were all applied
-pub drafted : (changes : List Edit) (change : Edit) (lines : List Line) (draft : Draft) → draft.added ≡ change ∷ [] → lines ≡ change.lines → IsAccepted changes change → Keeps (operations_of changes ++ ops_of_lines lines) draft.parts → IsDraft changes change draft
+pub drafted : (changes : List Change) (change : Change) (lines : List Line) (draft : Draft) → draft.added ≡ change ∷ [] → lines ≡ change.lines → IsAccepted changes change → Keeps (operations_of changes ++ ops_of_lines lines) draft.parts → IsDraft changes change draft
 drafted changes change lines draft alone e accepted kept = record {
   added = alone;
   accepted = accepted;
   kept = subst (λ (ops : List Op). Keeps ops draft.parts) (ap (λ (ls : List Line). operations_of changes ++ ops_of_lines ls) e ∙ sym (operations_of-push changes change)) kept;
 }
 
--- a draft put in place
-pub put_in_place : {E : Type 0} (r : Result (Unit {0}) E) (done : Unit {0}) (changes xs added new : List Edit) (change : Edit) → changes ≡ xs → added ≡ change ∷ [] → r ≡ Ok done → new ≡ (if is_ok r then changes ++ added else changes) → new ≡ xs ++ change ∷ []
-put_in_place (Ok x) done changes xs added new change same alone ok is = is ∙ (λ i. same i ++ alone i)
-put_in_place (Err error) done changes xs added new change same alone ok is = absurd cc
+-- a draft put at the end
+pub put_appended : {E : Type 0} (r : Result (Unit {0}) E) (done : Unit {0}) (changes xs added new : List Change) (change : Change) → changes ≡ xs → added ≡ change ∷ [] → r ≡ Ok done → new ≡ (if is_ok r then changes ++ added else changes) → new ≡ xs ++ change ∷ []
+put_appended (Ok x) done changes xs added new change same alone ok is = is ∙ (λ i. same i ++ alone i)
+put_appended (Err error) done changes xs added new change same alone ok is = absurd cc
 
-pub history_put : (changes new : List Edit) (change : Edit) (old after : Parts) (draft : Draft) → IsHistory changes old → IsDraft changes change draft → new ≡ changes ++ change ∷ [] → after ≡ draft.parts → IsHistory new after
-history_put changes new change old after draft h d is put = subst (λ (x : List Edit × Parts). IsHistory x.0 x.1) (λ i. (sym is i, sym put i)) (record {
+pub history_put : (changes new : List Change) (change : Change) (old after : Parts) (draft : Draft) → IsHistory changes old → IsDraft changes change draft → new ≡ changes ++ change ∷ [] → after ≡ draft.parts → IsHistory new after
+history_put changes new change old after draft h d is put = subst (λ (x : List Change × Parts). IsHistory x.0 x.1) (λ i. (sym is i, sym put i)) (record {
   accepted = accepted_more changes change h.accepted d.accepted;
   kept = d.kept;
 })
 
 -- at most 4,096 changes are accepted
-pub few_accepted : (changes : List Edit) → AreAccepted changes → length changes ≤ 4096
+pub few_accepted : (changes : List Change) → AreAccepted changes → length changes ≤ 4096
 few_accepted [] all = omega arith
 few_accepted (first ∷ others) all =
     let changes = first ∷ others in
@@ -232,51 +232,51 @@ few_accepted (first ∷ others) all =
     omega (arith, length-take last changes)
 
 -- ---- parts without the last change
-last_change : (changes : List Edit) (change : Edit) → slice_get changes (length changes - 1) ≡ Some change → changes ≡ take (length changes - 1) changes ++ change ∷ []
+last_change : (changes : List Change) (change : Change) → slice_get changes (length changes - 1) ≡ Some change → changes ≡ take (length changes - 1) changes ++ change ∷ []
 last_change changes change g =
     let within : length changes - 1 < length changes = slice_get_within changes (length changes - 1) change g in
     let all : (length changes - 1) + 1 ≡ length changes = omega arith in
     sym (take-length changes) ∙ ap (λ n. take n changes) (sym all) ∙ take_push changes (length changes - 1) change g
 
-pub operations_of-last : (changes : List Edit) (change : Edit) → slice_get changes (length changes - 1) ≡ Some change → operations_of (take (length changes - 1) changes) ++ operations change ≡ operations_of changes
+pub operations_of-last : (changes : List Change) (change : Change) → slice_get changes (length changes - 1) ≡ Some change → operations_of (take (length changes - 1) changes) ++ operations change ≡ operations_of changes
 operations_of-last changes change g = sym (operations_of-push (take (length changes - 1) changes) change) ∙ ap operations_of (sym (last_change changes change g))
 
-pub caught_up_last : (changes : List Edit) (change : Edit) (lines : List Line) (new : Parts) → slice_get changes (length changes - 1) ≡ Some change → lines ≡ change.lines → Keeps (operations_of (take (length changes - 1) changes) ++ ops_of_lines lines) new → Keeps (operations_of changes) new
+pub caught_up_last : (changes : List Change) (change : Change) (lines : List Line) (new : Parts) → slice_get changes (length changes - 1) ≡ Some change → lines ≡ change.lines → Keeps (operations_of (take (length changes - 1) changes) ++ ops_of_lines lines) new → Keeps (operations_of changes) new
 caught_up_last changes change lines new g e k =
     subst (λ (ops : List Op). Keeps ops new) (ap (λ (ls : List Line). operations_of (take (length changes - 1) changes) ++ ops_of_lines ls) e ∙ operations_of-last changes change g) k
 
 -- without a change there is nothing to catch up with
-pub caught_up_none : (changes : List Edit) (parts : Parts) → (0 < length changes → ⊥) → Keeps (operations_of (take (length changes - 1) changes)) parts → Keeps (operations_of changes) parts
+pub caught_up_none : (changes : List Change) (parts : Parts) → (0 < length changes → ⊥) → Keeps (operations_of (take (length changes - 1) changes)) parts → Keeps (operations_of changes) parts
 caught_up_none [] parts none k = k
 caught_up_none (c ∷ cs) parts none k = absurd (none (omega arith))
 
 -- one change more: the parts so far are spare now
-pub spare_after : (changes : List Edit) (change : Edit) (parts : Parts) (spare : Option Parts) → IsHistory changes parts → spare ≡ Some parts → IsSpare (changes ++ change ∷ []) spare
+pub spare_after : (changes : List Change) (change : Change) (parts : Parts) (spare : Option Parts) → IsHistory changes parts → spare ≡ Some parts → IsSpare (changes ++ change ∷ []) spare
 spare_after changes change parts spare h is = λ p same.
     let one : parts ≡ p = same_Some parts p (sym is ∙ same) in
     let size : length (changes ++ change ∷ []) - 1 ≡ length changes = omega (arith, length_push changes change) in
     let front : take (length (changes ++ change ∷ []) - 1) (changes ++ change ∷ []) ≡ changes = ap (λ n. take n (changes ++ change ∷ [])) size ∙ take_at changes (change ∷ []) (length changes) refl in
-    subst (λ (cs : List Edit). Keeps (operations_of cs) p) (sym front) (subst (λ (q : Parts). Keeps (operations_of changes) q) one h.kept)
+    subst (λ (cs : List Change). Keeps (operations_of cs) p) (sym front) (subst (λ (q : Parts). Keeps (operations_of changes) q) one h.kept)
 
-pub no_spare : (changes : List Edit) (spare : Option Parts) → spare ≡ None → IsSpare changes spare
+pub no_spare : (changes : List Change) (spare : Option Parts) → spare ≡ None → IsSpare changes spare
 no_spare changes spare is = λ p same. absurd (none-some p (sym is ∙ same))
 
 -- the last change is accepted after those before it
-pub last_accepted : (changes : List Edit) (change : Edit) (lines : List Line) → AreAccepted changes → slice_get changes (length changes - 1) ≡ Some change → lines ≡ change.lines → AreAllAccepted (operations_of (take (length changes - 1) changes)) lines
+pub last_accepted : (changes : List Change) (change : Change) (lines : List Line) → AreAccepted changes → slice_get changes (length changes - 1) ≡ Some change → lines ≡ change.lines → AreAllAccepted (operations_of (take (length changes - 1) changes)) lines
 last_accepted changes change lines all g e =
     subst (λ (ls : List Line). AreAllAccepted (operations_of (take (length changes - 1) changes)) ls) (sym e) (all (length changes - 1) change g).follow
 
-pub caught_up_result : {E : Type 0} (changes : List Edit) (change : Edit) (lines : List Line) (new : Parts) (r : Result (Unit {0}) E) → slice_get changes (length changes - 1) ≡ Some change → lines ≡ change.lines → IfOk r (λ _. Keeps (operations_of (take (length changes - 1) changes) ++ ops_of_lines lines) new) → IfOk r (λ _. Keeps (operations_of changes) new)
+pub caught_up_result : {E : Type 0} (changes : List Change) (change : Change) (lines : List Line) (new : Parts) (r : Result (Unit {0}) E) → slice_get changes (length changes - 1) ≡ Some change → lines ≡ change.lines → IfOk r (λ _. Keeps (operations_of (take (length changes - 1) changes) ++ ops_of_lines lines) new) → IfOk r (λ _. Keeps (operations_of changes) new)
 caught_up_result changes change lines new (Ok done) g e kept = caught_up_last changes change lines new g e kept
 caught_up_result changes change lines new (Err error) g e kept = tt
 
 -- a copy of the parts
-pub kept_copy : {E : Type 0} (r : Result Parts E) (parts : Parts) (changes xs : List Edit) → changes ≡ xs → Keeps (operations_of changes) parts → IfOk r (λ p. p ≡ parts) → IfOk r (Keeps (operations_of xs))
-kept_copy (Ok p) parts changes xs same kept is = subst (λ (x : List Edit × Parts). Keeps (operations_of x.0) x.1) (λ i. (same i, sym is i)) kept
+pub kept_copy : {E : Type 0} (r : Result Parts E) (parts : Parts) (changes xs : List Change) → changes ≡ xs → Keeps (operations_of changes) parts → IfOk r (λ p. p ≡ parts) → IfOk r (Keeps (operations_of xs))
+kept_copy (Ok p) parts changes xs same kept is = subst (λ (x : List Change × Parts). Keeps (operations_of x.0) x.1) (λ i. (same i, sym is i)) kept
 kept_copy (Err e) parts changes xs same kept is = tt
 
 -- ---- what is told of a change
-pub admitted_or_refused : (changes : List Edit) (change : Edit) (lines : List Line) (r : Result (Unit {0}) SubmitError) → length changes < 4096 → lines ≡ change.lines → MatchResult r (λ _. AreAllAccepted (operations_of changes) lines) (IsNotAccepted (operations_of changes) lines) → MatchResult r (λ _. IsAccepted changes change) (IsRefused changes change)
+pub admitted_or_refused : (changes : List Change) (change : Change) (lines : List Line) (r : Result (Unit {0}) SubmitError) → length changes < 4096 → lines ≡ change.lines → MatchResult r (λ _. AreAllAccepted (operations_of changes) lines) (IsNotAccepted (operations_of changes) lines) → MatchResult r (λ _. IsAccepted changes change) (IsRefused changes change)
 admitted_or_refused changes change lines (Ok done) few e all = record {
   room = few;
   follow = subst (λ (ls : List Line). AreAllAccepted (operations_of changes) ls) e all;
@@ -285,6 +285,6 @@ admitted_or_refused changes change lines (Err submit.HistoryFull) few e why = ab
 admitted_or_refused changes change lines (Err (submit.Refused index refusal)) few e why = (few, subst (λ (ls : List Line). FirstRefused (operations_of changes) ls index refusal) e why)
 admitted_or_refused changes change lines (Err submit.OutOfMemory) few e why = few
 
-pub refused_draft : (r : Result Draft SubmitError) (changes : List Edit) (change : Edit) (error : SubmitError) → IsErrAnd r (λ e. e ≡ error) → IsRefused changes change error → MatchResult r (IsDraft changes change) (IsRefused changes change)
+pub refused_draft : (r : Result Draft SubmitError) (changes : List Change) (change : Change) (error : SubmitError) → IsErrAnd r (λ e. e ≡ error) → IsRefused changes change error → MatchResult r (IsDraft changes change) (IsRefused changes change)
 refused_draft (Ok d) changes change error same why = absurd same
 refused_draft (Err e) changes change error same why = subst (IsRefused changes change) (sym same) why

@@ -8,12 +8,11 @@ use Rattle.std.proofs.lemmas.Grind.{common_steps}
 use Rattle.std.proofs.lemmas.List.{length_push, get_or_push, append-nil}
 use Rattle.std.proofs.lemmas.List.Elements.{Contains-append_left, Contains-append_right, Contains-append_cases, Contains-push, Contains-push_cases}
 use Rattle.std.proofs.lemmas.Option.{slice_get-get_or}
-use Rattle.change_ops.specs.Ids.{Id}
+use Rattle.change_ops.specs.Ids.{OpId}
 use Rattle.change_ops.specs.Changes.{IsLine}
 use Rattle.change_ops.specs.Lines.{ops_of, ops_of_lines, first_id}
 use Rattle.change_ops.specs.Runs.{inserts_from, next_id}
 use Rattle.change_ops.specs.Operations.{id_of, is_insert, is_mark}
-use Rattle.change_ops.specs.declared.id.OpId.{OpId}
 use Rattle.change_ops.specs.declared.line.Form.{Form}
 use Rattle.change_ops.specs.declared.line.Line.{Line}
 use Rattle.change_ops.specs.declared.line.Line.TheVariants.{Operation, Run}
@@ -235,7 +234,7 @@ has_none ops own node tally id m t named other = (
 )
 
 -- ---- the operations of a change are its peer's
-own_run : (characters : List ℕ) (id : Id) (parent : Option Id) (o : Op) → Contains (inserts_from id parent characters) o → (id_of o).node ≡ id.node
+own_run : (characters : List ℕ) (id : OpId) (parent : Option OpId) (o : Op) → Contains (inserts_from id parent characters) o → (id_of o).node ≡ id.node
 unfolding inserts_from
 own_run [] id parent o h = absurd (let less : h.0 < 0 = h.1 in omega arith)
 own_run (c ∷ cs) id parent o h =

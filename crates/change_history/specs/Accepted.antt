@@ -3,7 +3,7 @@
 use Rattle.std.specs.Prelude.{◌≡◌, ℕ, ◌+◌, ◌≤◌, ◌<◌, true, List, [], ◌∷◌, ◌++◌, length, take, slice_get, count_by, Some}
 use Rattle.change_ops.specs.declared.operation.Op.{Op}
 use Rattle.change_ops.specs.Operations.{is_mark}
-use Rattle.change_ops.specs.Changes.{Edit, operations}
+use Rattle.change_ops.specs.Changes.{Change, operations}
 use Rattle.change_ops.specs.Lines.{ops_of, ops_of_lines}
 use Rattle.change_ops.specs.declared.line.Line.{Line}
 use Rattle.char_sequence.specs.Acceptance.{Accepts, IsStale, IsUnknown, IsFull}
@@ -30,7 +30,7 @@ MayNotFollow ops op MarksFull =
     (IsStale ops op → ⊥) × (IsUnknown ops op → ⊥) × (IsFull ops op → ⊥) × IsMarkTooMany ops op
 
 -- the operations of changes, one after the other
-unfoldable pub operations_of : List Edit → List Op
+unfoldable pub operations_of : List Change → List Op
 operations_of [] = []
 operations_of (change ∷ changes) = operations change ++ operations_of changes
 
@@ -39,33 +39,33 @@ abbrev pub AllFollow : List Op → List Op → ℕ → Type 0
 AllFollow ops added count =
     (i : ℕ) (op : Op) → i < count → slice_get added i ≡ Some op → MayFollow (ops ++ take i added) op
 
--- the first operation that is refused, by its place among them
-pub record IsFirstRefused (ops added : List Op) (place : ℕ) (refusal : Refusal) : Type 0 where
+-- the first operation that is refused, by its index among them
+pub record IsFirstRefused (ops added : List Op) (index : ℕ) (refusal : Refusal) : Type 0 where
   pub operation : Op
-  pub here : slice_get added place ≡ Some operation
-  pub refused : MayNotFollow (ops ++ take place added) operation refusal
-  pub before : AllFollow ops added place
+  pub here : slice_get added index ≡ Some operation
+  pub refused : MayNotFollow (ops ++ take index added) operation refusal
+  pub before : AllFollow ops added index
 
 -- the same, by the index of the line that means it
 pub record FirstRefused (ops : List Op) (lines : List Line) (index : ℕ) (refusal : Refusal) : Type 0 where
   pub line : Line
   pub here : slice_get lines index ≡ Some line
-  pub place : ℕ
-  pub within : place < length (ops_of line)
-  pub first : IsFirstRefused ops (ops_of_lines lines) (length (ops_of_lines (take index lines)) + place) refusal
+  pub offset : ℕ
+  pub within : offset < length (ops_of line)
+  pub first : IsFirstRefused ops (ops_of_lines lines) (length (ops_of_lines (take index lines)) + offset) refusal
 
 -- the change is accepted after these, of which there may be 4,096 in all
-pub record IsAccepted (changes : List Edit) (change : Edit) : Type 0 where
+pub record IsAccepted (changes : List Change) (change : Change) : Type 0 where
   pub room : length changes < 4096
   pub follow : AllFollow (operations_of changes) (operations change) (length (operations change))
 
 -- why a change is refused after these; want of memory is no fault of a change, but a full history is told as such
-abbrev pub IsRefused : List Edit → Edit → SubmitError → Type 0
+abbrev pub IsRefused : List Change → Change → SubmitError → Type 0
 IsRefused changes change HistoryFull = 4096 ≤ length changes
 IsRefused changes change (Refused index refusal) =
     (length changes < 4096) × FirstRefused (operations_of changes) change.lines index refusal
 IsRefused changes change OutOfMemory = length changes < 4096
 
 -- each of the changes was accepted after those before it
-abbrev pub AreAccepted : List Edit → Type 0
-AreAccepted changes = (n : ℕ) (change : Edit) → slice_get changes n ≡ Some change → IsAccepted (take n changes) change
+abbrev pub AreAccepted : List Change → Type 0
+AreAccepted changes = (n : ℕ) (change : Change) → slice_get changes n ≡ Some change → IsAccepted (take n changes) change

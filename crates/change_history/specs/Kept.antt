@@ -7,7 +7,7 @@ use Rattle.change_ops.specs.Operations.{is_edit, is_mark}
 use Rattle.char_sequence.specs.Order.{Shows}
 use Rattle.char_sequence.specs.Held.{Holds}
 use Rattle.char_sequence.specs.Newest.{IsNewest}
-use Rattle.change_ops.specs.Changes.{Edit}
+use Rattle.change_ops.specs.Changes.{Change}
 use Rattle.change_ops.specs.Lines.{ops_of_lines}
 use Rattle.change_ops.specs.declared.line.Line.{Line}
 use Rattle.change_history.specs.declared.parts.Parts.{Parts}
@@ -26,7 +26,7 @@ pub record Keeps (ops : List Op) (parts : Parts) : Type 0 where
   pub marks : parts.marks ≡ filter is_mark ops
   pub newest : IsNewest ops parts.newest
 
--- the operations stand among others, from this place on
+-- the operations stand among others, from this index on
 abbrev pub StandAt : List Op → ℕ → List Op → Type 0
 StandAt all from ops = (i : ℕ) (op : Op) → slice_get ops i ≡ Some op → slice_get all (from + i) ≡ Some op
 
@@ -45,7 +45,7 @@ IsNotAccepted ops lines HistoryFull = ⊥
 IsNotAccepted ops lines (Refused index refusal) = FirstRefused ops lines index refusal
 IsNotAccepted ops lines OutOfMemory = Unit {0}
 
--- all of the operations are accepted, and the first so many are applied
+-- all of the operations are accepted, and the first `count` are applied
 pub record IsApplied (ops added : List Op) (count : ℕ) (parts : Parts) : Type 0 where
   pub follow : AllFollow ops added (length added)
   pub kept : Keeps (ops ++ take count added) parts
@@ -62,17 +62,17 @@ Applies next old new result =
     → IfOk result (λ _. IsApplied ops added (from + length next) new)
 
 -- the changes were accepted one after another, and these are the parts of their operations
-pub record IsHistory (changes : List Edit) (parts : Parts) : Type 0 where
+pub record IsHistory (changes : List Change) (parts : Parts) : Type 0 where
   pub accepted : AreAccepted changes
   pub kept : Keeps (operations_of changes) parts
 
 -- spare parts are those of all changes but the last
-abbrev pub IsSpare : List Edit → Option Parts → Type 0
+abbrev pub IsSpare : List Change → Option Parts → Type 0
 IsSpare changes spare =
     (parts : Parts) → spare ≡ Some parts → Keeps (operations_of (take (length changes - 1) changes)) parts
 
 -- the draft is of this change, which is accepted after these, and has the parts of them all
-pub record IsDraft (changes : List Edit) (change : Edit) (draft : Draft) : Type 0 where
+pub record IsDraft (changes : List Change) (change : Change) (draft : Draft) : Type 0 where
   pub added : draft.added ≡ change ∷ []
   pub accepted : IsAccepted changes change
   pub kept : Keeps (operations_of (changes ++ change ∷ [])) draft.parts

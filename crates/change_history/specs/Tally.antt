@@ -27,7 +27,7 @@ pub record IsTally (ops own : List Op) (node : ℕ) (tally : Tally) : Type 0 whe
   pub rising : IsStrictlyIncreasing tally.inserted.items
   pub inserted : (x : OpId) → Present own x ↔ (x.node ≡ node) × Contains tally.inserted.items x.counter
 
--- the first so many of a peer's operations are accepted after those applied, and are counted
+-- the first `count` of a peer's operations are accepted after those applied, and are counted
 pub record IsAdmitted (ops added : List Op) (count node : ℕ) (parts : Parts) (tally : Tally) : Type 0 where
   pub kept : Keeps ops parts
   pub own : AreOf node added
@@ -41,11 +41,11 @@ AreNext next parts tally =
     × ((added : List Op)
     × ((from : ℕ) × ((node : ℕ) × IsAdmitted ops added from node parts tally × StandAt added from next)))
 
--- what the count of so many operations, of a peer's those from this place on, answers, and leaves
+-- what the count of `count` of a peer's operations, those from the index `from` on, answers, and leaves
 abbrev pub StretchAdmitted : List Op → List Op → ℕ → ℕ → ℕ → Parts → Tally → Result (Unit {0}) ApplyError → Type 0
 StretchAdmitted ops added from count node parts new (Ok done) = IsAdmitted ops added (from + count) node parts new
 StretchAdmitted ops added from count node parts new (Err (apply.Refused refusal)) =
-    (place : ℕ) × (place < count) × IsFirstRefused ops added (from + place) refusal
+    (offset : ℕ) × (offset < count) × IsFirstRefused ops added (from + offset) refusal
 StretchAdmitted ops added from count node parts new (Err apply.OutOfMemory) = Unit {0}
 
 -- the same of the next ones, whatever stands before and behind them

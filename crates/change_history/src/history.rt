@@ -1,6 +1,6 @@
 ghost use Rattle.std.specs.Prelude.{◌≡◌, ◌≤◌, ◌+◌, ◌-◌, List, [], ◌++◌, ◌∷◌, length, take, MatchResult, MatchOption};
 ghost use Rattle.std.specs.Prelude.{IfOk};
-ghost use Rattle.change_ops.specs.Changes.{Edit, operations};
+ghost use Rattle.change_ops.specs.Changes.{Change, operations};
 ghost use Rattle.change_ops.specs.Runs.{inserts_of};
 ghost use Rattle.change_ops.specs.Lines.{ops_of, ops_of_lines};
 ghost use Rattle.change_ops.specs.declared.operation.Op.{Op};
@@ -33,11 +33,11 @@ pub const CHANGE_LIMIT: usize = 4096;
 
 /// The changes that were accepted, in their order, and the text that they make.
 pub struct History {
-    // A linked list, since a draft brings the node of its change: to put it in place takes no memory.
+    // A linked list, since a draft brings the node of its change: to append it takes no memory.
     changes: LinkedList<Change>,
     parts: Parts,
     // The parts without the last change: the next one is applied to these, and those of all changes stay as they are
-    // until it is put in place. None where they were used up for want of memory; a copy then takes their place.
+    // until it is appended. None where they were used up for want of memory; a copy then replaces them.
     spare: Option<Parts>,
 }
 
@@ -54,10 +54,10 @@ impl Drop for History {
 
 impl Model for History {
     ghost use Rattle.std.specs.Prelude.{List};
-    ghost use Rattle.change_ops.specs.Changes.{Edit};
+    ghost use Rattle.change_ops.specs.Changes.{Change};
     ghost use Rattle.change_history.specs.Kept.{IsHistory, IsSpare};
 
-    ghost Value = { List Edit };
+    ghost Value = { List Change };
 
     ghost view = { λ h. h.changes };
 
@@ -189,7 +189,7 @@ impl History {
         )
     }
 
-    /// The change with all that it takes to put it in place, if it is accepted next; nothing is put in place yet.
+    /// The change with all that it takes to append it, if it is accepted next; nothing is appended yet.
     pub fn draft(&mut self, change: Change) -> Result<Draft, SubmitError>
         ensures drafted { MatchResult result (IsDraft self.old change) (IsRefused self.old change) }
         ensures same { self.new ≡ self.old }
@@ -200,10 +200,10 @@ impl History {
         Ok(Draft { added, parts })
     }
 
-    /// Puts a draft in place, which takes no memory.
+    /// Appends a draft, which takes no memory.
     pub fn put(&mut self, mut draft: Draft)
-        requires { (change : Edit) × IsDraft self.old change draft }
-        ensures { (change : Edit) → IsDraft self.old change draft → self.new ≡ self.old ++ change ∷ [] }
+        requires { (change : Change) × IsDraft self.old change draft }
+        ensures { (change : Change) → IsDraft self.old change draft → self.new ≡ self.old ++ change ∷ [] }
     {
         self.changes.append(&mut draft.added).unwrap();
         self.spare = Some(replace(&mut self.parts, draft.parts));
@@ -221,8 +221,8 @@ impl History {
 
     /// The version that the changes make with the one of a draft.
     pub fn draft_version(&self, alloc: Global, draft: &Draft) -> Result<Version, AllocError>
-        requires { (change : Edit) × IsDraft self.now change draft.now }
-        ensures { IfOk result (λ version. (change : Edit) → IsDraft self.now change draft.now
+        requires { (change : Change) × IsDraft self.now change draft.now }
+        ensures { IfOk result (λ version. (change : Change) → IsDraft self.now change draft.now
             → IsVersion (operations_of (self.now ++ change ∷ [])) (length self.now + 1) version) }
     {
         draft.parts.version(alloc, self.len() as u64 + 1)

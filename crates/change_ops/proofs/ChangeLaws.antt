@@ -9,7 +9,7 @@ use Rattle.change_ops.specs.Lines.{ops_of, ops_of_lines, count_of, first_id, lin
 use Rattle.change_ops.specs.Words.{split, number_in}
 use Rattle.change_ops.specs.Reading.{form_at, header_at, line_in, judged, line_verdict, Reads}
 use Rattle.change_ops.specs.Reading as reading
-use Rattle.change_ops.specs.Changes.{Edit, IsLine, IsChange, OwnLines, Header, ◌>>=◌, Gives, placed, ended, limited_header, within_header, header_verdict, next_at, lines_at, change_at}
+use Rattle.change_ops.specs.Changes.{Change, IsLine, IsChange, OwnLines, Header, ◌>>=◌, Gives, lined, ended, limited_header, within_header, header_verdict, next_at, lines_at, change_at}
 use Rattle.change_ops.specs.Spelling.{◌␣◌, line_text, lines_text, form_text, change_text, Spells, Answers, NoneBeginsAnother}
 use Rattle.change_ops.specs.declared.line.Form.{Form}
 use Rattle.change_ops.specs.declared.line.Line.{Line}
@@ -55,9 +55,9 @@ choose true true false line line' e = absurd cc
 choose true false same line line' e = absurd cc
 choose false character same line line' e = absurd cc
 
-pub placed_takes : {A : Type 0} (n : ℕ) (r : Result A LineFault) (x : A) → placed n r ≡ Ok x → r ≡ Ok x
-placed_takes n (Ok y) x e = cc
-placed_takes n (Err fault) x e = absurd cc
+pub lined_takes : {A : Type 0} (n : ℕ) (r : Result A LineFault) (x : A) → lined n r ≡ Ok x → r ≡ Ok x
+lined_takes n (Ok y) x e = cc
+lined_takes n (Err fault) x e = absurd cc
 
 pub record Verdict (peer room : ℕ) (o : Option Line) (line : Line) : Type 0 where
   pub read : o ≡ Some line
@@ -100,11 +100,11 @@ pub record LineTaken (form : Form) (peer room : ℕ) (bytes : List ℕ) (x : One
 pub next_takes : (form : Form) (peer room n : ℕ) (bytes : List ℕ) (x : One) → next_at form peer room n bytes ≡ Ok x → LineTaken form peer room bytes x
 unfolding next_at
 next_takes form peer room n bytes x e =
-    let a = bind_ok (ended (split 10 bytes)) (λ parts. placed n (line_verdict peer room (line_in form parts.0)) >>= λ found. made found parts.1) x e in
-    let b = bind_ok (placed n (line_verdict peer room (line_in form a.0.0))) (λ found. made found a.0.1) x a.2 in
+    let a = bind_ok (ended (split 10 bytes)) (λ parts. lined n (line_verdict peer room (line_in form parts.0)) >>= λ found. made found parts.1) x e in
+    let b = bind_ok (lined n (line_verdict peer room (line_in form a.0.0))) (λ found. made found a.0.1) x a.2 in
     let read : One = (b.0, a.0.1) in
     let same : read ≡ x = same_ok read x (Ok read) refl b.2 in
-    let v = verdict_takes peer room (line_in form a.0.0) b.0 (placed_takes n (line_verdict peer room (line_in form a.0.0)) b.0 b.1) in
+    let v = verdict_takes peer room (line_in form a.0.0) b.0 (lined_takes n (line_verdict peer room (line_in form a.0.0)) b.0 b.1) in
     let had = in_takes form a.0.0 b.0 v.read in
     let line : IsLine form peer b.0 = record { own = v.judged.own; within = v.judged.within; characters = v.judged.characters; formed = had.had } in
     let text = ended_takes bytes a.0 a.1 ∙ ap (λ (y : List ℕ). y ++ 10 ∷ a.0.1) (line_takes a.0.0 b.0 had.read v.judged.within v.judged.characters) in
@@ -210,7 +210,7 @@ lines_count form peer (line ∷ lines) h =
     let all = more_ops line lines in
     omega arith
 
-pub change_again : (change : Edit) (rest : List ℕ) → IsChange change → change_at (change_text change ++ rest) ≡ Ok (change, rest)
+pub change_again : (change : Change) (rest : List ℕ) → IsChange change → change_at (change_text change ++ rest) ≡ Ok (change, rest)
 unfolding change_at change_text
 change_again change rest h =
     let count = length change.lines in
@@ -277,7 +277,7 @@ header_takes text h l e =
     some_header x y e = cc
 
 abbrev pub Pair : Type 0
-Pair = Edit × List ℕ
+Pair = Change × List ℕ
 
 abbrev Taken : List ℕ → Pair → Type 0
 Taken text x = Spells text x.0 x.1
@@ -285,14 +285,14 @@ Taken text x = Spells text x.0 x.1
 pub change_takes : (text : List ℕ) (x : Pair) → change_at text ≡ Ok x → Spells text x.0 x.1
 unfolding change_at change_text
 change_takes text x e =
-    let a = bind_ok (ended (split 10 text)) (λ parts. placed 1 (header_verdict (header_at parts.0)) >>= λ h. lines_at h.0 h.1 256 2 h.2 parts.1 >>= λ found. edited h found) x e in
-    let b = bind_ok (placed 1 (header_verdict (header_at a.0.0))) (λ h. lines_at h.0 h.1 256 2 h.2 a.0.1 >>= λ found. edited h found) x a.2 in
+    let a = bind_ok (ended (split 10 text)) (λ parts. lined 1 (header_verdict (header_at parts.0)) >>= λ h. lines_at h.0 h.1 256 2 h.2 parts.1 >>= λ found. edited h found) x e in
+    let b = bind_ok (lined 1 (header_verdict (header_at a.0.0))) (λ h. lines_at h.0 h.1 256 2 h.2 a.0.1 >>= λ found. edited h found) x a.2 in
     let h = b.0 in
     let d = bind_ok (lines_at h.0 h.1 256 2 h.2 a.0.1) (λ found. edited h found) x b.2 in
-    let change : Edit = record { form = h.0; node = h.1; lines = d.0.0 } in
+    let change : Change = record { form = h.0; node = h.1; lines = d.0.0 } in
     let read : Pair = (change, d.0.1) in
     let same : read ≡ x = same_ok read x (Ok read) refl d.2 in
-    let v = verdict_header (header_at a.0.0) h (placed_takes 1 (header_verdict (header_at a.0.0)) h b.1) in
+    let v = verdict_header (header_at a.0.0) h (lined_takes 1 (header_verdict (header_at a.0.0)) h b.1) in
     let o = lines_taken h.0 h.1 256 2 h.2 a.0.1 d.0 d.1 in
     let first : a.0.0 ≡ header h.0 h.1 (length d.0.0) = header_takes a.0.0 h v.limits v.read ∙ ap (λ (k : ℕ). header h.0 h.1 k) (sym o.counted) in
     let joined : a.0.0 ++ 10 ∷ a.0.1 ≡ header h.0 h.1 (length d.0.0) ++ 10 ∷ (lines_text d.0.0 ++ d.0.1) = (λ i. first i ++ 10 ∷ o.whole i) in
@@ -318,15 +318,15 @@ gives_answer view (Err (Limit n)) read wanted h e = absurd cc
 gives_answer view (Err (CharRefused n)) read wanted h e = absurd cc
 gives_answer view (Err (WrongPeer n)) read wanted h e = absurd cc
 
-pub gives_answers : {X : Type 0} (view : X → Pair) (r : Result X ChangeError) (text : List ℕ) → Gives view r (change_at text) → (change : Edit) (rest : List ℕ) → Spells text change rest → Answers r view (change, rest)
+pub gives_answers : {X : Type 0} (view : X → Pair) (r : Result X ChangeError) (text : List ℕ) → Gives view r (change_at text) → (change : Change) (rest : List ℕ) → Spells text change rest → Answers r view (change, rest)
 gives_answers view r text h change rest s = gives_answer view r (change_at text) (change, rest) h (ap change_at s.1 ∙ change_again change rest s.0)
 
 -- what follows a change is shorter
-some_text : (change : Edit) → 0 < length (change_text change)
+some_text : (change : Change) → 0 < length (change_text change)
 unfolding change_text
 some_text change = omega (arith, length-append (header change.form change.node (length change.lines)) (10 ∷ lines_text change.lines))
 
-change_longer : (change : Edit) (rest : List ℕ) → length rest < length (change_text change ++ rest)
+change_longer : (change : Change) (rest : List ℕ) → length rest < length (change_text change ++ rest)
 change_longer change rest = omega (arith, length-append (change_text change) rest, some_text change)
 
 pub gives_shorter : {X : Type 0} (view : X → Pair) (r : Result X ChangeError) (text : List ℕ) → Gives view r (change_at text) → IfOk r (λ x. length (view x).1 < length text)
@@ -343,7 +343,7 @@ one_answer : (p q : Pair) → made p ≡ made q → p ≡ q
 unfolding made
 one_answer p q e = cc
 
-answers : (a b : Edit) (x y : List ℕ) → IsChange a → IsChange b → change_text a ++ x ≡ change_text b ++ y → made (a, x) ≡ made (b, y)
+answers : (a b : Change) (x y : List ℕ) → IsChange a → IsChange b → change_text a ++ x ≡ change_text b ++ y → made (a, x) ≡ made (b, y)
 unfolding made
 answers a b x y one two e = sym (change_again a x one) ∙ ap change_at e ∙ change_again b y two
 

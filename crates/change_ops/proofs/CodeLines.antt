@@ -3,7 +3,7 @@ use Rattle.std.proofs.Common.{◌≡◌, ℕ, ◌≤◌, Bool, true, false, cond
 use Rattle.std.specs.Prelude.{◌&&◌, not, codes}
 use Rattle.std.specs.Str.{bytes_eq}
 use Rattle.std.proofs.lemmas.Bool.{le-leb}
-use Rattle.change_ops.specs.Ids.{Id}
+use Rattle.change_ops.specs.Ids.{OpId}
 use Rattle.change_ops.specs.Limits.{op_within, has_character}
 use Rattle.change_ops.specs.Operations.{id_of, key_of}
 use Rattle.change_ops.specs.Words.{split}
@@ -59,7 +59,7 @@ never fields = go (split 32 fields) where
   go (Some second) = inner (split 32 second.1)
 
 -- of a mark, or of a removal of one
-third : (fields : List ℕ) (id : Id) (k : Key) {Rest : List ℕ → Type 0} (j : Joined 32 (IdForm id) (Joined 32 (KeyForm k) Rest) fields) → third_is_code true fields ≡ is_code k
+third : (fields : List ℕ) (id : OpId) (k : Key) {Rest : List ℕ → Type 0} (j : Joined 32 (IdForm id) (Joined 32 (KeyForm k) Rest) fields) → third_is_code true fields ≡ is_code k
 third fields id k j =
     let l = j.after in
     rw (joined_again 32 fields j (id_lacks 32 id j.first (omega arith) j.before), joined_again 32 j.second l (key_lacks 32 k l.first (omega arith) l.before)) (key_code k l.first l.before)

@@ -5,13 +5,13 @@ use Rattle.std.specs.Str.{bytes_eq}
 use Rattle.std.specs.List.{list_all, AllByRecursion}
 use Rattle.std.proofs.lemmas.Bool.{cases_lt, and_parts, and_from, leb-true, le-leb, ltb-true, lt-ltb, le-ltb, eq-eqb, eqb-true}
 use Rattle.std.proofs.lemmas.List.{length-map}
-use Rattle.change_ops.specs.Ids.{Id}
+use Rattle.change_ops.specs.Ids.{OpId}
 use Rattle.change_ops.specs.Attributes.{is_link_byte}
 use Rattle.change_ops.specs.Operations.{key_of}
 use Rattle.change_ops.specs.Words.{split, digit_of, digits_after, number_in}
-use Rattle.change_ops.specs.Reading.{◌>>=◌, id_at, hex_at, place_at, beside, anchor_at, anchors_at, comment_at, key_at, color_at, link_at, bare, value_at, attribute_at, insert_at, remove_at, marked_at, mark_at, unmarked_at, unmark_at, op_at}
+use Rattle.change_ops.specs.Reading.{◌>>=◌, id_at, hex_at, parent_at, beside, anchor_at, anchors_at, comment_at, key_at, color_at, link_at, bare, value_at, attribute_at, insert_at, remove_at, marked_at, mark_at, unmarked_at, unmark_at, op_at}
 use Rattle.change_ops.specs.Spelling.{◌␣◌}
-use Rattle.change_ops.specs.Forms.{Numeral, Joined, ◌⎵◌, Word, IdForm, PlaceForm, CodeForm, SignedId, AnchorForm, KeyForm, LinkForm, ColorForm, ValueForm, OpForm}
+use Rattle.change_ops.specs.Forms.{Numeral, Joined, ◌⎵◌, Word, IdForm, ParentForm, CodeForm, SignedId, AnchorForm, KeyForm, LinkForm, ColorForm, ValueForm, OpForm}
 use Rattle.change_ops.specs.declared.attribute.Key.{Key}
 use Rattle.change_ops.specs.declared.attribute.Key.TheVariants as key
 use Rattle.change_ops.specs.declared.attribute.Attribute.{Attribute}
@@ -40,15 +40,15 @@ numeral_lacks base mark n word high h form = number_lacks base mark word n h (nu
 pub decimal_lacks : (mark n : ℕ) (word : List ℕ) → mark < 33 → Numeral 10 n word → Lacks mark word
 decimal_lacks mark n word s form = numeral_lacks 10 mark n word (omega arith) (let d = no_digit_below mark s in omega arith) form
 
-pub id_lacks : (mark : ℕ) (id : Id) (word : List ℕ) → mark < 33 → IdForm id word → Lacks mark word
+pub id_lacks : (mark : ℕ) (id : OpId) (word : List ℕ) → mark < 33 → IdForm id word → Lacks mark word
 id_lacks mark id word s j =
     subst (Lacks mark) (sym j.whole) (lacks_joined mark j.first j.second 64 (decimal_lacks mark id.counter j.first s j.before) (above 64 mark s (omega arith)) (decimal_lacks mark id.node j.second s j.after))
 
-pub place_lacks : (mark : ℕ) (place : Option Id) (word : List ℕ) → mark < 33 → PlaceForm place word → Lacks mark word
-place_lacks mark None word s h = word_lacks mark (codes "-") word s refl h
-place_lacks mark (Some id) word s h = id_lacks mark id word s h
+pub parent_lacks : (mark : ℕ) (parent : Option OpId) (word : List ℕ) → mark < 33 → ParentForm parent word → Lacks mark word
+parent_lacks mark None word s h = word_lacks mark (codes "-") word s refl h
+parent_lacks mark (Some id) word s h = id_lacks mark id word s h
 
-signed_lacks : (mark sign : ℕ) (id : Id) (word : List ℕ) → mark < 33 → 33 ≤ sign → SignedId sign id word → Lacks mark word
+signed_lacks : (mark sign : ℕ) (id : OpId) (word : List ℕ) → mark < 33 → 33 ≤ sign → SignedId sign id word → Lacks mark word
 signed_lacks mark sign id word s g h = subst (Lacks mark) (sym h.whole) (lacks_cons mark sign h.name (above sign mark s g) (id_lacks mark id h.name s h.named))
 
 anchor_lacks : (mark : ℕ) (anchor : Anchor) (word : List ℕ) → mark < 33 → AnchorForm anchor word → Lacks mark word
@@ -91,42 +91,42 @@ value_lacks mark (attribute.Link target) word s h = word_lacks mark target word 
 value_lacks mark (attribute.Color rgb) word s h = color_lacks mark rgb word s h
 value_lacks mark (attribute.Comment n) word s h = word_lacks mark (codes "-") word s refl h
 
--- ids, places, codes, anchors
+-- ids, parents, codes, anchors
 
-pub id_form : (word : List ℕ) (id : Id) → id_at word ≡ Some id → IdForm id word
+pub id_form : (word : List ℕ) (id : OpId) → id_at word ≡ Some id → IdForm id word
 unfolding id_at
 id_form word id e =
     let a = bind_some (split 64 word) (λ parts. number_in 10 parts.0 >>= λ counter. number_in 10 parts.1 >>= λ node. Some (record { counter = counter; node = node })) id e in
     let b = bind_some (number_in 10 a.0.0) (λ counter. number_in 10 a.0.1 >>= λ node. Some (record { counter = counter; node = node })) id a.2 in
     let c = bind_some (number_in 10 a.0.1) (λ node. Some (record { counter = b.0; node = node })) id b.2 in
-    let made : Id = record { counter = b.0; node = c.0 } in
+    let made : OpId = record { counter = b.0; node = c.0 } in
     let same : made ≡ id = some_id made id c.2 in
     let form : IdForm made word = record { first = a.0.0; second = a.0.1; whole = (split_takes 64 word a.0.0 a.0.1 a.1).0; before = number_takes 10 b.0 a.0.0 (omega arith) b.1; after = number_takes 10 c.0 a.0.1 (omega arith) c.1 } in
-    subst (λ (i : Id). IdForm i word) same form
+    subst (λ (i : OpId). IdForm i word) same form
   where
-    some_id : (x y : Id) → Some x ≡ Some y → x ≡ y
+    some_id : (x y : OpId) → Some x ≡ Some y → x ≡ y
     some_id x y e = cc
 
-pub id_read : (word : List ℕ) (id : Id) → IdForm id word → id_at word ≡ Some id
+pub id_read : (word : List ℕ) (id : OpId) → IdForm id word → id_at word ≡ Some id
 unfolding id_at
 id_read word id j =
     let parts = joined_again 64 word j (numeral_lacks 10 64 id.counter j.first (omega arith) (omega arith) j.before) in
     rw (parts, number_again 10 id.counter j.first (omega arith) j.before, number_again 10 id.node j.second (omega arith) j.after) refl
 
-pub place_form : (word : List ℕ) (place : Option Id) → place_at word ≡ Some place → PlaceForm place word
-unfolding place_at
-place_form word place e = go (bytes_eq word (codes "-")) refl e where
-  go : (b : Bool) → bytes_eq word (codes "-") ≡ b → cond b (Some None) (id_at word >>= λ id. Some (Some id)) ≡ Some place → PlaceForm place word
-  go true f e = let same : None ≡ place = cc in subst (λ (p : Option Id). PlaceForm p word) same (same_bytes word (codes "-") f)
+pub parent_form : (word : List ℕ) (parent : Option OpId) → parent_at word ≡ Some parent → ParentForm parent word
+unfolding parent_at
+parent_form word parent e = go (bytes_eq word (codes "-")) refl e where
+  go : (b : Bool) → bytes_eq word (codes "-") ≡ b → cond b (Some None) (id_at word >>= λ id. Some (Some id)) ≡ Some parent → ParentForm parent word
+  go true f e = let same : None ≡ parent = cc in subst (λ (p : Option OpId). ParentForm p word) same (same_bytes word (codes "-") f)
   go false f e =
-      let a = bind_some (id_at word) (λ id. Some (Some id)) place e in
-      let same : Some a.0 ≡ place = cc (a.2) in
-      subst (λ (p : Option Id). PlaceForm p word) same (id_form word a.0 a.1)
+      let a = bind_some (id_at word) (λ id. Some (Some id)) parent e in
+      let same : Some a.0 ≡ parent = cc (a.2) in
+      subst (λ (p : Option OpId). ParentForm p word) same (id_form word a.0 a.1)
 
-pub place_read : (word : List ℕ) (place : Option Id) → PlaceForm place word → place_at word ≡ Some place
-unfolding place_at
-place_read word None h = ap place_at h
-place_read word (Some id) h = let e = id_read word id h in rw (other_word word (codes "-") id e no_dash, e) refl
+pub parent_read : (word : List ℕ) (parent : Option OpId) → ParentForm parent word → parent_at word ≡ Some parent
+unfolding parent_at
+parent_read word None h = ap parent_at h
+parent_read word (Some id) h = let e = id_read word id h in rw (other_word word (codes "-") id e no_dash, e) refl
 
 pub code_form : (word : List ℕ) (n : ℕ) → hex_at word ≡ Some n → CodeForm n word
 unfolding hex_at
@@ -141,7 +141,7 @@ code_read word n h = rw (le-ltb 6 (length word) h.short) (number_again 16 n word
 
 beside_form : (sign : ℕ) (word : List ℕ) (anchor : Anchor) → beside sign word ≡ Some anchor → AnchorForm anchor (sign ∷ word)
 beside_form sign word anchor e = go (eqb sign 60) (eqb sign 62) refl refl e where
-  signed : (wanted : ℕ) (id : Id) → eqb sign wanted ≡ true → id_at word ≡ Some id → SignedId wanted id (sign ∷ word)
+  signed : (wanted : ℕ) (id : OpId) → eqb sign wanted ≡ true → id_at word ≡ Some id → SignedId wanted id (sign ∷ word)
   signed wanted id f e = record { name = word; whole = ap (λ (s : ℕ). s ∷ word) (eqb-true sign wanted f); named = id_form word id e }
 
   go : (a b : Bool) → eqb sign 60 ≡ a → eqb sign 62 ≡ b → cond a (id_at word >>= λ id. Some (BeforeCharacter id)) (cond b (id_at word >>= λ id. Some (AfterCharacter id)) None) ≡ Some anchor → AnchorForm anchor (sign ∷ word)
@@ -333,36 +333,36 @@ unfolding anchors_at
 anchors_read fields anchors j =
     rw (joined_again 32 fields j (anchor_lacks 32 anchors.0 j.first (omega arith) j.before), anchor_read j.first anchors.0 j.before, anchor_read j.second anchors.1 j.after) refl
 
-abbrev InsertForm : Id → Option Id → ℕ → List ℕ → Type 0
-InsertForm id parent character = IdForm id ⎵ PlaceForm parent ⎵ CodeForm character
+abbrev InsertForm : OpId → Option OpId → ℕ → List ℕ → Type 0
+InsertForm id parent character = IdForm id ⎵ ParentForm parent ⎵ CodeForm character
 
 insert_form : (line fields : List ℕ) (op : Op) → line ≡ codes "i" ␣ fields → insert_at fields ≡ Some op → OpForm op line
 unfolding insert_at
 insert_form line fields op text e =
-    let a = bind_some (split 32 fields) (λ first. split 32 first.1 >>= λ second. id_at first.0 >>= λ id. place_at second.0 >>= λ parent. hex_at second.1 >>= λ character. Some (Insert id parent character)) op e in
-    let b = bind_some (split 32 a.0.1) (λ second. id_at a.0.0 >>= λ id. place_at second.0 >>= λ parent. hex_at second.1 >>= λ character. Some (Insert id parent character)) op a.2 in
-    let c = bind_some (id_at a.0.0) (λ id. place_at b.0.0 >>= λ parent. hex_at b.0.1 >>= λ character. Some (Insert id parent character)) op b.2 in
-    let d = bind_some (place_at b.0.0) (λ parent. hex_at b.0.1 >>= λ character. Some (Insert c.0 parent character)) op c.2 in
+    let a = bind_some (split 32 fields) (λ first. split 32 first.1 >>= λ second. id_at first.0 >>= λ id. parent_at second.0 >>= λ parent. hex_at second.1 >>= λ character. Some (Insert id parent character)) op e in
+    let b = bind_some (split 32 a.0.1) (λ second. id_at a.0.0 >>= λ id. parent_at second.0 >>= λ parent. hex_at second.1 >>= λ character. Some (Insert id parent character)) op a.2 in
+    let c = bind_some (id_at a.0.0) (λ id. parent_at b.0.0 >>= λ parent. hex_at b.0.1 >>= λ character. Some (Insert id parent character)) op b.2 in
+    let d = bind_some (parent_at b.0.0) (λ parent. hex_at b.0.1 >>= λ character. Some (Insert c.0 parent character)) op c.2 in
     let f = bind_some (hex_at b.0.1) (λ character. Some (Insert c.0 d.0 character)) op d.2 in
     let same : Insert c.0 d.0 f.0 ≡ op = cc (f.2) in
-    let inner : Joined 32 (PlaceForm d.0) (CodeForm f.0) a.0.1 = record { first = b.0.0; second = b.0.1; whole = (split_takes 32 a.0.1 b.0.0 b.0.1 b.1).0; before = place_form b.0.0 d.0 d.1; after = code_form b.0.1 f.0 f.1 } in
+    let inner : Joined 32 (ParentForm d.0) (CodeForm f.0) a.0.1 = record { first = b.0.0; second = b.0.1; whole = (split_takes 32 a.0.1 b.0.0 b.0.1 b.1).0; before = parent_form b.0.0 d.0 d.1; after = code_form b.0.1 f.0 f.1 } in
     let behind : InsertForm c.0 d.0 f.0 fields = record { first = a.0.0; second = a.0.1; whole = (split_takes 32 fields a.0.0 a.0.1 a.1).0; before = id_form a.0.0 c.0 c.1; after = inner } in
     let form : OpForm (Insert c.0 d.0 f.0) line = record { first = codes "i"; second = fields; whole = text; before = refl; after = behind } in
     subst (λ (x : Op). OpForm x line) same form
 
-insert_read : (fields : List ℕ) (id : Id) (parent : Option Id) (character : ℕ) → InsertForm id parent character fields → insert_at fields ≡ Some (Insert id parent character)
+insert_read : (fields : List ℕ) (id : OpId) (parent : Option OpId) (character : ℕ) → InsertForm id parent character fields → insert_at fields ≡ Some (Insert id parent character)
 unfolding insert_at
 insert_read fields id parent character j =
     let k = j.after in
     rw (
       joined_again 32 fields j (id_lacks 32 id j.first (omega arith) j.before),
-      joined_again 32 j.second k (place_lacks 32 parent k.first (omega arith) k.before),
+      joined_again 32 j.second k (parent_lacks 32 parent k.first (omega arith) k.before),
       id_read j.first id j.before,
-      place_read k.first parent k.before,
+      parent_read k.first parent k.before,
       code_read k.second character k.after,
     ) refl
 
-abbrev RemoveForm : Id → Id → List ℕ → Type 0
+abbrev RemoveForm : OpId → OpId → List ℕ → Type 0
 RemoveForm id target = IdForm id ⎵ IdForm target
 
 remove_form : (line fields : List ℕ) (op : Op) → line ≡ codes "d" ␣ fields → remove_at fields ≡ Some op → OpForm op line
@@ -376,7 +376,7 @@ remove_form line fields op text e =
     let form : OpForm (Remove b.0 c.0) line = record { first = codes "d"; second = fields; whole = text; before = refl; after = behind } in
     subst (λ (x : Op). OpForm x line) same form
 
-remove_read : (fields : List ℕ) (id target : Id) → RemoveForm id target fields → remove_at fields ≡ Some (Remove id target)
+remove_read : (fields : List ℕ) (id target : OpId) → RemoveForm id target fields → remove_at fields ≡ Some (Remove id target)
 unfolding remove_at
 remove_read fields id target j =
     rw (joined_again 32 fields j (id_lacks 32 id j.first (omega arith) j.before), id_read j.first id j.before, id_read j.second target j.after) refl
@@ -423,7 +423,7 @@ mark_form line fields op text e =
     let form : OpForm (AddMark b.0 c.0.0 c.0.1.0 c.0.1.1) line = record { first = codes "m"; second = fields; whole = text; before = refl; after = behind } in
     subst (λ (x : Op). OpForm x line) same form
 
-mark_read : (fields : List ℕ) (id : Id) (marked : Marked) → Joined 32 (IdForm id) (MarkedForm marked) fields → mark_at fields ≡ Some (AddMark id marked.0 marked.1.0 marked.1.1)
+mark_read : (fields : List ℕ) (id : OpId) (marked : Marked) → Joined 32 (IdForm id) (MarkedForm marked) fields → mark_at fields ≡ Some (AddMark id marked.0 marked.1.0 marked.1.1)
 unfolding mark_at
 mark_read fields id marked j =
     rw (joined_again 32 fields j (id_lacks 32 id j.first (omega arith) j.before), id_read j.first id j.before, marked_read j.second marked j.after) refl
@@ -461,7 +461,7 @@ unmark_form line fields op text e =
     let form : OpForm (RemoveMark b.0 c.0.0 c.0.1.0 c.0.1.1) line = record { first = codes "u"; second = fields; whole = text; before = refl; after = behind } in
     subst (λ (x : Op). OpForm x line) same form
 
-unmark_read : (fields : List ℕ) (id : Id) (unmarked : Unmarked) → Joined 32 (IdForm id) (UnmarkedForm unmarked) fields → unmark_at fields ≡ Some (RemoveMark id unmarked.0 unmarked.1.0 unmarked.1.1)
+unmark_read : (fields : List ℕ) (id : OpId) (unmarked : Unmarked) → Joined 32 (IdForm id) (UnmarkedForm unmarked) fields → unmark_at fields ≡ Some (RemoveMark id unmarked.0 unmarked.1.0 unmarked.1.1)
 unfolding unmark_at
 unmark_read fields id unmarked j =
     rw (joined_again 32 fields j (id_lacks 32 id j.first (omega arith) j.before), id_read j.first id j.before, unmarked_read j.second unmarked j.after) refl

@@ -2,11 +2,11 @@
 use Rattle.std.proofs.Common.{◌≡◌, ℕ, Bool, true, false, cond, List, Option, Some, None, Result, Ok, Err, refl, ap, sym, inl, inr, ◌∙◌}
 use Rattle.std.specs.Prelude.{◌&&◌, not, codes}
 use Rattle.std.specs.Str.{bytes_eq}
-use Rattle.change_ops.specs.Ids.{Id, within_limits, is_character}
-use Rattle.change_ops.specs.Limits.{place_within, anchors_within, key_within, attribute_within, op_within, has_character}
+use Rattle.change_ops.specs.Ids.{OpId, within_limits, is_character}
+use Rattle.change_ops.specs.Limits.{parent_within, anchors_within, key_within, attribute_within, op_within, has_character}
 use Rattle.change_ops.specs.Attributes.{is_comment_number}
 use Rattle.change_ops.specs.Words.{split}
-use Rattle.change_ops.specs.Reading.{◌>>=◌, id_at, place_at, hex_at, key_at, comment_at, value_at, attribute_at, bare, anchors_at, insert_at, remove_at, marked_at, mark_at, unmarked_at, unmark_at, op_verdict, owned, within, encoded, unvalued, both, Reads}
+use Rattle.change_ops.specs.Reading.{◌>>=◌, id_at, parent_at, hex_at, key_at, comment_at, value_at, attribute_at, bare, anchors_at, insert_at, remove_at, marked_at, mark_at, unmarked_at, unmark_at, op_verdict, owned, within, encoded, unvalued, both, Reads}
 use Rattle.change_ops.specs.declared.refusal.LineFault.{LineFault}
 use Rattle.change_ops.specs.declared.refusal.LineFault.TheVariants.{BadLine, Limit, CharRefused, OutOfMemory}
 use Rattle.change_ops.specs.declared.attribute.Attribute.{Attribute}
@@ -52,10 +52,10 @@ within_made peer t op (Some x) limits code = rw (limits x, code x) (go (t x)) wh
   go true = refl
   go false = refl
 
-pub insert_judged : (peer : ℕ) (id : Option Id) (place : Option (Option Id)) (code : Option ℕ)
-    → op_verdict peer (id >>= λ i. place >>= λ p. code >>= λ c. Some (Insert i p c)) ≡ made (both (both (within within_limits id) (within place_within place)) (encoded code)) (λ x. owned peer (Insert x.0.0 x.0.1 x.1))
-insert_judged peer id place code = rw (within_both within_limits place_within id place) (go id place code) where
-  one : (i : Id) (p : Option Id) (c : ℕ) (a b d : Bool) → cond (not (a && b)) (Err Limit) (cond (not d) (Err CharRefused) (owned peer (Insert i p c))) ≡ made (both (cond (a && b) (Ok (i, p)) (Err Limit)) (cond d (Ok c) (Err CharRefused))) (λ (x : (Id × Option Id) × ℕ). owned peer (Insert x.0.0 x.0.1 x.1))
+pub insert_judged : (peer : ℕ) (id : Option OpId) (parent : Option (Option OpId)) (code : Option ℕ)
+    → op_verdict peer (id >>= λ i. parent >>= λ p. code >>= λ c. Some (Insert i p c)) ≡ made (both (both (within within_limits id) (within parent_within parent)) (encoded code)) (λ x. owned peer (Insert x.0.0 x.0.1 x.1))
+insert_judged peer id parent code = rw (within_both within_limits parent_within id parent) (go id parent code) where
+  one : (i : OpId) (p : Option OpId) (c : ℕ) (a b d : Bool) → cond (not (a && b)) (Err Limit) (cond (not d) (Err CharRefused) (owned peer (Insert i p c))) ≡ made (both (cond (a && b) (Ok (i, p)) (Err Limit)) (cond d (Ok c) (Err CharRefused))) (λ (x : (OpId × Option OpId) × ℕ). owned peer (Insert x.0.0 x.0.1 x.1))
   one i p c true true true = refl
   one i p c true true false = refl
   one i p c true false true = refl
@@ -63,22 +63,22 @@ insert_judged peer id place code = rw (within_both within_limits place_within id
   one i p c false b true = refl
   one i p c false b false = refl
 
-  none : (i : Id) (p : Option Id) (a : Bool) → Err BadLine ≡ made (both (cond a (Ok (i, p)) (Err Limit)) (Err BadLine)) (λ (x : (Id × Option Id) × ℕ). owned peer (Insert x.0.0 x.0.1 x.1))
+  none : (i : OpId) (p : Option OpId) (a : Bool) → Err BadLine ≡ made (both (cond a (Ok (i, p)) (Err Limit)) (Err BadLine)) (λ (x : (OpId × Option OpId) × ℕ). owned peer (Insert x.0.0 x.0.1 x.1))
   none i p true = refl
   none i p false = refl
 
-  coded : (c : ℕ) (d : Bool) → Err BadLine ≡ made (both (Err BadLine) (cond d (Ok c) (Err CharRefused))) (λ (x : (Id × Option Id) × ℕ). owned peer (Insert x.0.0 x.0.1 x.1))
+  coded : (c : ℕ) (d : Bool) → Err BadLine ≡ made (both (Err BadLine) (cond d (Ok c) (Err CharRefused))) (λ (x : (OpId × Option OpId) × ℕ). owned peer (Insert x.0.0 x.0.1 x.1))
   coded c true = refl
   coded c false = refl
 
-  go : (id : Option Id) (place : Option (Option Id)) (code : Option ℕ)
-      → op_verdict peer (id >>= λ i. place >>= λ p. code >>= λ c. Some (Insert i p c)) ≡ made (both (within (λ (x : Id × Option Id). within_limits x.0 && place_within x.1) (id >>= λ i. place >>= λ p. Some (i, p))) (encoded code)) (λ x. owned peer (Insert x.0.0 x.0.1 x.1))
-  go (Some i) (Some p) (Some c) = one i p c (within_limits i) (place_within p) (is_character c)
-  go (Some i) (Some p) None = none i p (within_limits i && place_within p)
+  go : (id : Option OpId) (parent : Option (Option OpId)) (code : Option ℕ)
+      → op_verdict peer (id >>= λ i. parent >>= λ p. code >>= λ c. Some (Insert i p c)) ≡ made (both (within (λ (x : OpId × Option OpId). within_limits x.0 && parent_within x.1) (id >>= λ i. parent >>= λ p. Some (i, p))) (encoded code)) (λ x. owned peer (Insert x.0.0 x.0.1 x.1))
+  go (Some i) (Some p) (Some c) = one i p c (within_limits i) (parent_within p) (is_character c)
+  go (Some i) (Some p) None = none i p (within_limits i && parent_within p)
   go (Some i) None (Some c) = coded c (is_character c)
   go (Some i) None None = refl
-  go None place (Some c) = coded c (is_character c)
-  go None place None = refl
+  go None parent (Some c) = coded c (is_character c)
+  go None parent None = refl
 
 and_comm : (a b : Bool) → (a && b) ≡ (b && a)
 and_comm true true = refl
@@ -86,52 +86,52 @@ and_comm true false = refl
 and_comm false true = refl
 and_comm false false = refl
 
-pub remove_judged : (peer : ℕ) (id target : Option Id)
+pub remove_judged : (peer : ℕ) (id target : Option OpId)
     → op_verdict peer (id >>= λ i. target >>= λ t. Some (Remove i t)) ≡ made (both (within within_limits id) (within within_limits target)) (λ x. owned peer (Remove x.0 x.1))
 remove_judged peer id target =
     rw within_both (go id target) where
-      go : (id target : Option Id) → op_verdict peer (id >>= λ i. target >>= λ t. Some (Remove i t)) ≡ made (within (λ (x : Id × Id). within_limits x.0 && within_limits x.1) (id >>= λ x. target >>= λ y. Some (x, y))) (λ x. owned peer (Remove x.0 x.1))
+      go : (id target : Option OpId) → op_verdict peer (id >>= λ i. target >>= λ t. Some (Remove i t)) ≡ made (within (λ (x : OpId × OpId). within_limits x.0 && within_limits x.1) (id >>= λ x. target >>= λ y. Some (x, y))) (λ x. owned peer (Remove x.0 x.1))
       go None target = refl
       go (Some i) None = refl
-      go (Some i) (Some t) = within_made peer (λ (x : Id × Id). within_limits x.0 && within_limits x.1) (λ x. Remove x.0 x.1) (Some (i, t)) (λ x. refl) (λ x. refl)
+      go (Some i) (Some t) = within_made peer (λ (x : OpId × OpId). within_limits x.0 && within_limits x.1) (λ x. Remove x.0 x.1) (Some (i, t)) (λ x. refl) (λ x. refl)
 
 -- a value and its two anchors, and then the id: of what a mark and the removal of one are made
-pub marks_judged : {A : Type 0} (peer : ℕ) (t : A → Bool) (op : Id → A → Anchor × Anchor → Op) (id : Option Id) (value : Option A) (anchors : Option (Anchor × Anchor))
-    → ((i : Id) (a : A) (n : Anchor × Anchor) → op_within (op i a n) ≡ (within_limits i && (t a && anchors_within n))) → ((i : Id) (a : A) (n : Anchor × Anchor) → has_character (op i a n) ≡ true)
+pub marks_judged : {A : Type 0} (peer : ℕ) (t : A → Bool) (op : OpId → A → Anchor × Anchor → Op) (id : Option OpId) (value : Option A) (anchors : Option (Anchor × Anchor))
+    → ((i : OpId) (a : A) (n : Anchor × Anchor) → op_within (op i a n) ≡ (within_limits i && (t a && anchors_within n))) → ((i : OpId) (a : A) (n : Anchor × Anchor) → has_character (op i a n) ≡ true)
     → op_verdict peer (id >>= λ i. value >>= λ a. anchors >>= λ n. Some (op i a n)) ≡ made (both (both (within t value) (within anchors_within anchors)) (within within_limits id)) (λ x. owned peer (op x.1 x.0.0 x.0.1))
 marks_judged {A} peer t op id value anchors limits code = rw (within_both t anchors_within value anchors, within_both (λ (x : A × (Anchor × Anchor)). t x.0 && anchors_within x.1) within_limits (value >>= λ a. anchors >>= λ n. Some (a, n)) id) (go id value anchors) where
-  go : (id : Option Id) (value : Option A) (anchors : Option (Anchor × Anchor))
-      → op_verdict peer (id >>= λ i. value >>= λ a. anchors >>= λ n. Some (op i a n)) ≡ made (within (λ (x : (A × (Anchor × Anchor)) × Id). (t x.0.0 && anchors_within x.0.1) && within_limits x.1) ((value >>= λ a. anchors >>= λ n. Some (a, n)) >>= λ p. id >>= λ i. Some (p, i))) (λ x. owned peer (op x.1 x.0.0 x.0.1))
+  go : (id : Option OpId) (value : Option A) (anchors : Option (Anchor × Anchor))
+      → op_verdict peer (id >>= λ i. value >>= λ a. anchors >>= λ n. Some (op i a n)) ≡ made (within (λ (x : (A × (Anchor × Anchor)) × OpId). (t x.0.0 && anchors_within x.0.1) && within_limits x.1) ((value >>= λ a. anchors >>= λ n. Some (a, n)) >>= λ p. id >>= λ i. Some (p, i))) (λ x. owned peer (op x.1 x.0.0 x.0.1))
   go None None anchors = refl
   go None (Some a) None = refl
   go None (Some a) (Some n) = refl
   go (Some i) None anchors = refl
   go (Some i) (Some a) None = refl
-  go (Some i) (Some a) (Some n) = within_made peer (λ (x : (A × (Anchor × Anchor)) × Id). (t x.0.0 && anchors_within x.0.1) && within_limits x.1) (λ x. op x.1 x.0.0 x.0.1) (Some ((a, n), i)) (λ x. limits x.1 x.0.0 x.0.1 ∙ and_comm (within_limits x.1) (t x.0.0 && anchors_within x.0.1)) (λ x. code x.1 x.0.0 x.0.1)
+  go (Some i) (Some a) (Some n) = within_made peer (λ (x : (A × (Anchor × Anchor)) × OpId). (t x.0.0 && anchors_within x.0.1) && within_limits x.1) (λ x. op x.1 x.0.0 x.0.1) (Some ((a, n), i)) (λ x. limits x.1 x.0.0 x.0.1 ∙ and_comm (within_limits x.1) (t x.0.0 && anchors_within x.0.1)) (λ x. code x.1 x.0.0 x.0.1)
 
 -- the lines
 
-pub insert_line : (peer : ℕ) (fields own rest place code : List ℕ) (read : Result ((Id × Option Id) × ℕ) LineFault) → split 32 fields ≡ Some (own, rest) → split 32 rest ≡ Some (place, code)
-    → read ≡ both (both (within within_limits (id_at own)) (within place_within (place_at place))) (encoded (hex_at code)) → op_verdict peer (insert_at fields) ≡ made read (λ x. owned peer (Insert x.0.0 x.0.1 x.1))
+pub insert_line : (peer : ℕ) (fields own rest parent code : List ℕ) (read : Result ((OpId × Option OpId) × ℕ) LineFault) → split 32 fields ≡ Some (own, rest) → split 32 rest ≡ Some (parent, code)
+    → read ≡ both (both (within within_limits (id_at own)) (within parent_within (parent_at parent))) (encoded (hex_at code)) → op_verdict peer (insert_at fields) ≡ made read (λ x. owned peer (Insert x.0.0 x.0.1 x.1))
 unfolding insert_at
-insert_line peer fields own rest place code read e f same = rw (e, f, same) (insert_judged peer (id_at own) (place_at place) (hex_at code))
+insert_line peer fields own rest parent code read e f same = rw (e, f, same) (insert_judged peer (id_at own) (parent_at parent) (hex_at code))
 
-pub remove_line : (peer : ℕ) (fields own target : List ℕ) (read : Result (Id × Id) LineFault) → split 32 fields ≡ Some (own, target)
+pub remove_line : (peer : ℕ) (fields own target : List ℕ) (read : Result (OpId × OpId) LineFault) → split 32 fields ≡ Some (own, target)
     → read ≡ both (within within_limits (id_at own)) (within within_limits (id_at target)) → op_verdict peer (remove_at fields) ≡ made read (λ x. owned peer (Remove x.0 x.1))
 unfolding remove_at
 remove_line peer fields own target read e same = rw (e, same) (remove_judged peer (id_at own) (id_at target))
 
-pub unmark_line : (peer : ℕ) (fields own rest name anchors : List ℕ) (read : Result ((Key × (Anchor × Anchor)) × Id) LineFault) → split 32 fields ≡ Some (own, rest) → split 32 rest ≡ Some (name, anchors)
+pub unmark_line : (peer : ℕ) (fields own rest name anchors : List ℕ) (read : Result ((Key × (Anchor × Anchor)) × OpId) LineFault) → split 32 fields ≡ Some (own, rest) → split 32 rest ≡ Some (name, anchors)
     → read ≡ both (both (within key_within (key_at name)) (within anchors_within (anchors_at anchors))) (within within_limits (id_at own))
     → op_verdict peer (unmark_at fields) ≡ made read (λ x. owned peer (RemoveMark x.1 x.0.0 x.0.1.0 x.0.1.1))
 unfolding unmark_at unmarked_at
 unmark_line peer fields own rest name anchors read e f same =
     rw (e, f, same) (go (id_at own) (key_at name) (anchors_at anchors)) where
-      go : (id : Option Id) (key : Option Key) (anchors : Option (Anchor × Anchor))
+      go : (id : Option OpId) (key : Option Key) (anchors : Option (Anchor × Anchor))
           → op_verdict peer (id >>= λ i. (key >>= λ k. anchors >>= λ n. Some (paired k n)) >>= λ u. Some (RemoveMark i u.0 u.1.0 u.1.1))
           ≡ made (both (both (within key_within key) (within anchors_within anchors)) (within within_limits id)) (λ x. owned peer (RemoveMark x.1 x.0.0 x.0.1.0 x.0.1.1))
       go id key anchors = regroup id key anchors ∙ marks_judged peer key_within (λ i k n. RemoveMark i k n.0 n.1) id key anchors (λ i k n. refl) (λ i k n. refl) where
-        regroup : (id : Option Id) (key : Option Key) (anchors : Option (Anchor × Anchor))
+        regroup : (id : Option OpId) (key : Option Key) (anchors : Option (Anchor × Anchor))
             → op_verdict peer (id >>= λ i. (key >>= λ k. anchors >>= λ n. Some (paired k n)) >>= λ u. Some (RemoveMark i u.0 u.1.0 u.1.1)) ≡ op_verdict peer (id >>= λ i. key >>= λ k. anchors >>= λ n. Some (RemoveMark i k n.0 n.1))
         regroup None key anchors = refl
         regroup (Some i) None anchors = refl
@@ -143,7 +143,7 @@ mark_read : (peer : ℕ) (fields own rest name more value anchors : List ℕ) �
 unfolding mark_at marked_at
 mark_read peer fields own rest name more value anchors e f g =
     rw (e, f, g) (regroup (id_at own) (attribute_at name value) (anchors_at anchors) ∙ marks_judged peer attribute_within (λ i a n. AddMark i a n.0 n.1) (id_at own) (attribute_at name value) (anchors_at anchors) (λ i a n. refl) (λ i a n. refl)) where
-      regroup : (id : Option Id) (attribute : Option Attribute) (anchors : Option (Anchor × Anchor))
+      regroup : (id : Option OpId) (attribute : Option Attribute) (anchors : Option (Anchor × Anchor))
           → op_verdict peer (id >>= λ i. (anchors >>= λ n. attribute >>= λ a. Some (paired a n)) >>= λ m. Some (AddMark i m.0 m.1.0 m.1.1)) ≡ op_verdict peer (id >>= λ i. attribute >>= λ a. anchors >>= λ n. Some (AddMark i a n.0 n.1))
       regroup None attribute anchors = refl
       regroup (Some i) None None = refl
@@ -152,29 +152,29 @@ mark_read peer fields own rest name more value anchors e f g =
       regroup (Some i) (Some a) (Some n) = refl
 
 -- where memory ran out, a part of no form is told all the same
-memory_told : (peer : ℕ) (id : Option Id) (anchors : Option (Anchor × Anchor)) (attribute : Option Attribute)
+memory_told : (peer : ℕ) (id : Option OpId) (anchors : Option (Anchor × Anchor)) (attribute : Option Attribute)
     → Reads (made (both (both (Err OutOfMemory) (within anchors_within anchors)) (within within_limits id)) (λ x. owned peer (AddMark x.1 x.0.0 x.0.1.0 x.0.1.1)))
     (made (both (both (within attribute_within attribute) (within anchors_within anchors)) (within within_limits id)) (λ x. owned peer (AddMark x.1 x.0.0 x.0.1.0 x.0.1.1)))
-memory_told peer id None attribute = inr (ap (λ (r : Result ((Attribute × (Anchor × Anchor)) × Id) LineFault). made r (λ x. owned peer (AddMark x.1 x.0.0 x.0.1.0 x.0.1.1))) (ap (λ (r : Result (Attribute × (Anchor × Anchor)) LineFault). both r (within within_limits id)) (sym (formless (within attribute_within attribute))))) where
+memory_told peer id None attribute = inr (ap (λ (r : Result ((Attribute × (Anchor × Anchor)) × OpId) LineFault). made r (λ x. owned peer (AddMark x.1 x.0.0 x.0.1.0 x.0.1.1))) (ap (λ (r : Result (Attribute × (Anchor × Anchor)) LineFault). both r (within within_limits id)) (sym (formless (within attribute_within attribute))))) where
   formless : (r : Result Attribute LineFault) → both {B = Anchor × Anchor} r (Err BadLine) ≡ Err BadLine
   formless (Ok a) = refl
   formless (Err fault) = refl
 memory_told peer None (Some n) attribute = inr (go (anchors_within n) (both (within attribute_within attribute) (within anchors_within (Some n)))) where
   go : (b : Bool) (r : Result (Attribute × (Anchor × Anchor)) LineFault)
-      → made (both (both (Err OutOfMemory) (cond b (Ok n) (Err Limit))) (Err BadLine)) (λ (x : (Attribute × (Anchor × Anchor)) × Id). owned peer (AddMark x.1 x.0.0 x.0.1.0 x.0.1.1))
-      ≡ made (both r (Err BadLine)) (λ (x : (Attribute × (Anchor × Anchor)) × Id). owned peer (AddMark x.1 x.0.0 x.0.1.0 x.0.1.1))
+      → made (both (both (Err OutOfMemory) (cond b (Ok n) (Err Limit))) (Err BadLine)) (λ (x : (Attribute × (Anchor × Anchor)) × OpId). owned peer (AddMark x.1 x.0.0 x.0.1.0 x.0.1.1))
+      ≡ made (both r (Err BadLine)) (λ (x : (Attribute × (Anchor × Anchor)) × OpId). owned peer (AddMark x.1 x.0.0 x.0.1.0 x.0.1.1))
   go true (Ok x) = refl
   go true (Err fault) = refl
   go false (Ok x) = refl
   go false (Err fault) = refl
 memory_told peer (Some i) (Some n) attribute = inl (go (anchors_within n) (within_limits i)) where
-  go : (b c : Bool) → made (both (both (Err OutOfMemory) (cond b (Ok n) (Err Limit))) (cond c (Ok i) (Err Limit))) (λ (x : (Attribute × (Anchor × Anchor)) × Id). owned peer (AddMark x.1 x.0.0 x.0.1.0 x.0.1.1)) ≡ Err OutOfMemory
+  go : (b c : Bool) → made (both (both (Err OutOfMemory) (cond b (Ok n) (Err Limit))) (cond c (Ok i) (Err Limit))) (λ (x : (Attribute × (Anchor × Anchor)) × OpId). owned peer (AddMark x.1 x.0.0 x.0.1.0 x.0.1.1)) ≡ Err OutOfMemory
   go true true = refl
   go true false = refl
   go false true = refl
   go false false = refl
 
-pub mark_line : (peer : ℕ) (fields own rest name more value anchors : List ℕ) (attribute : Result Attribute LineFault) (read : Result ((Attribute × (Anchor × Anchor)) × Id) LineFault)
+pub mark_line : (peer : ℕ) (fields own rest name more value anchors : List ℕ) (attribute : Result Attribute LineFault) (read : Result ((Attribute × (Anchor × Anchor)) × OpId) LineFault)
     → split 32 fields ≡ Some (own, rest) → split 32 rest ≡ Some (name, more) → split 32 more ≡ Some (value, anchors) → Reads attribute (within attribute_within (attribute_at name value))
     → read ≡ both (both attribute (within anchors_within (anchors_at anchors))) (within within_limits (id_at own))
     → Reads (made read (λ x. owned peer (AddMark x.1 x.0.0 x.0.1.0 x.0.1.1))) (op_verdict peer (mark_at fields))

@@ -1,11 +1,11 @@
 -- A saturated number is within the limits just where the number is.
 use Rattle.std.proofs.Common.{◌≡◌, ℕ, ◌-◌, ◌^◌, ◌<◌, refl, arith, inl, inr}
 use Rattle.std.proofs.lemmas.Bool.{cases_lt}
-use Rattle.change_ops.specs.Ids.{Id, within_limits, is_character, checked}
+use Rattle.change_ops.specs.Ids.{OpId, within_limits, is_character, checked}
 use Rattle.change_ops.specs.Attributes.{is_color, is_comment_number}
 use Rattle.change_ops.specs.Words.{saturated}
 
-abbrev id : ℕ → ℕ → Id
+abbrev id : ℕ → ℕ → OpId
 id c n = record { counter = c; node = n }
 
 pub same_small : (c : ℕ) → c < 2 ^ 64 - 1 → saturated c ≡ c

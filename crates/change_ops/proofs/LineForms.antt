@@ -2,20 +2,20 @@
 use Rattle.std.proofs.Common.{◌≡◌, ℕ, zero, suc, ◌<◌, Bool, true, false, cond, List, [], ◌∷◌, ◌++◌, length, Option, Some, None, refl, sym, ap, subst, ◌∙◌, arith}
 use Rattle.std.specs.Prelude.{codes, if◌then◌else◌}
 use Rattle.std.specs.Str.{bytes_eq}
-use Rattle.change_ops.specs.Ids.{Id}
+use Rattle.change_ops.specs.Ids.{OpId}
 use Rattle.change_ops.specs.Words.{split, number_in}
-use Rattle.change_ops.specs.Runs.{RunView}
-use Rattle.change_ops.specs.Reading.{◌>>=◌, id_at, hex_at, place_at, characters_at, counted_at, run_parts, run_at, op_at, line_at, line_in, form_at, header_at}
+use Rattle.change_ops.specs.Runs.{Run}
+use Rattle.change_ops.specs.Reading.{◌>>=◌, id_at, hex_at, parent_at, characters_at, counted_at, run_parts, run_at, op_at, line_at, line_in, form_at, header_at}
 use Rattle.change_ops.specs.Spelling.{◌␣◌, form_text}
-use Rattle.change_ops.specs.Forms.{LinesAreForms, HeadersAreForms, Numeral, Joined, ◌⎵◌, IdForm, PlaceForm, CodeForm, CharactersForm, CountedForm, RunForm, AnyForm, LineForm, FormWord, HeaderForm}
+use Rattle.change_ops.specs.Forms.{LinesAreForms, HeadersAreForms, Numeral, Joined, ◌⎵◌, IdForm, ParentForm, CodeForm, CharactersForm, CountedForm, RunForm, AnyForm, LineForm, FormWord, HeaderForm}
 use Rattle.change_ops.specs.declared.line.Form.{Form}
 use Rattle.change_ops.specs.declared.line.Form.TheVariants.{First, Second}
 use Rattle.change_ops.specs.declared.line.Line.{Line}
-use Rattle.change_ops.specs.declared.line.Line.TheVariants.{Operation, Run}
+use Rattle.change_ops.specs.declared.line.Line.TheVariants.{Operation, Run as RunLine}
 use Rattle.change_ops.proofs.Grammar.{Lacks, bind_some, split_again, split_takes}
 use Rattle.change_ops.proofs.Phrases.{same_bytes}
 use Rattle.change_ops.proofs.Keys.{lacks_printed, no_digit_below}
-use Rattle.change_ops.proofs.FormLaws.{joined_again, numeral_lacks, decimal_lacks, id_lacks, place_lacks, id_form, id_read, place_form, place_read, code_form, code_read, op_form, op_read, lettered}
+use Rattle.change_ops.proofs.FormLaws.{joined_again, numeral_lacks, decimal_lacks, id_lacks, parent_lacks, id_form, id_read, parent_form, parent_read, code_form, code_read, op_form, op_read, lettered}
 use Rattle.change_ops.proofs.NumeralForms.{number_takes, number_again}
 use Rattle.change_ops.proofs.RunLaws.{not_none}
 use Rattle.change_ops.proofs.SpelledLines.{op_line_read, in_takes}
@@ -81,38 +81,38 @@ counted_read (c ∷ cs) fields j =
 
 -- runs
 
-abbrev FieldsForm : RunView → List ℕ → Type 0
-FieldsForm run = IdForm run.id ⎵ PlaceForm run.parent ⎵ CountedForm run.characters
+abbrev FieldsForm : Run → List ℕ → Type 0
+FieldsForm run = IdForm run.id ⎵ ParentForm run.parent ⎵ CountedForm run.characters
 
-run_form : (fields : List ℕ) (run : RunView) → run_at fields ≡ Some run → FieldsForm run fields
+run_form : (fields : List ℕ) (run : Run) → run_at fields ≡ Some run → FieldsForm run fields
 unfolding run_at
 run_form fields run e =
-    let a = bind_some (split 32 fields) (λ first. split 32 first.1 >>= λ second. run_parts (id_at first.0) (place_at second.0) (counted_at second.1)) run e in
-    let b = bind_some (split 32 a.0.1) (λ second. run_parts (id_at a.0.0) (place_at second.0) (counted_at second.1)) run a.2 in
-    let d = bind_some (id_at a.0.0) (λ id. place_at b.0.0 >>= λ parent. counted_at b.0.1 >>= λ characters. made id parent characters) run b.2 in
-    let f = bind_some (place_at b.0.0) (λ parent. counted_at b.0.1 >>= λ characters. made d.0 parent characters) run d.2 in
+    let a = bind_some (split 32 fields) (λ first. split 32 first.1 >>= λ second. run_parts (id_at first.0) (parent_at second.0) (counted_at second.1)) run e in
+    let b = bind_some (split 32 a.0.1) (λ second. run_parts (id_at a.0.0) (parent_at second.0) (counted_at second.1)) run a.2 in
+    let d = bind_some (id_at a.0.0) (λ id. parent_at b.0.0 >>= λ parent. counted_at b.0.1 >>= λ characters. made id parent characters) run b.2 in
+    let f = bind_some (parent_at b.0.0) (λ parent. counted_at b.0.1 >>= λ characters. made d.0 parent characters) run d.2 in
     let g = bind_some (counted_at b.0.1) (λ characters. made d.0 f.0 characters) run f.2 in
-    let read : RunView = record { id = d.0; parent = f.0; characters = g.0 } in
+    let read : Run = record { id = d.0; parent = f.0; characters = g.0 } in
     let same : read ≡ run = some_run read run g.2 in
-    let inner : Joined 32 (PlaceForm f.0) (CountedForm g.0) a.0.1 = record { first = b.0.0; second = b.0.1; whole = (split_takes 32 a.0.1 b.0.0 b.0.1 b.1).0; before = place_form b.0.0 f.0 f.1; after = counted_form b.0.1 g.0 g.1 } in
+    let inner : Joined 32 (ParentForm f.0) (CountedForm g.0) a.0.1 = record { first = b.0.0; second = b.0.1; whole = (split_takes 32 a.0.1 b.0.0 b.0.1 b.1).0; before = parent_form b.0.0 f.0 f.1; after = counted_form b.0.1 g.0 g.1 } in
     let form : FieldsForm read fields = record { first = a.0.0; second = a.0.1; whole = (split_takes 32 fields a.0.0 a.0.1 a.1).0; before = id_form a.0.0 d.0 d.1; after = inner } in
-    subst (λ (x : RunView). FieldsForm x fields) same form
+    subst (λ (x : Run). FieldsForm x fields) same form
   where
-    made : Id → Option Id → List ℕ → Option RunView
+    made : OpId → Option OpId → List ℕ → Option Run
     made id parent characters = Some (record { id = id; parent = parent; characters = characters })
 
-    some_run : (x y : RunView) → Some x ≡ Some y → x ≡ y
+    some_run : (x y : Run) → Some x ≡ Some y → x ≡ y
     some_run x y e = cc
 
-run_read : (fields : List ℕ) (run : RunView) → FieldsForm run fields → run_at fields ≡ Some run
+run_read : (fields : List ℕ) (run : Run) → FieldsForm run fields → run_at fields ≡ Some run
 unfolding run_at
 run_read fields run j =
     let k = j.after in
     rw (
       joined_again 32 fields j (id_lacks 32 run.id j.first (omega arith) j.before),
-      joined_again 32 j.second k (place_lacks 32 run.parent k.first (omega arith) k.before),
+      joined_again 32 j.second k (parent_lacks 32 run.parent k.first (omega arith) k.before),
       id_read j.first run.id j.before,
-      place_read k.first run.parent k.before,
+      parent_read k.first run.parent k.before,
       counted_read run.characters k.second k.after,
     ) refl
 
@@ -121,14 +121,14 @@ run_read fields run j =
 pub any_form : (text : List ℕ) (line : Line) → line_at text ≡ Some line → AnyForm line text
 unfolding line_at
 any_form text line e =
-    let a = bind_some (split 32 text) (λ first. if bytes_eq first.0 (codes "r") then (run_at first.1 >>= λ run. Some (Run run)) else (op_at text >>= λ op. Some (Operation op))) line e in
+    let a = bind_some (split 32 text) (λ first. if bytes_eq first.0 (codes "r") then (run_at first.1 >>= λ run. Some (RunLine run)) else (op_at text >>= λ op. Some (Operation op))) line e in
     kinds a.0.0 a.0.1 (split_takes 32 text a.0.0 a.0.1 a.1).0 (bytes_eq a.0.0 (codes "r")) refl a.2
   where
     kinds : (name fields : List ℕ) → text ≡ name ␣ fields → (b : Bool) → bytes_eq name (codes "r") ≡ b
-        → cond b (run_at fields >>= λ run. Some (Run run)) (op_at text >>= λ op. Some (Operation op)) ≡ Some line → AnyForm line text
+        → cond b (run_at fields >>= λ run. Some (RunLine run)) (op_at text >>= λ op. Some (Operation op)) ≡ Some line → AnyForm line text
     kinds name fields whole true f g =
-        let b = bind_some (run_at fields) (λ run. Some (Run run)) line g in
-        let same : Run b.0 ≡ line = cc (b.2) in
+        let b = bind_some (run_at fields) (λ run. Some (RunLine run)) line g in
+        let same : RunLine b.0 ≡ line = cc (b.2) in
         let form : RunForm b.0 text = record { first = name; second = fields; whole = whole; before = same_bytes name (codes "r") f; after = run_form fields b.0 b.1 } in
         subst (λ (x : Line). AnyForm x text) same form
     kinds name fields whole false f g =
@@ -139,7 +139,7 @@ any_form text line e =
 pub any_read : (text : List ℕ) (line : Line) → AnyForm line text → line_at text ≡ Some line
 unfolding line_at
 any_read text (Operation op) h = op_line_read text op (op_read text op h)
-any_read text (Run run) j = rw (lettered 114 text j refl, run_read j.second run j.after) refl
+any_read text (RunLine run) j = rw (lettered 114 text j refl, run_read j.second run j.after) refl
 
 pub line_form : (form : Form) (text : List ℕ) (line : Line) → line_in form text ≡ Some line → LineForm form line text
 line_form form text line e = let h = in_takes form text line e in record { had = h.had; spelled = any_form text line h.read }

@@ -3,36 +3,36 @@ use Rattle.std.proofs.Common.{◌≡◌, ℕ, Bool, true, false, cond, eqb, List
 use Rattle.std.specs.Prelude.{codes, if◌then◌else◌}
 use Rattle.std.specs.Str.{bytes_eq}
 use Rattle.std.proofs.lemmas.Bool.{and_parts}
-use Rattle.change_ops.specs.Ids.{Id, within_limits, is_character}
-use Rattle.change_ops.specs.Limits.{place_within, anchor_within, anchors_within, key_within, attribute_within, marked_within, unmarked_within, op_within, has_character}
+use Rattle.change_ops.specs.Ids.{OpId, within_limits, is_character}
+use Rattle.change_ops.specs.Limits.{parent_within, anchor_within, anchors_within, key_within, attribute_within, marked_within, unmarked_within, op_within, has_character}
 use Rattle.change_ops.specs.Words.{split}
-use Rattle.change_ops.specs.Reading.{◌>>=◌, id_at, hex_at, place_at, anchor_at, anchors_at, key_at, attribute_at, insert_at, remove_at, marked_at, mark_at, unmarked_at, unmark_at, op_at}
-use Rattle.change_ops.specs.Spelling.{◌␣◌, hexadecimal, id_text, place_text, anchor_text, key_text, attribute_text, op_text}
+use Rattle.change_ops.specs.Reading.{◌>>=◌, id_at, hex_at, parent_at, anchor_at, anchors_at, key_at, attribute_at, insert_at, remove_at, marked_at, mark_at, unmarked_at, unmark_at, op_at}
+use Rattle.change_ops.specs.Spelling.{◌␣◌, hexadecimal, id_text, parent_text, anchor_text, key_text, attribute_text, op_text}
 use Rattle.change_ops.specs.declared.attribute.Key.{Key}
 use Rattle.change_ops.specs.declared.attribute.Attribute.{Attribute}
 use Rattle.change_ops.specs.declared.operation.Anchor.{Anchor}
 use Rattle.change_ops.specs.declared.operation.Op.{Op}
 use Rattle.change_ops.specs.declared.operation.Op.TheVariants.{Insert, Remove, AddMark, RemoveMark}
 use Rattle.change_ops.proofs.Grammar.{Lacks, bind_some, split_again, split_takes}
-use Rattle.change_ops.proofs.Phrases.{lacks_cons, lacks_joined, hex_again, hex_takes, hex_lacks, id_again, id_takes, id_lacks, place_again, place_takes, place_lacks, anchor_again, anchor_takes, anchor_lacks, same_bytes}
+use Rattle.change_ops.proofs.Phrases.{lacks_cons, lacks_joined, hex_again, hex_takes, hex_lacks, id_again, id_takes, id_lacks, parent_again, parent_takes, parent_lacks, anchor_again, anchor_takes, anchor_lacks, same_bytes}
 use Rattle.change_ops.proofs.Keys.{key_again, key_takes, key_lacks, attribute_again, attribute_takes, attribute_lacks}
 
 -- a word, and what stands behind its space
 first : (word rest : List ℕ) → Lacks 32 word → split 32 (word ␣ rest) ≡ Some (word, rest)
 first word rest lacks = split_again 32 word rest lacks
 
-id_first : (id : Id) (rest : List ℕ) → within_limits id ≡ true → split 32 (id_text id ␣ rest) ≡ Some (id_text id, rest)
+id_first : (id : OpId) (rest : List ℕ) → within_limits id ≡ true → split 32 (id_text id ␣ rest) ≡ Some (id_text id, rest)
 id_first id rest h = first (id_text id) rest (id_lacks 32 id (lit≤ tt) refl h)
 
-insert_again : (id : Id) (parent : Option Id) (character : ℕ) → within_limits id ≡ true → place_within parent ≡ true → is_character character ≡ true
-    → insert_at (id_text id ␣ place_text parent ␣ hexadecimal character) ≡ Some (Insert id parent character)
+insert_again : (id : OpId) (parent : Option OpId) (character : ℕ) → within_limits id ≡ true → parent_within parent ≡ true → is_character character ≡ true
+    → insert_at (id_text id ␣ parent_text parent ␣ hexadecimal character) ≡ Some (Insert id parent character)
 unfolding insert_at
 insert_again id parent character h p c =
-    let one = id_first id (place_text parent ␣ hexadecimal character) h in
-    let two = first (place_text parent) (hexadecimal character) (place_lacks 32 parent (lit≤ tt) refl refl p) in
-    rw (one, two, id_again id h, place_again parent p, hex_again character c) refl
+    let one = id_first id (parent_text parent ␣ hexadecimal character) h in
+    let two = first (parent_text parent) (hexadecimal character) (parent_lacks 32 parent (lit≤ tt) refl refl p) in
+    rw (one, two, id_again id h, parent_again parent p, hex_again character c) refl
 
-remove_again : (id target : Id) → within_limits id ≡ true → within_limits target ≡ true → remove_at (id_text id ␣ id_text target) ≡ Some (Remove id target)
+remove_again : (id target : OpId) → within_limits id ≡ true → within_limits target ≡ true → remove_at (id_text id ␣ id_text target) ≡ Some (Remove id target)
 unfolding remove_at
 remove_again id target h t = rw (id_first id (id_text target) h, id_again id h, id_again target t) refl
 
@@ -53,13 +53,13 @@ marked_again attribute start end a s e =
     let two = first w.value anchors (w.value_lacks 32 (omega arith)) in
     rw (text, one, two, anchors_again start end s e, w.read) refl
 
-mark_again : (id : Id) (attribute : Attribute) (start end : Anchor) → within_limits id ≡ true → attribute_within attribute ≡ true → anchor_within start ≡ true → anchor_within end ≡ true
+mark_again : (id : OpId) (attribute : Attribute) (start end : Anchor) → within_limits id ≡ true → attribute_within attribute ≡ true → anchor_within start ≡ true → anchor_within end ≡ true
     → mark_at (id_text id ␣ attribute_text attribute ␣ anchor_text start ␣ anchor_text end) ≡ Some (AddMark id attribute start end)
 unfolding mark_at
 mark_again id attribute start end h a s e =
     rw (id_first id (attribute_text attribute ␣ anchor_text start ␣ anchor_text end) h, id_again id h, marked_again attribute start end a s e) refl
 
-unmark_again : (id : Id) (key : Key) (start end : Anchor) → within_limits id ≡ true → key_within key ≡ true → anchor_within start ≡ true → anchor_within end ≡ true
+unmark_again : (id : OpId) (key : Key) (start end : Anchor) → within_limits id ≡ true → key_within key ≡ true → anchor_within start ≡ true → anchor_within end ≡ true
     → unmark_at (id_text id ␣ key_text key ␣ anchor_text start ␣ anchor_text end) ≡ Some (RemoveMark id key start end)
 unfolding unmark_at unmarked_at
 unmark_again id key start end h k s e =
@@ -74,8 +74,8 @@ kind b fields h = first (b ∷ []) fields (lacks_cons 32 b [] h (λ k lt. absurd
 pub op_again : (op : Op) → op_within op ≡ true → has_character op ≡ true → op_at (op_text op) ≡ Some op
 unfolding op_at
 op_again (Insert id parent character) h c =
-    let w = and_parts (within_limits id) (place_within parent) h in
-    rw (kind 105 (id_text id ␣ place_text parent ␣ hexadecimal character) refl, insert_again id parent character w.0 w.1 c) refl
+    let w = and_parts (within_limits id) (parent_within parent) h in
+    rw (kind 105 (id_text id ␣ parent_text parent ␣ hexadecimal character) refl, insert_again id parent character w.0 w.1 c) refl
 op_again (Remove id target) h c =
     let w = and_parts (within_limits id) (within_limits target) h in
     rw (kind 100 (id_text id ␣ id_text target) refl, remove_again id target w.0 w.1) refl
@@ -98,7 +98,7 @@ behind word rest a b = lacks_joined 10 word rest 32 a refl b
 letter : (b : ℕ) → eqb b 10 ≡ false → Lacks 10 (b ∷ [])
 letter b h = lacks_cons 10 b [] h (λ k lt. absurd (omega arith))
 
-id_line : (id : Id) → within_limits id ≡ true → Lacks 10 (id_text id)
+id_line : (id : OpId) → within_limits id ≡ true → Lacks 10 (id_text id)
 id_line id h = id_lacks 10 id (lit≤ tt) refl h
 
 anchors_line : (start end : Anchor) → anchor_within start ≡ true → anchor_within end ≡ true → Lacks 10 (anchor_text start ␣ anchor_text end)
@@ -106,8 +106,8 @@ anchors_line start end s e = behind (anchor_text start) (anchor_text end) (ancho
 
 pub op_lacks : (op : Op) → op_within op ≡ true → has_character op ≡ true → Lacks 10 (op_text op)
 op_lacks (Insert id parent character) h c =
-    let w = and_parts (within_limits id) (place_within parent) h in
-    behind (codes "i") _ (letter 105 refl) (behind (id_text id) _ (id_line id w.0) (behind (place_text parent) (hexadecimal character) (place_lacks 10 parent (lit≤ tt) refl refl w.1) (hex_lacks 10 character (lit≤ tt) c)))
+    let w = and_parts (within_limits id) (parent_within parent) h in
+    behind (codes "i") _ (letter 105 refl) (behind (id_text id) _ (id_line id w.0) (behind (parent_text parent) (hexadecimal character) (parent_lacks 10 parent (lit≤ tt) refl refl w.1) (hex_lacks 10 character (lit≤ tt) c)))
 op_lacks (Remove id target) h c =
     let w = and_parts (within_limits id) (within_limits target) h in
     behind (codes "d") _ (letter 100 refl) (behind (id_text id) (id_text target) (id_line id w.0) (id_line target w.1))
@@ -130,16 +130,16 @@ both e f = (λ i. e i ␣ f i)
 insert_takes : (fields : List ℕ) (op : Op) → insert_at fields ≡ Some op → op_within op ≡ true → has_character op ≡ true → codes "i" ␣ fields ≡ op_text op
 unfolding insert_at
 insert_takes fields op e h g =
-    let a = bind_some (split 32 fields) (λ first. split 32 first.1 >>= λ second. id_at first.0 >>= λ id. place_at second.0 >>= λ parent. hex_at second.1 >>= λ character. Some (Insert id parent character)) op e in
-    let b = bind_some (split 32 a.0.1) (λ second. id_at a.0.0 >>= λ id. place_at second.0 >>= λ parent. hex_at second.1 >>= λ character. Some (Insert id parent character)) op a.2 in
-    let c = bind_some (id_at a.0.0) (λ id. place_at b.0.0 >>= λ parent. hex_at b.0.1 >>= λ character. Some (Insert id parent character)) op b.2 in
-    let d = bind_some (place_at b.0.0) (λ parent. hex_at b.0.1 >>= λ character. Some (Insert c.0 parent character)) op c.2 in
+    let a = bind_some (split 32 fields) (λ first. split 32 first.1 >>= λ second. id_at first.0 >>= λ id. parent_at second.0 >>= λ parent. hex_at second.1 >>= λ character. Some (Insert id parent character)) op e in
+    let b = bind_some (split 32 a.0.1) (λ second. id_at a.0.0 >>= λ id. parent_at second.0 >>= λ parent. hex_at second.1 >>= λ character. Some (Insert id parent character)) op a.2 in
+    let c = bind_some (id_at a.0.0) (λ id. parent_at b.0.0 >>= λ parent. hex_at b.0.1 >>= λ character. Some (Insert id parent character)) op b.2 in
+    let d = bind_some (parent_at b.0.0) (λ parent. hex_at b.0.1 >>= λ character. Some (Insert c.0 parent character)) op c.2 in
     let f = bind_some (hex_at b.0.1) (λ character. Some (Insert c.0 d.0 character)) op d.2 in
     let same : Insert c.0 d.0 f.0 ≡ op = cc (f.2) in
-    let w = and_parts (within_limits c.0) (place_within d.0) (rw (← same) at h) in
+    let w = and_parts (within_limits c.0) (parent_within d.0) (rw (← same) at h) in
     let one = (split_takes 32 fields a.0.0 a.0.1 a.1).0 in
     let two = (split_takes 32 a.0.1 b.0.0 b.0.1 b.1).0 in
-    ap (λ (x : List ℕ). codes "i" ␣ x) (one ∙ both (id_takes a.0.0 c.0 w.0 c.1) (two ∙ both (place_takes b.0.0 d.0 w.1 d.1) (hex_takes f.0 b.0.1 (rw (← same) at g) f.1))) ∙ ap op_text same
+    ap (λ (x : List ℕ). codes "i" ␣ x) (one ∙ both (id_takes a.0.0 c.0 w.0 c.1) (two ∙ both (parent_takes b.0.0 d.0 w.1 d.1) (hex_takes f.0 b.0.1 (rw (← same) at g) f.1))) ∙ ap op_text same
 
 remove_takes : (fields : List ℕ) (op : Op) → remove_at fields ≡ Some op → op_within op ≡ true → codes "d" ␣ fields ≡ op_text op
 unfolding remove_at

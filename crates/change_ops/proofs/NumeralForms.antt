@@ -6,15 +6,15 @@ use Rattle.std.proofs.lemmas.Bool.{cases_lt, lt-ltb, le-ltb}
 use Rattle.std.proofs.lemmas.Bool.Decides.{eqb_tells}
 use Rattle.std.proofs.Math.Nat.{pow-zero, pow-succ'}
 use Rattle.change_ops.specs.Words.{digit_of, digits_after, number_in, is_no_front}
-use Rattle.change_ops.specs.Forms.{place_value, DigitsOf, LeadsWell, Numeral}
+use Rattle.change_ops.specs.Forms.{digits_value, DigitsOf, LeadsWell, Numeral}
 use Rattle.change_ops.proofs.Numerals.{digit_glyph_of, glyph_digit_of, one_more}
 
 -- digits behind those of a number
 abbrev pub after_digits : ℕ → ℕ → List ℕ → ℕ
-after_digits base n ds = n * base ^ length ds + place_value base ds
+after_digits base n ds = n * base ^ length ds + digits_value base ds
 
 after_one : (base n d : ℕ) (ds : List ℕ) → after_digits base (n * base + d) ds ≡ after_digits base n (d ∷ ds)
-unfolding place_value
+unfolding digits_value
 after_one base n d ds = rw (pow-succ' base (length ds)) (omega arith)
 
 abbrev pub Below : ℕ → List ℕ → Type 0
@@ -27,7 +27,7 @@ pub record Read (base n m : ℕ) (word : List ℕ) : Type 0 where
   pub sum : m ≡ after_digits base n digits
 
 pub after_takes : (base n m : ℕ) (word : List ℕ) → base ≤ 16 → digits_after base n word ≡ Some m → Read base n m word
-unfolding digits_after place_value
+unfolding digits_after digits_value
 after_takes base n m [] high e = let same : n ≡ m = cc in record { digits = []; below = tt; written = refl; sum = rw pow-zero (omega arith) }
 after_takes base n m (b ∷ bs) high e = elim (cases_lt (digit_of b) base) [
   | inl lt ↦
@@ -40,7 +40,7 @@ after_takes base n m (b ∷ bs) high e = elim (cases_lt (digit_of b) base) [
 ]
 
 pub after_again : (base n : ℕ) (ds : List ℕ) → base ≤ 16 → Below base ds → digits_after base n (map (digit_glyph false) ds) ≡ Some (after_digits base n ds)
-unfolding digits_after place_value
+unfolding digits_after digits_value
 after_again base n [] high h = ap Some (rw pow-zero (omega arith))
 after_again base n (d ∷ ds) high h =
     one_more base n d (map (digit_glyph false) ds) h.0 high ∙ after_again base (n * base + d) ds high h.1 ∙ ap Some (after_one base n d ds)
@@ -74,7 +74,7 @@ digits_takes base n word high e = let r = after_takes base 0 n word high e in (r
 
 pub digits_again : (base n : ℕ) (ds word : List ℕ) → base ≤ 16 → DigitsOf base n ds word → digits_after base 0 word ≡ Some n
 digits_again base n ds word high h =
-    let plain : after_digits base 0 ds ≡ place_value base ds = omega arith in
+    let plain : after_digits base 0 ds ≡ digits_value base ds = omega arith in
     rw h.written (after_again base 0 ds high h.below) ∙ ap Some (plain ∙ sym h.sum)
 
 pub number_takes : (base n : ℕ) (word : List ℕ) → base ≤ 16 → number_in base word ≡ Some n → Numeral base n word

@@ -113,7 +113,7 @@ pub number_of_digits : (base n : ℕ) → 2 ≤ base → base ≤ 16 → 0 < n �
 unfolding digits number_in digits_after
 number_of_digits base n low high some small = rw (front_is (digits_onto 64 base false n []) (front base 64 n [] low high some small)) (onto_again base 64 n [] low high small (omega arith))
 
--- a word of at least so many digits
+-- a number below base ^ j has at most j digits
 pub length_onto : (base k j n : ℕ) (rest : List ℕ) → 2 ≤ base → n < base ^ j → 0 < j → length (digits_onto k base false n rest) ≤ j + length rest
 length_onto base zero j n rest low small some = omega arith
 length_onto base (suc k) zero n rest low small some = absurd (omega arith)
@@ -249,7 +249,7 @@ last_takes k n m (c ∷ cs) e = elim (cases_lt (digit_of c) 16) [
   | inr le ↦ absurd (let f = rw (le-ltb (digit_of c) 16 le) at e in cc)
 ]
 
--- a word of so many digits, leading zeros too
+-- a word of `count` digits, leading zeros too
 pub digits_padded : (count n : ℕ) (word : List ℕ) → length word ≡ count → digits_after 16 0 word ≡ Some n → word ≡ last_digits count n
 unfolding last_digits
 digits_padded count n word long e =

@@ -6,11 +6,11 @@ use Rattle.std.specs.Fmt.{decimal, digits}
 use Rattle.std.proofs.lemmas.Bool.{and_parts, ltb-true, leb-true, lt-ltb, le-ltb, eqb-true, cases_lt}
 use Rattle.std.proofs.lemmas.Bool.Decides.{nat_tests}
 use Rattle.std.proofs.lemmas.Slice.Eq.{bytes_eq-Decides}
-use Rattle.change_ops.specs.Ids.{Id, within_limits, is_node, is_character}
-use Rattle.change_ops.specs.Limits.{place_within, anchor_within}
+use Rattle.change_ops.specs.Ids.{OpId, within_limits, is_node, is_character}
+use Rattle.change_ops.specs.Limits.{parent_within, anchor_within}
 use Rattle.change_ops.specs.Words.{split, digit_of, number_in}
-use Rattle.change_ops.specs.Reading.{◌>>=◌, id_at, hex_at, place_at, beside, anchor_at}
-use Rattle.change_ops.specs.Spelling.{hexadecimal, id_text, place_text, anchor_text}
+use Rattle.change_ops.specs.Reading.{◌>>=◌, id_at, hex_at, parent_at, beside, anchor_at}
+use Rattle.change_ops.specs.Spelling.{hexadecimal, id_text, parent_text, anchor_text}
 use Rattle.change_ops.specs.declared.operation.Anchor.{Anchor}
 use Rattle.change_ops.specs.declared.operation.Anchor.TheVariants.{TextStart, BeforeCharacter, AfterCharacter, TextEnd}
 use Rattle.change_ops.proofs.Numerals.{number_of_digits, digits_of_number, length_hexadecimal}
@@ -68,44 +68,44 @@ hex_lacks mark n d h =
     number_lacks 16 mark (digits 16 false n) n d (number_of_digits 16 n (omega arith) (omega arith) l.0 (omega (arith, l.1)))
 
 -- the limits of an id
-pub record Limits (id : Id) : Type 0 where
+pub record Limits (id : OpId) : Type 0 where
   pub counted : 0 < id.counter
   pub small : id.counter < 2 ^ 48
   pub named : 0 < id.node
   pub known : id.node ≤ 65535
 
-pub limits : (id : Id) → within_limits id ≡ true → Limits id
+pub limits : (id : OpId) → within_limits id ≡ true → Limits id
 limits id h =
     let a = and_parts (leb 1 id.counter && ltb id.counter (2 ^ 48)) (is_node id.node) h in
     let b = and_parts (leb 1 id.counter) (ltb id.counter (2 ^ 48)) a.0 in
     let c = and_parts (leb 1 id.node) (leb id.node 65535) a.1 in
     record { counted = leb-true _ _ b.0; small = ltb-true _ _ b.1; named = leb-true _ _ c.0; known = leb-true _ _ c.1 }
 
-pub id_again : (id : Id) → within_limits id ≡ true → id_at (id_text id) ≡ Some id
+pub id_again : (id : OpId) → within_limits id ≡ true → id_at (id_text id) ≡ Some id
 unfolding id_at
 id_again id h =
     let l = limits id h in
     let parts = split_again 64 (decimal id.counter) (decimal id.node) (decimal_lacks 64 id.counter (lit≤ tt) l.counted (omega (arith, l.small))) in
     rw (parts, decimal_again id.counter l.counted (omega (arith, l.small)), decimal_again id.node l.named (omega (arith, l.known))) refl
 
-pub id_takes : (word : List ℕ) (id : Id) → within_limits id ≡ true → id_at word ≡ Some id → word ≡ id_text id
+pub id_takes : (word : List ℕ) (id : OpId) → within_limits id ≡ true → id_at word ≡ Some id → word ≡ id_text id
 unfolding id_at
 id_takes word id h e =
     let l = limits id h in
     let a = bind_some (split 64 word) (λ parts. number_in 10 parts.0 >>= λ counter. number_in 10 parts.1 >>= λ node. Some (record { counter = counter; node = node })) id e in
     let b = bind_some (number_in 10 a.0.0) (λ counter. number_in 10 a.0.1 >>= λ node. Some (record { counter = counter; node = node })) id a.2 in
     let c = bind_some (number_in 10 a.0.1) (λ node. Some (record { counter = b.0; node = node })) id b.2 in
-    let made : Id = record { counter = b.0; node = c.0 } in
+    let made : OpId = record { counter = b.0; node = c.0 } in
     let same : made ≡ id = some_id made id c.2 in
-    let counter : number_in 10 a.0.0 ≡ Some id.counter = b.1 ∙ ap (λ (i : Id). Some i.counter) same in
-    let node : number_in 10 a.0.1 ≡ Some id.node = c.1 ∙ ap (λ (i : Id). Some i.node) same in
+    let counter : number_in 10 a.0.0 ≡ Some id.counter = b.1 ∙ ap (λ (i : OpId). Some i.counter) same in
+    let node : number_in 10 a.0.1 ≡ Some id.node = c.1 ∙ ap (λ (i : OpId). Some i.node) same in
     let whole = (split_takes 64 word a.0.0 a.0.1 a.1).0 in
     whole ∙ rw (decimal_takes id.counter a.0.0 l.counted (omega (arith, l.small)) counter, decimal_takes id.node a.0.1 l.named (omega (arith, l.known)) node) refl
   where
-    some_id : (x y : Id) → Some x ≡ Some y → x ≡ y
+    some_id : (x y : OpId) → Some x ≡ Some y → x ≡ y
     some_id x y e = cc
 
-pub id_lacks : (mark : ℕ) (id : Id) → 10 ≤ digit_of mark → eqb 64 mark ≡ false → within_limits id ≡ true → Lacks mark (id_text id)
+pub id_lacks : (mark : ℕ) (id : OpId) → 10 ≤ digit_of mark → eqb 64 mark ≡ false → within_limits id ≡ true → Lacks mark (id_text id)
 id_lacks mark id h e w =
     let l = limits id w in
     lacks_joined mark (decimal id.counter) (decimal id.node) 64 (decimal_lacks mark id.counter h l.counted (omega (arith, l.small))) e (decimal_lacks mark id.node h l.named (omega (arith, l.known)))
@@ -114,7 +114,7 @@ pub same_bytes : (xs ys : List ℕ) → bytes_eq xs ys ≡ true → xs ≡ ys
 same_bytes xs ys e = (bytes_eq-Decides xs ys).0 e
 
 -- an id is none of the words without a sign
-pub other_word : (word name : List ℕ) (id : Id) → id_at word ≡ Some id → id_at name ≡ None → bytes_eq word name ≡ false
+pub other_word : (word name : List ℕ) (id : OpId) → id_at word ≡ Some id → id_at name ≡ None → bytes_eq word name ≡ false
 other_word word name id e f = go (bytes_eq word name) refl where
   go : (b : Bool) → bytes_eq word name ≡ b → b ≡ false
   go true h = let same : word ≡ name = same_bytes word name h in absurd (let g : id_at name ≡ Some id = rw same at e in cc)
@@ -128,31 +128,31 @@ no_empty : id_at [] ≡ None
 unfolding id_at split
 no_empty = refl
 
-pub place_again : (place : Option Id) → place_within place ≡ true → place_at (place_text place) ≡ Some place
-unfolding place_at
-place_again None h = refl
-place_again (Some id) h = let e = id_again id h in rw (other_word (id_text id) (codes "-") id e no_dash, e) refl
+pub parent_again : (parent : Option OpId) → parent_within parent ≡ true → parent_at (parent_text parent) ≡ Some parent
+unfolding parent_at
+parent_again None h = refl
+parent_again (Some id) h = let e = id_again id h in rw (other_word (id_text id) (codes "-") id e no_dash, e) refl
 
-pub place_takes : (word : List ℕ) (place : Option Id) → place_within place ≡ true → place_at word ≡ Some place → word ≡ place_text place
-unfolding place_at
-place_takes word place h e = go (bytes_eq word (codes "-")) refl e where
-  go : (b : Bool) → bytes_eq word (codes "-") ≡ b → cond b (Some None) (id_at word >>= λ id. Some (Some id)) ≡ Some place → word ≡ place_text place
-  go true f e = let same : None ≡ place = cc in same_bytes word (codes "-") f ∙ ap place_text same
+pub parent_takes : (word : List ℕ) (parent : Option OpId) → parent_within parent ≡ true → parent_at word ≡ Some parent → word ≡ parent_text parent
+unfolding parent_at
+parent_takes word parent h e = go (bytes_eq word (codes "-")) refl e where
+  go : (b : Bool) → bytes_eq word (codes "-") ≡ b → cond b (Some None) (id_at word >>= λ id. Some (Some id)) ≡ Some parent → word ≡ parent_text parent
+  go true f e = let same : None ≡ parent = cc in same_bytes word (codes "-") f ∙ ap parent_text same
   go false f e =
-      let a = bind_some (id_at word) (λ id. Some (Some id)) place e in
-      let same : Some a.0 ≡ place = cc (a.2) in
-      id_takes word a.0 (rw (← same) at h) a.1 ∙ ap place_text same
+      let a = bind_some (id_at word) (λ id. Some (Some id)) parent e in
+      let same : Some a.0 ≡ parent = cc (a.2) in
+      id_takes word a.0 (rw (← same) at h) a.1 ∙ ap parent_text same
 
-pub place_lacks : (mark : ℕ) (place : Option Id) → 10 ≤ digit_of mark → eqb 64 mark ≡ false → eqb 45 mark ≡ false → place_within place ≡ true → Lacks mark (place_text place)
-place_lacks mark None h e f w = lacks_cons mark 45 [] f (lacks_nil mark)
-place_lacks mark (Some id) h e f w = id_lacks mark id h e w
+pub parent_lacks : (mark : ℕ) (parent : Option OpId) → 10 ≤ digit_of mark → eqb 64 mark ≡ false → eqb 45 mark ≡ false → parent_within parent ≡ true → Lacks mark (parent_text parent)
+parent_lacks mark None h e f w = lacks_cons mark 45 [] f (lacks_nil mark)
+parent_lacks mark (Some id) h e f w = id_lacks mark id h e w
 
-pub before_again : (word : List ℕ) (id : Id) → id_at word ≡ Some id → anchor_at (60 ∷ word) ≡ Some (BeforeCharacter id)
+pub before_again : (word : List ℕ) (id : OpId) → id_at word ≡ Some id → anchor_at (60 ∷ word) ≡ Some (BeforeCharacter id)
 unfolding anchor_at
 before_again [] id e = absurd (let f = no_empty in cc)
 before_again (b ∷ word) id e = rw e refl
 
-pub after_again : (word : List ℕ) (id : Id) → id_at word ≡ Some id → anchor_at (62 ∷ word) ≡ Some (AfterCharacter id)
+pub after_again : (word : List ℕ) (id : OpId) → id_at word ≡ Some id → anchor_at (62 ∷ word) ≡ Some (AfterCharacter id)
 unfolding anchor_at
 after_again [] id e = absurd (let f = no_empty in cc)
 after_again (b ∷ word) id e = rw e refl

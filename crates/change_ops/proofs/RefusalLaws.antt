@@ -8,7 +8,7 @@ use Rattle.std.proofs.lemmas.List.Sums.{fails_before_first}
 use Rattle.change_ops.specs.Lines.{ops_of_lines, count_of, first_id, line_within, line_has_characters}
 use Rattle.change_ops.specs.Words.{split}
 use Rattle.change_ops.specs.Reading.{header_at, line_in, line_verdict}
-use Rattle.change_ops.specs.Changes.{Header, ◌>>=◌, Gives, at_line, placed, ended, is_header, within_header, header_verdict, next_at, lines_at, change_at}
+use Rattle.change_ops.specs.Changes.{Header, ◌>>=◌, Gives, at_line, lined, ended, is_header, within_header, header_verdict, next_at, lines_at, change_at}
 use Rattle.change_ops.specs.Forms.{LineForm, HeaderForm}
 use Rattle.change_ops.specs.Refusals.{IsUnended, Line, IsFaulty, IsFaultyHeader, Accepted, AcceptedLines, Reached, IsFaultAt, IsRefused}
 use Rattle.change_ops.specs.declared.line.Form.{Form}
@@ -21,7 +21,7 @@ use Rattle.change_ops.proofs.Grammar.{Lacks, split_again, split_takes}
 use Rattle.change_ops.proofs.Phrases.{lacks_nil, lacks_cons}
 use Rattle.change_ops.proofs.Splitting.{split_none}
 use Rattle.change_ops.proofs.LineForms.{line_form, line_read, header_form, header_read}
-use Rattle.change_ops.proofs.ChangeLaws.{bind_ok, same_ok, placed_takes, verdict_takes, more_ops, no_ops, Parts, One, Lines, Pair}
+use Rattle.change_ops.proofs.ChangeLaws.{bind_ok, same_ok, lined_takes, verdict_takes, more_ops, no_ops, Parts, One, Lines, Pair}
 
 -- a text's first line
 
@@ -66,9 +66,9 @@ ended_ok : (o : Option Parts) (x : Parts) → ended o ≡ Ok x → o ≡ Some x
 ended_ok None x h = absurd cc
 ended_ok (Some y) x h = let same : y ≡ x = cc in ap Some same
 
-placed_err : {A : Type 0} (n : ℕ) (r : Result A LineFault) (e : ChangeError) → placed n r ≡ Err e → (fault : LineFault) × (r ≡ Err fault) × (at_line n fault ≡ e)
-placed_err n (Ok x) e h = absurd cc
-placed_err n (Err fault) e h = (fault, refl, cc)
+lined_err : {A : Type 0} (n : ℕ) (r : Result A LineFault) (e : ChangeError) → lined n r ≡ Err e → (fault : LineFault) × (r ≡ Err fault) × (at_line n fault ≡ e)
+lined_err n (Ok x) e h = absurd cc
+lined_err n (Err fault) e h = (fault, refl, cc)
 
 -- one line
 
@@ -97,11 +97,11 @@ NextRefused form peer room n remains e =
 
 next_err : (form : Form) (peer room n : ℕ) (bytes : List ℕ) (e : ChangeError) → next_at form peer room n bytes ≡ Err e → NextRefused form peer room n bytes e
 unfolding next_at
-next_err form peer room n bytes e h = elim (bind_err (ended (split 10 bytes)) (λ parts. placed n (line_verdict peer room (line_in form parts.0)) >>= λ line. Ok (line, parts.1)) e h) [
+next_err form peer room n bytes e h = elim (bind_err (ended (split 10 bytes)) (λ parts. lined n (line_verdict peer room (line_in form parts.0)) >>= λ line. Ok (line, parts.1)) e h) [
   | inl none ↦ let x = ended_err (split 10 bytes) e none in inl (unended bytes (split_nothing bytes x.0), x.1)
-  | inr some ↦ elim (bind_err (placed n (line_verdict peer room (line_in form some.0.0))) (λ line. Ok (line, some.0.1)) e some.2) [
+  | inr some ↦ elim (bind_err (lined n (line_verdict peer room (line_in form some.0.0))) (λ line. Ok (line, some.0.1)) e some.2) [
     | inl refused ↦
-        let p = placed_err n (line_verdict peer room (line_in form some.0.0)) e refused in
+        let p = lined_err n (line_verdict peer room (line_in form some.0.0)) e refused in
         inr (p.0, some.0.0, some.0.1, first_line bytes some.0.0 some.0.1 (ended_ok (split 10 bytes) some.0 some.1), verdict_err form peer room some.0.0 (line_in form some.0.0) p.0 refl p.1, p.2)
     | inr read ↦ absurd (let f = read.2 in cc)
   ]
@@ -110,11 +110,11 @@ next_err form peer room n bytes e h = elim (bind_err (ended (split 10 bytes)) (�
 next_ok : (form : Form) (peer room n : ℕ) (bytes : List ℕ) (x : One) → next_at form peer room n bytes ≡ Ok x → Accepted form peer room x.0 bytes x.1
 unfolding next_at
 next_ok form peer room n bytes x e =
-    let a = bind_ok (ended (split 10 bytes)) (λ parts. placed n (line_verdict peer room (line_in form parts.0)) >>= λ line. Ok (line, parts.1)) x e in
-    let b = bind_ok (placed n (line_verdict peer room (line_in form a.0.0))) (λ line. Ok (line, a.0.1)) x a.2 in
+    let a = bind_ok (ended (split 10 bytes)) (λ parts. lined n (line_verdict peer room (line_in form parts.0)) >>= λ line. Ok (line, parts.1)) x e in
+    let b = bind_ok (lined n (line_verdict peer room (line_in form a.0.0))) (λ line. Ok (line, a.0.1)) x a.2 in
     let read : One = (b.0, a.0.1) in
     let same : read ≡ x = same_ok read x (Ok read) refl b.2 in
-    let v = verdict_takes peer room (line_in form a.0.0) b.0 (placed_takes n (line_verdict peer room (line_in form a.0.0)) b.0 b.1) in
+    let v = verdict_takes peer room (line_in form a.0.0) b.0 (lined_takes n (line_verdict peer room (line_in form a.0.0)) b.0 b.1) in
     let j = v.judged in
     let fits = and_from _ (nat_le (count_of b.0) room) j.within (le-leb _ _ j.fits) in
     let taken : Accepted form peer room b.0 bytes a.0.1 = record { line = a.0.0; first = first_line bytes a.0.0 a.0.1 (ended_ok (split 10 bytes) a.0 a.1); spelled = line_form form a.0.0 b.0 v.read; within = fits; characters = j.characters; own = j.own } in
@@ -143,12 +143,12 @@ lines_err form peer room n (suc count) bytes e h = elim (bind_err (next_at form 
   | inr first ↦ elim (bind_err (lines_at form peer (room - count_of first.0.0) (n + 1) count first.0.1) (λ others. Ok (first.0.0 ∷ others.0, others.1)) e first.2) [
     | inl refused ↦
         let r = lines_err form peer (room - count_of first.0.0) (n + 1) count first.0.1 e refused in
-        let place : length r.before + (n + 1) ≡ suc (length r.before) + n = omega arith in
+        let number_is : length r.before + (n + 1) ≡ suc (length r.before) + n = omega arith in
         let small : length r.before < count = r.wanted in
         let all = more_ops first.0.0 r.before in
         let less = r.left_is in
         let left_is : r.left ≡ room - length (ops_of_lines (first.0.0 ∷ r.before)) = omega arith in
-        record { before = first.0.0 ∷ r.before; remains = r.remains; left = r.left; wanted = omega arith; accepted = (first.0.1, next_ok form peer room n bytes first.0 first.1, r.accepted); left_is = left_is; refused = subst (λ (m : ℕ). NextRefused form peer r.left m r.remains e) place r.refused }
+        record { before = first.0.0 ∷ r.before; remains = r.remains; left = r.left; wanted = omega arith; accepted = (first.0.1, next_ok form peer room n bytes first.0 first.1, r.accepted); left_is = left_is; refused = subst (λ (m : ℕ). NextRefused form peer r.left m r.remains e) number_is r.refused }
     | inr read ↦ absurd (let f = read.2 in cc)
   ]
 ]
@@ -194,18 +194,18 @@ edited header found = Ok (record { form = header.0; node = header.1; lines = fou
 
 pub change_err : (text : List ℕ) (e : ChangeError) → change_at text ≡ Err e → IsRefused text e
 unfolding change_at edited
-change_err text e h = elim (bind_err (ended (split 10 text)) (λ parts. placed 1 (header_verdict (header_at parts.0)) >>= λ header. lines_at header.0 header.1 256 2 header.2 parts.1 >>= λ found. edited header found) e h) [
+change_err text e h = elim (bind_err (ended (split 10 text)) (λ parts. lined 1 (header_verdict (header_at parts.0)) >>= λ header. lines_at header.0 header.1 256 2 header.2 parts.1 >>= λ found. edited header found) e h) [
   | inl none ↦ let x = ended_err (split 10 text) e none in subst (IsRefused text) x.1 (inl (unended text (split_nothing text x.0)))
   | inr some ↦
       let parts = some.0 in
       let first = first_line text parts.0 parts.1 (ended_ok (split 10 text) parts some.1) in
-      elim (bind_err (placed 1 (header_verdict (header_at parts.0))) (λ header. lines_at header.0 header.1 256 2 header.2 parts.1 >>= λ found. edited header found) e some.2) [
+      elim (bind_err (lined 1 (header_verdict (header_at parts.0))) (λ header. lines_at header.0 header.1 256 2 header.2 parts.1 >>= λ found. edited header found) e some.2) [
         | inl refused ↦
-            let p = placed_err 1 (header_verdict (header_at parts.0)) e refused in
+            let p = lined_err 1 (header_verdict (header_at parts.0)) e refused in
             fault_at text 1 p.0 e p.2 (inl (refl, (parts.0, parts.1, first, header_err parts.0 (header_at parts.0) p.0 refl p.1)))
         | inr header ↦
             let x = header.0 in
-            let fine = header_ok parts.0 (header_at parts.0) x refl (placed_takes 1 (header_verdict (header_at parts.0)) x header.1) in
+            let fine = header_ok parts.0 (header_at parts.0) x refl (lined_takes 1 (header_verdict (header_at parts.0)) x header.1) in
             elim (bind_err (lines_at x.0 x.1 256 2 x.2 parts.1) (λ found. edited x found) e header.2) [
               | inl refused ↦ lines_refused text parts.0 parts.1 x e first fine.0 fine.1 (lines_err x.0 x.1 256 2 x.2 parts.1 e refused)
               | inr read ↦ absurd (let f = read.2 in cc)
@@ -265,10 +265,10 @@ lines_fault_again form peer room n (suc count) [] bytes remains e accepted small
     let next : next_at form peer room n bytes ≡ Err e = ap (next_at form peer room n) accepted ∙ rw (all, here) at h in
     rw next refl
 lines_fault_again form peer room n (suc count) (line ∷ before) bytes remains e accepted small h =
-    let place : suc (length before) + n ≡ length before + (n + 1) = omega arith in
+    let number_is : suc (length before) + n ≡ length before + (n + 1) = omega arith in
     let more = more_ops line before in
     let left : room - length (ops_of_lines (line ∷ before)) ≡ (room - count_of line) - length (ops_of_lines before) = omega arith in
-    let next : next_at form peer ((room - count_of line) - length (ops_of_lines before)) (length before + (n + 1)) remains ≡ Err e = (λ i. next_at form peer (sym left i) (sym place i) remains) ∙ h in
+    let next : next_at form peer ((room - count_of line) - length (ops_of_lines before)) (length before + (n + 1)) remains ≡ Err e = (λ i. next_at form peer (sym left i) (sym number_is i) remains) ∙ h in
     rw (accepted_again form peer room n line bytes accepted.0 accepted.1, lines_fault_again form peer (room - count_of line) (n + 1) count before accepted.0 remains e accepted.2 (omega arith) next) refl
 
 header_fault_again : (line : List ℕ) (fault : LineFault) → IsFaultyHeader line fault → header_verdict (header_at line) ≡ Err fault

@@ -6,14 +6,14 @@ use Rattle.std.specs.Fmt.{decimal}
 use Rattle.std.specs.List.{list_all}
 use Rattle.std.proofs.lemmas.Bool.{and_parts, leb-true}
 use Rattle.std.proofs.lemmas.List.{append-nil}
-use Rattle.change_ops.specs.Ids.{Id, within_limits, is_character}
-use Rattle.change_ops.specs.Limits.{place_within}
+use Rattle.change_ops.specs.Ids.{OpId, within_limits, is_character}
+use Rattle.change_ops.specs.Limits.{parent_within}
 use Rattle.change_ops.specs.Words.{split, number_in}
-use Rattle.change_ops.specs.Runs.{RunView, run_within, run_has_characters}
-use Rattle.change_ops.specs.Reading.{◌>>=◌, id_at, hex_at, place_at, characters_at, counted_at, run_parts, run_at}
-use Rattle.change_ops.specs.Spelling.{◌␣◌, hexadecimal, id_text, place_text, codes_text, run_text}
+use Rattle.change_ops.specs.Runs.{Run, run_within, run_has_characters}
+use Rattle.change_ops.specs.Reading.{◌>>=◌, id_at, hex_at, parent_at, characters_at, counted_at, run_parts, run_at}
+use Rattle.change_ops.specs.Spelling.{◌␣◌, hexadecimal, id_text, parent_text, codes_text, run_text}
 use Rattle.change_ops.proofs.Grammar.{Lacks, bind_some, split_again, split_takes}
-use Rattle.change_ops.proofs.Phrases.{lacks_nil, lacks_cons, lacks_joined, decimal_again, decimal_takes, decimal_lacks, hex_again, hex_takes, hex_lacks, id_again, id_takes, id_lacks, place_again, place_takes, place_lacks, same_bytes}
+use Rattle.change_ops.proofs.Phrases.{lacks_nil, lacks_cons, lacks_joined, decimal_again, decimal_takes, decimal_lacks, hex_again, hex_takes, hex_lacks, id_again, id_takes, id_lacks, parent_again, parent_takes, parent_lacks, same_bytes}
 
 -- codes
 
@@ -33,7 +33,7 @@ characters_again c (d ∷ ds) h =
     let parts = split_again 32 (hexadecimal c) (hexadecimal d ++ codes_text ds) (hex_lacks 32 c (lit≤ tt) a.0) in
     rw (parts, hex_again c a.0, characters_again d ds a.1) refl
 
--- what was read as so many characters: behind a space it is their text
+-- what was read as `n` characters: behind a space it is their text
 pub record CodesTaken (n : ℕ) (fields characters : List ℕ) : Type 0 where
   pub text : 32 ∷ fields ≡ codes_text characters
   pub counted : length characters ≡ n
@@ -105,62 +105,62 @@ counted_takes fields cs some few h e = go (bytes_eq fields (codes "0")) e where
       (split_takes 32 fields a.0.0 a.0.1 a.1).0 ∙ joined
 
 -- what the limits of a run say
-pub record RunLimits (run : RunView) : Type 0 where
+pub record RunLimits (run : Run) : Type 0 where
   pub id : within_limits run.id ≡ true
-  pub parent : place_within run.parent ≡ true
+  pub parent : parent_within run.parent ≡ true
   pub some : 2 ≤ length run.characters
   pub few : length run.characters ≤ 256
   pub last : run.id.counter + length run.characters ≤ 2 ^ 48
 
-pub run_limits : (run : RunView) → run_within run ≡ true → RunLimits run
+pub run_limits : (run : Run) → run_within run ≡ true → RunLimits run
 run_limits run h =
     let n = length run.characters in
-    let a = and_parts (within_limits run.id && place_within run.parent) (leb 2 n && leb n 256 && leb (run.id.counter + n) (2 ^ 48)) h in
-    let b = and_parts (within_limits run.id) (place_within run.parent) a.0 in
+    let a = and_parts (within_limits run.id && parent_within run.parent) (leb 2 n && leb n 256 && leb (run.id.counter + n) (2 ^ 48)) h in
+    let b = and_parts (within_limits run.id) (parent_within run.parent) a.0 in
     let c = and_parts (leb 2 n && leb n 256) (leb (run.id.counter + n) (2 ^ 48)) a.1 in
     let d = and_parts (leb 2 n) (leb n 256) c.0 in
     record { id = b.0; parent = b.1; some = leb-true _ _ d.0; few = leb-true _ _ d.1; last = leb-true _ _ c.1 }
 
-pub run_again : (run : RunView) → run_within run ≡ true → run_has_characters run ≡ true
-    → run_at (id_text run.id ␣ place_text run.parent ␣ decimal (length run.characters) ++ codes_text run.characters) ≡ Some run
+pub run_again : (run : Run) → run_within run ≡ true → run_has_characters run ≡ true
+    → run_at (id_text run.id ␣ parent_text run.parent ␣ decimal (length run.characters) ++ codes_text run.characters) ≡ Some run
 unfolding run_at
 run_again run h c =
     let l = run_limits run h in
     let counted = decimal (length run.characters) ++ codes_text run.characters in
-    let one = split_again 32 (id_text run.id) (place_text run.parent ␣ counted) (id_lacks 32 run.id (lit≤ tt) refl l.id) in
-    let two = split_again 32 (place_text run.parent) counted (place_lacks 32 run.parent (lit≤ tt) refl refl l.parent) in
-    rw (one, two, id_again run.id l.id, place_again run.parent l.parent, counted_again run.characters l.some l.few c) refl
+    let one = split_again 32 (id_text run.id) (parent_text run.parent ␣ counted) (id_lacks 32 run.id (lit≤ tt) refl l.id) in
+    let two = split_again 32 (parent_text run.parent) counted (parent_lacks 32 run.parent (lit≤ tt) refl refl l.parent) in
+    rw (one, two, id_again run.id l.id, parent_again run.parent l.parent, counted_again run.characters l.some l.few c) refl
 
-pub run_takes : (fields : List ℕ) (run : RunView) → run_at fields ≡ Some run → run_within run ≡ true → run_has_characters run ≡ true → codes "r" ␣ fields ≡ run_text run
+pub run_takes : (fields : List ℕ) (run : Run) → run_at fields ≡ Some run → run_within run ≡ true → run_has_characters run ≡ true → codes "r" ␣ fields ≡ run_text run
 unfolding run_at
 run_takes fields run e h c =
-    let a = bind_some (split 32 fields) (λ first. split 32 first.1 >>= λ second. run_parts (id_at first.0) (place_at second.0) (counted_at second.1)) run e in
-    let b = bind_some (split 32 a.0.1) (λ second. run_parts (id_at a.0.0) (place_at second.0) (counted_at second.1)) run a.2 in
-    let d = bind_some (id_at a.0.0) (λ id. place_at b.0.0 >>= λ parent. counted_at b.0.1 >>= λ characters. made id parent characters) run b.2 in
-    let f = bind_some (place_at b.0.0) (λ parent. counted_at b.0.1 >>= λ characters. made d.0 parent characters) run d.2 in
+    let a = bind_some (split 32 fields) (λ first. split 32 first.1 >>= λ second. run_parts (id_at first.0) (parent_at second.0) (counted_at second.1)) run e in
+    let b = bind_some (split 32 a.0.1) (λ second. run_parts (id_at a.0.0) (parent_at second.0) (counted_at second.1)) run a.2 in
+    let d = bind_some (id_at a.0.0) (λ id. parent_at b.0.0 >>= λ parent. counted_at b.0.1 >>= λ characters. made id parent characters) run b.2 in
+    let f = bind_some (parent_at b.0.0) (λ parent. counted_at b.0.1 >>= λ characters. made d.0 parent characters) run d.2 in
     let g = bind_some (counted_at b.0.1) (λ characters. made d.0 f.0 characters) run f.2 in
-    let read : RunView = record { id = d.0; parent = f.0; characters = g.0 } in
+    let read : Run = record { id = d.0; parent = f.0; characters = g.0 } in
     let same : read ≡ run = some_run read run g.2 in
     let l = run_limits read (rw (← same) at h) in
     let characters = counted_takes b.0.1 g.0 l.some l.few (rw (← same) at c) g.1 in
     let one = (split_takes 32 fields a.0.0 a.0.1 a.1).0 in
     let two = (split_takes 32 a.0.1 b.0.0 b.0.1 b.1).0 in
-    ap (λ (x : List ℕ). codes "r" ␣ x) (one ∙ both (id_takes a.0.0 d.0 l.id d.1) (two ∙ both (place_takes b.0.0 f.0 l.parent f.1) characters)) ∙ ap run_text same
+    ap (λ (x : List ℕ). codes "r" ␣ x) (one ∙ both (id_takes a.0.0 d.0 l.id d.1) (two ∙ both (parent_takes b.0.0 f.0 l.parent f.1) characters)) ∙ ap run_text same
   where
-    made : Id → Option Id → List ℕ → Option RunView
+    made : OpId → Option OpId → List ℕ → Option Run
     made id parent characters = Some (record { id = id; parent = parent; characters = characters })
 
-    some_run : (x y : RunView) → Some x ≡ Some y → x ≡ y
+    some_run : (x y : Run) → Some x ≡ Some y → x ≡ y
     some_run x y e = cc
 
     both : {a x b y : List ℕ} → a ≡ x → b ≡ y → a ␣ b ≡ x ␣ y
     both e f = (λ i. e i ␣ f i)
 
-pub run_lacks : (run : RunView) → run_within run ≡ true → run_has_characters run ≡ true → Lacks 10 (run_text run)
+pub run_lacks : (run : Run) → run_within run ≡ true → run_has_characters run ≡ true → Lacks 10 (run_text run)
 run_lacks run h c =
     let l = run_limits run h in
     let counted : Lacks 10 (decimal (length run.characters) ++ codes_text run.characters) = lacks_both (decimal (length run.characters)) (codes_text run.characters) (decimal_lacks 10 (length run.characters) (lit≤ tt) (let s = l.some in omega arith) (let f = l.few in omega arith)) (codes_lack run.characters c) in
-    behind (codes "r") _ (lacks_cons 10 114 [] refl (lacks_nil 10)) (behind (id_text run.id) _ (id_lacks 10 run.id (lit≤ tt) refl l.id) (behind (place_text run.parent) _ (place_lacks 10 run.parent (lit≤ tt) refl refl l.parent) counted))
+    behind (codes "r") _ (lacks_cons 10 114 [] refl (lacks_nil 10)) (behind (id_text run.id) _ (id_lacks 10 run.id (lit≤ tt) refl l.id) (behind (parent_text run.parent) _ (parent_lacks 10 run.parent (lit≤ tt) refl refl l.parent) counted))
   where
     behind : (word rest : List ℕ) → Lacks 10 word → Lacks 10 rest → Lacks 10 (word ␣ rest)
     behind word rest a b = lacks_joined 10 word rest 32 a refl b

@@ -2,7 +2,7 @@
 use Rattle.std.proofs.Common.{◌≡◌, ℕ, suc, Bool, true, false, cond, List, [], ◌∷◌, length, Option, Some, None, refl, ap, subst, ◌∙◌}
 use Rattle.std.specs.Prelude.{codes, if◌then◌else◌}
 use Rattle.std.specs.Str.{bytes_eq}
-use Rattle.change_ops.specs.Ids.{Id}
+use Rattle.change_ops.specs.Ids.{OpId}
 use Rattle.change_ops.specs.Words.{split}
 use Rattle.change_ops.specs.Runs.{next_id, inserts_from}
 use Rattle.change_ops.specs.Lines.{ops_of, count_of, line_within, line_has_characters, has_line}
@@ -18,7 +18,7 @@ use Rattle.change_ops.proofs.LineLaws.{kind, op_again, op_takes, op_lacks}
 use Rattle.change_ops.proofs.RunLaws.{run_again, run_takes, run_lacks}
 
 -- how many operations a line means
-inserts_count : (cs : List ℕ) (id : Id) (parent : Option Id) → length (inserts_from id parent cs) ≡ length cs
+inserts_count : (cs : List ℕ) (id : OpId) (parent : Option OpId) → length (inserts_from id parent cs) ≡ length cs
 unfolding inserts_from
 inserts_count [] id parent = refl
 inserts_count (c ∷ cs) id parent = ap suc (inserts_count cs (next_id id) (Some id))

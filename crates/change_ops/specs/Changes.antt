@@ -16,13 +16,13 @@ use Rattle.change_ops.specs.declared.refusal.ChangeError.TheVariants.{BadLine, T
 use Rattle.change_ops.specs.declared.refusal.ChangeError.TheVariants.{OutOfMemory}
 
 -- a change: its form, its peer's node, and its lines
-pub record Edit : Type 0 where
+pub record Change : Type 0 where
   pub form : Form
   pub node : ℕ
   pub lines : List Line
 
 -- the operations that its lines mean
-abbrev pub operations : Edit → List Op
+abbrev pub operations : Change → List Op
 operations change = ops_of_lines change.lines
 
 infixl 10 ◌>>=◌
@@ -51,22 +51,22 @@ at_line n line.CharRefused = CharRefused n
 at_line n line.WrongPeer = WrongPeer n
 at_line n line.OutOfMemory = OutOfMemory
 
-abbrev pub placed : {A : Type 0} → ℕ → Result A LineFault → Result A ChangeError
-placed n (Ok x) = Ok x
-placed n (Err fault) = Err (at_line n fault)
+abbrev pub lined : {A : Type 0} → ℕ → Result A LineFault → Result A ChangeError
+lined n (Ok x) = Ok x
+lined n (Err fault) = Err (at_line n fault)
 
 abbrev pub ended : Option (List ℕ × List ℕ) → Result (List ℕ × List ℕ) ChangeError
 ended None = Err Truncated
 ended (Some parts) = Ok parts
 
--- the line of this number of a change that has room for so many operations, and what follows the line
+-- the line of number `n` of a change with room for `room` operations, and what follows the line
 unfoldable pub next_at : Form → ℕ → ℕ → ℕ → List ℕ → Result (Line × List ℕ) ChangeError
 next_at form peer room n bytes = do
   parts ← ended (split 10 bytes)
-  found ← placed n (line_verdict peer room (line_in form parts.0))
+  found ← lined n (line_verdict peer room (line_in form parts.0))
   Ok (found, parts.1)
 
--- so many lines, the first of this number, with room for so many operations
+-- `count` lines, the first with the number `n`, with room for `room` operations
 unfoldable pub lines_at : Form → ℕ → ℕ → ℕ → ℕ → List ℕ → Result (List Line × List ℕ) ChangeError
 lines_at form peer room n zero bytes = Ok ([], bytes)
 lines_at form peer room n (suc count) bytes = do
@@ -93,10 +93,10 @@ header_verdict None = Err line.BadLine
 header_verdict (Some h) = within_header (limited_header h)
 
 -- the change at the front of a text, and what follows it
-unfoldable pub change_at : List ℕ → Result (Edit × List ℕ) ChangeError
+unfoldable pub change_at : List ℕ → Result (Change × List ℕ) ChangeError
 change_at bytes = do
   parts ← ended (split 10 bytes)
-  header ← placed 1 (header_verdict (header_at parts.0))
+  header ← lined 1 (header_verdict (header_at parts.0))
   found ← lines_at header.0 header.1 256 2 header.2 parts.1
   Ok (record { form = header.0; node = header.1; lines = found.0 }, found.1)
 
@@ -108,14 +108,14 @@ pub record IsLine (form : Form) (peer : ℕ) (found : Line) : Type 0 where
   pub formed : IsTrue (has_line form found)
 
 -- a change within the limits, whose lines are its peer's
-pub record IsChange (change : Edit) : Type 0 where
+pub record IsChange (change : Change) : Type 0 where
   pub named : 1 ≤ change.node
   pub known : change.node ≤ 65535
   pub some : 1 ≤ length change.lines
   pub few : length (operations change) ≤ 256
   pub lines : AllByRecursion (IsLine change.form change.node) change.lines
 
--- so many lines of this peer, which mean no more operations than there is room for
+-- `count` lines of this peer, which mean at most `room` operations
 pub record OwnLines (form : Form) (peer room count : ℕ) (found : List Line) : Type 0 where
   pub counted : length found ≡ count
   pub few : length (ops_of_lines found) ≤ room

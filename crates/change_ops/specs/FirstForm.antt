@@ -5,7 +5,7 @@ use Rattle.std.specs.List.{AllByRecursion}
 use Rattle.change_ops.specs.Limits.{op_within, has_character}
 use Rattle.change_ops.specs.Operations.{id_of}
 use Rattle.change_ops.specs.Lines.{names_code}
-use Rattle.change_ops.specs.Changes.{Edit, IsChange, operations}
+use Rattle.change_ops.specs.Changes.{Change, IsChange, operations}
 use Rattle.change_ops.specs.Spelling.{◌␣◌, op_text, change_text}
 use Rattle.change_ops.specs.declared.operation.Op.{Op}
 use Rattle.change_ops.specs.declared.line.Form.TheVariants.{First}
@@ -17,7 +17,7 @@ ops_text [] = []
 ops_text (op ∷ ops) = op_text op ++ 10 ∷ ops_text ops
 
 -- the change of the first form that spells operations out
-abbrev pub spelled_out : ℕ → List Op → Edit
+abbrev pub spelled_out : ℕ → List Op → Change
 spelled_out node ops = record { form = First; node = node; lines = map Operation ops }
 
 -- an operation of this peer, within the limits, of another key than code
@@ -37,7 +37,7 @@ pub record ArePlainOps (node : ℕ) (ops : List Op) : Type 0 where
 
 -- The changes of the first form are those that spell such operations out, with a line for each.
 pub record FirstFormIsPlain : Type 0 where
-  pub each : (change : Edit) → IsChange change → change.form ≡ First
+  pub each : (change : Change) → IsChange change → change.form ≡ First
       → ArePlainOps change.node (operations change) × (change ≡ spelled_out change.node (operations change))
   pub all : (node : ℕ) (ops : List Op) → ArePlainOps node ops
       → IsChange (spelled_out node ops) × (operations (spelled_out node ops) ≡ ops)

@@ -3,9 +3,9 @@ use Rattle.std.specs.Prelude.{◌≡◌, ℕ, ◌+◌, ◌*◌, ◌^◌, ◌<◌
 use Rattle.std.specs.Prelude.{None, codes, ⊤, ◌↔◌, IsTrue}
 use Rattle.std.specs.List.{AllByRecursion}
 use Rattle.std.specs.Fmt.{digit_glyph}
-use Rattle.change_ops.specs.Ids.{Id}
+use Rattle.change_ops.specs.Ids.{OpId}
 use Rattle.change_ops.specs.Operations.{key_of}
-use Rattle.change_ops.specs.Runs.{RunView}
+use Rattle.change_ops.specs.Runs.{Run}
 use Rattle.change_ops.specs.Lines.{has_line}
 use Rattle.change_ops.specs.Reading.{line_in, header_at}
 use Rattle.change_ops.specs.declared.attribute.Key.{Key}
@@ -19,18 +19,18 @@ use Rattle.change_ops.specs.declared.operation.Op.TheVariants.{Insert, Remove, A
 use Rattle.change_ops.specs.declared.line.Form.{Form}
 use Rattle.change_ops.specs.declared.line.Form.TheVariants as form
 use Rattle.change_ops.specs.declared.line.Line.{Line}
-use Rattle.change_ops.specs.declared.line.Line.TheVariants.{Operation, Run}
+use Rattle.change_ops.specs.declared.line.Line.TheVariants.{Operation, Run as RunLine}
 
--- the sum of the digits, each times the power of the base for its place
-unfoldable pub place_value : ℕ → List ℕ → ℕ
-place_value base [] = 0
-place_value base (d ∷ ds) = d * base ^ length ds + place_value base ds
+-- the sum of the digits, each times the base to the power of the number of digits behind it
+unfoldable pub digits_value : ℕ → List ℕ → ℕ
+digits_value base [] = 0
+digits_value base (d ∷ ds) = d * base ^ length ds + digits_value base ds
 
 -- The word writes a number of this value: each digit is below the base, 0 to 9 and then a to f.
 pub record DigitsOf (base number : ℕ) (digits word : List ℕ) : Type 0 where
   pub below : AllByRecursion (λ d. d < base) digits
   pub written : word ≡ map (digit_glyph false) digits
-  pub sum : number ≡ place_value base digits
+  pub sum : number ≡ digits_value base digits
 
 -- at least one digit, and no zero before another
 abbrev pub LeadsWell : List ℕ → Type 0
@@ -60,12 +60,12 @@ abbrev pub Word : List ℕ → List ℕ → Type 0
 Word name word = word ≡ name
 
 -- counter@node
-abbrev pub IdForm : Id → List ℕ → Type 0
+abbrev pub IdForm : OpId → List ℕ → Type 0
 IdForm id = Joined 64 (Numeral 10 id.counter) (Numeral 10 id.node)
 
-abbrev pub PlaceForm : Option Id → List ℕ → Type 0
-PlaceForm None = Word (codes "-")
-PlaceForm (Some id) = IdForm id
+abbrev pub ParentForm : Option OpId → List ℕ → Type 0
+ParentForm None = Word (codes "-")
+ParentForm (Some id) = IdForm id
 
 -- at most six hexadecimal digits
 pub record CodeForm (code : ℕ) (word : List ℕ) : Type 0 where
@@ -73,7 +73,7 @@ pub record CodeForm (code : ℕ) (word : List ℕ) : Type 0 where
   pub short : length word ≤ 6
 
 -- a sign, and directly after it an id
-pub record SignedId (sign : ℕ) (id : Id) (word : List ℕ) : Type 0 where
+pub record SignedId (sign : ℕ) (id : OpId) (word : List ℕ) : Type 0 where
   pub name : List ℕ
   pub whole : word ≡ sign ∷ name
   pub named : IdForm id name
@@ -115,7 +115,7 @@ ValueForm (attribute.Comment number) = Word (codes "-")
 
 -- an operation's line, without its LF
 abbrev pub OpForm : Op → List ℕ → Type 0
-OpForm (Insert id parent character) = Word (codes "i") ⎵ IdForm id ⎵ PlaceForm parent ⎵ CodeForm character
+OpForm (Insert id parent character) = Word (codes "i") ⎵ IdForm id ⎵ ParentForm parent ⎵ CodeForm character
 OpForm (Remove id target) = Word (codes "d") ⎵ IdForm id ⎵ IdForm target
 OpForm (AddMark id attribute start end) =
     Word (codes "m") ⎵ IdForm id ⎵ KeyForm (key_of attribute) ⎵ ValueForm attribute ⎵ AnchorForm start ⎵ AnchorForm end
@@ -134,12 +134,12 @@ CountedForm (character ∷ characters) =
     Numeral 10 (length (character ∷ characters)) ⎵ CharactersForm (character ∷ characters)
 
 -- a run's line, without its LF
-abbrev pub RunForm : RunView → List ℕ → Type 0
-RunForm run = Word (codes "r") ⎵ IdForm run.id ⎵ PlaceForm run.parent ⎵ CountedForm run.characters
+abbrev pub RunForm : Run → List ℕ → Type 0
+RunForm run = Word (codes "r") ⎵ IdForm run.id ⎵ ParentForm run.parent ⎵ CountedForm run.characters
 
 abbrev pub AnyForm : Line → List ℕ → Type 0
 AnyForm (Operation op) = OpForm op
-AnyForm (Run run) = RunForm run
+AnyForm (RunLine run) = RunForm run
 
 -- a line of a change of this form, without its LF
 pub record LineForm (form : Form) (line : Line) (text : List ℕ) : Type 0 where

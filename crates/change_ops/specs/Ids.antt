@@ -6,20 +6,20 @@ use Rattle.std.specs.declared.cmp.Ordering.{Ordering}
 use Rattle.std.specs.declared.cmp.Ordering.TheVariants as ordering
 
 -- an id as a line may name it: two numbers
-pub record Id : Type 0 where
+pub record OpId : Type 0 where
   pub counter : ℕ
   pub node : ℕ
 
 -- by counter, then by node (Peritext, CSCW 2022)
-unfoldable pub Less : Id → Id → Type 0
+unfoldable pub Less : OpId → OpId → Type 0
 Less a b = (a.counter < b.counter) ⊎ ((a.counter ≡ b.counter) × (a.node < b.node))
 
 -- the same order, as a comparison
-abbrev pub id_cmp : Id → Id → Ordering
-id_cmp = then_cmp (on (λ (i : Id). i.counter) nat_cmp) (on (λ (i : Id). i.node) nat_cmp)
+abbrev pub id_cmp : OpId → OpId → Ordering
+id_cmp = then_cmp (on (λ (i : OpId). i.counter) nat_cmp) (on (λ (i : OpId). i.node) nat_cmp)
 
 -- The comparison answers just what the order says.
-pub record ComparesIds (a b : Id) : Type 0 where
+pub record ComparesIds (a b : OpId) : Type 0 where
   pub less : (id_cmp a b ≡ ordering.Less) ↔ Less a b
   pub equal : (id_cmp a b ≡ ordering.Equal) ↔ (a ≡ b)
   pub greater : (id_cmp a b ≡ ordering.Greater) ↔ Less b a
@@ -27,7 +27,7 @@ pub record ComparesIds (a b : Id) : Type 0 where
 abbrev pub is_node : ℕ → Bool
 is_node n = nat_le 1 n && nat_le n 65535
 
-abbrev pub within_limits : Id → Bool
+abbrev pub within_limits : OpId → Bool
 within_limits id = nat_le 1 id.counter && nat_lt id.counter (2 ^ 48) && is_node id.node
 
 pub record IsId (counter node : ℕ) : Type 0 where

@@ -1,6 +1,6 @@
 -- The limits of what an operation names.
 use Rattle.std.specs.Prelude.{◌&&◌, Bool, true, Option, Some, None}
-use Rattle.change_ops.specs.Ids.{Id, within_limits, is_character}
+use Rattle.change_ops.specs.Ids.{OpId, within_limits, is_character}
 use Rattle.change_ops.specs.Attributes.{is_color, is_comment_number, is_link}
 use Rattle.change_ops.specs.declared.attribute.Key.{Key}
 use Rattle.change_ops.specs.declared.attribute.Key.TheVariants as key
@@ -11,9 +11,9 @@ use Rattle.change_ops.specs.declared.operation.Anchor.TheVariants.{TextStart, Be
 use Rattle.change_ops.specs.declared.operation.Op.{Op}
 use Rattle.change_ops.specs.declared.operation.Op.TheVariants.{Insert, Remove, AddMark, RemoveMark}
 
-abbrev pub place_within : Option Id → Bool
-place_within None = true
-place_within (Some id) = within_limits id
+abbrev pub parent_within : Option OpId → Bool
+parent_within None = true
+parent_within (Some id) = within_limits id
 
 abbrev pub anchor_within : Anchor → Bool
 anchor_within TextStart = true
@@ -47,7 +47,7 @@ abbrev pub unmarked_within : Key × (Anchor × Anchor) → Bool
 unmarked_within unmarked = key_within unmarked.0 && anchors_within unmarked.1
 
 abbrev pub op_within : Op → Bool
-op_within (Insert id parent character) = within_limits id && place_within parent
+op_within (Insert id parent character) = within_limits id && parent_within parent
 op_within (Remove id target) = within_limits id && within_limits target
 op_within (AddMark id attribute start end) = within_limits id && marked_within (attribute, (start, end))
 op_within (RemoveMark id key start end) = within_limits id && unmarked_within (key, (start, end))

@@ -5,11 +5,11 @@ use Rattle.std.specs.Prelude.{option_and_then, codes}
 use Rattle.std.specs.List.{list_all}
 use Rattle.std.specs.Str.{bytes_eq}
 use Rattle.std.specs.Borrow.{Bor}
-use Rattle.change_ops.specs.Ids.{Id, within_limits, is_character}
+use Rattle.change_ops.specs.Ids.{OpId, within_limits, is_character}
 use Rattle.change_ops.specs.Attributes.{is_link_byte}
-use Rattle.change_ops.specs.Limits.{place_within, op_within, has_character}
+use Rattle.change_ops.specs.Limits.{parent_within, op_within, has_character}
 use Rattle.change_ops.specs.Operations.{id_of}
-use Rattle.change_ops.specs.Runs.{RunView, run_within, run_has_characters}
+use Rattle.change_ops.specs.Runs.{Run, run_within, run_has_characters}
 use Rattle.change_ops.specs.Lines.{count_of, first_id, line_within, line_has_characters, has_line}
 use Rattle.change_ops.specs.Words.{split, number_in, digits_after, saturated}
 use Rattle.change_ops.specs.declared.attribute.Key.{Key}
@@ -23,7 +23,7 @@ use Rattle.change_ops.specs.declared.operation.Op.TheVariants.{Insert, Remove, A
 use Rattle.change_ops.specs.declared.line.Form.{Form}
 use Rattle.change_ops.specs.declared.line.Form.TheVariants.{First, Second}
 use Rattle.change_ops.specs.declared.line.Line.{Line}
-use Rattle.change_ops.specs.declared.line.Line.TheVariants.{Operation, Run}
+use Rattle.change_ops.specs.declared.line.Line.TheVariants.{Operation, Run as RunLine}
 use Rattle.change_ops.specs.declared.refusal.LineFault.{LineFault}
 use Rattle.change_ops.specs.declared.refusal.LineFault.TheVariants.{BadLine, Limit, CharRefused, WrongPeer, OutOfMemory}
 
@@ -32,7 +32,7 @@ abbrev pub ◌>>=◌ : {A B : Type 0} → Option A → (A → Option B) → Opti
 o >>= f = option_and_then f o
 
 -- an id: counter@node
-unfoldable pub id_at : List ℕ → Option Id
+unfoldable pub id_at : List ℕ → Option OpId
 id_at word = do
   parts ← split 64 word
   counter ← number_in 10 parts.0
@@ -44,8 +44,8 @@ unfoldable pub hex_at : List ℕ → Option ℕ
 hex_at word = if nat_lt 6 (length word) then None else number_in 16 word
 
 -- what an insertion stands after: an id, or - for the text's start
-unfoldable pub place_at : List ℕ → Option (Option Id)
-place_at word = if bytes_eq word (codes "-") then Some None else (do
+unfoldable pub parent_at : List ℕ → Option (Option OpId)
+parent_at word = if bytes_eq word (codes "-") then Some None else (do
   id ← id_at word
   Some (Some id))
 
@@ -122,7 +122,7 @@ insert_at fields = do
   first ← split 32 fields
   second ← split 32 first.1
   id ← id_at first.0
-  parent ← place_at second.0
+  parent ← parent_at second.0
   character ← hex_at second.1
   Some (Insert id parent character)
 
@@ -173,7 +173,7 @@ op_at line = do
       if bytes_eq first.0 (codes "m") then mark_at first.1 else
       if bytes_eq first.0 (codes "u") then unmark_at first.1 else None
 
--- so many characters' codes with a space between them, at least one
+-- the codes of this number of characters with a space between them, at least one
 unfoldable pub characters_at : ℕ → List ℕ → Option (List ℕ)
 characters_at zero fields = None
 characters_at (suc zero) fields = do
@@ -185,7 +185,7 @@ characters_at (suc (suc others)) fields = do
   codes ← characters_at (suc others) first.1
   Some (code ∷ codes)
 
--- how many characters a run has, and just so many codes; none behind a count of 0
+-- the count of a run's characters, and that number of codes; none behind a count of 0
 unfoldable pub counted_at : List ℕ → Option (List ℕ)
 counted_at fields = if bytes_eq fields (codes "0") then Some [] else (do
   first ← split 32 fields
@@ -193,15 +193,15 @@ counted_at fields = if bytes_eq fields (codes "0") then Some [] else (do
   characters_at count first.1)
 
 -- a run of parts that are there
-abbrev pub run_parts : Option Id → Option (Option Id) → Option (List ℕ) → Option RunView
+abbrev pub run_parts : Option OpId → Option (Option OpId) → Option (List ℕ) → Option Run
 run_parts id parent characters =
     id >>= λ i. parent >>= λ p. characters >>= λ cs. Some (record { id = i; parent = p; characters = cs })
 
-unfoldable pub run_at : List ℕ → Option RunView
+unfoldable pub run_at : List ℕ → Option Run
 run_at fields = do
   first ← split 32 fields
   second ← split 32 first.1
-  run_parts (id_at first.0) (place_at second.0) (counted_at second.1)
+  run_parts (id_at first.0) (parent_at second.0) (counted_at second.1)
 
 -- a run, or an operation
 unfoldable pub line_at : List ℕ → Option Line
@@ -209,7 +209,7 @@ line_at line = do
   first ← split 32 line
   if bytes_eq first.0 (codes "r") then (do
     run ← run_at first.1
-    Some (Run run)) else (do
+    Some (RunLine run)) else (do
       op ← op_at line
       Some (Operation op))
 
@@ -286,26 +286,26 @@ op_verdict peer None = Err BadLine
 op_verdict peer (Some op) = op_judged peer op
 
 -- a run that is the peer's own
-abbrev pub own_run : ℕ → RunView → Result RunView LineFault
+abbrev pub own_run : ℕ → Run → Result Run LineFault
 own_run peer run = if run.id.node == peer then Ok run else Err WrongPeer
 
--- a run of a peer's change that has room for so many operations, or the first fault
-abbrev pub run_judged : ℕ → ℕ → RunView → Result RunView LineFault
+-- a run of a peer's change with room for `room` operations, or the first fault
+abbrev pub run_judged : ℕ → ℕ → Run → Result Run LineFault
 run_judged peer room run =
     if not (run_within run && nat_le (length run.characters) room) then Err Limit else
     if not (run_has_characters run) then Err CharRefused else
     own_run peer run
 
-abbrev pub run_verdict : ℕ → ℕ → Option RunView → Result RunView LineFault
+abbrev pub run_verdict : ℕ → ℕ → Option Run → Result Run LineFault
 run_verdict peer room None = Err BadLine
 run_verdict peer room (Some run) = run_judged peer room run
 
 -- the same in a change of this form
-abbrev pub run_verdict_in : Form → ℕ → ℕ → Option RunView → Result RunView LineFault
+abbrev pub run_verdict_in : Form → ℕ → ℕ → Option Run → Result Run LineFault
 run_verdict_in First peer room run = Err BadLine
 run_verdict_in Second peer room run = run_verdict peer room run
 
--- a line of a peer's change that has room for so many operations, or the first fault
+-- a line of a peer's change with room for `room` operations, or the first fault
 abbrev pub judged : ℕ → ℕ → Line → Result Line LineFault
 judged peer room line =
     if not (line_within line && nat_le (count_of line) room) then Err Limit else
@@ -347,7 +347,7 @@ abbrev pub lacks_line : Form → List ℕ → Bool
 lacks_line First line = is_of_code line
 lacks_line Second line = false
 
--- an operation's line of a peer's change that has this form and room for so many operations
+-- an operation's line of a peer's change of this form with room for `room` operations
 abbrev pub op_verdict_in : Form → ℕ → ℕ → Option Op → Result Op LineFault
 op_verdict_in form peer room None = Err BadLine
 op_verdict_in form peer room (Some op) =
@@ -363,14 +363,14 @@ unless_formless (Err CharRefused) = Limit
 unless_formless (Err WrongPeer) = Limit
 unless_formless (Err OutOfMemory) = OutOfMemory
 
--- an id and a place of a run of so many characters, where there is room for so many operations
-abbrev pub within_run : ℕ → ℕ → Result (Id × Option Id) LineFault → Result (Id × Option Id) LineFault
+-- an id and a parent of a run of `count` characters, in a change with room for `room` operations
+abbrev pub within_run : ℕ → ℕ → Result (OpId × Option OpId) LineFault → Result (OpId × Option OpId) LineFault
 within_run count room (Err fault) = Err fault
 within_run count room (Ok named) =
     if nat_le 2 count && nat_le count room && nat_le (named.0.counter + count) (2 ^ 48) then Ok named else Err Limit
 
-abbrev pub limited_run : ℕ → ℕ → Option Id → Option (Option Id) → Result (Id × Option Id) LineFault
-limited_run count room id place = within_run count room (both (within within_limits id) (within place_within place))
+abbrev pub limited_run : ℕ → ℕ → Option OpId → Option (Option OpId) → Result (OpId × Option OpId) LineFault
+limited_run count room id parent = within_run count room (both (within within_limits id) (within parent_within parent))
 
 -- the characters of a run by their codes, or the first fault
 abbrev pub encoded_all : Option (List ℕ) → Result (List ℕ) LineFault
@@ -378,7 +378,7 @@ encoded_all None = Err BadLine
 encoded_all (Some codes) = if list_all is_character codes then Ok codes else Err CharRefused
 
 -- the peer's own run of what was read as its characters
-abbrev pub made_verdict : ℕ → Id → Option Id → Result (List ℕ) LineFault → Result RunView LineFault
+abbrev pub made_verdict : ℕ → OpId → Option OpId → Result (List ℕ) LineFault → Result Run LineFault
 made_verdict peer id parent (Ok characters) =
     own_run peer (record { id = id; parent = parent; characters = characters })
 made_verdict peer id parent (Err fault) = Err fault
@@ -401,7 +401,7 @@ IsNextCode fields (Ok x) = NextCode fields x.0 x.1.now
 IsNextCode fields (Err fault) =
     (fault ≡ BadLine) × ((word rest : List ℕ) → split 32 fields ≡ Some (word, rest) → hex_at word ≡ None)
 
--- What was found is the first character, with so many others in what follows it; or the fault of them all.
+-- What was found is the first character, with `others` more in what follows it; or the fault of them all.
 abbrev pub IsFirst : ℕ → List ℕ → Result (ℕ × Bor (List ℕ)) LineFault → Type 0
 IsFirst others fields (Ok x) =
     encoded_all (characters_at (others + 1) fields)

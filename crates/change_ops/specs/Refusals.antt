@@ -22,7 +22,7 @@ pub record Line (text line rest : List ℕ) : Type 0 where
   pub whole : text ≡ line ++ 10 ∷ rest
   pub one : IsUnended line
 
--- A line of this peer's change is refused so, where the change has this form and room for so many operations: of no
+-- A line of this peer's change is refused so, where the change has this form and room for `room` operations: of no
 -- form, past the limits or the room, no character, another's.
 abbrev pub IsFaulty : Form → ℕ → ℕ → List ℕ → LineFault → Type 0
 IsFaulty form peer room text why.BadLine = (line : Spelled) → LineForm form line text → ⊥
@@ -45,7 +45,7 @@ IsFaultyHeader line why.CharRefused = ⊥
 IsFaultyHeader line why.WrongPeer = ⊥
 IsFaultyHeader line why.OutOfMemory = ⊥
 
--- one line of this peer's change, which has this form and room for so many operations
+-- one line of this peer's change, which has this form and room for `room` operations
 pub record Accepted (form : Form) (peer room : ℕ) (found : Spelled) (text rest : List ℕ) : Type 0 where
   pub line : List ℕ
   pub first : Line text line rest
@@ -62,7 +62,7 @@ AcceptedLines form peer room (found ∷ others) text rest =
     × AcceptedLines form peer (room - count_of found) others behind rest
 
 -- A change's line of this number is wanted, and all before it are accepted; what remains begins with it, and there is
--- room for so many operations of 256.
+-- room for `room` of 256 operations.
 pub record Reached (text : List ℕ) (number : ℕ) (form : Form) (node room : ℕ) (remains : List ℕ) : Type 0 where
   pub header : List ℕ
   pub rest : List ℕ

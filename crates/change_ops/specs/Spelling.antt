@@ -2,9 +2,9 @@
 use Rattle.std.specs.Prelude.{◌≡◌, ℕ, zero, suc, ◌/◌, ◌%◌, false, List, [], ◌∷◌, ◌++◌, length, Option, Some, None}
 use Rattle.std.specs.Prelude.{Result, Ok, Err, codes}
 use Rattle.std.specs.Fmt.{decimal, digits, digit_glyph}
-use Rattle.change_ops.specs.Ids.{Id}
-use Rattle.change_ops.specs.Runs.{RunView}
-use Rattle.change_ops.specs.Changes.{Edit, IsChange}
+use Rattle.change_ops.specs.Ids.{OpId}
+use Rattle.change_ops.specs.Runs.{Run}
+use Rattle.change_ops.specs.Changes.{Change, IsChange}
 use Rattle.change_ops.specs.declared.attribute.Key.{Key}
 use Rattle.change_ops.specs.declared.attribute.Key.TheVariants as key
 use Rattle.change_ops.specs.declared.attribute.Attribute.{Attribute}
@@ -16,7 +16,7 @@ use Rattle.change_ops.specs.declared.operation.Op.TheVariants.{Insert, Remove, A
 use Rattle.change_ops.specs.declared.line.Form.{Form}
 use Rattle.change_ops.specs.declared.line.Form.TheVariants.{First, Second}
 use Rattle.change_ops.specs.declared.line.Line.{Line}
-use Rattle.change_ops.specs.declared.line.Line.TheVariants.{Operation, Run}
+use Rattle.change_ops.specs.declared.line.Line.TheVariants.{Operation, Run as RunLine}
 use Rattle.change_ops.specs.declared.refusal.ChangeError.{ChangeError}
 use Rattle.change_ops.specs.declared.refusal.ChangeError.TheVariants.{BadLine, Truncated, Limit, CharRefused, WrongPeer}
 use Rattle.change_ops.specs.declared.refusal.ChangeError.TheVariants.{OutOfMemory}
@@ -30,17 +30,17 @@ word ␣ fields = word ++ 32 ∷ fields
 abbrev pub hexadecimal : ℕ → List ℕ
 hexadecimal n = digits 16 false n
 
--- the last so many hexadecimal digits, leading zeros too
+-- the last `count` hexadecimal digits, leading zeros too
 unfoldable pub last_digits : ℕ → ℕ → List ℕ
 last_digits zero n = []
 last_digits (suc count) n = last_digits count (n / 16) ++ digit_glyph false (n % 16) ∷ []
 
-abbrev pub id_text : Id → List ℕ
+abbrev pub id_text : OpId → List ℕ
 id_text id = decimal id.counter ++ 64 ∷ decimal id.node
 
-abbrev pub place_text : Option Id → List ℕ
-place_text None = codes "-"
-place_text (Some id) = id_text id
+abbrev pub parent_text : Option OpId → List ℕ
+parent_text None = codes "-"
+parent_text (Some id) = id_text id
 
 abbrev pub anchor_text : Anchor → List ℕ
 anchor_text TextStart = codes "^"
@@ -67,7 +67,7 @@ attribute_text (attribute.Comment number) = (codes "comment" ++ 58 ∷ decimal n
 
 -- an operation's line, without its LF
 abbrev pub op_text : Op → List ℕ
-op_text (Insert id parent character) = codes "i" ␣ id_text id ␣ place_text parent ␣ hexadecimal character
+op_text (Insert id parent character) = codes "i" ␣ id_text id ␣ parent_text parent ␣ hexadecimal character
 op_text (Remove id target) = codes "d" ␣ id_text id ␣ id_text target
 op_text (AddMark id attribute start end) =
     codes "m" ␣ id_text id ␣ attribute_text attribute ␣ anchor_text start ␣ anchor_text end
@@ -79,13 +79,13 @@ codes_text [] = []
 codes_text (character ∷ characters) = 32 ∷ hexadecimal character ++ codes_text characters
 
 -- a run's line: how many characters it has, and these
-abbrev pub run_text : RunView → List ℕ
+abbrev pub run_text : Run → List ℕ
 run_text run =
-    codes "r" ␣ id_text run.id ␣ place_text run.parent ␣ decimal (length run.characters) ++ codes_text run.characters
+    codes "r" ␣ id_text run.id ␣ parent_text run.parent ␣ decimal (length run.characters) ++ codes_text run.characters
 
 abbrev pub line_text : Line → List ℕ
 line_text (Operation op) = op_text op
-line_text (Run run) = run_text run
+line_text (RunLine run) = run_text run
 
 unfoldable pub lines_text : List Line → List ℕ
 lines_text [] = []
@@ -95,18 +95,18 @@ abbrev pub form_text : Form → List ℕ
 form_text First = codes "change"
 form_text Second = codes "change2"
 
-abbrev pub header_text : Edit → List ℕ
+abbrev pub header_text : Change → List ℕ
 header_text change = form_text change.form ␣ decimal change.node ␣ decimal (length change.lines)
 
-unfoldable pub change_text : Edit → List ℕ
+unfoldable pub change_text : Change → List ℕ
 change_text change = header_text change ++ 10 ∷ lines_text change.lines
 
 -- The front of a text spells the change, and the rest follows it.
-abbrev pub Spells : List ℕ → Edit → List ℕ → Type 0
+abbrev pub Spells : List ℕ → Change → List ℕ → Type 0
 Spells text change rest = IsChange change × (text ≡ change_text change ++ rest)
 
 -- What was answered is the change and the rest, unless memory ran out.
-abbrev pub Answers : {X : Type 0} → Result X ChangeError → (X → Edit × List ℕ) → Edit × List ℕ → Type 0
+abbrev pub Answers : {X : Type 0} → Result X ChangeError → (X → Change × List ℕ) → Change × List ℕ → Type 0
 Answers (Ok x) view wanted = view x ≡ wanted
 Answers (Err OutOfMemory) view wanted = Unit {0}
 Answers (Err (BadLine n)) view wanted = ⊥
@@ -118,4 +118,5 @@ Answers (Err (WrongPeer n)) view wanted = ⊥
 -- Texts of changes can stand one behind the other: none is another's beginning.
 abbrev pub NoneBeginsAnother : Type 0
 NoneBeginsAnother =
-    (a b : Edit) (x y : List ℕ) → IsChange a → IsChange b → change_text a ++ x ≡ change_text b ++ y → (a ≡ b) × (x ≡ y)
+    (a b : Change) (x y : List ℕ) → IsChange a → IsChange b → change_text a ++ x ≡ change_text b ++ y
+    → (a ≡ b) × (x ≡ y)

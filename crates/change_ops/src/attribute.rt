@@ -161,7 +161,7 @@ impl Model for CommentNumber {
 impl Default for CommentNumber {
     ghost is_default = { λ c. c ≡ 1 };
 
-    /// The least number, which fills unused places of a short list.
+    /// The least number, which fills unused slots of a short list.
     fn default() -> Self {
         CommentNumber { number: 1 }
     }

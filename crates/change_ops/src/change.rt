@@ -8,7 +8,7 @@ ghost use Rattle.change_ops.specs.FirstForm.{FirstFormIsPlain};
 ghost use Rattle.change_ops.specs.Refusals.{IsRefused};
 ghost use Rattle.change_ops.specs.declared.refusal.ChangeError.TheVariants.{OutOfMemory};
 ghost use Rattle.change_ops.specs.Spelling.{Spells, Answers, NoneBeginsAnother};
-ghost use Rattle.change_ops.specs.Changes.{Edit, Gives, OwnLines, at_line as fault_at, header_verdict, next_at};
+ghost use Rattle.change_ops.specs.Changes.{Gives, OwnLines, at_line as fault_at, header_verdict, next_at};
 ghost use Rattle.change_ops.specs.Changes.{lines_at, change_at};
 
 use crate::line::{Form, Line};
@@ -38,9 +38,9 @@ impl Drop for Change {
 }
 
 impl Model for Change {
-    ghost use Rattle.change_ops.specs.Changes.{Edit, IsChange};
+    ghost use Rattle.change_ops.specs.Changes.{Change as ChangeValue, IsChange};
 
-    ghost Value = { Edit };
+    ghost Value = { ChangeValue };
 
     ghost view = { λ c. record { form = c.form; node = c.node; lines = c.lines.items } };
 
@@ -86,7 +86,7 @@ fn at_line(line: usize, fault: LineFault) -> ChangeError
     }
 }
 
-/// The line of this number of a peer's change, which has room for so many operations, and what follows it.
+/// The line of this number of a peer's change, with room for `room` operations, and what follows it.
 #[tactic(auto, unfolding(crate::specs::Changes::next_at))]
 fn next_line(
     alloc: Global,
@@ -186,7 +186,7 @@ fn change_of(alloc: Global, text: &str) -> Result<(Change, &str), ChangeError>
 /// order, and in a line a missing LF comes before the form, the limits, the character and the peer.
 pub fn read_change(alloc: Global, text: &str) -> Result<(Change, &str), ChangeError>
     ensures spelled { IfOk result (λ x. Spells text.now x.0 x.1.now) }
-    ensures complete { (change : Edit) (rest : List ℕ) → Spells text.now change rest
+    ensures complete { (change : Change) (rest : List ℕ) → Spells text.now change rest
         → Answers result (λ x. (x.0, x.1.now)) (change, rest) }
     ensures refused { IfErr result (λ e. (e ≡ OutOfMemory) ⊎ IsRefused text.now e) }
     ensures first { (e : ChangeError) → IsRefused text.now e → (result ≡ Err e) ⊎ (result ≡ Err OutOfMemory) }

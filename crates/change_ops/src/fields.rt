@@ -3,10 +3,10 @@
 ghost use Rattle.std.specs.Prelude.{◌≡◌};
 ghost use Rattle.change_ops.specs.Ids.{within_limits};
 ghost use Rattle.change_ops.specs.Attributes.{is_color, is_comment_number, is_link};
-ghost use Rattle.change_ops.specs.Limits.{place_within, anchor_within, anchors_within, key_within, attribute_within};
+ghost use Rattle.change_ops.specs.Limits.{parent_within, anchor_within, anchors_within, key_within, attribute_within};
 ghost use Rattle.std.specs.Option.{option_map};
 ghost use Rattle.change_ops.specs.Words.{saturated};
-ghost use Rattle.change_ops.specs.Reading.{id_at, hex_at, place_at, anchor_at, comment_at, key_at, color_at, link_at};
+ghost use Rattle.change_ops.specs.Reading.{id_at, hex_at, parent_at, anchor_at, comment_at, key_at, color_at, link_at};
 ghost use Rattle.change_ops.specs.Reading.{attribute_at, anchors_at, formed, within, unvalued, encoded};
 ghost use Rattle.change_ops.specs.Reading.{both as both_parts, Reads};
 
@@ -46,9 +46,9 @@ pub fn id_of(word: &str) -> Result<OpId, LineFault>
 }
 
 /// What an insertion stands after: an id, or nothing for the text's start.
-#[tactic(auto, unfolding(crate::specs::Reading::place_at))]
-pub fn place_of(word: &str) -> Result<Option<OpId>, LineFault>
-    ensures { result ≡ within place_within (place_at word.now) }
+#[tactic(auto, unfolding(crate::specs::Reading::parent_at))]
+pub fn parent_of(word: &str) -> Result<Option<OpId>, LineFault>
+    ensures { result ≡ within parent_within (parent_at word.now) }
 {
     if word == "-" {
         return Ok(None);

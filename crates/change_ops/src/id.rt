@@ -3,7 +3,7 @@ ghost use Rattle.std.proofs.Common.{rules};
 ghost use Rattle.std.specs.Cmp.{partial_order_from_own_ties};
 ghost use Rattle.std.specs.Cmp.Rules.{comparing};
 ghost use Rattle.std.specs.Ordering.{as_partial_cmp};
-ghost use Rattle.change_ops.specs.Ids.{Id, IsId, Less, id_cmp, ComparesIds, within_limits, checked};
+ghost use Rattle.change_ops.specs.Ids.{IsId, Less, id_cmp, ComparesIds, within_limits, checked};
 
 use std::cmp::Ordering;
 use std::marker::Model;
@@ -17,9 +17,9 @@ pub struct OpId {
 }
 
 impl Model for OpId {
-    ghost use Rattle.change_ops.specs.Ids.{Id, IsId};
+    ghost use Rattle.change_ops.specs.Ids.{OpId as OpIdValue, IsId};
 
-    ghost Value = { Id };
+    ghost Value = { OpIdValue };
 
     ghost view = { λ i. record { counter = i.counter; node = i.node } };
 
@@ -101,7 +101,7 @@ impl OpId {
         self.counter
     }
 
-    /// The id of the same peer whose counter is greater by so much.
+    /// The id of the same peer whose counter is greater by `by`.
     pub(crate) fn later(self, by: usize) -> Self
         requires { self.counter + by < 2 ^ 48 }
         ensures { result ≡ record { counter = self.counter + by; node = self.node } }

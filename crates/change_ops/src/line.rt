@@ -29,7 +29,7 @@ impl Drop for Line {
     }
 }
 
-/// The blank that stands in the unused places of a list of lines.
+/// The blank that stands in the unused slots of a list of lines.
 impl MadeWith<Global> for Line {
     ghost use Rattle.change_ops.specs.Operations.{blank};
     ghost use Rattle.change_ops.specs.declared.line.Line.TheVariants as lines;

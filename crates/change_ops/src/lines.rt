@@ -5,7 +5,7 @@ ghost use Rattle.change_ops.specs.Reading.{op_verdict, op_verdict_in, unless_for
 ghost use Rattle.change_ops.specs.Reading.{lacks_line as is_lacking, run_at, run_verdict_in, line_in, line_verdict};
 ghost use Rattle.change_ops.specs.Reading.{Reads};
 
-use crate::fields::{anchors_of, attribute_of, both, character_of, id_of, key_of, place_of};
+use crate::fields::{anchors_of, attribute_of, both, character_of, id_of, key_of, parent_of};
 use crate::line::{Form, Line};
 use crate::numbers::word_of;
 use crate::operation::Op;
@@ -31,7 +31,7 @@ fn insert_of(peer: u16, fields: &str) -> Result<Op, LineFault>
 {
     let (id, fields) = word_of(fields)?;
     let (parent, code) = word_of(fields)?;
-    let named = both(id_of(id), place_of(parent));
+    let named = both(id_of(id), parent_of(parent));
     let ((id, parent), character) = both(named, character_of(code))?;
     owned(
         peer,
@@ -149,7 +149,7 @@ fn lacks_line(form: Form, line: &str) -> bool
     }
 }
 
-/// The operation of a line of a peer's change of this form, which has room for so many more, or the line's first fault.
+/// The operation of a line of a peer's change of this form, with room for `room` operations, or the line's first fault.
 #[tactic(auto, using(crate::proofs::CodeLines::lacked, crate::proofs::CodeLines::no_room, crate::proofs::CodeLines::some_room))]
 fn op_in(alloc: Global, form: Form, peer: u16, room: usize, line: &str) -> Result<Op, LineFault>
     ensures { Reads result (op_verdict_in form peer room (op_at line.now)) }
@@ -164,7 +164,7 @@ fn op_in(alloc: Global, form: Form, peer: u16, room: usize, line: &str) -> Resul
     read
 }
 
-/// The run of a line of a peer's change of this form, which has room for so many operations, or the line's first fault.
+/// The run of a line of a peer's change of this form, with room for `room` operations, or the line's first fault.
 fn run_in(alloc: Global, form: Form, peer: u16, room: usize, fields: &str) -> Result<Run, LineFault>
     requires { room ≤ 256 }
     ensures { Reads result (run_verdict_in form peer room (run_at fields.now)) }
@@ -175,7 +175,7 @@ fn run_in(alloc: Global, form: Form, peer: u16, room: usize, fields: &str) -> Re
     }
 }
 
-/// The line of a peer's change of this form, which has room for so many operations, or the line's first fault.
+/// The line of a peer's change of this form, with room for `room` operations, or the line's first fault.
 #[tactic(auto, unfolding(crate::specs::Reading::line_at))]
 pub fn line_of_change(
     alloc: Global,

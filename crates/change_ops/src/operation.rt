@@ -6,7 +6,7 @@ use crate::id::OpId;
 use std::alloc::{AllocError, Global};
 use std::default::MadeWith;
 
-/// A place beside a character, or an end of the text (Peritext, CSCW 2022).
+/// A side of a character, or an end of the text (Peritext, CSCW 2022).
 #[derive(Clone, Copy, PartialEq, Eq, Hash)]
 pub enum Anchor {
     TextStart,
@@ -136,7 +136,7 @@ impl Clone for Op {
     }
 }
 
-/// The blank that stands in the unused places of a list of operations.
+/// The blank that stands in the unused slots of a list of operations.
 impl MadeWith<Global> for Op {
     ghost use Rattle.change_ops.specs.Operations.{blank};
 

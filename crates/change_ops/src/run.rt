@@ -26,9 +26,9 @@ impl Drop for Run {
 
 impl Model for Run {
     ghost use Rattle.std.specs.Prelude.{IsTrue, ◌&&◌};
-    ghost use Rattle.change_ops.specs.Runs.{RunView, run_within, run_has_characters};
+    ghost use Rattle.change_ops.specs.Runs.{Run as RunValue, run_within, run_has_characters};
 
-    ghost Value = { RunView };
+    ghost Value = { RunValue };
 
     ghost view = { λ r. record { id = r.id; parent = r.parent; characters = r.characters.items } };
 

@@ -2,13 +2,13 @@
 ghost use Rattle.std.specs.Prelude.{◌≡◌, ℕ, ◌+◌, ◌^◌, ◌<◌, ◌≤◌, ◌&&◌, [], length, Some, Err, is_some, IfOk, IsTrue};
 ghost use Rattle.std.specs.Str.{IsUtf8};
 ghost use Rattle.change_ops.specs.Ids.{within_limits};
-ghost use Rattle.change_ops.specs.Limits.{place_within};
+ghost use Rattle.change_ops.specs.Limits.{parent_within};
 ghost use Rattle.change_ops.specs.Words.{saturated};
-ghost use Rattle.change_ops.specs.Reading.{id_at, place_at, characters_at, run_parts, run_at, own_run, run_verdict};
+ghost use Rattle.change_ops.specs.Reading.{id_at, parent_at, characters_at, run_parts, run_at, own_run, run_verdict};
 ghost use Rattle.change_ops.specs.Reading.{IsNextCode, IsFirst, limited_run, encoded_all, made_verdict, ReadsAs, Reads};
 
 use crate::character::Character;
-use crate::fields::{both, character_of, code_of, id_of, place_of};
+use crate::fields::{both, character_of, code_of, id_of, parent_of};
 use crate::id::OpId;
 use crate::numbers::{number, word_of};
 use crate::refusal::LineFault;
@@ -25,7 +25,7 @@ fn next_code(fields: &str) -> Result<(u64, &str), LineFault>
     Ok((code, after))
 }
 
-/// Whether so many codes stand there with a space between them, and nothing else.
+/// Whether the fields are `count` codes with a space between them, and nothing else.
 fn are_codes(count: u64, fields: &str) -> bool
     ensures codes { result ≡ is_some (characters_at count fields.now) }
     ensures long { length fields.now < 2 ^ 64 }
@@ -47,7 +47,7 @@ fn are_codes(count: u64, fields: &str) -> bool
     code_of(rest).is_ok()
 }
 
-/// The first of several characters, of which so many stand behind it, and these.
+/// The first of `others + 1` characters, and the text of the others.
 fn next_character(others: u64, fields: &str) -> Result<(Character, &str), LineFault>
     requires { 1 ≤ others }
     ensures read { IsFirst others fields.now result }
@@ -61,7 +61,7 @@ fn next_character(others: u64, fields: &str) -> Result<(Character, &str), LineFa
     }
 }
 
-/// So many characters, their codes with a space between them.
+/// `count` characters, their codes with a space between them.
 fn characters_of(alloc: Global, count: usize, fields: &str) -> Result<Vec<Character>, LineFault>
     requires some { 1 ≤ count }
     requires few { count ≤ 256 }
@@ -82,7 +82,7 @@ fn characters_of(alloc: Global, count: usize, fields: &str) -> Result<Vec<Charac
     Ok(characters)
 }
 
-/// The id and the place of a run of so many characters, where there is room for so many operations.
+/// The id and the parent of a run of `count` characters, in a change with room for `room` operations.
 fn named_of(
     count: u64,
     room: usize,
@@ -90,9 +90,9 @@ fn named_of(
     parent: &str,
 ) -> Result<(OpId, Option<OpId>), LineFault>
     requires { room ≤ 256 }
-    ensures { result ≡ limited_run count room (id_at id.now) (place_at parent.now) }
+    ensures { result ≡ limited_run count room (id_at id.now) (parent_at parent.now) }
 {
-    let (id, parent) = both(id_of(id), place_of(parent))?;
+    let (id, parent) = both(id_of(id), parent_of(parent))?;
     if count < 2 || count > room as u64 || id.counter() + count > 1 << 48 {
         return Err(LineFault::Limit);
     }
@@ -101,10 +101,10 @@ fn named_of(
 
 /// The fault of a run of no character.
 fn fault_of_none(id: &str, parent: &str) -> LineFault
-    ensures { (peer room : ℕ) → run_verdict peer room (run_parts (id_at id.now) (place_at parent.now) (Some []))
+    ensures { (peer room : ℕ) → run_verdict peer room (run_parts (id_at id.now) (parent_at parent.now) (Some []))
         ≡ Err result }
 {
-    match both(id_of(id), place_of(parent)) {
+    match both(id_of(id), parent_of(parent)) {
         Err(LineFault::BadLine) => LineFault::BadLine,
         _ => LineFault::Limit,
     }
@@ -121,7 +121,7 @@ fn owned(peer: u16, run: Run) -> Result<Run, LineFault>
     }
 }
 
-/// The run of so many codes, by its id and its place, which are within the limits.
+/// The run of `count` codes, by its id and its parent, which are within the limits.
 fn made_of(
     alloc: Global,
     peer: u16,
@@ -130,7 +130,7 @@ fn made_of(
     count: usize,
     codes: &str,
 ) -> Result<Run, LineFault>
-    requires named { IsTrue (within_limits id && place_within parent) }
+    requires named { IsTrue (within_limits id && parent_within parent) }
     requires some { 2 ≤ count }
     requires few { count ≤ 256 }
     requires last { id.counter + count ≤ 2 ^ 48 }
@@ -147,7 +147,7 @@ fn made_of(
     )
 }
 
-/// The run of so many codes, by the words of its id and its place, or the first fault of them all.
+/// The run of `count` codes, by the words of its id and its parent, or the first fault of them all.
 fn typed_of(
     alloc: Global,
     peer: u16,
@@ -160,7 +160,7 @@ fn typed_of(
     requires { room ≤ 256 }
     ensures { (n : ℕ) → count ≡ saturated n
         → Reads result
-        (run_verdict peer room (run_parts (id_at id.now) (place_at parent.now) (characters_at n codes.now))) }
+        (run_verdict peer room (run_parts (id_at id.now) (parent_at parent.now) (characters_at n codes.now))) }
 {
     match named_of(count, room, id, parent) {
         Ok(named) => made_of(alloc, peer, named.0, named.1, count as usize, codes),
@@ -169,8 +169,8 @@ fn typed_of(
     }
 }
 
-/// The run that a line spells behind its first word, in a peer's change that has room for so many operations, or the
-/// first fault.
+/// The run that a line spells behind its first word, in a peer's change with room for `room` operations, or the first
+/// fault.
 #[tactic(auto, unfolding(crate::specs::Reading::run_at, crate::specs::Reading::counted_at))]
 pub fn run_of(alloc: Global, peer: u16, room: usize, fields: &str) -> Result<Run, LineFault>
     requires { room ≤ 256 }

@@ -1,7 +1,7 @@
 //! Writing the text of a change.
 ghost use Rattle.std.specs.Prelude.{◌≡◌, ◌++◌, [], ◌∷◌, OnOk, OnErr};
 ghost use Rattle.std.specs.String.{string_bytes};
-ghost use Rattle.change_ops.specs.Spelling.{◌␣◌, id_text, place_text, anchor_text, key_text, attribute_text, op_text};
+ghost use Rattle.change_ops.specs.Spelling.{◌␣◌, id_text, parent_text, anchor_text, key_text, attribute_text, op_text};
 ghost use Rattle.change_ops.specs.Spelling.{codes_text, run_text, line_text, lines_text, form_text, header_text};
 ghost use Rattle.change_ops.specs.Spelling.{change_text};
 
@@ -21,10 +21,10 @@ fn write_id(id: OpId, out: &mut String) -> Result<(), AllocError>
     write!(out, "{}@{}", id.counter(), id.node())
 }
 
-fn write_place(place: Option<OpId>, out: &mut String) -> Result<(), AllocError>
-    ensures { OnOk result (string_bytes out.new ≡ string_bytes out.old ++ place_text place) }
+fn write_parent(parent: Option<OpId>, out: &mut String) -> Result<(), AllocError>
+    ensures { OnOk result (string_bytes out.new ≡ string_bytes out.old ++ parent_text parent) }
 {
-    match place {
+    match parent {
         None => out.push('-'),
         Some(id) => write_id(id, out),
     }
@@ -98,7 +98,7 @@ fn write_insert(
     ensures { OnOk result (string_bytes out.new ≡ string_bytes out.old ++ op_text (Op.Insert id parent character)) }
 {
     write_front("i", id, out)?;
-    write_place(parent, out)?;
+    write_parent(parent, out)?;
     write!(out, " {:x}", character.value() as u32)
 }
 
@@ -179,7 +179,7 @@ fn write_run(run: &Run, out: &mut String) -> Result<(), AllocError>
     ensures { OnOk result (string_bytes out.new ≡ string_bytes out.old ++ run_text run.now) }
 {
     write_front("r", run.id(), out)?;
-    write_place(run.parent(), out)?;
+    write_parent(run.parent(), out)?;
     write!(out, " {}", run.characters().len())?;
     write_codes(run.characters(), out)
 }

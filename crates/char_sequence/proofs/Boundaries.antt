@@ -47,8 +47,8 @@ walk bs n (e ∷ ys) zs utf8 at within is =
 pub front_boundary : (es : List Element) (k : ℕ) (bs : List ℕ) → IsUtf8 bs → bs ≡ visible_text es → IsCharBoundary bs (length (visible_text (take k es)))
 front_boundary es k bs utf8 is =
     let whole : es ≡ take k es ++ drop k es = sym (take-append-drop k es) in
-    let zero_place : 0 + length (visible_text (take k es)) ≡ length (visible_text (take k es)) = omega arith in
-    subst (IsCharBoundary bs) zero_place (walk bs 0 (take k es) (drop k es) utf8 (IsCharBoundary-start bs utf8) (omega arith) (is ∙ ap visible_text whole))
+    let zero_sum : 0 + length (visible_text (take k es)) ≡ length (visible_text (take k es)) = omega arith in
+    subst (IsCharBoundary bs) zero_sum (walk bs 0 (take k es) (drop k es) utf8 (IsCharBoundary-start bs utf8) (omega arith) (is ∙ ap visible_text whole))
 
 pub front_split : (es : List Element) (k n : ℕ) (bs : List ℕ) → IsUtf8 bs → bs ≡ visible_text es → n ≡ length (visible_text (take k es)) → IsSplitPoint (visible_text es) n
 front_split es k n bs utf8 is size =

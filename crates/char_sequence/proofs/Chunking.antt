@@ -16,7 +16,7 @@ use Rattle.char_sequence.specs.Places.{IsAfter}
 use Rattle.char_sequence.specs.declared.chunk_list.Room.{Room}
 use Rattle.char_sequence.specs.declared.chunk_list.Room.TheVariants.{First, In}
 use Rattle.char_sequence.specs.Rooms.{IsRoom}
-use Rattle.char_sequence.specs.Chunks.{joined, start_of, Chunked, IsIndexed, IsKept, IsSpot, IsSpotOf}
+use Rattle.char_sequence.specs.Chunks.{joined, start_of, ChunkList, IsIndexed, IsKept, IsSpot, IsSpotOf}
 use Rattle.char_sequence.proofs.Ids.{id_found, same_id_cases}
 use Rattle.char_sequence.proofs.Lists.{inserted_cases, inserted_here, inserted_still, slice_get_set_same, slice_get_set_other, set_cases}
 use Rattle.char_sequence.proofs.Joined.{get_left, joined_get, joined_found, joined_insert, joined_set, joined_split, split_left, split_right, split_start, split_start_right, start_after_chunk, start_within}
@@ -35,7 +35,7 @@ not_indexed_id cs names index ok id e (p, (x, g, is)) =
     let r = joined_found cs p x g in
     ok.listed r.0 r.1.0 r.1.1.1 r.1.1.0 x r.1.1.2 (ap (λ z. lookup (same_id z) index) is ∙ e)
 
--- what stands behind a place stands among all
+-- what stands behind an index stands among all
 pub dropped : {X : Type 0} (xs : List X) (n k : ℕ) (x : X) → slice_get (drop n xs) k ≡ Some x → (i : ℕ) × (slice_get xs i ≡ Some x)
 dropped xs zero k x g = (k, g)
 dropped [] (suc n) k x g = absurd (none-some x g)
@@ -510,7 +510,7 @@ spot_start [] some = absurd (omega arith)
 spot_start (c ∷ cs) some = (0, refl, record { chunk = c; here = refl; within = omega arith; is = refl })
 
 -- the place of a room is one of those that an element can go to
-pub room_within : (list : Chunked) (es : List Element) (room : Room) (place : ℕ) → joined list.chunks ≡ es → IsRoom list room place → place ≤ length es
+pub room_within : (list : ChunkList) (es : List Element) (room : Room) (place : ℕ) → joined list.chunks ≡ es → IsRoom list room place → place ≤ length es
 room_within list es (First blank) place same r = let zero_place = r.1 in omega (arith, zero_place)
 room_within list es (In spot) place same r =
     let next = start_after_chunk list.chunks spot.position r.0 r.1 in

@@ -71,7 +71,7 @@ used_other ops others m id n o fresh u =
     let lower : id.counter ≤ (id_of u.0).counter = u.3 in
     fresh (used_from ops m n id r.0 (ap (get m) (sym u.2) ∙ r.1) (omega arith))
 
--- one more operation, whose id takes the place of its peer's last one
+-- one more operation, whose id replaces its peer's last one
 pub newest_noted : (ops : List Op) (op : Op) (id : OpId) (m n : FinMap nat_cmp ℕ) → id_of op ≡ id → (Used ops id → ⊥) → IsNewest ops m → get n id.node ≡ Some id.counter → ((q : ℕ) → (q ≡ id.node → ⊥) → get n q ≡ get m q) → IsNewest (ops ++ op ∷ []) n
 newest_noted ops op id m n is fresh ok here other = record {
   covered =

@@ -55,12 +55,12 @@ fronts old new t s more es ordered listed present e p ins start k st past i x h 
     skipped_before old new t s more e x.id p ins (st.after i x high g)
     (λ u q iu after upto.
     let at = listed u q iu in
-    let place : slice_get es at.0 ≡ Some at.1.0 = at.1.1 in
+    let found : slice_get es at.0 ≡ Some at.1.0 = at.1.1 in
     let is : at.1.0.id ≡ u = at.1.2 in
     let from : start ≤ at.0 =
     ⊎_elim
     (λ (below : at.0 < start).
-    let up = st.upto at.0 at.1.0 below place in
+    let up = st.upto at.0 at.1.0 below found in
     let after' : Before old (Some up.0) u = subst (λ z. Before old z u) up.1 after in
     ⊎_elim
     (λ (one : at.1.0.id ≡ up.0). absurd (before_irrefl old t u (subst (λ z. Before old (Some z) u) (sym one ∙ is) after')))
@@ -72,7 +72,7 @@ fronts old new t s more es ordered listed present e p ins start k st past i x h 
     let to : at.0 ≤ i =
     ⊎_elim
     (λ (beyond : i < at.0).
-    let b : Before old (Some x.id) u = subst (λ z. Before old (Some x.id) z) is (ordered i at.0 x at.1.0 beyond g place) in
+    let b : Before old (Some x.id) u = subst (λ z. Before old (Some x.id) z) is (ordered i at.0 x at.1.0 beyond g found) in
     ⊎_elim
     (λ (one : u ≡ x.id). absurd (before_irrefl old t u (subst (λ z. Before old (Some z) u) (sym one) b)))
     (λ (c : Before old (Some u) x.id). absurd (before_asym old t u x.id c b))
@@ -80,7 +80,7 @@ fronts old new t s more es ordered listed present e p ins start k st past i x h 
     (λ (fine : at.0 ≤ i). fine)
     (cases_lt i at.0)
     in
-    subst (λ z. Less e z) is (past.skipped at.0 at.1.0 from (omega arith) place)))
+    subst (λ z. Less e z) is (past.skipped at.0 at.1.0 from (omega arith) found)))
     (cases_lt i start)
 
 pub backs : (old new : List Op) → IsTree old → IsTree new → Grows old new → (es : List Element) → Ordered old es → (e : OpId) (p : Option OpId) → Inserts new e p → (start k : ℕ) → IsStart old es p start → IsPast es e start k → (z : Element) → slice_get es k ≡ Some z → Less z.id e → (i : ℕ) (y : Element) → k ≤ i → slice_get es i ≡ Some y → Before new (Some e) y.id

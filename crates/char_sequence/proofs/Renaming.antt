@@ -10,7 +10,7 @@ use Rattle.char_sequence.specs.declared.sequence.Element.{Element}
 use Rattle.char_sequence.specs.Index.{same_id, HasId}
 use Rattle.char_sequence.proofs.Ids.{same_id_cases}
 
--- the first so many have the name, the ids that are none of theirs what they had, and none is lost
+-- the first `count` have the name, the ids that are none of theirs what they had, and none is lost
 pub record IsRenamed (es : List Element) (old new : List (OpId × ℕ)) (name count : ℕ) : Type 0 where
   pub renamed : (k : ℕ) (e : Element) → k < count → slice_get es k ≡ Some e → lookup (same_id e.id) new ≡ Some name
   pub kept : (q : OpId) → ((k : ℕ) (e : Element) → k < count → slice_get es k ≡ Some e → e.id ≡ q → ⊥) → lookup (same_id q) new ≡ lookup (same_id q) old

@@ -17,7 +17,7 @@ use Rattle.char_sequence.specs.Tree.{Present, Removed, IsTree}
 use Rattle.char_sequence.specs.Order.{IsAt, IsText, Shows}
 use Rattle.char_sequence.specs.Acceptance.{Used, IsUnknown, Accepts}
 use Rattle.char_sequence.specs.Newest.{IsNewest}
-use Rattle.char_sequence.specs.Held.{Contents, Holds}
+use Rattle.char_sequence.specs.Held.{Sequence, Holds}
 use Rattle.char_sequence.specs.Places.{IsStart, IsPast, IsAfter}
 use Rattle.char_sequence.specs.Index.{HasId}
 use Rattle.char_sequence.proofs.Counters.{used_other}
@@ -127,7 +127,7 @@ has_room ops op n m one size i a =
     (cases_lt n 32768)
 
 -- what is held decides which operations are accepted, whatever the operations are
-pub accepts_other : (c : Contents) (ops others : List Op) (op : Op) → Holds c ops → Holds c others → Accepts ops op → Accepts others op
+pub accepts_other : (c : Sequence) (ops others : List Op) (op : Op) → Holds c ops → Holds c others → Accepts ops op → Accepts others op
 accepts_other c ops others op h k a = record {
   fresh =
       λ s.

@@ -67,7 +67,7 @@ within_at_most ops t a q (below {p} {x} w i) b e =
 pub ancestor_less : (ops : List Op) → IsTree ops → (a x : OpId) → Ancestor ops (Some a) x → Less a x
 ancestor_less ops t a x (p, w, i) = parent_less ops t a x p (within_at_most ops t a p w) w i
 
--- two children of one place that stand above one character are one
+-- two children of one parent that stand above one character are one
 pub apart_one : (ops : List Op) → IsTree ops → (x y : OpId) (p : Option OpId) → Inserts ops x p → Inserts ops y p → Within ops (Some x) (Some y) → x ≡ y
 apart_one ops t x y p i j w =
     ⊎_elim
@@ -105,8 +105,8 @@ fork_below ops t a b c f g w =
     ⊎_elim
     (λ (e : Some f.right ≡ Some g.left).
     let one : f.right ≡ g.left = same_Some f.right g.left e in
-    let place : g.at ≡ f.at = t.one g.left g.at f.at g.left_branch (subst (λ z. Inserts ops z f.at) one f.right_branch) in
-    inr (record { at = f.at; left = f.left; right = g.right; left_branch = f.left_branch; right_branch = subst (λ z. Inserts ops g.right z) place g.right_branch; greater = less_trans g.right g.left f.left g.greater (subst (λ z. Less z f.left) one f.greater); on_left = f.on_left; on_right = g.on_right }))
+    let parent : g.at ≡ f.at = t.one g.left g.at f.at g.left_branch (subst (λ z. Inserts ops z f.at) one f.right_branch) in
+    inr (record { at = f.at; left = f.left; right = g.right; left_branch = f.left_branch; right_branch = subst (λ z. Inserts ops g.right z) parent g.right_branch; greater = less_trans g.right g.left f.left g.greater (subst (λ z. Less z f.left) one f.greater); on_left = f.on_left; on_right = g.on_right }))
     (λ (v : Within ops (Some f.right) g.at).
     inr (record { at = f.at; left = f.left; right = f.right; left_branch = f.left_branch; right_branch = f.right_branch; greater = f.greater; on_left = f.on_left; on_right = within_trans ops (Some f.right) (Some g.right) (Some c) (below v g.right_branch) g.on_right }))
     (at_or_above ops t (Some f.right) g.at g.left g.left_branch w)

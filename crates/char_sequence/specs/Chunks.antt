@@ -13,11 +13,11 @@ abbrev pub joined : List (List Element) → List Element
 joined [] = []
 joined (chunk ∷ chunks) = chunk ++ joined chunks
 
--- so many elements stand before the chunk at this position
+-- the number of elements before the chunk at this position
 abbrev pub start_of : List (List Element) → ℕ → ℕ
 start_of chunks position = length (joined (take position chunks))
 
--- the elements stand in so many chunks, each of 1 to 64 of them, of which the longest has so many, 0 where there is
+-- the elements stand in `count` chunks, each of 1 to 64 of them, of which the longest has `longest`, 0 where there is
 -- none
 pub record AreInChunks (elements : List Element) (count longest : ℕ) : Type 0 where
   pub chunks : List (List Element)
@@ -42,7 +42,7 @@ pub record IsTextOf (items : List Element) (text : List ℕ) (capacity : ℕ) : 
 abbrev pub IsFloor : List Element → OpId → Type 0
 IsFloor items floor = (k : ℕ) (e : Element) → slice_get items k ≡ Some e → Less e.id floor → ⊥
 
--- the place among all elements that has so many of the chunk's before it
+-- the place among all elements that has `at` of the chunk's before it
 pub record IsSpot (chunks : List (List Element)) (position at place : ℕ) : Type 0 where
   pub chunk : List Element
   pub here : slice_get chunks position ≡ Some chunk
@@ -60,7 +60,7 @@ pub record IsIndexed (chunks : List (List Element)) (names : List ℕ) (index : 
       → lookup (same_id e.id) index ≡ None → ⊥
 
 -- chunks, and for how many more of them there is room
-pub record Chunked : Type 0 where
+pub record ChunkList : Type 0 where
   pub chunks : List (List Element)
   pub room : ℕ
 

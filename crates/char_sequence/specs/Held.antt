@@ -9,12 +9,12 @@ use Rattle.char_sequence.specs.Order.{Shows}
 use Rattle.char_sequence.specs.Newest.{IsNewest}
 
 -- what is seen of a sequence
-pub record Contents : Type 0 where
+pub record Sequence : Type 0 where
   pub elements : List Element
   pub newest : FinMap nat_cmp ℕ
 
 -- the sequence was handed these operations, and no others
-pub record Holds (c : Contents) (ops : List Op) : Type 0 where
+pub record Holds (c : Sequence) (ops : List Op) : Type 0 where
   pub shows : Shows c.elements ops
   pub newest : IsNewest ops c.newest
   pub size : length c.elements ≡ count_by is_insert ops

@@ -8,7 +8,7 @@ use Rattle.change_ops.specs.declared.operation.Op.TheVariants.{Insert}
 use Rattle.char_sequence.specs.declared.sequence.Element.{Element}
 use Rattle.char_sequence.specs.Tree.{Inserts, Present, Removed, Within, Ancestor, IsTree}
 
--- the two stand on different branches of one place, of which the first has the greater id
+-- the two stand on different branches of one parent, of which the first has the greater id
 pub record Fork (ops : List Op) (a : Option OpId) (b : OpId) : Type 0 where
   pub at : Option OpId
   pub left : OpId
@@ -19,7 +19,7 @@ pub record Fork (ops : List Op) (a : Option OpId) (b : OpId) : Type 0 where
   pub on_left : Within ops (Some left) a
   pub on_right : Within ops (Some right) (Some b)
 
--- a place stands before those that descend from it, and before lesser branches
+-- a character or the root stands before those that descend from it, and before lesser branches
 abbrev pub Before : List Op → Option OpId → OpId → Type 0
 Before ops a b = Ancestor ops a b ⊎ Fork ops a b
 

@@ -17,12 +17,12 @@ Present ops x = (p : Option OpId) × Inserts ops x p
 abbrev pub Removed : List Op → OpId → Type 0
 Removed ops x = (r : OpId) × Contains ops (Remove r x)
 
--- the second place is the first, or descends from it
+-- the second is the first, or descends from it; each is a character, or None, which is the root
 pub data Within (ops : List Op) (a : Option OpId) : Option OpId → Type 0 where
   itself : Within ops a a
   below : {p : Option OpId} {x : OpId} → Within ops a p → Inserts ops x p → Within ops a (Some x)
 
--- the character descends from the place
+-- the character `x` descends from `a`, a character or the root
 abbrev pub Ancestor : List Op → Option OpId → OpId → Type 0
 Ancestor ops a x = (p : Option OpId) × Within ops a p × Inserts ops x p
 

@@ -157,7 +157,7 @@ impl Chunk {
     }
 
     /// The index within the chunk of an element of this id.
-    pub(crate) fn place_of(&self, id: OpId) -> Option<usize>
+    pub(crate) fn index_of(&self, id: OpId) -> Option<usize>
         ensures within { IfSome result (λ k. k < 64) }
         ensures found { MatchOption result (HasId self.now id → ⊥) (λ k. IsAt self.now id k) }
     {
@@ -166,9 +166,9 @@ impl Chunk {
         if typed < self.items.len() && self.items[typed].id == id {
             return Some(typed);
         }
-        for place in 0..self.items.len() {
-            if self.items[place].id == id {
-                return Some(place);
+        for index in 0..self.items.len() {
+            if self.items[index].id == id {
+                return Some(index);
             }
         }
         None
@@ -189,49 +189,49 @@ impl Chunk {
         ensures { MatchOption result ((i : ℕ) (x : Element) → start ≤ i → slice_get self.now i ≡ Some x
             → Less id x.id) (IsNext self.now id start) }
     {
-        for place in start..self.items.len() {
-            if !id.is_below(self.items[place].id) {
-                return Some(place);
+        for index in start..self.items.len() {
+            if !id.is_below(self.items[index].id) {
+                return Some(index);
             }
         }
         None
     }
 
     /// How many bytes of the text stand before an index.
-    fn text_before(&self, place: usize) -> usize
-        requires { place ≤ length self.now }
-        ensures value { result ≡ length (visible_text (take place self.now)) }
+    fn text_before(&self, index: usize) -> usize
+        requires { index ≤ length self.now }
+        ensures value { result ≡ length (visible_text (take index self.now)) }
         ensures split { IsSplitPoint (visible_text self.now) result }
     {
         let count = self.items.len();
-        if place == count {
+        if index == count {
             self.text.len()
         } else {
-            let (before, _) = self.items.split_at(place);
+            let (before, _) = self.items.split_at(index);
             visible_len(before)
         }
     }
 
     /// Puts an element at an index; those from there on move on.
-    pub(crate) fn insert(&mut self, place: usize, element: Element)
-        requires within { place ≤ length self.old }
+    pub(crate) fn insert(&mut self, index: usize, element: Element)
+        requires within { index ≤ length self.old }
         requires room { length self.old < 64 }
-        ensures { self.new ≡ insert self.old place element }
+        ensures { self.new ≡ insert self.old index element }
     {
-        let at = self.text_before(place);
+        let at = self.text_before(index);
         self.floor = lesser(self.floor, element.id);
         self.shown += shown_by(&element);
-        self.items.insert(place, element).unwrap();
+        self.items.insert(index, element).unwrap();
         write_at(&element, at, &mut self.text);
     }
 
     /// Makes the element at an index a tombstone.
-    pub(crate) fn hide(&mut self, place: usize)
-        requires { place < length self.old }
-        ensures { (x : Element) → slice_get self.old place ≡ Some x
-            → self.new ≡ set self.old place (record { id = x.id; character = x.character; visible = false }) }
+    pub(crate) fn hide(&mut self, index: usize)
+        requires { index < length self.old }
+        ensures { (x : Element) → slice_get self.old index ≡ Some x
+            → self.new ≡ set self.old index (record { id = x.id; character = x.character; visible = false }) }
     {
-        self.items[place].visible = false;
+        self.items[index].visible = false;
         write_text(&self.items, &mut self.text);
         self.shown = count_visible(&self.items);
     }

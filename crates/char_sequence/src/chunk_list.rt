@@ -50,7 +50,7 @@ impl Spot {
     }
 }
 
-/// Where a full chunk is split for an element at a place: in the middle, but where the element goes to the end, as in
+/// Where a full chunk is split for an element at an index: in the middle, but where the element goes to the end, as in
 /// text that is typed on, before the last element, so that chunks stay nearly full.
 fn split_point(at: usize) -> usize
     ensures { (0 < result) × (result < 64) }
@@ -84,9 +84,9 @@ pub(crate) struct ChunkList {
 
 impl Model for ChunkList {
     ghost use Rattle.std.specs.Prelude.{◌-◌, min, vec_len, vec_capacity};
-    ghost use Rattle.char_sequence.specs.Chunks.{Chunked, IsKept};
+    ghost use Rattle.char_sequence.specs.Chunks.{ChunkList as ChunkListValue, IsKept};
 
-    ghost Value = { Chunked };
+    ghost Value = { ChunkListValue };
 
     ghost view = { λ l. record {
       chunks = l.chunks.items;
@@ -236,7 +236,7 @@ impl ChunkList {
     {
         let name = *self.index.get(&id)?;
         let position = position_of(&self.names, name).unwrap();
-        let at = self.chunks[position].place_of(id).unwrap();
+        let at = self.chunks[position].index_of(id).unwrap();
         Some(Spot { position, at })
     }
 
@@ -284,7 +284,7 @@ impl ChunkList {
         past_greater(&self.chunks, from, id)
     }
 
-    /// Moves the elements of a chunk from a place on into a chunk of their own after it.
+    /// Moves the elements of a chunk from an index on into a chunk of their own after it.
     fn split_chunk(&mut self, position: usize, at: usize) -> Result<(), AllocError>
         requires { (chunk : List Element) × (slice_get self.old.chunks position ≡ Some chunk) × (0 < at)
             × (at < length chunk) }

@@ -107,7 +107,7 @@ impl PlaceTable<'_> {
     {
         let name = *self.index.get(&id)?;
         let chunk = self.starts[name];
-        let at = self.chunks[chunk.position].place_of(id).unwrap();
+        let at = self.chunks[chunk.position].index_of(id).unwrap();
         Some(chunk.start + at)
     }
 }

@@ -53,11 +53,11 @@ impl Model for Sequence {
     ghost use Rattle.std.specs.FinMap.{code};
     ghost use Rattle.std.specs.Coded.{codes, coded_ℕ};
     ghost use Rattle.change_ops.specs.declared.operation.Op.{Op};
-    ghost use Rattle.char_sequence.specs.Held.{Contents, Holds};
+    ghost use Rattle.char_sequence.specs.Held.{Sequence as SequenceValue, Holds};
     ghost use Rattle.char_sequence.specs.Chunks.{joined};
     ghost use Rattle.char_sequence.specs.declared.sequence.TheConstants.{CHARACTER_LIMIT};
 
-    ghost Value = { Contents };
+    ghost Value = { SequenceValue };
 
     ghost coded = { Prim.hlevel (codes, code {R = nat_cmp} coded_ℕ coded_ℕ) };
 

@@ -39,7 +39,7 @@ pub(crate) fn write_at(element: &Element, at: usize, text: &mut String)
     }
 }
 
-/// Writes the visible text in place of what was there, for which there is room.
+/// Replaces what was there with the visible text, for which there is room.
 pub(crate) fn write_text(elements: &[Element], text: &mut String)
     requires { 4 * length elements.now ≤ string_capacity text.old }
     ensures bytes { string_bytes text.new ≡ visible_text elements.now }

@@ -51,8 +51,8 @@ fn chunk_at(chunks: &[Chunk], place: usize) -> ChunkStart
 }
 
 impl VisibleCursor<'_> {
-    /// Reads so many characters, removed ones too, and appends those of them that are visible, of which it says how
-    /// many they are; the error is want of memory, and changes nothing.
+    /// Reads `count` characters, removed ones too, appends those of them that are visible, and returns the number of
+    /// these; the error is want of memory, and changes nothing.
     pub fn push_next(&mut self, count: usize, text: &mut String) -> Result<usize, AllocError>
         requires { count ≤ length self.old }
         ensures text { OnOk result (string_bytes text.new ≡ string_bytes text.old

@@ -1,10 +1,10 @@
 use crate::grammar::hub;
-use bpf_words::profile::Profile;
 use change_ops::attribute::Link;
 use clap::error::ErrorKind;
 use clap::{ArgMatches, Error};
 use hub_requests::limits::{SessionLimits, SessionOptions};
 use hub_requests::{Command, Detail, Request, Sessions, Shown, SpanOptions, Workers};
+use span_context::profile::Profile;
 use std::alloc::{AllocError, Global};
 use std::convert::AsStr;
 

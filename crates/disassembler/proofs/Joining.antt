@@ -54,27 +54,27 @@ none_second : (bytes : List ℕ) → is_second bytes 0 ≡ false
 unfolding is_second
 none_second bytes = refl
 
-joins : (bytes part rest : List ℕ) (place next : ℕ) → StandsAt bytes place part → next ≡ place + length part → rest ≡ drop next bytes → part ++ rest ≡ drop place bytes
-joins bytes part rest place next stands behind h =
-    rw (h, behind) (sym (drop_split bytes place (place + length part) (omega arith) ∙ ap (λ (front : List ℕ). front ++ drop (place + length part) bytes) stands))
+joins : (bytes part rest : List ℕ) (offset next : ℕ) → StandsAt bytes offset part → next ≡ offset + length part → rest ≡ drop next bytes → part ++ rest ≡ drop offset bytes
+joins bytes part rest offset next stands behind h =
+    rw (h, behind) (sym (drop_split bytes offset (offset + length part) (omega arith) ∙ ap (λ (front : List ℕ). front ++ drop (offset + length part) bytes) stands))
 
 -- from a slot on, the instructions' bytes are the bytes from there on
 from_slot : (bytes : List ℕ) → IsProgram bytes → AllStand bytes (length bytes / 8) → (n index : ℕ) (second : Bool) → index + n ≡ length bytes / 8
     → is_second bytes index ≡ second → flat_map entry_bytes (map (insn_at bytes) (range_with_len index n)) ≡ drop (8 * index + left second) bytes
 from_slot bytes program all zero index second e s = let w = program.whole.eights in sym (drop_all (8 * index + left second) bytes (omega arith))
 from_slot bytes program all (suc n) index true e s =
-    let place : 8 * (index + 1) + 0 ≡ 8 * index + 8 = omega arith in
-    rw s (from_slot bytes program all n (index + 1) false (omega arith) (second_ends bytes index s) ∙ ap (λ (k : ℕ). drop k bytes) place)
+    let offset : 8 * (index + 1) + 0 ≡ 8 * index + 8 = omega arith in
+    rw s (from_slot bytes program all n (index + 1) false (omega arith) (second_ends bytes index s) ∙ ap (λ (k : ℕ). drop k bytes) offset)
 from_slot bytes program all (suc n) index false e s =
     let within : index < length bytes / 8 = omega arith in
     let read = right_slot bytes index s (program.sound index within) in
     let same : insn_at bytes index ≡ Some read.0 = rw (s, read.1) refl in
     let stands : Stands bytes index (Some read.0) = subst (Stands bytes index) same (all.each index within) in
     let long = encoded_length read.0 in
-    let place : 8 * index + 0 ≡ 8 * index = omega arith in
+    let offset : 8 * index + 0 ≡ 8 * index = omega arith in
     let rest = from_slot bytes program all n (index + 1) (is_wide (Ok read.0)) (omega arith) (second_begins bytes index read.0 s read.1) in
     rw (s, read.1) (joins bytes (encoded read.0) (flat_map entry_bytes (map (insn_at bytes) (range_with_len (index + 1) n))) (8 * index)
-    (8 * (index + 1) + left (is_wide (Ok read.0))) stands.1 (omega arith) rest ∙ ap (λ (k : ℕ). drop k bytes) (sym place))
+    (8 * (index + 1) + left (is_wide (Ok read.0))) stands.1 (omega arith) rest ∙ ap (λ (k : ℕ). drop k bytes) (sym offset))
 
 fits_more : (bytes : List ℕ) (index : ℕ) (entry : Option Insn) (program : List (Option Insn)) → Stands bytes index entry → EachFits program → EachFits (entry ∷ program)
 fits_more bytes index None program stands h = h

@@ -11,7 +11,7 @@ use Rattle.assembler_lines.specs.Tokens.{is_word_byte, tokens_of}
 use Rattle.assembler_lines.specs.Terms.{terms_of}
 use Rattle.assembler_lines.specs.Pieces.{Piece, Space, Sig, Text, AreWordBytes, WellLaid, spell}
 use Rattle.assembler_lines.specs.Statements.{Judged, Statement, Blank, Plain, reading_of, statement_of}
-use Rattle.assembler_lines.specs.Places.{lines_of, line_at, insn_at}
+use Rattle.assembler_lines.specs.Slots.{lines_of, line_at, insn_at}
 use Rattle.assembler.specs.Text.{AsmText, AreRight, bytes_of, bytes_before}
 use Rattle.disassembler.specs.Canonical.{pieces, canonical_line, canonical}
 use Rattle.disassembler.proofs.Fitting.{EachFits}

@@ -1,7 +1,7 @@
 -- The canonical text of a program: one line for each instruction, with single spaces.
 use Rattle.std.specs.Prelude.{ℕ, suc, List, [], ◌∷◌, ◌++◌, flat_map, Option, Some, None, ℤ, pos, negsuc, codes}
 use Rattle.std.specs.Fmt.{decimal}
-use Rattle.bpf_words.specs.declared.instruction.Size.{Size}
+use Rattle.span_context.specs.declared.size.Size.{Size}
 use Rattle.bpf_words.specs.declared.instruction.Operand.{Operand}
 use Rattle.bpf_words.specs.declared.instruction.Operand.TheVariants.{Immediate, Source}
 use Rattle.bpf_words.specs.declared.instruction.Insn.{Insn}

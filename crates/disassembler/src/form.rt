@@ -2,7 +2,8 @@ ghost use Rattle.std.specs.Prelude.{◌≡◌};
 ghost use Rattle.disassembler.specs.Canonical.{form_of, store_form};
 
 use assembler_lines::form::Form;
-use bpf_words::instruction::{Insn, Operand, Size};
+use bpf_words::instruction::{Insn, Operand};
+use span_context::size::Size;
 
 fn store_form(size: Size, value: Operand) -> Form
     ensures { result ≡ store_form size value }

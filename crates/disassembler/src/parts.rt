@@ -53,7 +53,7 @@ pub(crate) struct Address {
 }
 
 impl fmt::Display for Address {
-    ghost output = { λ place. Some (spell (address place.base place.offset)) };
+    ghost output = { λ memory. Some (spell (address memory.base memory.offset)) };
 
     fn fmt<W: fmt::Write>(&self, f: &mut fmt::Formatter<W>) -> fmt::Result {
         let offset = Signed(i32::from(self.offset));

@@ -1,7 +1,7 @@
 -- What workers do to a hub.
 use Rattle.std.specs.Prelude.{◌≡◌, ◌<◌, ◌≤◌, ◌+◌, ◌*◌, ◌⊎◌, ℕ, Bool, true, false, Result, Ok, Err, Option, Some, None}
 use Rattle.std.specs.Prelude.{List, All, length}
-use Rattle.batches.specs.Batches.{Slip}
+use Rattle.feeds.specs.Batches.{Job}
 use Rattle.hub_core.specs.Machine.{TakesJob, Misses, Commits, Pumps}
 use Rattle.hub_core.specs.declared.error.CommitError.{CommitError}
 use Rattle.hub_core.specs.declared.error.NoSubscriber.{NoSubscriber}
@@ -11,7 +11,7 @@ use Rattle.filter_workers.specs.declared.work.TurnEnd.{TurnEnd}
 use Rattle.filter_workers.specs.declared.work.TurnEnd.TheVariants.{Committed, Refused}
 
 -- the job's batch was committed, or refused, in one holding of the lock
-abbrev pub Ends : Slip → TurnEnd → Type 0
+abbrev pub Ends : Job → TurnEnd → Type 0
 Ends job Committed = InOneHolding (λ old new. Commits old job (Ok tt) new)
 Ends job Refused = (e : CommitError) × InOneHolding (λ old new. Commits old job (Err e) new)
 
@@ -25,26 +25,26 @@ IsPumped subscriber =
 -- could be in a third; or there was none to take, which says nothing of the hub
 abbrev pub Turns : Option TurnEnd → Type 0
 Turns (Some end) =
-    (job : Slip) × InOneHolding (λ old new. TakesJob old (Some job) new) × Ends job end × IsPumped job.subscriber
+    (job : Job) × InOneHolding (λ old new. TakesJob old (Some job) new) × Ends job end × IsPumped job.subscriber
 Turns None = InOneHolding (λ old new. TakesJob old None new)
 
 -- the most steps that running the program on each span of the version takes: a run takes at most one a slot, and to
 -- begin it counts as 32
-abbrev pub most_steps : Slip → ℕ
+abbrev pub most_steps : Job → ℕ
 most_steps job = length job.version.value.rows * (length job.program.value + 32)
 
--- a job of at most so many steps was taken in one holding of the lock, its batch committed or refused in another, and
+-- a job of at most `most` steps was taken in one holding of the lock, its batch committed or refused in another, and
 -- its subscriber sent what could be in a third; or a longer one was taken and left to its subscriber, or there was none
 -- to take, which says nothing of the hub
 abbrev pub Helps : ℕ → Bool → Type 0
 Helps most true =
-    (job : Slip) × (most_steps job ≤ most) × InOneHolding (λ old new. TakesJob old (Some job) new) × (end : TurnEnd)
+    (job : Job) × (most_steps job ≤ most) × InOneHolding (λ old new. TakesJob old (Some job) new) × (end : TurnEnd)
     × Ends job end × IsPumped job.subscriber
 Helps most false =
-    ((job : Slip) × (most < most_steps job) × InOneHolding (λ old new. TakesJob old (Some job) new)) ⊎ Turns None
+    ((job : Job) × (most < most_steps job) × InOneHolding (λ old new. TakesJob old (Some job) new)) ⊎ Turns None
 
 -- what a subscriber was found to wait for is no version, or one behind this
-abbrev pub IsBehind : ℕ → Option Slip → Type 0
+abbrev pub IsBehind : ℕ → Option Job → Type 0
 IsBehind last None = Unit {0}
 IsBehind last (Some job) = last < job.number
 
@@ -53,10 +53,10 @@ IsBehind last (Some job) = last < job.number
 -- none of them, which says nothing of the hub
 abbrev pub CatchesUp : ℕ → ℕ → Bool → Type 0
 CatchesUp subscriber last true =
-    (job : Slip) × (job.number ≤ last) × InOneHolding (λ old new. (new ≡ old) × Misses old subscriber (Some job))
+    (job : Job) × (job.number ≤ last) × InOneHolding (λ old new. (new ≡ old) × Misses old subscriber (Some job))
     × (end : TurnEnd) × Ends job end
 CatchesUp subscriber last false =
-    (missed : Option Slip) × IsBehind last missed × InOneHolding (λ old new. (new ≡ old) × Misses old subscriber missed)
+    (missed : Option Job) × IsBehind last missed × InOneHolding (λ old new. (new ≡ old) × Misses old subscriber missed)
 
 -- how many batches a turn committed
 abbrev pub batches_of : TurnEnd → ℕ
@@ -65,14 +65,14 @@ batches_of Refused = 0
 
 -- a job was taken in one holding of the lock, its batch committed in another, and its subscriber sent what could be in
 -- a third
-abbrev pub IsCommitted : Slip → Type 0
+abbrev pub IsCommitted : Job → Type 0
 IsCommitted job =
     InOneHolding (λ old new. TakesJob old (Some job) new) × InOneHolding (λ old new. Commits old job (Ok tt) new)
     × IsPumped job.subscriber
 
--- the batches of so many jobs were committed, in at most so many turns
+-- the batches of `count` jobs were committed, in at most `turns` turns
 pub record AreCommitted (turns count : ℕ) : Type 0 where
-  pub jobs : List Slip
+  pub jobs : List Job
   pub counted : length jobs ≡ count
   pub few : count ≤ turns
   pub each : All IsCommitted jobs

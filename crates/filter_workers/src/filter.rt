@@ -1,14 +1,14 @@
 ghost use Rattle.std.specs.Prelude.{◌≡◌, ◌≤◌, ◌↔◌, IsTrue, IfOk, IfSome, length, slice_range};
 ghost use Rattle.std.specs.Option.{option_map_or};
 ghost use Rattle.span_view.specs.Views.{view_at};
-ghost use Rattle.batches.specs.Verdicts.{verdict_on, verdicts_of};
-ghost use Rattle.batches.specs.Kept.{IsKnownOf};
+ghost use Rattle.feeds.specs.Verdicts.{verdict_on, verdicts_of};
+ghost use Rattle.feeds.specs.Kept.{IsKnownOf};
 ghost use Rattle.filter_workers.specs.Turns.{most_steps};
 
-use batches::batch::{Batch, verdict};
-use batches::item::Job;
-use batches::kept::{KeptVerdicts, Known};
-use batches::stretch::Stretch;
+use feeds::batch::{Batch, verdict};
+use feeds::item::Job;
+use feeds::kept::{KeptVerdicts, Known};
+use feeds::stretch::Stretch;
 use rayon::prelude::*;
 use span_flatten::version::Version;
 use span_view::view::view;
@@ -23,8 +23,8 @@ const STEPS_PER_THREAD: usize = 262_144;
 /// What it takes to make a span's context and begin a run, in steps.
 const STEPS_TO_BEGIN: usize = 32;
 
-/// The least number of spans that justifies a further thread, where so many workers share the processors and a run
-/// takes at most so many steps.
+/// The least number of spans that justifies a further thread, where `workers` workers share the processors and a run
+/// takes at most `steps` steps.
 fn spans_per_thread(workers: usize, steps: usize) -> usize
     requires few { steps ≤ 4096 }
 {
@@ -41,8 +41,8 @@ fn verdict_at(program: &Verified, version: &Version, index: usize) -> u64
     }
 }
 
-/// The verdicts on the spans of a version from one index up to another, in order. Each thread has at least so many
-/// spans, where there are so many.
+/// The verdicts on the spans of a version from one index up to another, in order. Each thread has at least `least`
+/// spans, where there are as many.
 fn verdicts_between<R: Threads + Sync>(
     rt: &R,
     alloc: Global,
@@ -67,7 +67,7 @@ fn verdicts_between<R: Threads + Sync>(
         .collect(rt, alloc)
 }
 
-/// Whether a job's batch takes at most so many steps, a little counted for each run's start.
+/// Whether a job's batch takes at most `most` steps, a little counted for each run's start.
 pub(crate) fn is_short<N: Naming>(published: &Published<'_, N>, job: &Job<N>, most: usize) -> bool
     ensures { IsTrue result ↔ (most_steps job.now ≤ most) }
 {
@@ -76,7 +76,7 @@ pub(crate) fn is_short<N: Naming>(published: &Published<'_, N>, job: &Job<N>, mo
     spans.saturating_mul(slots + STEPS_TO_BEGIN) <= most
 }
 
-/// The verdicts of a job's program on all spans of its version, where so many workers share the processors: the more
+/// The verdicts of a job's program on all spans of its version, where `workers` workers share the processors: the more
 /// they are, the fewer threads this one may start. Where those on an earlier version are known, the program is run on
 /// the spans alone that aren't as they were there.
 pub(crate) fn verdicts<N: Naming, R: Threads + Sync>(
@@ -122,8 +122,8 @@ fn known<N: Naming>(
 
 /// The batch of a job, as `Batch::compute` answers it, from what is kept of the verdicts of its program on an earlier
 /// version, if anything is: the program is run on the spans alone that aren't as they were there. They are shared out
-/// among as many threads as there are processors to run them, where the program is so long and they are so many that
-/// each thread is worth its start. It asks for no lock.
+/// among as many threads as there are processors to run them, as far as the length of the program and the number of
+/// these spans make each thread worth its start. It asks for no lock.
 pub fn filter<N: Naming, R: Threads + Sync>(
     rt: &R,
     alloc: Global,

@@ -1,4 +1,4 @@
-use batches::item::Job;
+use feeds::item::Job;
 use version_history::published::Naming;
 
 /// What workers call in each turn that has a job, outside the lock: once before its batch is computed, and once after

@@ -1,12 +1,12 @@
 ghost use Rattle.std.specs.Prelude.{◌≡◌, ◌≤◌, ◌<◌, ◌*◌, ◌^◌, Ok, All, IfOk, IfSome, length};
-ghost use Rattle.batches.specs.Kept.{IsKnownOf};
+ghost use Rattle.feeds.specs.Kept.{IsKnownOf};
 ghost use Rattle.filter_workers.specs.Turns.{Ends, IsPumped, Turns, Helps, CatchesUp, AreCommitted, batches_of};
 
 use crate::filter::{is_short, verdicts};
 use crate::gate::Gate;
-use batches::batch::Batch;
-use batches::item::Job;
-use batches::kept::{KeptVerdicts, Known, is_blind_to_place};
+use feeds::batch::Batch;
+use feeds::item::Job;
+use feeds::kept::{KeptVerdicts, Known, is_blind_to_position};
 use hub_core::error::CommitError;
 use ingest_workers::hub::Hub;
 use std::alloc::{AllocError, Global};
@@ -63,7 +63,7 @@ fn batch_of<N: Naming + Ledger, R: Threads + Wait + Copy + Sync>(
 ) -> Result<Batch<N>, AllocError>
     ensures { IfOk result (λ batch. batch ≡ job.now) }
 {
-    let may_keep = is_blind_to_place(published.program(&job.program));
+    let may_keep = is_blind_to_position(published.program(&job.program));
     let known = if may_keep {
         known(rt, hub, published, job)
     } else {
@@ -178,8 +178,8 @@ fn total(counts: &[Result<u64, AllocError>], turns: u64) -> Result<u64, AllocErr
     Ok(sum)
 }
 
-/// Has so many workers, of which one runs in this thread, take jobs, compute their batches and commit them, each until
-/// its turns are over or there is no job. The more they are, the fewer threads each may start to compute one. It
+/// Has `workers` workers, of which one runs in this thread, take jobs, compute their batches and commit them, each
+/// until its turns are over or there is no job. The more they are, the fewer threads each may start to compute one. It
 /// answers how many batches were committed; where a worker found no memory it ends, what its subscriber is owed is
 /// handed out again, and the others go on to their end.
 pub fn work<N: Naming + Ledger + Send + Sync, R: Threads + Wait + Copy + Send + Sync, G: Gate<N>>(
@@ -209,7 +209,7 @@ pub fn work<N: Naming + Ledger + Send + Sync, R: Threads + Wait + Copy + Send + 
     total(counts.as_slice(), u64::from(turns))
 }
 
-/// Takes a job, whichever subscriber it is of. If it takes at most so many steps its batch is computed and committed; a
+/// Takes a job, whichever subscriber it is of. If it takes at most `most` steps its batch is computed and committed; a
 /// longer one is left to whoever catches its subscriber up. It answers whether one was computed; where no memory was
 /// found, what the subscriber is owed is handed out again.
 pub fn help<N: Naming + Ledger, R: Threads + Wait + Copy + Sync>(

@@ -5,7 +5,7 @@ use Rattle.std.proofs.lemmas.List.{append-nil, length-take}
 use Rattle.std.proofs.lemmas.Option.{slice_get-get_or}
 use Rattle.std.proofs.lemmas.List.Concat.{flat_map-append}
 use Rattle.std.proofs.lemmas.List.Elements.{All-push}
-use Rattle.change_ops.specs.Changes.{Edit, IsChange}
+use Rattle.change_ops.specs.Changes.{Change, IsChange}
 use Rattle.change_ops.specs.Spelling.{change_text, Spells}
 use Rattle.change_ops.specs.Refusals.{IsRefused as BeginsWithNoChange}
 use Rattle.change_ops.specs.declared.refusal.ChangeError.{ChangeError}
@@ -21,8 +21,8 @@ use Rattle.hub_commands.specs.SpansReply.{Begins, next_number, unread, unaccepte
 use Rattle.hub_commands.specs.Reasons.{in_change}
 use Rattle.hub_commands.specs.Stopping.{MatchStop, StopsAt, Takes}
 
-pub begins_more : (input rest after : List ℕ) (changes more : List Edit) → Begins input changes rest → Takes changes rest more after → Begins input more after
-begins_more input rest after changes more front taken = subst (λ (all : List Edit). Begins input all after) (sym taken.more) (record {
+pub begins_more : (input rest after : List ℕ) (changes more : List Change) → Begins input changes rest → Takes changes rest more after → Begins input more after
+begins_more input rest after changes more front taken = subst (λ (all : List Change). Begins input all after) (sym taken.more) (record {
   spelt =
       let change = taken.change in
       let before = flat_map change_text changes in
@@ -41,7 +41,7 @@ not_empty [] e = absurd cc
 not_empty (byte ∷ rest) e = λ same. cc
 
 -- ---- where the changes stop
-pub unread_there : (changes : List Edit) (text : List ℕ) (number : ℕ) (error : ChangeError) (why : Stop) → number ≡ next_number changes
+pub unread_there : (changes : List Change) (text : List ℕ) (number : ℕ) (error : ChangeError) (why : Stop) → number ≡ next_number changes
     → (error ≡ reading.OutOfMemory) ⊎ BeginsWithNoChange text error
     → MatchStop why (error ≡ reading.OutOfMemory) (λ reason. (error ≢ reading.OutOfMemory) × (reason ≡ in_change number (Unread error))) → StopsAt changes text why
 unread_there changes text number error stop.Memory counted because given = tt
@@ -51,7 +51,7 @@ unread_there changes text number error (stop.Refused reason) counted because giv
       | inr fault ↦ unread error fault (given.1 ∙ ap (λ (n : ℕ). in_change n (Unread error)) counted)
     ]
 
-pub unaccepted_there : (changes : List Edit) (text rest : List ℕ) (change : Edit) (number : ℕ) (error : SubmitError) (why : Stop)
+pub unaccepted_there : (changes : List Change) (text rest : List ℕ) (change : Change) (number : ℕ) (error : SubmitError) (why : Stop)
     → number ≡ next_number changes → Spells text change rest → IsRefused changes change error
     → MatchStop why (error ≡ OutOfMemory) (λ reason. (error ≢ OutOfMemory) × (reason ≡ in_change number (Unaccepted error))) → StopsAt changes text why
 unaccepted_there changes text rest change number error stop.Memory counted spells because given = tt
@@ -59,7 +59,7 @@ unaccepted_there changes text rest change number error (stop.Refused reason) cou
     unaccepted change rest error spells because given.0 (given.1 ∙ ap (λ (n : ℕ). in_change n (Unaccepted error)) counted)
 
 -- ---- at most 4,096 changes are accepted
-pub few_accepted : (changes : List Edit) → AreAccepted changes → length changes ≤ 4096
+pub few_accepted : (changes : List Change) → AreAccepted changes → length changes ≤ 4096
 few_accepted [] all = omega arith
 few_accepted (first ∷ others) all =
     let changes = first ∷ others in

@@ -1,6 +1,6 @@
 -- A text that begins with no change begins with none whatever is appended, where a line feed isn't all that is missing.
 use Rattle.std.proofs.Common.{◌≡◌, ◌≢◌, ◌⊎◌, ℕ, ◌-◌, List, [], ◌∷◌, ◌++◌, refl, ap, ◌∙◌, append_assoc, inl, inr}
-use Rattle.change_ops.specs.Changes.{Edit}
+use Rattle.change_ops.specs.Changes.{Change}
 use Rattle.change_ops.specs.Spelling.{change_text, Spells}
 use Rattle.change_ops.specs.Lines.{count_of}
 use Rattle.change_ops.specs.Refusals.{Line, Accepted, AcceptedLines, Reached, IsRefused}
@@ -59,5 +59,5 @@ module _ (more : List ℕ) where
   refused_more text (WrongPeer number) h other = fault_more _ _ text number h
   refused_more text OutOfMemory h other = h
 
-  pub spells_more : (text : List ℕ) (change : Edit) (rest : List ℕ) → Spells text change rest → Spells (text ++ more) change (rest ++ more)
+  pub spells_more : (text : List ℕ) (change : Change) (rest : List ℕ) → Spells text change rest → Spells (text ++ more) change (rest ++ more)
   spells_more text change rest s = (s.0, ap (λ (t : List ℕ). t ++ more) s.1 ∙ append_assoc (change_text change) rest more)

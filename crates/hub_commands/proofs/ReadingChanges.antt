@@ -4,14 +4,14 @@ use Rattle.std.specs.Prelude.{Bool, true, false, not, is_some, Result, Ok, Err, 
 use Rattle.span_flatten.specs.Spans.{Span, AreSpans}
 use Rattle.span_lines.specs.SpanLines.{span_lines}
 use Rattle.change_history.specs.Accepted.{operations_of}
-use Rattle.hub_commands.specs.Answers.{Reply, IsWritten, IsAnswered, done}
+use Rattle.hub_commands.specs.Answers.{Answer, IsWritten, IsAnswered, done}
 use Rattle.hub_commands.specs.Hints.{text_hint}
 use Rattle.hub_commands.specs.declared.hint.Hint.{Hint}
 use Rattle.hub_commands.specs.declared.changes_input.ChangesInput.{ChangesInput}
 use Rattle.std.specs.Str.{IsUtf8}
 use Rattle.std.proofs.lemmas.List.{append-nil, take-append-drop, length-take-le, get_or-take, take_at, drop_at, get_or_append_left, get_or-append-add}
 use Rattle.std.proofs.lemmas.Str.{IsUtf8-nil, IsUtf8-append, IsUtf8-take, IsUtf8-drop, IsCharBoundary-at_seam, IsCharBoundary-from_take, IsCharBoundary-after_ascii}
-use Rattle.change_ops.specs.Changes.{Edit}
+use Rattle.change_ops.specs.Changes.{Change}
 use Rattle.change_ops.specs.Spelling.{change_text}
 use Rattle.change_ops.specs.declared.refusal.ChangeError.TheVariants.{Truncated}
 use Rattle.refusals.specs.declared.reason.ChangeReason.{ChangeReason}
@@ -22,7 +22,7 @@ use Rattle.hub_commands.specs.declared.spans.Stop.{Stop}
 use Rattle.hub_commands.specs.declared.spans.Stop.TheVariants as stop
 use Rattle.hub_commands.specs.ChangesInput.{IsTextUpTo, Advances, EndsWith, TakesLines, Holds, Concludes, IsChangesInput, IsWholeInput, fault_reply}
 use Rattle.hub_commands.specs.declared.changes_input.Fault.{Fault}
-use Rattle.hub_commands.specs.declared.changes_input.Fault.TheVariants.{NotText, Change}
+use Rattle.hub_commands.specs.declared.changes_input.Fault.TheVariants.{NotText, Change as BadChange}
 use Rattle.hub_commands.proofs.Appending.{refused_more, spells_more}
 use Rattle.hub_commands.proofs.Accepting.{begins_more}
 
@@ -52,13 +52,13 @@ utf8_lines bs lines behind last e long feed all =
     subst IsUtf8 first (IsUtf8-take bs n all (IsCharBoundary-after_ascii bs last all short (omega (arith, there))))
 
 -- ---- changes one behind the other
-pub advances_none : (old : List Edit) (text : List ℕ) → Advances old text old text
+pub advances_none : (old : List Change) (text : List ℕ) → Advances old text old text
 advances_none old text = record { taken = record { before = []; whole = refl; text = IsUtf8-nil }; follows = λ input behind front. front }
 
-takes_more : (old new : List Edit) (text rest behind : List ℕ) → Takes old text new rest → Takes old (text ++ behind) new (rest ++ behind)
+takes_more : (old new : List Change) (text rest behind : List ℕ) → Takes old text new rest → Takes old (text ++ behind) new (rest ++ behind)
 takes_more old new text rest behind t = record { change = t.change; spells = spells_more behind text t.change rest t.spells; accepted = t.accepted; more = t.more }
 
-pub advances_more : (old mid new : List Edit) (text rest after : List ℕ) → Advances old text mid rest → Takes mid rest new after → IsUtf8 rest → IsUtf8 after → Advances old text new after
+pub advances_more : (old mid new : List Change) (text rest after : List ℕ) → Advances old text mid rest → Takes mid rest new after → IsUtf8 rest → IsUtf8 after → Advances old text new after
 advances_more old mid new text rest after a t whole left =
     let one = change_text t.change in
     let split : rest ≡ one ++ after = t.spells.1 in
@@ -72,14 +72,14 @@ advances_more old mid new text rest after a t whole left =
     }
 
 -- ---- where the changes stop
-pub stopped_there : (old new : List Edit) (text : List ℕ) (why : Stop) (reason : ChangeReason) → why ≡ stop.Refused reason → text ≢ [] → new ≡ old → StopsAt old text why → EndsWith new text (Some reason)
+pub stopped_there : (old new : List Change) (text : List ℕ) (why : Stop) (reason : ChangeReason) → why ≡ stop.Refused reason → text ≢ [] → new ≡ old → StopsAt old text why → EndsWith new text (Some reason)
 stopped_there old new text why reason is some same here =
     let P : Stop → Type 0 = λ s. StopsAt old text s in
     let because : IsStopped old text reason = subst P is here in
-    let Q : List Edit → Type 0 = λ changes. IsStopped changes text reason in
+    let Q : List Change → Type 0 = λ changes. IsStopped changes text reason in
     (some, subst Q (sym same) because)
 
-stopped_more : (changes : List Edit) (text behind : List ℕ) (reason : ChangeReason) → reason.reason ≢ Unread Truncated → IsStopped changes text reason → IsStopped changes (text ++ behind) reason
+stopped_more : (changes : List Change) (text behind : List ℕ) (reason : ChangeReason) → reason.reason ≢ Unread Truncated → IsStopped changes text reason → IsStopped changes (text ++ behind) reason
 stopped_more changes text behind reason other (unread error fault is) =
     unread error (refused_more behind text error fault (λ same. other (ap (λ (r : ChangeReason). r.reason) is ∙ ap Unread same))) is
 stopped_more changes text behind reason other (unaccepted change rest error spells because right is) =
@@ -89,7 +89,7 @@ some_more : (text behind : List ℕ) → text ≢ [] → text ++ behind ≢ []
 some_more [] behind some = absurd (some refl)
 some_more (byte ∷ text) behind some = λ same. cc
 
-pub lines_refused : (old new : List Edit) (lines rest : List ℕ) (reason : ChangeReason) → Advances old lines new rest → EndsWith new rest (Some reason) → reason.reason ≢ Unread Truncated
+pub lines_refused : (old new : List Change) (lines rest : List ℕ) (reason : ChangeReason) → Advances old lines new rest → EndsWith new rest (Some reason) → reason.reason ≢ Unread Truncated
     → (input behind : List ℕ) → Begins input old (lines ++ behind) → Stops input reason
 lines_refused old new lines rest reason a stop other input behind front = record {
   changes = new;
@@ -103,16 +103,16 @@ lines_refused old new lines rest reason a stop other input behind front = record
 up_to_more : (input left piece : List ℕ) → IsTextUpTo input left → IsTextUpTo (input ++ piece) (left ++ piece)
 up_to_more input left piece t = record { before = t.before; whole = ap (λ (l : List ℕ). l ++ piece) t.whole ∙ append_assoc t.before left piece; text = t.text }
 
-begins_longer : (input left piece : List ℕ) (changes : List Edit) → Begins input changes left → Begins (input ++ piece) changes (left ++ piece)
+begins_longer : (input left piece : List ℕ) (changes : List Change) → Begins input changes left → Begins (input ++ piece) changes (left ++ piece)
 begins_longer input left piece changes b = record { spelt = ap (λ (l : List ℕ). l ++ piece) b.spelt ∙ append_assoc _ left piece; limited = b.limited; accepted = b.accepted }
 
-pub pushed : (input left piece : List ℕ) (changes : List Edit) (fault : Option Fault) → Holds input changes left fault → Holds (input ++ piece) changes (left ++ piece) fault
+pub pushed : (input left piece : List ℕ) (changes : List Change) (fault : Option Fault) → Holds input changes left fault → Holds (input ++ piece) changes (left ++ piece) fault
 pushed input left piece changes None h = (up_to_more input left piece h.0, begins_longer input left piece changes h.1)
 pushed input left piece changes (Some NotText) h = λ more. subst (λ (l : List ℕ). ¬ (IsUtf8 l)) (sym (append_assoc input piece more)) (h (piece ++ more))
-pushed input left piece changes (Some (Change reason)) h =
+pushed input left piece changes (Some (BadChange reason)) h =
     (up_to_more input left piece h.0, λ more. subst (λ (l : List ℕ). Stops l reason) (sym (append_assoc input piece more)) (h.1 (piece ++ more)))
 
-pub pushed_no_text : (input left piece : List ℕ) (changes : List Edit) → Holds input changes left (Some NotText) → Holds (input ++ piece) changes left (Some NotText)
+pub pushed_no_text : (input left piece : List ℕ) (changes : List Change) → Holds input changes left (Some NotText) → Holds (input ++ piece) changes left (Some NotText)
 pushed_no_text input left piece changes h = pushed input left piece changes (Some NotText) h
 
 -- ---- lines that have ended
@@ -142,7 +142,7 @@ module _ (input left lines behind : List ℕ) (split : left ≡ lines ++ behind)
     text = IsUtf8-append t.before lines t.text text;
   }
 
-  pub held_advanced : (old new : List Edit) (rest : List ℕ) → Holds input old left None → Advances old lines new rest → Holds input new (rest ++ behind) None
+  pub held_advanced : (old new : List Change) (rest : List ℕ) → Holds input old left None → Advances old lines new rest → Holds input new (rest ++ behind) None
   held_advanced old new rest h a =
       let seam : lines ++ behind ≡ a.taken.before ++ (rest ++ behind) = ap (λ (l : List ℕ). l ++ behind) a.taken.whole ∙ append_assoc a.taken.before rest behind in
       let before = h.0.before in (
@@ -154,8 +154,8 @@ module _ (input left lines behind : List ℕ) (split : left ≡ lines ++ behind)
         a.follows input behind (subst (λ (l : List ℕ). Begins input old l) split h.1),
       )
 
-  pub held_refused : (old new : List Edit) (reason : ChangeReason) → Holds input old left None → IsUtf8 lines → ((whole after : List ℕ) → Begins whole old (lines ++ after) → Stops whole reason)
-      → Holds input new behind (Some (Change reason))
+  pub held_refused : (old new : List Change) (reason : ChangeReason) → Holds input old left None → IsUtf8 lines → ((whole after : List ℕ) → Begins whole old (lines ++ after) → Stops whole reason)
+      → Holds input new behind (Some (BadChange reason))
   held_refused old new reason h text stops = (
     past_lines h.0 text,
     λ more.
@@ -164,10 +164,10 @@ module _ (input left lines behind : List ℕ) (split : left ≡ lines ++ behind)
         stops (input ++ more) (behind ++ more) (subst (λ (l : List ℕ). Begins (input ++ more) old l) seam longer),
   )
 
-  pub held_behind : (changes : List Edit) (fault : Option Fault) → fault ≢ None → Holds input changes left fault → IsUtf8 lines → Holds input changes behind fault
+  pub held_behind : (changes : List Change) (fault : Option Fault) → fault ≢ None → Holds input changes left fault → IsUtf8 lines → Holds input changes behind fault
   held_behind changes None some h text = absurd (some refl)
   held_behind changes (Some NotText) some h text = h
-  held_behind changes (Some (Change reason)) some h text = (past_lines h.0 text, h.1)
+  held_behind changes (Some (BadChange reason)) some h text = (past_lines h.0 text, h.1)
 
   module _ (last : ℕ) (long : length lines ≡ last + 1) (feed : get_or lines last 0 ≡ 10) (wrong : ¬ (IsUtf8 lines)) where
     no_text_here : IsTextUpTo input left → (more : List ℕ) → ¬ (IsUtf8 (input ++ more))
@@ -180,13 +180,13 @@ module _ (input left lines behind : List ℕ) (split : left ≡ lines ++ behind)
         let text : IsUtf8 front = utf8_lines (input ++ more) front (behind ++ more) (length t.before + last) whole size there all in
         wrong (utf8_rest front t.before lines refl text t.text)
 
-    pub held_no_text : (changes : List Edit) (fault : Option Fault) → Holds input changes left fault → Holds input changes left (Some NotText)
+    pub held_no_text : (changes : List Change) (fault : Option Fault) → Holds input changes left fault → Holds input changes left (Some NotText)
     held_no_text changes None h = no_text_here h.0
     held_no_text changes (Some NotText) h = h
-    held_no_text changes (Some (Change reason)) h = no_text_here h.0
+    held_no_text changes (Some (BadChange reason)) h = no_text_here h.0
 
   -- what the calls give where no fault is known yet
-  module _ (old new : List Edit) (rest : List ℕ) (fault : Option Fault) (refusal : Option ChangeReason) (none : fault ≡ None) (h : Holds input old left fault)
+  module _ (old new : List Change) (rest : List ℕ) (fault : Option Fault) (refusal : Option ChangeReason) (none : fault ≡ None) (h : Holds input old left fault)
       (taken : TakesLines old lines new rest refusal) where
     unhurt : Holds input old left None
     unhurt = let P : Option Fault → Type 0 = λ f. Holds input old left f in subst P none h
@@ -197,10 +197,10 @@ module _ (input left lines behind : List ℕ) (split : left ≡ lines ++ behind)
         let Q : Option Fault → Type 0 = λ f. Holds input new (rest ++ behind) f in
         subst Q (sym none) (held_advanced old new rest unhurt (subst P is taken))
 
-    pub read_fault : (reason : ChangeReason) → IsUtf8 lines → refusal ≡ Some reason → Holds input new (rest ++ behind) (Some (Change reason))
+    pub read_fault : (reason : ChangeReason) → IsUtf8 lines → refusal ≡ Some reason → Holds input new (rest ++ behind) (Some (BadChange reason))
     read_fault reason text is =
         let P : Option ChangeReason → Type 0 = λ r. TakesLines old lines new rest r in
-        let Q : List ℕ → Type 0 = λ l. Holds input new (l ++ behind) (Some (Change reason)) in
+        let Q : List ℕ → Type 0 = λ l. Holds input new (l ++ behind) (Some (BadChange reason)) in
         let found : TakesLines old lines new rest (Some reason) = subst P is taken in
         subst Q (sym found.0) (held_refused old new reason unhurt text found.1)
 
@@ -210,34 +210,34 @@ none_left [] e = refl
 none_left (byte ∷ rest) e = absurd (omega arith)
 
 module _ (input left : List ℕ) where
-  pub concluded_no_text : (changes : List Edit) → Holds input changes left (Some NotText) → Concludes input changes (Some NotText)
+  pub concluded_no_text : (changes : List Change) → Holds input changes left (Some NotText) → Concludes input changes (Some NotText)
   concluded_no_text changes h = subst (λ (l : List ℕ). ¬ (IsUtf8 l)) (append-nil input) (h [])
 
-  pub concluded_left : (changes : List Edit) (fault : Option Fault) → ¬ (IsUtf8 left) → Holds input changes left fault → Concludes input changes (Some NotText)
+  pub concluded_left : (changes : List Change) (fault : Option Fault) → ¬ (IsUtf8 left) → Holds input changes left fault → Concludes input changes (Some NotText)
   concluded_left changes None wrong h = λ all. wrong (utf8_rest input h.0.before left h.0.whole all h.0.text)
   concluded_left changes (Some NotText) wrong h = concluded_no_text changes h
-  concluded_left changes (Some (Change reason)) wrong h = λ all. wrong (utf8_rest input h.0.before left h.0.whole all h.0.text)
+  concluded_left changes (Some (BadChange reason)) wrong h = λ all. wrong (utf8_rest input h.0.before left h.0.whole all h.0.text)
 
-  pub concluded_before : (changes : List Edit) (fault : Option Fault) → fault ≢ None → IsUtf8 left → Holds input changes left fault → Concludes input changes fault
+  pub concluded_before : (changes : List Change) (fault : Option Fault) → fault ≢ None → IsUtf8 left → Holds input changes left fault → Concludes input changes fault
   concluded_before changes None some text h = absurd (some refl)
   concluded_before changes (Some NotText) some text h = concluded_no_text changes h
-  concluded_before changes (Some (Change reason)) some text h =
+  concluded_before changes (Some (BadChange reason)) some text h =
       (utf8_both input h.0.before left h.0.whole h.0.text text, subst (λ (l : List ℕ). Stops l reason) (append-nil input) (h.1 []))
 
-  ends_at : (old new : List Edit) (rest : List ℕ) → Holds input old left None → Advances old left new rest → Begins input new rest
+  ends_at : (old new : List Change) (rest : List ℕ) → Holds input old left None → Advances old left new rest → Begins input new rest
   ends_at old new rest h a =
       subst (λ (l : List ℕ). Begins input new l) (append-nil rest) (a.follows input [] (subst (λ (l : List ℕ). Begins input old l) (sym (append-nil left)) h.1))
 
-  pub concluded_all : (old new : List Edit) (rest : List ℕ) → Holds input old left None → Advances old left new rest → EndsWith new rest None → Concludes input new None
+  pub concluded_all : (old new : List Change) (rest : List ℕ) → Holds input old left None → Advances old left new rest → EndsWith new rest None → Concludes input new None
   concluded_all old new rest h a none = subst (λ (l : List ℕ). Begins input new l) none (ends_at old new rest h a)
 
-  pub concluded_refused : (old new : List Edit) (rest : List ℕ) (reason : ChangeReason) → IsUtf8 left → Holds input old left None → Advances old left new rest → EndsWith new rest (Some reason)
-      → Concludes input new (Some (Change reason))
+  pub concluded_refused : (old new : List Change) (rest : List ℕ) (reason : ChangeReason) → IsUtf8 left → Holds input old left None → Advances old left new rest → EndsWith new rest (Some reason)
+      → Concludes input new (Some (BadChange reason))
   concluded_refused old new rest reason text h a stop =
       (utf8_both input h.0.before left h.0.whole h.0.text text, record { changes = new; rest = rest; before = ends_at old new rest h a; left = stop.0; here = stop.1 })
 
   -- what the calls at the end give
-  module _ (old new : List Edit) (text rest : List ℕ) (fault : Option Fault) (refusal : Option ChangeReason) (lent : text ≡ left) (none : fault ≡ None) (h : Holds input old left fault)
+  module _ (old new : List Change) (text rest : List ℕ) (fault : Option Fault) (refusal : Option ChangeReason) (lent : text ≡ left) (none : fault ≡ None) (h : Holds input old left fault)
       (taken : Advances old text new rest) (stop : EndsWith new rest refusal) where
     fine : Holds input old left None
     fine = let P : Option Fault → Type 0 = λ f. Holds input old left f in subst P none h
@@ -251,7 +251,7 @@ module _ (input left : List ℕ) where
         let Q : Option Fault → Type 0 = λ f. Concludes input new f in
         subst Q (sym none) (concluded_all old new rest fine over (subst P is stop))
 
-    pub ended_refused : (reason : ChangeReason) → IsUtf8 left → refusal ≡ Some reason → Concludes input new (Some (Change reason))
+    pub ended_refused : (reason : ChangeReason) → IsUtf8 left → refusal ≡ Some reason → Concludes input new (Some (BadChange reason))
     ended_refused reason text is =
         let P : Option ChangeReason → Type 0 = λ r. EndsWith new rest r in
         concluded_refused old new rest reason text fine over (subst P is stop)
@@ -280,24 +280,24 @@ not_none None e = absurd cc
 not_none (Some x) e = λ none. cc
 
 -- ---- what is answered
-pub answers_fault : (input : List ℕ) (changes : List Edit) (known : Option Fault) (fault : Fault) (reply : Reply) → known ≡ Some fault → reply ≡ fault_reply fault → Concludes input changes known
+pub answers_fault : (input : List ℕ) (changes : List Change) (known : Option Fault) (fault : Fault) (reply : Answer) → known ≡ Some fault → reply ≡ fault_reply fault → Concludes input changes known
     → IsSpansReply input reply
 answers_fault input changes known NotText reply is e h =
     let P : Option Fault → Type 0 = λ f. Concludes input changes f in
     no_text (subst P is h) e
-answers_fault input changes known (Change reason) reply is e h =
+answers_fault input changes known (BadChange reason) reply is e h =
     let P : Option Fault → Type 0 = λ f. Concludes input changes f in
     let found : IsUtf8 input × Stops input reason = subst P is h in
     stopped reason found.0 found.1 e
 
-pub answers_spans : (input : List ℕ) (changes : List Edit) (known : Option Fault) (reply : Reply) → known ≡ None
+pub answers_spans : (input : List ℕ) (changes : List Change) (known : Option Fault) (reply : Answer) → known ≡ None
     → ((spans : List Span) × AreSpans (operations_of changes) spans × (reply ≡ done (span_lines spans))) → Concludes input changes known → IsSpansReply input reply
 answers_spans input changes known reply is made h =
     let P : Option Fault → Type 0 = λ f. Concludes input changes f in
     shown changes made.0 (subst P is h) made.1 made.2
 
 -- ---- a reply to what was read of a known input
-pub whole_answered : (known old new : Option (List ℕ)) (kept : ChangesInput) (reply : Reply) (status : ℕ) → IfSome known (λ input. IsWholeInput input kept)
+pub whole_answered : (known old new : Option (List ℕ)) (kept : ChangesInput) (reply : Answer) (status : ℕ) → IfSome known (λ input. IsWholeInput input kept)
     → ((input : List ℕ) → IsWholeInput input kept → IsSpansReply input reply) → IsWritten reply old new status → IsAnswered IsSpansReply known old new status
 whole_answered None old new kept reply status read is written = tt
 whole_answered (Some input) old new kept reply status read is written = (reply, is input read, written)

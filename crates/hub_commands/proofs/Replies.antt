@@ -7,24 +7,26 @@ use Rattle.std.proofs.lemmas.List.{take_all, length-take}
 use Rattle.std.proofs.lemmas.Bool.{cases_lt}
 use Rattle.hex.specs.Hex.{decode_of}
 use Rattle.hex.specs.declared.error.FromHexError.{FromHexError}
-use Rattle.bpf_words.specs.declared.profile.Profile.{Profile}
-use Rattle.bpf_words.specs.declared.context.Facts.{Facts}
+use Rattle.span_context.specs.declared.profile.Profile.{Profile}
+use Rattle.span_context.specs.declared.context.Facts.{Facts}
 use Rattle.bpf_words.specs.declared.refusal.WordError.{WordError}
 use Rattle.bpf_words.specs.declared.refusal.WordError.TheVariants.{Empty, TooLong, LengthNotEight, Slot}
 use Rattle.bpf_words.specs.Words.{IsProgram, IsRefused, program_of}
-use Rattle.bpf_words.specs.Context.{span_bytes, context_bytes}
-use Rattle.meaning.specs.declared.Outcome.{Outcome}
-use Rattle.meaning.specs.Outcomes.{outcome}
-use Rattle.meaning.specs.Step.{Program}
-use Rattle.meaning.specs.Safe.{SafeIn}
+use Rattle.span_context.specs.Context.{span_bytes, context_bytes}
+use Rattle.semantics.specs.declared.Outcome.{Outcome}
+use Rattle.semantics.specs.Outcomes.{outcome}
+use Rattle.semantics.specs.Step.{Program}
+use Rattle.semantics.specs.Safe.{SafeIn}
 use Rattle.verifier.specs.declared.refusal.VerifyError.{VerifyError}
 use Rattle.verifier.specs.Structure.{IsStructured}
 use Rattle.verifier.specs.Judged.{Rejects, IsJudged}
 use Rattle.assembler.specs.declared.fault.AsmError.{AsmError}
 use Rattle.assembler.specs.Text.{AsmText, AsmFault}
 use Rattle.hub_requests.specs.declared.SpanOptions.{SpanOptions}
+use Rattle.hub_requests.specs.declared.Shown.{Shown}
+use Rattle.hub_requests.specs.declared.Shown.TheVariants as shows
 use Rattle.refusals.specs.declared.reason.Reason.TheVariants.{BadHex, Words, Source}
-use Rattle.hub_commands.specs.Answers.{Reply, IsWritten, IsAnswered, done, behind}
+use Rattle.hub_commands.specs.Answers.{Answer, IsWritten, IsAnswered, done, behind}
 use Rattle.hub_commands.specs.Digits.{AreDigits, StandFor}
 use Rattle.hub_commands.specs.HexInput.{IsHexInput}
 use Rattle.hub_commands.specs.declared.hex_input.HexInput.{HexInput}
@@ -32,7 +34,7 @@ use Rattle.hub_commands.specs.declared.hint.Hint.{Hint}
 use Rattle.hub_commands.specs.Hexadecimal.{slot_lines, without_blanks}
 use Rattle.hub_commands.specs.Hints.{digits_hint}
 use Rattle.hub_commands.specs.Reasons.{refusal}
-use Rattle.hub_commands.specs.Programs.{IsAsmReply, no_source, assembled, IsProgramReply, no_hex, no_program, program, facts_of, link_of, bytes_of, outcome_reply, IsSpanReply, no_text, ran, IsTracedReply, not_run, traced}
+use Rattle.hub_commands.specs.Programs.{IsAsmReply, no_source, assembled, IsProgramReply, no_hex, no_program, program, facts_of, link_of, bytes_of, outcome_reply, IsSpanReply, no_text, ran, IsTracedReply, not_run, traced, IsShownReply}
 
 -- what holds of an answer, by what it was said to be
 pub mapped : {A E : Type 0} (P Q : A → Type 0) (result : Result A E) → IfOk result P → ((x : A) → P x → Q x) → IfOk result Q
@@ -40,7 +42,7 @@ mapped P Q (Ok x) h f = f x h
 mapped P Q (Err e) h f = tt
 
 -- a reply to what was read of a known input, and written, answers the input
-pub answered : (IsReply : List ℕ → Reply → Type 0) (known old new : Option (List ℕ)) (input lent : List ℕ) (reply : Reply) (status : ℕ) → IfSome known (λ bytes. input ≡ bytes)
+pub answered : (IsReply : List ℕ → Answer → Type 0) (known old new : Option (List ℕ)) (input lent : List ℕ) (reply : Answer) (status : ℕ) → IfSome known (λ bytes. input ≡ bytes)
     → lent ≡ input → IsReply lent reply → IsWritten reply old new status → IsAnswered IsReply known old new status
 answered IsReply None old new input lent reply status same lends is written = tt
 answered IsReply (Some bytes) old new input lent reply status same lends is written = (reply, subst (λ (l : List ℕ). IsReply l reply) (lends ∙ same) is, written)
@@ -50,33 +52,33 @@ pub where_known : (known : Option (List ℕ)) (P : List ℕ → Type 0) → ((by
 where_known None P f = tt
 where_known (Some bytes) P f = f bytes refl
 
-pub asm_done : (input source bytes lent lines : List ℕ) (reply : Reply) → source ≡ input → IsUtf8 input → AsmText source bytes → lent ≡ bytes
+pub asm_done : (input source bytes lent lines : List ℕ) (reply : Answer) → source ≡ input → IsUtf8 input → AsmText source bytes → lent ≡ bytes
     → lines ≡ slot_lines lent → reply ≡ done lines → IsAsmReply input reply
 asm_done input source bytes lent lines reply same utf8 text is printed e =
     let P : List ℕ → Type 0 = λ s. AsmText s bytes in
     assembled bytes utf8 (subst P same text) (e ∙ ap done (printed ∙ ap slot_lines is))
 
-pub asm_refused : {E : Type 0} (input source : List ℕ) (error : AsmError) (result : Result Reply E) → source ≡ input → IsUtf8 input
+pub asm_refused : {E : Type 0} (input source : List ℕ) (error : AsmError) (result : Result Answer E) → source ≡ input → IsUtf8 input
     → AsmFault source error → IfOk result (λ reply. reply ≡ refusal (Source error)) → IfOk result (IsAsmReply input)
 asm_refused input source error (Ok reply) same utf8 fault e =
     let P : List ℕ → Type 0 = λ s. AsmFault s error in
     no_source error utf8 (subst P same fault) e
 asm_refused input source error (Err e) same utf8 fault h = tt
 
-module _ (Replies : List ℕ → Reply → Type 0) (digits lent : List ℕ) (same : lent ≡ digits) where
-  pub hex_refused : (reply : Reply) → ((error : FromHexError) × (decode_of lent ≡ Err error)) → reply ≡ refusal BadHex → IsProgramReply Replies digits reply
+module _ (Replies : List ℕ → Answer → Type 0) (digits lent : List ℕ) (same : lent ≡ digits) where
+  pub hex_refused : (reply : Answer) → ((error : FromHexError) × (decode_of lent ≡ Err error)) → reply ≡ refusal BadHex → IsProgramReply Replies digits reply
   hex_refused reply found e =
       let P : List ℕ → Type 0 = λ d. decode_of d ≡ Err found.0 in
       no_hex found.0 (subst P same found.1) e
 
-  pub words_refused : (bytes given : List ℕ) (error : WordError) (reply : Reply) → decode_of lent ≡ Ok bytes → given ≡ bytes → IsRefused given error
+  pub words_refused : (bytes given : List ℕ) (error : WordError) (reply : Answer) → decode_of lent ≡ Ok bytes → given ≡ bytes → IsRefused given error
       → reply ≡ refusal (Words error) → IsProgramReply Replies digits reply
   words_refused bytes given error reply decoded is refused e =
       let P : List ℕ → Type 0 = λ d. decode_of d ≡ Ok bytes in
       let Q : List ℕ → Type 0 = λ b. IsRefused b error in
       no_program bytes error (subst P same decoded) (subst Q is refused) e
 
-  pub program_answered : (bytes given : List ℕ) (reply : Reply) → decode_of lent ≡ Ok bytes → given ≡ bytes → IsProgram given → Replies given reply
+  pub program_answered : (bytes given : List ℕ) (reply : Answer) → decode_of lent ≡ Ok bytes → given ≡ bytes → IsProgram given → Replies given reply
       → IsProgramReply Replies digits reply
   program_answered bytes given reply decoded is right answered =
       let P : List ℕ → Type 0 = λ d. decode_of d ≡ Ok bytes in
@@ -98,13 +100,13 @@ refused_first all error refused = elim (cases_lt 32768 (length all)) [
       subst P (take_all 32769 all (omega arith)) refused
 ]
 
-pub first_refused : (Replies : List ℕ → Reply → Type 0) (digits bytes given : List ℕ) (error : WordError) (reply : Reply) → StandFor digits bytes → given ≡ bytes → IsRefused given error
+pub first_refused : (Replies : List ℕ → Answer → Type 0) (digits bytes given : List ℕ) (error : WordError) (reply : Answer) → StandFor digits bytes → given ≡ bytes → IsRefused given error
     → reply ≡ refusal (Words error) → IsProgramReply Replies digits reply
 first_refused Replies digits bytes given error reply stand is refused e =
     let P : List ℕ → Type 0 = λ b. IsRefused b error in
     no_program stand.0 error stand.1 (refused_first stand.0 error (subst P (is ∙ stand.2) refused)) e
 
-pub first_answered : (Replies : List ℕ → Reply → Type 0) (digits bytes given : List ℕ) (reply : Reply) → StandFor digits bytes → given ≡ bytes → IsProgram given → Replies given reply
+pub first_answered : (Replies : List ℕ → Answer → Type 0) (digits bytes given : List ℕ) (reply : Answer) → StandFor digits bytes → given ≡ bytes → IsProgram given → Replies given reply
     → IsProgramReply Replies digits reply
 first_answered Replies digits bytes given reply stand is right answered =
     let first : given ≡ take 32769 stand.0 = is ∙ stand.2 in
@@ -130,7 +132,7 @@ run_as_defined options bytes input text lent link context facts given same told 
     let by_input = ap (λ (t : List ℕ). outcome (program_of bytes) (bytes_of options t)) same in
     is ∙ by_context ∙ by_text ∙ by_link ∙ by_input
 
-pub span_ran : {E : Type 0} (options : SpanOptions) (bytes input text lent link context : List ℕ) (facts : Facts) (given : Outcome) (result : Result Reply E)
+pub span_ran : {E : Type 0} (options : SpanOptions) (bytes input text lent link context : List ℕ) (facts : Facts) (given : Outcome) (result : Result Answer E)
     → text ≡ input → IsUtf8 input → length text ≤ 131072 → facts ≡ facts_of options text → context ≡ context_bytes facts → lent ≡ text → link ≡ link_of options
     → given ≡ outcome (program_of bytes) (span_bytes context lent link) → IfOk result (λ reply. reply ≡ outcome_reply given) → IfOk result (IsSpanReply options input bytes)
 span_ran options bytes input text lent link context facts given (Ok reply) same utf8 short told made lends linked is e =
@@ -138,7 +140,7 @@ span_ran options bytes input text lent link context facts given (Ok reply) same 
     ran (record { characters = utf8; short = few }) (e ∙ ap outcome_reply (run_as_defined options bytes input text lent link context facts given same told made lends linked is))
 span_ran options bytes input text lent link context facts given (Err e) same utf8 short told made lends linked is h = tt
 
-pub span_traced : {E : Type 0} (options : SpanOptions) (bytes input text lent link context : List ℕ) (facts : Facts) (given : Outcome) (steps : List ℕ) (result : Result Reply E)
+pub span_traced : {E : Type 0} (options : SpanOptions) (bytes input text lent link context : List ℕ) (facts : Facts) (given : Outcome) (steps : List ℕ) (result : Result Answer E)
     → text ≡ input → IsUtf8 input → length text ≤ 131072 → facts ≡ facts_of options text → context ≡ context_bytes facts → lent ≡ text → link ≡ link_of options
     → given ≡ outcome (program_of bytes) (span_bytes context lent link) → IfOk result (λ reply. reply ≡ behind steps (outcome_reply given)) → IfOk result (IsTracedReply options input bytes)
 span_traced options bytes input text lent link context facts given steps (Ok reply) same utf8 short told made lends linked is e =
@@ -147,12 +149,12 @@ span_traced options bytes input text lent link context facts given steps (Ok rep
     traced steps (record { characters = utf8; short = few }) (e ∙ ap (λ (o : Outcome). behind steps (outcome_reply o)) ended)
 span_traced options bytes input text lent link context facts given steps (Err e) same utf8 short told made lends linked is h = tt
 
-too_long : (options : SpanOptions) (text bytes : List ℕ) (reply : Reply) → 131072 < length text → IsSpanReply options (take 131073 text) bytes reply → IsSpanReply options text bytes reply
+too_long : (options : SpanOptions) (text bytes : List ℕ) (reply : Answer) → 131072 < length text → IsSpanReply options (take 131073 text) bytes reply → IsSpanReply options text bytes reply
 too_long options text bytes reply long (no_text wrong e) = no_text (λ right. absurd (omega (arith, right.short))) e
 too_long options text bytes reply long (ran right e) = absurd (omega (arith, right.short, length-take 131073 text))
 
 -- a byte past the limit is enough to see that a text is too long
-pub past_limit : (options : SpanOptions) (text bytes : List ℕ) (reply : Reply) → IsSpanReply options (take 131073 text) bytes reply → IsSpanReply options text bytes reply
+past_limit : (options : SpanOptions) (text bytes : List ℕ) (reply : Answer) → IsSpanReply options (take 131073 text) bytes reply → IsSpanReply options text bytes reply
 past_limit options text bytes reply given =
     elim (cases_lt 131072 (length text)) [
       | inl long ↦ too_long options text bytes reply long given
@@ -162,11 +164,11 @@ past_limit options text bytes reply given =
           subst P whole given
     ]
 
-too_long_traced : (options : SpanOptions) (text bytes : List ℕ) (reply : Reply) → 131072 < length text → IsTracedReply options (take 131073 text) bytes reply → IsTracedReply options text bytes reply
+too_long_traced : (options : SpanOptions) (text bytes : List ℕ) (reply : Answer) → 131072 < length text → IsTracedReply options (take 131073 text) bytes reply → IsTracedReply options text bytes reply
 too_long_traced options text bytes reply long (not_run wrong e) = not_run (λ right. absurd (omega (arith, right.short))) e
 too_long_traced options text bytes reply long (traced steps right e) = absurd (omega (arith, right.short, length-take 131073 text))
 
-pub past_limit_traced : (options : SpanOptions) (text bytes : List ℕ) (reply : Reply) → IsTracedReply options (take 131073 text) bytes reply → IsTracedReply options text bytes reply
+past_limit_traced : (options : SpanOptions) (text bytes : List ℕ) (reply : Answer) → IsTracedReply options (take 131073 text) bytes reply → IsTracedReply options text bytes reply
 past_limit_traced options text bytes reply given =
     elim (cases_lt 131072 (length text)) [
       | inl long ↦ too_long_traced options text bytes reply long given
@@ -176,8 +178,12 @@ past_limit_traced options text bytes reply given =
           subst P whole given
     ]
 
+pub past_limit_shown : (shown : Shown) (options : SpanOptions) (text bytes : List ℕ) (reply : Answer) → IsShownReply shown options (take 131073 text) bytes reply → IsShownReply shown options text bytes reply
+past_limit_shown shows.Outcome options text bytes reply given = past_limit options text bytes reply given
+past_limit_shown shows.Steps options text bytes reply given = past_limit_traced options text bytes reply given
+
 -- ---- an input of hexadecimal digits
-pub hex_answered : (IsReply : List ℕ → Reply → Type 0) (known old new : Option (List ℕ)) (kept : HexInput) (reply : Reply) (status : ℕ) → IfSome known (λ input. IsHexInput input kept)
+pub hex_answered : (IsReply : List ℕ → Answer → Type 0) (known old new : Option (List ℕ)) (kept : HexInput) (reply : Answer) (status : ℕ) → IfSome known (λ input. IsHexInput input kept)
     → ((input : List ℕ) → AreDigits (without_blanks input) kept.digits → IsReply input reply) → IsWritten reply old new status → IsAnswered IsReply known old new status
 hex_answered IsReply None old new kept reply status read is written = tt
 hex_answered IsReply (Some input) old new kept reply status read is written = (reply, is input read.digits, written)

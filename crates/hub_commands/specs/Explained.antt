@@ -1,14 +1,14 @@
 -- What `check --explain` replies.
 use Rattle.std.specs.Prelude.{◌≡◌, ℕ, List, ◌++◌, length, codes}
 use Rattle.std.specs.Fmt.{decimal}
-use Rattle.bpf_words.specs.declared.profile.Profile.{Profile}
-use Rattle.bpf_words.specs.declared.profile.Profile.TheVariants.{Two}
-use Rattle.bpf_words.specs.Context.{SpanBytes}
+use Rattle.span_context.specs.declared.profile.Profile.{Profile}
+use Rattle.span_context.specs.declared.profile.Profile.TheVariants.{Two}
+use Rattle.span_context.specs.Context.{SpanBytes}
 use Rattle.bpf_words.specs.Words.{program_of}
-use Rattle.meaning.specs.State.{start}
-use Rattle.meaning.specs.Step.{Program}
-use Rattle.meaning.specs.Outcomes.{outcome, outcome_from}
-use Rattle.meaning.specs.Safe.{IsSpan, SafeIn}
+use Rattle.semantics.specs.State.{start}
+use Rattle.semantics.specs.Step.{Program}
+use Rattle.semantics.specs.Outcomes.{outcome, outcome_from}
+use Rattle.semantics.specs.Safe.{IsSpan, SafeIn}
 use Rattle.program_reads.specs.declared.reads.Reads.{Reads}
 use Rattle.program_reads.specs.Reads.{Determines}
 use Rattle.program_reads.specs.Lines.{read_lines}
@@ -16,7 +16,7 @@ use Rattle.verifier.specs.declared.refusal.VerifyError.{VerifyError}
 use Rattle.verifier.specs.Structure.{IsStructured}
 use Rattle.verifier.specs.Judged.{Rejects}
 use Rattle.refusals.specs.declared.reason.Reason.TheVariants.{Unverified}
-use Rattle.hub_commands.specs.Answers.{Reply, line, done}
+use Rattle.hub_commands.specs.Answers.{Answer, line, done}
 use Rattle.hub_commands.specs.Hexadecimal.{without_blanks}
 use Rattle.hub_commands.specs.Reasons.{refusal}
 use Rattle.hub_commands.specs.Programs.{IsProgramReply}
@@ -32,7 +32,7 @@ pub record IsExplanation (profile : Profile) (code : Program) (text : List ℕ) 
   pub is : text ≡ (line (codes "steps <= " ++ decimal steps) ++ read_lines profile reads) ++ more
 
 -- of a program: what `check` answers, and behind it what is known of the program
-pub data IsExplainedReply (profile : Profile) (bytes : List ℕ) (reply : Reply) : Type 0 where
+pub data IsExplainedReply (profile : Profile) (bytes : List ℕ) (reply : Answer) : Type 0 where
   accepted : (text : List ℕ) → IsStructured (program_of bytes) → SafeIn profile (program_of bytes)
       → IsExplanation profile (program_of bytes) text
       → reply ≡ done (line (codes "accepted " ++ decimal (length (program_of bytes))) ++ text)
@@ -42,5 +42,5 @@ pub data IsExplainedReply (profile : Profile) (bytes : List ℕ) (reply : Reply)
       → IsExplainedReply profile bytes reply
 
 -- `check --explain`: of digits that are a program's bytes, that
-unfoldable pub IsExplainReply : Profile → List ℕ → Reply → Type 0
+unfoldable pub IsExplainReply : Profile → List ℕ → Answer → Type 0
 IsExplainReply profile input reply = IsProgramReply (IsExplainedReply profile) (without_blanks input) reply

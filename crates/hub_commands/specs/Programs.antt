@@ -4,18 +4,18 @@ use Rattle.std.specs.Fmt.{decimal}
 use Rattle.std.specs.Str.{IsUtf8, chars}
 use Rattle.hex.specs.Hex.{decode_of}
 use Rattle.hex.specs.declared.error.FromHexError.{FromHexError}
-use Rattle.bpf_words.specs.declared.profile.Profile.{Profile}
-use Rattle.bpf_words.specs.declared.context.Facts.{Facts}
+use Rattle.span_context.specs.declared.profile.Profile.{Profile}
+use Rattle.span_context.specs.declared.context.Facts.{Facts}
 use Rattle.bpf_words.specs.declared.refusal.WordError.{WordError}
 use Rattle.bpf_words.specs.Words.{IsProgram, IsRefused, program_of}
-use Rattle.bpf_words.specs.Context.{SpanBytes, span_bytes, context_bytes}
-use Rattle.meaning.specs.declared.FaultKind.{FaultKind}
-use Rattle.meaning.specs.declared.FaultKind.TheVariants.{UnsetRegister, BadAddress, ReadOnly, UnsetStack}
-use Rattle.meaning.specs.declared.FaultKind.TheVariants.{BadInstruction, OutOfCode, WriteR10}
-use Rattle.meaning.specs.declared.Outcome.{Outcome}
-use Rattle.meaning.specs.declared.Outcome.TheVariants.{Done, Fault, OutOfSteps}
-use Rattle.meaning.specs.Outcomes.{outcome}
-use Rattle.meaning.specs.Safe.{SafeIn}
+use Rattle.span_context.specs.Context.{SpanBytes, span_bytes, context_bytes}
+use Rattle.semantics.specs.declared.FaultKind.{FaultKind}
+use Rattle.semantics.specs.declared.FaultKind.TheVariants.{UnsetRegister, BadAddress, ReadOnly, UnsetStack}
+use Rattle.semantics.specs.declared.FaultKind.TheVariants.{BadInstruction, OutOfCode, WriteR10}
+use Rattle.semantics.specs.declared.Outcome.{Outcome}
+use Rattle.semantics.specs.declared.Outcome.TheVariants.{Done, Fault, OutOfSteps}
+use Rattle.semantics.specs.Outcomes.{outcome}
+use Rattle.semantics.specs.Safe.{SafeIn}
 use Rattle.verifier.specs.declared.refusal.VerifyError.{VerifyError}
 use Rattle.verifier.specs.Structure.{IsStructured}
 use Rattle.verifier.specs.Judged.{Rejects}
@@ -23,13 +23,15 @@ use Rattle.assembler.specs.declared.fault.AsmError.{AsmError}
 use Rattle.assembler.specs.Text.{AsmText, AsmFault}
 use Rattle.disassembler.specs.Canonical.{canonical}
 use Rattle.hub_requests.specs.declared.SpanOptions.{SpanOptions}
+use Rattle.hub_requests.specs.declared.Shown.{Shown}
+use Rattle.hub_requests.specs.declared.Shown.TheVariants as shows
 use Rattle.refusals.specs.declared.reason.Reason.TheVariants.{TextRefused, BadHex, Words, Unverified, Source}
-use Rattle.hub_commands.specs.Answers.{Reply, line, done, failed, behind}
+use Rattle.hub_commands.specs.Answers.{Answer, line, done, failed, behind}
 use Rattle.hub_commands.specs.Hexadecimal.{without_blanks, slot_lines}
 use Rattle.hub_commands.specs.Reasons.{refusal}
 
 -- `asm`: of a source that is UTF-8, the slots that it is text of, or the first line at fault
-pub data IsAsmReply (source : List ℕ) (reply : Reply) : Type 0 where
+pub data IsAsmReply (source : List ℕ) (reply : Answer) : Type 0 where
   no_text : ¬ (IsUtf8 source) → reply ≡ refusal TextRefused → IsAsmReply source reply
   no_source : (error : AsmError) → IsUtf8 source → AsmFault source error → reply ≡ refusal (Source error)
       → IsAsmReply source reply
@@ -37,7 +39,7 @@ pub data IsAsmReply (source : List ℕ) (reply : Reply) : Type 0 where
       → IsAsmReply source reply
 
 -- of digits that are a program's bytes, what is answered to the program; else the first reason why they aren't
-pub data IsProgramReply (Replies : List ℕ → Reply → Type 0) (digits : List ℕ) (reply : Reply) : Type 0 where
+pub data IsProgramReply (Replies : List ℕ → Answer → Type 0) (digits : List ℕ) (reply : Answer) : Type 0 where
   no_hex : (error : FromHexError) → decode_of digits ≡ Err error → reply ≡ refusal BadHex
       → IsProgramReply Replies digits reply
   no_program : (bytes : List ℕ) (error : WordError) → decode_of digits ≡ Ok bytes → IsRefused bytes error
@@ -47,13 +49,13 @@ pub data IsProgramReply (Replies : List ℕ → Reply → Type 0) (digits : List
       → IsProgramReply Replies digits reply
 
 -- `dis`: a program's canonical text
-unfoldable pub IsDisReply : List ℕ → Reply → Type 0
+unfoldable pub IsDisReply : List ℕ → Answer → Type 0
 IsDisReply input reply =
     IsProgramReply (λ bytes given. given ≡ done (canonical (program_of bytes))) (without_blanks input) reply
 
 -- of a program: how many slots it has, where it is structured and every run of it on what the profile lends ends with a
 -- number; or why it isn't accepted
-pub data IsAcceptanceReply (profile : Profile) (bytes : List ℕ) (reply : Reply) : Type 0 where
+pub data IsAcceptanceReply (profile : Profile) (bytes : List ℕ) (reply : Answer) : Type 0 where
   accepted : IsStructured (program_of bytes) → SafeIn profile (program_of bytes)
       → reply ≡ done (line (codes "accepted " ++ decimal (length (program_of bytes))))
       → IsAcceptanceReply profile bytes reply
@@ -61,7 +63,7 @@ pub data IsAcceptanceReply (profile : Profile) (bytes : List ℕ) (reply : Reply
       → IsAcceptanceReply profile bytes reply
 
 -- `check`: whether a program is accepted
-unfoldable pub IsCheckReply : Profile → List ℕ → Reply → Type 0
+unfoldable pub IsCheckReply : Profile → List ℕ → Answer → Type 0
 IsCheckReply profile input reply = IsProgramReply (IsAcceptanceReply profile) (without_blanks input) reply
 
 -- a text that a span may have
@@ -101,28 +103,29 @@ fault_name OutOfCode = codes "F6 OutOfCode"
 fault_name WriteR10 = codes "F7 WriteR10"
 
 -- what is answered to the outcome of a run
-abbrev pub outcome_reply : Outcome → Reply
+abbrev pub outcome_reply : Outcome → Answer
 outcome_reply (Done verdict) = done (line (codes "verdict " ++ decimal verdict))
 outcome_reply (Fault slot kind) = failed (codes "fault " ++ decimal slot ++ codes " " ++ fault_name kind)
 outcome_reply OutOfSteps = failed (codes "out of steps")
 
 -- of a program on a span with a text
-pub data IsSpanReply (options : SpanOptions) (text : List ℕ) (bytes : List ℕ) (reply : Reply) : Type 0 where
+pub data IsSpanReply (options : SpanOptions) (text : List ℕ) (bytes : List ℕ) (reply : Answer) : Type 0 where
   no_text : ¬ (IsSpanText text) → reply ≡ refusal TextRefused → IsSpanReply options text bytes reply
   ran : IsSpanText text → reply ≡ outcome_reply (outcome (program_of bytes) (bytes_of options text))
       → IsSpanReply options text bytes reply
 
--- `run`: what the program does on the span; its bytes are looked at before the text
-unfoldable pub IsRunReply : List ℕ → SpanOptions → List ℕ → Reply → Type 0
-IsRunReply digits options text reply = IsProgramReply (IsSpanReply options text) digits reply
-
 -- of a program on a span with a text: what `run` answers, behind further text where the program is run
-pub data IsTracedReply (options : SpanOptions) (text : List ℕ) (bytes : List ℕ) (reply : Reply) : Type 0 where
+pub data IsTracedReply (options : SpanOptions) (text : List ℕ) (bytes : List ℕ) (reply : Answer) : Type 0 where
   not_run : ¬ (IsSpanText text) → reply ≡ refusal TextRefused → IsTracedReply options text bytes reply
   traced : (steps : List ℕ) → IsSpanText text
       → reply ≡ behind steps (outcome_reply (outcome (program_of bytes) (bytes_of options text)))
       → IsTracedReply options text bytes reply
 
--- `run --trace`: what `run` answers, behind the lines of the steps where the program is run
-unfoldable pub IsTraceReply : List ℕ → SpanOptions → List ℕ → Reply → Type 0
-IsTraceReply digits options text reply = IsProgramReply (IsTracedReply options text) digits reply
+-- of a program on a span with a text, by what is shown of the run: how it ends, or first also its steps
+abbrev pub IsShownReply : Shown → SpanOptions → List ℕ → List ℕ → Answer → Type 0
+IsShownReply shows.Outcome = IsSpanReply
+IsShownReply shows.Steps = IsTracedReply
+
+-- `run` and `run --trace`: what the program does on the span; its bytes are looked at before the text
+unfoldable pub IsRunReply : Shown → List ℕ → SpanOptions → List ℕ → Answer → Type 0
+IsRunReply shown digits options text reply = IsProgramReply (IsShownReply shown options text) digits reply

@@ -3,19 +3,17 @@ use Rattle.std.specs.Prelude.{ℕ, List, string_bytes}
 use Rattle.hub_requests.specs.declared.Command.{Command}
 use Rattle.hub_requests.specs.declared.Command.TheVariants.{Asm, Check, Dis, Run, Spans}
 use Rattle.hub_requests.specs.declared.Detail.TheVariants.{Verdict, Reason, Listing}
-use Rattle.hub_requests.specs.declared.Shown.TheVariants.{Outcome, Steps}
-use Rattle.hub_commands.specs.Answers.{Reply}
+use Rattle.hub_commands.specs.Answers.{Answer}
 use Rattle.hub_commands.specs.Explained.{IsExplainReply}
-use Rattle.hub_commands.specs.Programs.{IsAsmReply, IsCheckReply, IsDisReply, IsRunReply, IsTraceReply}
+use Rattle.hub_commands.specs.Programs.{IsAsmReply, IsCheckReply, IsDisReply, IsRunReply}
 use Rattle.hub_commands.specs.SpansReply.{IsSpansReply}
 
 -- the reply that the command gives to an input
-abbrev pub IsReplyTo : Command → List ℕ → Reply → Type 0
+abbrev pub IsReplyTo : Command → List ℕ → Answer → Type 0
 IsReplyTo Asm = IsAsmReply
 IsReplyTo (Check Verdict profile) = IsCheckReply profile
 IsReplyTo (Check Reason profile) = IsExplainReply profile
 IsReplyTo (Check Listing profile) = IsExplainReply profile
 IsReplyTo Dis = IsDisReply
-IsReplyTo (Run Outcome digits options) = IsRunReply (string_bytes digits) options
-IsReplyTo (Run Steps digits options) = IsTraceReply (string_bytes digits) options
+IsReplyTo (Run shown digits options) = IsRunReply shown (string_bytes digits) options
 IsReplyTo Spans = IsSpansReply

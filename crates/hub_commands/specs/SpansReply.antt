@@ -2,7 +2,7 @@
 use Rattle.std.specs.Prelude.{◌≡◌, ◌≢◌, ℕ, ◌+◌, List, [], ◌++◌, length, All}
 use Rattle.std.specs.List.{flat_map}
 use Rattle.std.specs.Str.{IsUtf8}
-use Rattle.change_ops.specs.Changes.{Edit, IsChange}
+use Rattle.change_ops.specs.Changes.{Change, IsChange}
 use Rattle.change_ops.specs.Spelling.{change_text, Spells}
 use Rattle.change_ops.specs.Refusals.{IsRefused as BeginsWithNoChange}
 use Rattle.change_ops.specs.declared.refusal.ChangeError.{ChangeError}
@@ -12,32 +12,32 @@ use Rattle.change_history.specs.declared.refusal.SubmitError.{SubmitError}
 use Rattle.change_history.specs.declared.refusal.SubmitError.TheVariants.{OutOfMemory}
 use Rattle.refusals.specs.declared.reason.ChangeReason.{ChangeReason}
 use Rattle.refusals.specs.declared.reason.Reason.TheVariants.{TextRefused, Unread, Unaccepted}
-use Rattle.hub_commands.specs.Answers.{Reply, done}
+use Rattle.hub_commands.specs.Answers.{Answer, done}
 use Rattle.hub_commands.specs.Reasons.{refusal, in_change, change_refusal}
 use Rattle.span_lines.specs.SpanLines.{span_lines}
 
 -- The input begins with the texts of these changes, each accepted after those before it; the rest follows.
-pub record Begins (input : List ℕ) (changes : List Edit) (rest : List ℕ) : Type 0 where
+pub record Begins (input : List ℕ) (changes : List Change) (rest : List ℕ) : Type 0 where
   pub spelt : input ≡ flat_map change_text changes ++ rest
   pub limited : All IsChange changes
   pub accepted : AreAccepted changes
 
 -- the number of the change behind these, from 1
-abbrev pub next_number : List Edit → ℕ
+abbrev pub next_number : List Change → ℕ
 next_number changes = length changes + 1
 
 -- Why no change at the front of a text follows these: none can be read, by the grammar of changes, or the one that
 -- stands there isn't accepted. Want of memory is no fault of the input.
-pub data IsStopped (changes : List Edit) (text : List ℕ) (reason : ChangeReason) : Type 0 where
+pub data IsStopped (changes : List Change) (text : List ℕ) (reason : ChangeReason) : Type 0 where
   unread : (error : ChangeError) → BeginsWithNoChange text error
       → reason ≡ in_change (next_number changes) (Unread error) → IsStopped changes text reason
-  unaccepted : (change : Edit) (rest : List ℕ) (error : SubmitError) → Spells text change rest
+  unaccepted : (change : Change) (rest : List ℕ) (error : SubmitError) → Spells text change rest
       → IsRefused changes change error → error ≢ OutOfMemory
       → reason ≡ in_change (next_number changes) (Unaccepted error) → IsStopped changes text reason
 
 -- why the changes of an input end before it does
 pub record Stops (input : List ℕ) (reason : ChangeReason) : Type 0 where
-  pub changes : List Edit
+  pub changes : List Change
   pub rest : List ℕ
   pub before : Begins input changes rest
   pub left : rest ≢ []
@@ -45,9 +45,9 @@ pub record Stops (input : List ℕ) (reason : ChangeReason) : Type 0 where
 
 -- The spans of the changes' operations, or why the first change that isn't one of them is refused; of an input that
 -- isn't UTF-8, only that.
-pub data IsSpansReply (input : List ℕ) (reply : Reply) : Type 0 where
+pub data IsSpansReply (input : List ℕ) (reply : Answer) : Type 0 where
   no_text : ¬ (IsUtf8 input) → reply ≡ refusal TextRefused → IsSpansReply input reply
-  shown : (changes : List Edit) (spans : List Span) → Begins input changes [] → AreSpans (operations_of changes) spans
+  shown : (changes : List Change) (spans : List Span) → Begins input changes [] → AreSpans (operations_of changes) spans
       → reply ≡ done (span_lines spans)
       → IsSpansReply input reply
   stopped : (reason : ChangeReason) → IsUtf8 input → Stops input reason → reply ≡ change_refusal reason

@@ -34,9 +34,9 @@ pub struct Answer {
 
 impl Model for Answer {
     ghost use Rattle.std.specs.Prelude.{string_bytes};
-    ghost use Rattle.hub_commands.specs.Answers.{Reply};
+    ghost use Rattle.hub_commands.specs.Answers.{Answer as AnswerValue};
 
-    ghost Value = { Reply };
+    ghost Value = { AnswerValue };
 
     ghost view = { λ a. record { ending = a.ending; text = string_bytes a.text } };
 }

@@ -53,7 +53,7 @@ fn keep_front(front: &mut Vec<u8>, piece: &[u8]) -> Result<(), AllocError>
     Ok(())
 }
 
-/// Where the last line feed stands.
+/// Where the last line feed is.
 fn last_line_feed(bytes: &[u8]) -> Option<usize>
     ensures { IfSome result (λ last. (last < length bytes.now) × (slice_index bytes.now last ≡ 10)) }
 {

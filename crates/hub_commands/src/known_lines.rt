@@ -4,8 +4,8 @@ use abstract_state::quantity::Quantity;
 use abstract_state::region::Region;
 use abstract_state::slot::Slot;
 use abstract_state::state::{AbsReg, AbsState};
-use bpf_words::profile::Profile;
 use known_bits::Bits;
+use span_context::profile::Profile;
 use std::alloc::AllocError;
 
 /// Appends the interval of a number; the number itself where it is one.
@@ -55,12 +55,14 @@ fn push_number(text: &mut String, quantity: &Quantity) -> Result<(), AllocError>
 fn push_known(text: &mut String, known: Known) -> Result<(), AllocError> {
     match known {
         Known::Number(quantity) => push_number(text, &quantity),
-        Known::Context(place) => write!(text, "context+{}", place.place),
-        Known::Stack(place) => { write!(text, "stack-{}", 512_u64.saturating_sub(place.place)) }
-        Known::Lent(place) => {
-            write!(text, "{}+", region_name(place.region))?;
-            push_range(text, &place.offset)?;
-            push_details(text, &place.offset)
+        Known::Context(address) => write!(text, "context+{}", address.offset),
+        Known::Stack(address) => {
+            write!(text, "stack-{}", 512_u64.saturating_sub(address.offset))
+        }
+        Known::Lent(address) => {
+            write!(text, "{}+", region_name(address.region))?;
+            push_range(text, &address.offset)?;
+            push_details(text, &address.offset)
         }
     }
 }

@@ -11,8 +11,7 @@ use crate::explain::explain;
 use crate::failure::Failure;
 use crate::run::run;
 use crate::spans::spans;
-use crate::trace::trace;
-use hub_requests::{Command, Detail, Shown};
+use hub_requests::{Command, Detail};
 use std::alloc::Global;
 use std::io::{Read, Write};
 
@@ -40,16 +39,10 @@ pub fn perform<R: Read, W: Write>(
             shown,
             digits,
             options,
-        } => match shown {
-            Shown::Outcome => Ok(Ended {
-                status: run(alloc, digits.as_bytes(), options, reader, writer)?,
-                hint: None,
-            }),
-            Shown::Steps => Ok(Ended {
-                status: trace(alloc, digits.as_bytes(), options, reader, writer)?,
-                hint: None,
-            }),
-        },
+        } => Ok(Ended {
+            status: run(alloc, digits.as_bytes(), options, *shown, reader, writer)?,
+            hint: None,
+        }),
         Command::Spans => spans(alloc, reader, writer),
     }
 }

@@ -1,18 +1,20 @@
 ghost use Rattle.std.specs.Prelude.{◌≡◌, ◌≤◌, length, IfOk, IfSome};
 ghost use Rattle.hub_commands.specs.Answers.{IsAnswered};
-ghost use Rattle.hub_commands.specs.Programs.{fault_name, facts_of, link_of, outcome_reply, IsSpanReply, IsRunReply};
+ghost use Rattle.hub_commands.specs.Programs.{fault_name, facts_of, link_of, outcome_reply, IsSpanReply, IsShownReply};
+ghost use Rattle.hub_commands.specs.Programs.{IsRunReply};
 
 use crate::answer::Answer;
 use crate::failure::Failure;
 use crate::hexadecimal::decode_hex;
 use crate::input::read_past;
 use crate::output::write_answer;
-use bpf_words::context::{Context, Facts, TEXT_LIMIT};
+use crate::trace::steps_answer;
 use bpf_words::words::Words;
-use hub_requests::SpanOptions;
+use hub_requests::{Shown, SpanOptions};
 use interpreter::run::run_checked;
-use meaning::{FaultKind, Outcome};
 use refusals::reason::Reason;
+use semantics::{FaultKind, Outcome};
+use span_context::context::{Context, Facts, TEXT_LIMIT};
 use std::alloc::{AllocError, Global};
 use std::io::{Read, Write};
 
@@ -100,16 +102,33 @@ pub fn span_answer(
     )
 }
 
+/// The same, or behind the steps.
+fn shown_answer(
+    alloc: Global,
+    words: &Words<'_>,
+    options: &SpanOptions,
+    shown: Shown,
+    input: &[u8],
+) -> Result<Answer, AllocError>
+    ensures { IfOk result (λ answer. IsShownReply shown options.now input.now words.now answer) }
+{
+    match shown {
+        Shown::Outcome => span_answer(alloc, words, options, input),
+        Shown::Steps => steps_answer(alloc, words, options, input),
+    }
+}
+
 /// What `run` answers to a program in hexadecimal, on the span whose text is the input. The text is read only where the
 /// bytes are a program.
-pub fn run_answer<R: Read>(
+fn run_answer<R: Read>(
     alloc: Global,
     digits: &[u8],
     options: &SpanOptions,
+    shown: Shown,
     reader: &mut R,
 ) -> Result<Answer, Failure>
     ensures { IfOk result (λ answer. IfSome (R.remaining reader.old)
-        (λ text. IsRunReply digits.now options.now text answer)) }
+        (λ text. IsRunReply shown digits.now options.now text answer)) }
 {
     let Some(bytes) = decode_hex(alloc, digits)? else {
         return Ok(Answer::refused(alloc, &Reason::BadHex)?);
@@ -117,23 +136,25 @@ pub fn run_answer<R: Read>(
     match Words::new(&bytes) {
         Ok(words) => {
             let input = read_past(alloc, reader, TEXT_LIMIT as u64)?;
-            Ok(span_answer(alloc, &words, options, &input)?)
+            Ok(shown_answer(alloc, &words, options, shown, &input)?)
         }
         Err(error) => Ok(Answer::refused(alloc, &Reason::Words(error))?),
     }
 }
 
-/// The command `run`: one program, in hexadecimal, on one span, whose text is the input.
+/// The command `run`, with `--trace` where the steps are shown: one program, in hexadecimal, on one span, whose text is
+/// the input.
 pub fn run<R: Read, W: Write>(
     alloc: Global,
     digits: &[u8],
     options: &SpanOptions,
+    shown: Shown,
     reader: &mut R,
     writer: &mut W,
 ) -> Result<u8, Failure>
-    ensures { IfOk result (λ status. IsAnswered (IsRunReply digits.now options.now) (R.remaining reader.old)
+    ensures { IfOk result (λ status. IsAnswered (IsRunReply shown digits.now options.now) (R.remaining reader.old)
         (W.contents writer.old) (W.contents writer.new) status) }
 {
-    let answer = run_answer(alloc, digits, options, reader)?;
+    let answer = run_answer(alloc, digits, options, shown, reader)?;
     write_answer(writer, &answer)
 }

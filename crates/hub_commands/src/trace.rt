@@ -1,25 +1,20 @@
 //! The steps of a run, printed before what `run` answers (docs/PROGRAMS.md, "The steps of a run").
-ghost use Rattle.std.specs.Prelude.{◌≡◌, ◌++◌, IfOk, IfSome};
-ghost use Rattle.hub_commands.specs.Answers.{IsAnswered};
-ghost use Rattle.hub_commands.specs.Programs.{IsTracedReply, IsTraceReply};
+ghost use Rattle.std.specs.Prelude.{IfOk};
+ghost use Rattle.hub_commands.specs.Programs.{IsTracedReply};
 
 use crate::answer::Answer;
-use crate::failure::Failure;
-use crate::hexadecimal::decode_hex;
-use crate::input::read_past;
 use crate::listing::push_instruction;
-use crate::output::write_answer;
 use crate::run::{facts, link, outcome_answer};
-use bpf_words::context::{CONTEXT, Context, FRAME, LINK, LINK_LIMIT, TEXT, TEXT_LIMIT};
-use bpf_words::instruction::{Insn, Size};
+use bpf_words::instruction::Insn;
 use bpf_words::register::Register;
 use bpf_words::words::Words;
 use hub_requests::SpanOptions;
 use interpreter::machine::{Machine, address};
 use interpreter::run::{Observer, run_observed};
 use refusals::reason::Reason;
+use span_context::context::{CONTEXT, Context, FRAME, LINK, LINK_LIMIT, TEXT, TEXT_LIMIT};
+use span_context::size::Size;
 use std::alloc::{AllocError, Global};
-use std::io::{Read, Write};
 
 /// The regions of a run by their names, with the address of the first byte, and how far the address behind the last
 /// byte can be from it.
@@ -29,8 +24,8 @@ static REGIONS: [(&str, u64, u64); 3] = [
     ("link", LINK, LINK_LIMIT as u64),
 ];
 
-/// Appends the place of which a number is the address, if it is one.
-fn push_place(text: &mut String, number: u64) -> Result<(), AllocError> {
+/// Appends the location of which a number is the address, if it is one.
+fn push_location(text: &mut String, number: u64) -> Result<(), AllocError> {
     for (name, first, length) in REGIONS {
         if number >= first && number - first <= length {
             return write!(text, ", {name}+{}", number - first);
@@ -45,7 +40,7 @@ fn push_place(text: &mut String, number: u64) -> Result<(), AllocError> {
 /// Appends a number that was written, and the rest of its line.
 fn push_number(text: &mut String, number: u64) -> Result<(), AllocError> {
     write!(text, " = {number}")?;
-    push_place(text, number)?;
+    push_location(text, number)?;
     text.push('\n')
 }
 
@@ -118,7 +113,7 @@ impl Observer for Steps {
 }
 
 /// What is answered to a program on the span whose text is the input: the steps, and then what `run` answers.
-fn steps_answer(
+pub(crate) fn steps_answer(
     alloc: Global,
     words: &Words<'_>,
     options: &SpanOptions,
@@ -138,43 +133,4 @@ fn steps_answer(
     };
     let outcome = run_observed(words, &context, text.as_bytes(), link(options), &mut steps)?;
     outcome_answer(alloc, outcome)?.behind(steps.text)
-}
-
-/// What `run --trace` answers to a program in hexadecimal, on the span whose text is the input. The text is read only
-/// where the bytes are a program.
-fn trace_answer<R: Read>(
-    alloc: Global,
-    digits: &[u8],
-    options: &SpanOptions,
-    reader: &mut R,
-) -> Result<Answer, Failure>
-    ensures { IfOk result (λ answer. IfSome (R.remaining reader.old)
-        (λ text. IsTraceReply digits.now options.now text answer)) }
-{
-    let Some(bytes) = decode_hex(alloc, digits)? else {
-        return Ok(Answer::refused(alloc, &Reason::BadHex)?);
-    };
-    match Words::new(&bytes) {
-        Ok(words) => {
-            let input = read_past(alloc, reader, TEXT_LIMIT as u64)?;
-            Ok(steps_answer(alloc, &words, options, &input)?)
-        }
-        Err(error) => Ok(Answer::refused(alloc, &Reason::Words(error))?),
-    }
-}
-
-/// The command `run --trace`: the steps of one program, in hexadecimal, on one span, whose text is the input, and then
-/// what `run` answers.
-pub fn trace<R: Read, W: Write>(
-    alloc: Global,
-    digits: &[u8],
-    options: &SpanOptions,
-    reader: &mut R,
-    writer: &mut W,
-) -> Result<u8, Failure>
-    ensures { IfOk result (λ status. IsAnswered (IsTraceReply digits.now options.now) (R.remaining reader.old)
-        (W.contents writer.old) (W.contents writer.new) status) }
-{
-    let answer = trace_answer(alloc, digits, options, reader)?;
-    write_answer(writer, &answer)
 }

@@ -3,13 +3,13 @@ use Rattle.std.specs.Result.{OnOk, is_err}
 use Rattle.std.proofs.Common.{Result, Ok, Err, false, true≢false, ◌≡◌, List, [], ◌∷◌, ◌++◌, length, refl, sym, ap, ◌∙◌, subst, append_assoc, append-nil, arith}
 use Rattle.std.specs.List.{flat_map}
 use Rattle.std.proofs.lemmas.List.Concat.{flat_map-append}
-use Rattle.meaning.specs.Step.{Program}
-use Rattle.span_flatten.specs.Version.{Snapshot}
+use Rattle.semantics.specs.Step.{Program}
+use Rattle.span_flatten.specs.Version.{Version}
 use Rattle.version_history.specs.Tokens.{Token}
-use Rattle.batches.specs.Batches.{Entry, Slip}
+use Rattle.feeds.specs.Batches.{Item, Job}
 use Rattle.hub_core.specs.declared.run.Event.{Event}
 use Rattle.hub_core.specs.declared.run.Reply.{Reply}
-use Rattle.hub_core.specs.Machine.{State}
+use Rattle.hub_core.specs.Machine.{Core}
 use Rattle.hub_core.specs.Runs.{Happens, IsRun, AppendsRun, handed_by}
 
 pub nothing_left : {X : Type 0} (l : List X) → length l ≡ 0 → l ≡ []
@@ -21,11 +21,11 @@ pub on_ok : {T E : Type 0} (r : Result T E) (P : Type 0) → false ≡ is_err r 
 on_ok (Ok x) P e h = h
 on_ok (Err x) P e h = absurd (true≢false (sym e))
 
-module _ {S : Type 0} (sent : S → List Entry) (full : S → Type 0) where
-  run_more : (s m m' : State S) (jobs : List Slip) (es : List (Event (Token Program) S)) (rs : List (Reply (Token Snapshot) Slip)) (e : Event (Token Program) S) (r : Reply (Token Snapshot) Slip)
+module _ {S : Type 0} (sent : S → List Item) (full : S → Type 0) where
+  run_more : (s m m' : Core S) (jobs : List Job) (es : List (Event (Token Program) S)) (rs : List (Reply (Token Version) Job)) (e : Event (Token Program) S) (r : Reply (Token Version) Job)
       → IsRun sent full s jobs es rs m → Happens sent full m (jobs ++ flat_map handed_by rs) e r m' → IsRun sent full s jobs (es ++ e ∷ []) (rs ++ r ∷ []) m'
   run_more s m m' jobs [] [] e r run h =
-      (m', subst (λ (x : State S × List Slip). Happens sent full x.0 x.1 e r m') (λ i. (run i, append-nil jobs i)) h, refl)
+      (m', subst (λ (x : Core S × List Job). Happens sent full x.0 x.1 e r m') (λ i. (run i, append-nil jobs i)) h, refl)
   run_more s m m' jobs [] (r1 ∷ rs) e r run h = absurd run
   run_more s m m' jobs (e1 ∷ es) [] e r run h = absurd run
   run_more s m m' jobs (e1 ∷ es) (r1 ∷ rs) e r run h = (
@@ -36,16 +36,16 @@ module _ {S : Type 0} (sent : S → List Entry) (full : S → Type 0) where
   )
 
   -- so far: the replies that were added, the jobs that they hand out, and the run that they are of
-  pub record Ran (before replies : List (Reply (Token Snapshot) Slip)) (jobs : List Slip) (start : State S) (done : List (Event (Token Program) S)) (now : State S) : Type 0 where
-    pub added : List (Reply (Token Snapshot) Slip)
+  pub record Ran (before replies : List (Reply (Token Version) Job)) (jobs : List Job) (start : Core S) (done : List (Event (Token Program) S)) (now : Core S) : Type 0 where
+    pub added : List (Reply (Token Version) Job)
     pub replies_are : replies ≡ before ++ added
     pub jobs_are : jobs ≡ flat_map handed_by added
     pub run : IsRun sent full start [] done added now
 
-  pub ran_none : (before : List (Reply (Token Snapshot) Slip)) (jobs : List Slip) (start : State S) → jobs ≡ [] → Ran before before jobs start [] start
+  pub ran_none : (before : List (Reply (Token Version) Job)) (jobs : List Job) (start : Core S) → jobs ≡ [] → Ran before before jobs start [] start
   ran_none before jobs start none = record { added = []; replies_are = sym (append-nil before); jobs_are = none; run = refl }
 
-  pub ran_more : (before replies replies' : List (Reply (Token Snapshot) Slip)) (jobs jobs' : List Slip) (start now now' : State S) (done : List (Event (Token Program) S)) (e : Event (Token Program) S) (r : Reply (Token Snapshot) Slip)
+  pub ran_more : (before replies replies' : List (Reply (Token Version) Job)) (jobs jobs' : List Job) (start now now' : Core S) (done : List (Event (Token Program) S)) (e : Event (Token Program) S) (r : Reply (Token Version) Job)
       → Ran before replies jobs start done now → Happens sent full now jobs e r now' → jobs' ≡ jobs ++ handed_by r → replies' ≡ replies ++ r ∷ []
       → Ran before replies' jobs' start (done ++ e ∷ []) now'
   ran_more before replies replies' jobs jobs' start now now' done e r ran h jobs_more replies_more = record {
@@ -55,7 +55,7 @@ module _ {S : Type 0} (sent : S → List Entry) (full : S → Type 0) where
     run = run_more start now now' [] done ran.added e r ran.run (subst (λ l. Happens sent full now l e r now') ran.jobs_are h);
   }
 
-  pub ran_all : (before old after : List (Reply (Token Snapshot) Slip)) (jobs : List Slip) (start now : State S) (done events : List (Event (Token Program) S))
+  pub ran_all : (before old after : List (Reply (Token Version) Job)) (jobs : List Job) (start now : Core S) (done events : List (Event (Token Program) S))
       → Ran old after jobs start done now → old ≡ before → done ≡ events → AppendsRun sent full before start events after now
   ran_all before old after jobs start now done events ran same all = record {
     added = ran.added;

@@ -2,21 +2,21 @@
 use Rattle.std.proofs.Common.{◌≡◌, ℕ, zero, suc, List, [], ◌∷◌, ◌++◌, length, map, take, drop, refl, sym, ap, ◌∙◌, subst, arith, append_assoc, take-append-drop}
 use Rattle.std.specs.Prelude.{slice_get, Some}
 use Rattle.std.proofs.lemmas.List.Concat.{flat_map-append}
-use Rattle.span_flatten.specs.Version.{Snapshot}
+use Rattle.span_flatten.specs.Version.{Version}
 use Rattle.version_history.specs.Tokens.{Token}
-use Rattle.meaning.specs.Step.{Program}
-use Rattle.batches.specs.Batches.{Entry, items_of}
-use Rattle.batches.specs.Orderly.{items_of_all}
-use Rattle.batches.specs.Feed.{Sub, items_at, IsFed}
-use Rattle.batches.specs.Stream.{BeginsStream}
-use Rattle.batches.proofs.Feeding.{All_get}
-use Rattle.batches.proofs.Streams.{drop_split, begins_stream}
+use Rattle.semantics.specs.Step.{Program}
+use Rattle.feeds.specs.Batches.{Item, items_of}
+use Rattle.feeds.specs.Orderly.{items_of_all}
+use Rattle.feeds.specs.Feed.{Subscriber, items_at, IsFed}
+use Rattle.feeds.specs.Stream.{BeginsStream}
+use Rattle.feeds.proofs.Feeding.{All_get}
+use Rattle.feeds.proofs.Streams.{drop_split, begins_stream}
 use Rattle.change_history.specs.Accepted.{AreAccepted}
-use Rattle.hub_core.specs.Machine.{State, IsSound}
+use Rattle.hub_core.specs.Machine.{Core, IsSound}
 use Rattle.hub_core.specs.Consistent.{IsConsistent}
 
 -- what follows the first items of a version, to the last version
-rest_of : (p : Token Program) (ts : List (Token Snapshot)) (n count : ℕ) → (more : List Entry) × (take count (items_at p ts n) ++ more ≡ items_of_all p (drop n ts))
+rest_of : (p : Token Program) (ts : List (Token Version)) (n count : ℕ) → (more : List Item) × (take count (items_at p ts n) ++ more ≡ items_of_all p (drop n ts))
 rest_of p [] zero zero = ([], refl)
 rest_of p [] zero (suc count) = ([], refl)
 rest_of p [] (suc n) zero = ([], refl)
@@ -27,11 +27,11 @@ rest_of p (t ∷ ts) zero count = (
 )
 rest_of p (t ∷ ts) (suc n) count = rest_of p ts n count
 
-module _ {S : Type 0} (sent : S → List Entry) (full : S → Type 0) where
-  begins_here : (s : State S) (id : ℕ) (a : Sub S) → IsSound sent full s → slice_get s.subs id ≡ Some a
-      → BeginsStream a.program.value s.changes a.first (length s.changes) (map (λ (e : Entry). e.what) (sent a.sink))
+module _ {S : Type 0} (sent : S → List Item) (full : S → Type 0) where
+  begins_here : (s : Core S) (id : ℕ) (a : Subscriber S) → IsSound sent full s → slice_get s.subscribers id ≡ Some a
+      → BeginsStream a.program.value s.changes a.first (length s.changes) (map (λ (e : Item). e.what) (sent a.sink))
   begins_here s id a sound at =
-      let fed : IsFed sent full s.versions a = All_get (IsFed sent full s.versions) s.subs id a at sound.fed in
+      let fed : IsFed sent full s.versions a = All_get (IsFed sent full s.versions) s.subscribers id a at sound.fed in
       let p = a.program in
       let ts = s.versions in
       let begun = fed.begun in
@@ -45,10 +45,10 @@ module _ {S : Type 0} (sent : S → List Entry) (full : S → Type 0) where
       begins_stream p s.changes ts a.first (sent a.sink) rest.0 sound.named sound.versions_are (omega arith) whole
 
   -- o is the state, seen by its fields as s
-  pub begins : (o s : State S) → s ≡ o → IsSound sent full s → (id : ℕ) (a : Sub S) → slice_get o.subs id ≡ Some a
-      → BeginsStream a.program.value o.changes a.first (length o.changes) (map (λ (e : Entry). e.what) (sent a.sink))
+  pub begins : (o s : Core S) → s ≡ o → IsSound sent full s → (id : ℕ) (a : Subscriber S) → slice_get o.subscribers id ≡ Some a
+      → BeginsStream a.program.value o.changes a.first (length o.changes) (map (λ (e : Item). e.what) (sent a.sink))
   begins o s same sound id a = begins_here o id a (subst (IsSound sent full) same sound)
 
   -- and the state is consistent
-  pub consistent : (o s : State S) → s ≡ o → IsSound sent full s → AreAccepted s.changes → IsConsistent sent full o
+  pub consistent : (o s : Core S) → s ≡ o → IsSound sent full s → AreAccepted s.changes → IsConsistent sent full o
   consistent o s same sound accepted = subst (IsConsistent sent full) same (record { sound = sound; accepted = accepted; streams = begins s s refl sound })

@@ -1,15 +1,15 @@
 -- What becomes of the lists of changes and of their versions' tokens.
 use Rattle.std.specs.Prelude.{◌≡◌, ◌+◌, Result, Ok, Err, List, [], ◌∷◌, ◌++◌, length}
-use Rattle.change_ops.specs.Changes.{Edit}
-use Rattle.span_flatten.specs.Version.{Snapshot}
+use Rattle.change_ops.specs.Changes.{Change}
+use Rattle.span_flatten.specs.Version.{Version}
 use Rattle.version_history.specs.Tokens.{Token}
 use Rattle.change_history.specs.Accepted.{IsAccepted, IsRefused}
 use Rattle.change_history.specs.VersionAt.{IsVersionAt}
 use Rattle.change_history.specs.declared.refusal.SubmitError.{SubmitError}
 
 -- both have one more, or stay as they were
-abbrev pub Accepts : List Edit → List (Token Snapshot) → Edit → Result (Token Snapshot) SubmitError → List Edit
-    → List (Token Snapshot) → Type 0
+abbrev pub Accepts : List Change → List (Token Version) → Change → Result (Token Version) SubmitError → List Change
+    → List (Token Version) → Type 0
 Accepts changes versions change (Ok token) changes' versions' =
     IsAccepted changes change × IsVersionAt (changes ++ change ∷ []) (length changes + 1) token.value
     × (changes' ≡ changes ++ change ∷ []) × (versions' ≡ versions ++ token ∷ [])

@@ -1,15 +1,15 @@
 ghost use Rattle.std.specs.Prelude.{◌≡◌, ◌+◌, ◌<◌, ◌≤◌, ◌↔◌, ◌++◌, ◌∷◌, [], Some, length, map, slice_get, IsTrue, IfOk};
 ghost use Rattle.std.specs.Prelude.{OnOk, MatchOption, vec_len, vec_capacity};
-ghost use Rattle.change_ops.specs.Changes.{Edit};
+ghost use Rattle.change_ops.specs.Changes.{Change};
 ghost use Rattle.char_sequence.specs.Newest.{IsLastCounter};
-ghost use Rattle.meaning.specs.Safe.{Safe};
+ghost use Rattle.semantics.specs.Safe.{Safe};
 ghost use Rattle.span_flatten.specs.Version.{IsVersion};
-ghost use Rattle.batches.specs.Feed.{Sub};
+ghost use Rattle.feeds.specs.Feed.{Subscriber as SubscriberValue};
 ghost use Rattle.change_history.specs.Accepted.{AreAccepted, operations_of};
 ghost use Rattle.change_history.specs.Kept.{IsDraft};
 ghost use Rattle.change_history.specs.VersionAt.{IsVersionAt};
-ghost use Rattle.batches.specs.Stream.{BeginsStream};
-ghost use Rattle.batches.specs.Promise.{Suits};
+ghost use Rattle.feeds.specs.Stream.{BeginsStream};
+ghost use Rattle.feeds.specs.Promise.{Suits};
 ghost use Rattle.hub_core.specs.Consistent.{IsConsistent};
 ghost use Rattle.hub_core.specs.Runs.{CommitsJob};
 ghost use Rattle.hub_core.specs.Accepting.{Accepts};
@@ -17,13 +17,13 @@ ghost use Rattle.hub_core.specs.Machine.{IsStart, Submits, Subscribes, Commits, 
 ghost use Rattle.hub_core.specs.Machine.{Misses, FindsAt, FindsJob};
 
 use crate::error::{CommitError, NoSubscriber, SubscribeError};
-use batches::batch::Batch;
-use batches::item::{Item, Job};
-use batches::sink::Sink;
-use batches::subscriber::Subscriber;
 use change_history::history::{Draft, History};
 use change_history::refusal::SubmitError;
 use change_ops::change::Change;
+use feeds::batch::Batch;
+use feeds::item::{Item, Job};
+use feeds::sink::Sink;
+use feeds::subscriber::Subscriber;
 use std::alloc::{AllocError, Global};
 use std::marker::Model;
 use std::sync::Wait;
@@ -38,7 +38,7 @@ pub struct Core<'p, N: Naming, S: Sink<Item<N>>> {
     published: Published<'p, N>,
     history: History,
     versions: Vec<VersionToken<N>>,
-    subs: Vec<Subscriber<N, S>>,
+    subscribers: Vec<Subscriber<N, S>>,
 }
 
 // By hand, so that a proof of a function that lets a core go sees one call there.
@@ -49,23 +49,27 @@ impl<'p, N: Naming, S: Sink<Item<N>>> Drop for Core<'p, N, S> {
             published: _,
             history: _,
             versions: _,
-            subs: _,
+            subscribers: _,
         } = self;
     }
 }
 
 impl<'p, N: Naming, S: Sink<Item<N>>> Model for Core<'p, N, S> {
     ghost use Rattle.std.specs.Coded.{codes};
-    ghost use Rattle.hub_core.specs.Machine.{State, IsSound};
+    ghost use Rattle.hub_core.specs.Machine.{Core as CoreValue, IsSound};
 
-    ghost Value = { State S };
+    ghost Value = { CoreValue S };
 
     ghost coded = { Prim.hlevel (codes, S.code) };
 
-    ghost view = { λ c. record { changes = c.history; versions = c.versions.items; subs = c.subs.items } };
+    ghost view = { λ c. record {
+      changes = c.history;
+      versions = c.versions.items;
+      subscribers = c.subscribers.items;
+    } };
 
     ghost invariant = { λ c. IsSound S.sent S.full
-        (record { changes = c.history; versions = c.versions.items; subs = c.subs.items }) };
+        (record { changes = c.history; versions = c.versions.items; subscribers = c.subscribers.items }) };
 }
 
 /// Publishes the version that the changes make with the one of a draft, once there is room for one token more.
@@ -77,8 +81,8 @@ fn publish_draft<N: Naming, R: Wait>(
     draft: &Draft,
     versions: &mut Vec<VersionToken<N>>,
 ) -> Result<VersionToken<N>, AllocError>
-    requires { (change : Edit) × IsDraft history.now change draft.now }
-    ensures token { IfOk result (λ token. (change : Edit) → IsDraft history.now change draft.now
+    requires { (change : Change) × IsDraft history.now change draft.now }
+    ensures token { IfOk result (λ token. (change : Change) → IsDraft history.now change draft.now
         → IsVersion (operations_of (history.now ++ change ∷ [])) (length history.now + 1) token.value) }
     ensures room { OnOk result (vec_len versions.new < vec_capacity versions.new) }
     ensures same { versions.new.items ≡ versions.old.items }
@@ -92,7 +96,7 @@ fn publish_draft<N: Naming, R: Wait>(
 }
 
 /// Takes a change in after those before it, with its version's token. All that can fail comes before the version is
-/// published but that itself, so no version stands published without its change; where the change is refused both lists
+/// published but that itself, so no version is published without its change; where the change is refused both lists
 /// stay as they were.
 fn accept<N: Naming, R: Wait>(
     rt: &R,
@@ -153,7 +157,7 @@ impl<'p, N: Naming, S: Sink<Item<N>>> Core<'p, N, S> {
             published: published.again(),
             history: History::new(alloc),
             versions,
-            subs: Vec::new(alloc),
+            subscribers: Vec::new(alloc),
         })
     }
 
@@ -210,9 +214,9 @@ impl<'p, N: Naming, S: Sink<Item<N>>> Core<'p, N, S> {
 
     /// Whether as many subscribers were added as ever are. A closed one keeps its id, so that this stays so for good.
     pub fn is_full(&self) -> bool
-        ensures { IsTrue result ↔ (length self.now.subs ≡ 64) }
+        ensures { IsTrue result ↔ (length self.now.subscribers ≡ 64) }
     {
-        self.subs.len() == SUBSCRIBER_LIMIT
+        self.subscribers.len() == SUBSCRIBER_LIMIT
     }
 
     /// Adds a subscriber, from the latest version on, to a sink that was sent nothing, and of which nothing is promised
@@ -245,7 +249,7 @@ impl<'p, N: Naming, S: Sink<Item<N>>> Core<'p, N, S> {
         requires suits { Suits (S.promise sink) program.value first }
         ensures { Subscribes self.old first program sink result self.new }
     {
-        let id = self.subs.len();
+        let id = self.subscribers.len();
         if id == SUBSCRIBER_LIMIT {
             return Err(SubscribeError::SubscribersFull);
         }
@@ -253,22 +257,22 @@ impl<'p, N: Naming, S: Sink<Item<N>>> Core<'p, N, S> {
         if newest < first {
             return Err(SubscribeError::NoVersion);
         }
-        if self.subs.reserve(1).is_err() {
+        if self.subscribers.reserve(1).is_err() {
             return Err(SubscribeError::OutOfMemory);
         }
         let Ok(subscriber) = Subscriber::new(self.alloc, program, first, sink) else {
             return Err(SubscribeError::OutOfMemory);
         };
-        self.subs.push_reserved(subscriber);
+        self.subscribers.push_reserved(subscriber);
         Ok(id)
     }
 
     /// The next version of a subscriber, if it is open and has one.
     fn next_version(&self, id: usize) -> Option<u64>
-        requires { id < length self.now.subs }
+        requires { id < length self.now.subscribers }
         ensures { FindsAt self.now id result }
     {
-        let sub = &self.subs[id];
+        let sub = &self.subscribers[id];
         if sub.is_closed() {
             return None;
         }
@@ -279,7 +283,7 @@ impl<'p, N: Naming, S: Sink<Item<N>>> Core<'p, N, S> {
     fn next_job(&self) -> Option<(usize, u64)>
         ensures { FindsJob self.now result }
     {
-        for id in 0..self.subs.len() {
+        for id in 0..self.subscribers.len() {
             if let Some(number) = self.next_version(id) {
                 return Some((id, number));
             }
@@ -294,7 +298,7 @@ impl<'p, N: Naming, S: Sink<Item<N>>> Core<'p, N, S> {
         let Some((id, number)) = self.next_job() else {
             return None;
         };
-        let sub = &mut self.subs[id];
+        let sub = &mut self.subscribers[id];
         Some(sub.hand_out(id, number, self.versions.as_slice()))
     }
 
@@ -303,10 +307,10 @@ impl<'p, N: Naming, S: Sink<Item<N>>> Core<'p, N, S> {
     pub fn missing_job(&self, id: usize) -> Option<Job<N>>
         ensures { Misses self.now id result }
     {
-        if id >= self.subs.len() || self.subs[id].is_closed() {
+        if id >= self.subscribers.len() || self.subscribers[id].is_closed() {
             return None;
         }
-        let sub = &self.subs[id];
+        let sub = &self.subscribers[id];
         let Some(number) = sub.missing_version(latest(&self.history)) else {
             return None;
         };
@@ -319,10 +323,10 @@ impl<'p, N: Naming, S: Sink<Item<N>>> Core<'p, N, S> {
         ensures takes_no_memory { ¬ (result ≡ Err CommitError.OutOfMemory) }
     {
         let id = batch.job().subscriber;
-        if id >= self.subs.len() || self.subs[id].is_closed() {
+        if id >= self.subscribers.len() || self.subscribers[id].is_closed() {
             return Err(CommitError::NoSubscriber);
         }
-        let sub = &mut self.subs[id];
+        let sub = &mut self.subscribers[id];
         let kept = sub.commit(&self.published, self.versions.as_slice(), batch);
         if kept {
             return Ok(());
@@ -330,14 +334,14 @@ impl<'p, N: Naming, S: Sink<Item<N>>> Core<'p, N, S> {
         Err(CommitError::Stale)
     }
 
-    /// Computes the batch of the job at a place of these, and commits it.
-    pub(crate) fn commit_job(&mut self, jobs: &[Job<N>], place: usize) -> Result<(), CommitError>
-        ensures { CommitsJob self.old (slice_get jobs.now place) result self.new }
+    /// Computes the batch of the job at an index of these, and commits it.
+    pub(crate) fn commit_job(&mut self, jobs: &[Job<N>], index: usize) -> Result<(), CommitError>
+        ensures { CommitsJob self.old (slice_get jobs.now index) result self.new }
     {
-        if place >= jobs.len() {
+        if index >= jobs.len() {
             return Err(CommitError::Stale);
         }
-        let Ok(batch) = Batch::compute(self.alloc, &self.published, &jobs[place]) else {
+        let Ok(batch) = Batch::compute(self.alloc, &self.published, &jobs[index]) else {
             return Err(CommitError::OutOfMemory);
         };
         self.commit(batch)
@@ -347,12 +351,12 @@ impl<'p, N: Naming, S: Sink<Item<N>>> Core<'p, N, S> {
     pub fn pump(&mut self, id: usize) -> Result<usize, NoSubscriber>
         ensures { Pumps S.sent S.full self.old id result self.new }
     {
-        if id >= self.subs.len() || self.subs[id].is_closed() {
+        if id >= self.subscribers.len() || self.subscribers[id].is_closed() {
             return Err(NoSubscriber);
         }
         // Tells the proof that the changes were accepted.
         let _ = self.history.len();
-        let sub = &mut self.subs[id];
+        let sub = &mut self.subscribers[id];
         Ok(sub.pump(self.versions.as_slice()))
     }
 
@@ -360,10 +364,10 @@ impl<'p, N: Naming, S: Sink<Item<N>>> Core<'p, N, S> {
     pub fn reissue(&mut self, id: usize) -> Result<(), NoSubscriber>
         ensures { Reissues self.old id result self.new }
     {
-        if id >= self.subs.len() || self.subs[id].is_closed() {
+        if id >= self.subscribers.len() || self.subscribers[id].is_closed() {
             return Err(NoSubscriber);
         }
-        self.subs[id].reissue();
+        self.subscribers[id].reissue();
         Ok(())
     }
 
@@ -371,10 +375,10 @@ impl<'p, N: Naming, S: Sink<Item<N>>> Core<'p, N, S> {
     pub fn close(&mut self, id: usize) -> Result<(), NoSubscriber>
         ensures { Closes self.old id result self.new }
     {
-        if id >= self.subs.len() || self.subs[id].is_closed() {
+        if id >= self.subscribers.len() || self.subscribers[id].is_closed() {
             return Err(NoSubscriber);
         }
-        self.subs[id].close();
+        self.subscribers[id].close();
         Ok(())
     }
 
@@ -382,16 +386,16 @@ impl<'p, N: Naming, S: Sink<Item<N>>> Core<'p, N, S> {
     /// of its program, of which every run ends with a number, over the accepted changes, from the subscriber's first
     /// version to the last. [`Core::stays_consistent`] says how far it goes, with which tokens, and what is held.
     pub fn sink(&self, id: usize) -> Option<&S>
-        ensures value { MatchOption result (length self.now.subs ≤ id) (λ sink. (a : Sub S)
-            × (slice_get self.now.subs id ≡ Some a) × (sink.now ≡ a.sink)) }
-        ensures stream { (a : Sub S) → slice_get self.now.subs id ≡ Some a
+        ensures value { MatchOption result (length self.now.subscribers ≤ id) (λ sink. (a : SubscriberValue S)
+            × (slice_get self.now.subscribers id ≡ Some a) × (sink.now ≡ a.sink)) }
+        ensures stream { (a : SubscriberValue S) → slice_get self.now.subscribers id ≡ Some a
             → BeginsStream a.program.value self.now.changes a.first (length self.now.changes)
             (map (λ item. item.what) (S.sent a.sink)) }
-        ensures safe { (a : Sub S) → slice_get self.now.subs id ≡ Some a → Safe a.program.value }
+        ensures safe { (a : SubscriberValue S) → slice_get self.now.subscribers id ≡ Some a → Safe a.program.value }
     {
-        if id >= self.subs.len() {
+        if id >= self.subscribers.len() {
             return None;
         }
-        Some(self.subs[id].sink())
+        Some(self.subscribers[id].sink())
     }
 }

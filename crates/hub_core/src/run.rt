@@ -1,14 +1,14 @@
 ghost use Rattle.std.specs.Prelude.{◌≡◌, ◌<◌, ◌≤◌, ◌+◌, ◌++◌, List, All, OnOk, OnErr, vec_len, vec_capacity};
-ghost use Rattle.batches.specs.Batches.{Slip};
+ghost use Rattle.feeds.specs.Batches.{Job as JobValue};
 ghost use Rattle.hub_core.specs.declared.run.Event.TheVariants.{TakeJob};
 ghost use Rattle.hub_core.specs.Runs.{Happens, AppendsRun, handed_by, IsFreshEvent};
 
 use crate::error::{CommitError, NoSubscriber, SubscribeError};
 use crate::hub::Core;
-use batches::item::{Item, Job};
-use batches::sink::Sink;
 use change_history::refusal::SubmitError;
 use change_ops::change::Change;
+use feeds::item::{Item, Job};
+use feeds::sink::Sink;
 use std::alloc::{AllocError, Global};
 use std::sync::Wait;
 use version_history::published::{Naming, ProgramToken, VersionToken};
@@ -47,7 +47,7 @@ fn take_job<N: Naming, S: Sink<Item<N>>>(
     jobs: &mut Vec<Job<N>>,
 ) -> Reply<VersionToken<N>, Job<N>>
     requires { vec_len jobs.old < vec_capacity jobs.old }
-    ensures happens { (taken : List Slip) → Happens S.sent S.full core.old taken TakeJob result core.new }
+    ensures happens { (taken : List JobValue) → Happens S.sent S.full core.old taken TakeJob result core.new }
     ensures jobs { jobs.new.items ≡ jobs.old.items ++ handed_by result }
     ensures room { (vec_len jobs.new ≤ vec_len jobs.old + 1) × (vec_capacity jobs.new ≡ vec_capacity jobs.old) }
 {
@@ -78,7 +78,7 @@ fn run_event<N: Naming, S: Sink<Item<N>>, R: Wait>(
             Reply::Subscribed(core.subscribe_from(program, sink, first))
         }
         Event::TakeJob => take_job(core, jobs),
-        Event::Commit(place) => Reply::Committed(core.commit_job(jobs.as_slice(), place)),
+        Event::Commit(index) => Reply::Committed(core.commit_job(jobs.as_slice(), index)),
         Event::Pump(id) => Reply::Pumped(core.pump(id)),
         Event::Reissue(id) => Reply::Reissued(core.reissue(id)),
         Event::Close(id) => Reply::Closed(core.close(id)),

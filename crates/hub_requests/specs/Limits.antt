@@ -12,7 +12,7 @@ abbrev pub less : Option ℕ → ℕ → Option ℕ
 less None more = None
 less (Some left) more = Some (left - more)
 
--- whether one change more may be accepted whose text has so many bytes, and what is left after it
+-- whether one change more may be accepted whose text has `bytes` bytes, and what is left after it
 abbrev pub takes_change : SessionLimits → ℕ → Bool
 takes_change left bytes = has_room left.changes 1 && has_room left.bytes bytes
 

@@ -7,8 +7,8 @@ pub mod limits;
 ghost use Rattle.std.specs.Prelude.{◌≡◌, ◌≤◌, SomeIff};
 
 use crate::limits::SessionOptions;
-use bpf_words::profile::Profile;
 use change_ops::attribute::Link;
+use span_context::profile::Profile;
 use std::marker::Model;
 
 /// The most bytes that the text of a link has.
@@ -100,7 +100,7 @@ impl Workers {
         Workers { count: 1 }
     }
 
-    /// So many, if that is within the limits.
+    /// This count, if it is within the limits.
     pub fn new(count: u32) -> Option<Self>
         ensures { SomeIff result ((1 ≤ count) × (count ≤ 16)) count }
     {
@@ -140,7 +140,7 @@ impl Model for Sessions {
 }
 
 impl Sessions {
-    /// So many, if that is within the limits.
+    /// This count, if it is within the limits.
     pub fn new(count: u32) -> Option<Self>
         ensures { SomeIff result ((1 ≤ count) × (count ≤ 64)) count }
     {
@@ -170,7 +170,7 @@ pub enum Request {
         workers: Workers,
         options: SessionOptions,
     },
-    /// To answer so many sessions over TCP, and then to end. At port 0 the system chooses one.
+    /// To answer `sessions` sessions over TCP, and then to end. At port 0 the system chooses one.
     Serve {
         port: u16,
         sessions: Sessions,

@@ -58,14 +58,14 @@ impl SessionLimits {
         }
     }
 
-    /// Whether one change more may be accepted, whose text has so many bytes.
+    /// Whether one change more may be accepted, whose text has `bytes` bytes.
     pub fn takes_change(&self, bytes: u64) -> bool
         ensures { result ≡ takes_change self.now bytes }
     {
         has_room(self.changes, 1) && has_room(self.bytes, bytes)
     }
 
-    /// Counts a change that was accepted, whose text has so many bytes.
+    /// Counts a change that was accepted, whose text has `bytes` bytes.
     pub fn spend_change(&mut self, bytes: u64)
         requires { IsTrue (takes_change self.old bytes) }
         ensures { self.new ≡ after_change self.old bytes }

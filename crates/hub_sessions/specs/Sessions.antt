@@ -13,7 +13,7 @@ use Rattle.session_lines.specs.declared.request.Next.{Next}
 use Rattle.session_lines.specs.declared.request.Next.TheVariants as next
 use Rattle.session_lines.specs.declared.request.SessionRequest.{SessionRequest}
 use Rattle.session_lines.specs.declared.request.SessionRequest.TheVariants as asked
-use Rattle.session_subscribers.specs.Holding.{Watched, Adds, Closes, PullsAny, PullsShort}
+use Rattle.session_subscribers.specs.Holding.{Held, Adds, Closes, PullsAny, PullsShort}
 use Rattle.session_reads.specs.Found.{found_text}
 use Rattle.session_reads.specs.Reads.{Reads}
 use Rattle.hub_sessions.specs.Submitting.{Submits}
@@ -27,17 +27,17 @@ use Rattle.hub_sessions.specs.declared.conversation.TurnFault.{TurnFault}
 use Rattle.hub_sessions.specs.declared.conversation.TurnFault.TheVariants as turn_fault
 
 -- how many of its changes were accepted, the subscribers that it holds, what it may still have accepted, what it may do
-pub record Standing : Type 0 where
+pub record SessionState : Type 0 where
   pub count : ℕ
-  pub held : List Watched
+  pub held : List Held
   pub left : SessionLimits
   pub options : SessionOptions
 
-abbrev pub stands : ℕ → List Watched → SessionLimits → SessionOptions → Standing
-stands count held left options = record { count = count; held = held; left = left; options = options }
+abbrev pub session_state : ℕ → List Held → SessionLimits → SessionOptions → SessionState
+session_state count held left options = record { count = count; held = held; left = left; options = options }
 
 -- what is done for a request, the lines of items or of what is read that are printed, and the reply after them
-abbrev pub Answers : SessionRequest → Standing → List ℕ → List ℕ → Reply → Standing → Type 0
+abbrev pub Answers : SessionRequest → SessionState → List ℕ → List ℕ → Reply → SessionState → Type 0
 Answers (asked.Change change) s out out' answer s' =
     Submits s.options.counter_jump change s.count s.left answer s'.count s'.left
     × (s'.held ≡ s.held) × (out' ≡ out) × (s'.options ≡ s.options)
@@ -54,20 +54,20 @@ Answers (asked.Read query) s out out' answer s' =
     (text : List ℕ) × (out' ≡ out ++ text) × Reads s.options.reads query text answer × (s' ≡ s)
 
 -- a request is answered, or what is none is refused and changes nothing
-abbrev pub Meets : Next → Standing → List ℕ → List ℕ → Reply → Standing → Type 0
+abbrev pub Meets : Next → SessionState → List ℕ → List ℕ → Reply → SessionState → Type 0
 Meets (next.Request request) s out out' answer s' = Answers request s out out' answer s'
 Meets (next.Refused refusal) s out out' answer s' =
     (answer ≡ reply.Refused (reason_of refusal)) × (s' ≡ s) × (out' ≡ out)
 Meets next.TooLong s out out' answer s' = ⊥
 Meets next.End s out out' answer s' = ⊥
 
--- one came next of the input, and was met; what is left of the input, and how the session then stands
+-- one came next of the input, and was met; what is left of the input, and the session's state then
 pub record Exchange : Type 0 where
   pub came : Next
   pub items : List ℕ
   pub answer : Reply
   pub left : Option (List ℕ)
-  pub stands : Standing
+  pub state : SessionState
 
 -- the line of a reply, with its LF
 abbrev pub reply_line : Reply → List ℕ
@@ -77,21 +77,21 @@ reply_line answer = reply_text answer ++ 10 ∷ []
 abbrev pub printed : Exchange → List ℕ
 printed e = e.items ++ reply_line e.answer
 
-pub record IsExchange (s : Standing) (left : Option (List ℕ)) (e : Exchange) : Type 0 where
+pub record IsExchange (s : SessionState) (left : Option (List ℕ)) (e : Exchange) : Type 0 where
   pub next : IsNext left e.came e.left
-  pub met : Meets e.came s [] e.items e.answer e.stands
+  pub met : Meets e.came s [] e.items e.answer e.state
 
 -- each begins where the one before it ended
-abbrev pub Follow : Standing → Option (List ℕ) → List Exchange → Standing → Option (List ℕ) → Type 0
+abbrev pub Follow : SessionState → Option (List ℕ) → List Exchange → SessionState → Option (List ℕ) → Type 0
 Follow s left [] s' left' = (s' ≡ s) × (left' ≡ left)
-Follow s left (e ∷ more) s' left' = IsExchange s left e × Follow e.stands e.left more s' left'
+Follow s left (e ∷ more) s' left' = IsExchange s left e × Follow e.state e.left more s' left'
 
 -- these were printed, one after another, after what a writer had
-pub record Converses (s : Standing) (left old : Option (List ℕ)) (s' : Standing) (left' new : Option (List ℕ)) : Type 0
-  where
-    pub exchanges : List Exchange
-    pub follow : Follow s left exchanges s' left'
-    pub written : Appends old new (flat_map printed exchanges)
+pub record Converses (s : SessionState) (left old : Option (List ℕ)) (s' : SessionState)
+    (left' new : Option (List ℕ)) : Type 0 where
+  pub exchanges : List Exchange
+  pub follow : Follow s left exchanges s' left'
+  pub written : Appends old new (flat_map printed exchanges)
 
 -- nothing comes after it: the input's end, which prints nothing, or a line that is too long
 abbrev pub IsLast : Option (List ℕ) → Option (List ℕ) → List ℕ → Type 0
@@ -100,9 +100,9 @@ IsLast left left' text =
     ⊎ (IsNext left next.TooLong left' × (text ≡ reply_line (reply.Refused reason.LineTooLong)))
 
 -- an exchange, or what ends the session
-abbrev pub TakesTurn : Turn → Standing → Option (List ℕ) → List ℕ → Standing → Option (List ℕ) → Type 0
+abbrev pub TakesTurn : Turn → SessionState → Option (List ℕ) → List ℕ → SessionState → Option (List ℕ) → Type 0
 TakesTurn (More found) s left text s' left' =
-    (e : Exchange) × IsExchange s left e × (text ≡ printed e) × (s' ≡ e.stands) × (left' ≡ e.left)
+    (e : Exchange) × IsExchange s left e × (text ≡ printed e) × (s' ≡ e.state) × (left' ≡ e.left)
 TakesTurn Last s left text s' left' = IsLast left left' text × (s' ≡ s)
 
 -- what is printed for a request to read, and the lines of items that are printed for others: never both
@@ -120,42 +120,43 @@ read_in (Ok turn) = found_in turn
 read_in (Err fault) = []
 
 -- no memory was found for a whole reply: nothing of it is printed, or, of a pull, whole lines of items that it took
-abbrev pub FallsShort : Standing → List ℕ → Standing → Type 0
+abbrev pub FallsShort : SessionState → List ℕ → SessionState → Type 0
 FallsShort s text s' = (text ≡ []) ⊎ ((id : ℕ) × (count : ℕ) × PullsShort id count s.held s'.held [] text)
 
 -- a turn whose read failed changed and printed nothing
-abbrev pub BreaksTurn : TurnFault → Standing → List ℕ → Standing → Type 0
+abbrev pub BreaksTurn : TurnFault → SessionState → List ℕ → SessionState → Type 0
 BreaksTurn (turn_fault.Read error) s text s' = (s' ≡ s) × (text ≡ [])
 BreaksTurn turn_fault.Memory s text s' = FallsShort s text s'
 
 -- after its exchanges the session came to its end, by what came or for want of memory
-pub record EndsAfter (s : Standing) (left old : Option (List ℕ)) (count : ℕ) (new : Option (List ℕ)) : Type 0 where
-  pub stands : Standing
+pub record EndsAfter (s : SessionState) (left old : Option (List ℕ)) (count : ℕ) (new : Option (List ℕ)) : Type 0 where
+  pub state : SessionState
   pub rest : Option (List ℕ)
   pub before : Option (List ℕ)
-  pub converses : Converses s left old stands rest before
+  pub converses : Converses s left old state rest before
   pub over : Option (List ℕ)
   pub text : List ℕ
   pub last : IsLast rest over text
   pub written : Appends before new text
-  pub counted : count ≡ stands.count
+  pub counted : count ≡ state.count
 
-pub record EndsShort (s : Standing) (left old new : Option (List ℕ)) : Type 0 where
-  pub stands : Standing
+pub record EndsShort (s : SessionState) (left old new : Option (List ℕ)) : Type 0 where
+  pub state : SessionState
   pub rest : Option (List ℕ)
   pub before : Option (List ℕ)
-  pub converses : Converses s left old stands rest before
+  pub converses : Converses s left old state rest before
   pub part : List ℕ
-  pub last : Standing
-  pub short : FallsShort stands part last
+  pub last : SessionState
+  pub short : FallsShort state part last
   pub written : Appends before new (part ++ reply_line (reply.Refused reason.OutOfMemory))
 
 -- or a read failed after them
-pub record BreaksAfter (s : Standing) (left old : Option (List ℕ)) (count : ℕ) (new : Option (List ℕ)) : Type 0 where
-  pub stands : Standing
-  pub rest : Option (List ℕ)
-  pub converses : Converses s left old stands rest new
-  pub counted : count ≡ stands.count
+pub record BreaksAfter (s : SessionState) (left old : Option (List ℕ)) (count : ℕ) (new : Option (List ℕ)) : Type 0
+  where
+    pub state : SessionState
+    pub rest : Option (List ℕ)
+    pub converses : Converses s left old state rest new
+    pub counted : count ≡ state.count
 
 -- a write failed
 abbrev pub IsUnwritten : SessionFault → Type 0
@@ -163,14 +164,15 @@ IsUnwritten (fault.Read error) = ⊥
 IsUnwritten (fault.Write error) = ⊤
 
 -- how a session ended; nothing is said of what was written before a write failed
-abbrev pub Ends : Result ⊤ SessionFault → Standing → Option (List ℕ) → Option (List ℕ) → ℕ → Option (List ℕ) → Type 0
+abbrev pub Ends : Result ⊤ SessionFault → SessionState → Option (List ℕ) → Option (List ℕ) → ℕ → Option (List ℕ)
+    → Type 0
 Ends (Ok done) s left old count new = EndsAfter s left old count new ⊎ EndsShort s left old new
 Ends (Err (fault.Read error)) s left old count new = BreaksAfter s left old count new
 Ends (Err (fault.Write error)) s left old count new = ⊤
 
--- how a session stands at its start: it holds nothing, and all that it may have accepted is left
-abbrev pub begins : ℕ → SessionOptions → Standing
-begins count options = stands count [] options.limits options
+-- a session's state at its start: it holds nothing, and all that it may have accepted is left
+abbrev pub begins : ℕ → SessionOptions → SessionState
+begins count options = session_state count [] options.limits options
 
 -- a session on a hub of its own, which has no change yet; or no memory was found for the hub, and nothing was printed
 abbrev pub Replays : SessionOptions → Result ⊤ ReplayError → Option (List ℕ) → Option (List ℕ) → Option (List ℕ)

@@ -4,7 +4,7 @@ ghost use Rattle.refusals.specs.declared.reason.Reason.TheVariants as why;
 ghost use Rattle.session_lines.specs.declared.fault.ReadFault.TheVariants as read_fault;
 ghost use Rattle.session_lines.specs.declared.reply.Reply.TheVariants as told;
 ghost use Rattle.session_reads.specs.Found.{found_text};
-ghost use Rattle.hub_sessions.specs.Sessions.{stands, begins, Answers, AreApart, FallsShort, found_in, read_in};
+ghost use Rattle.hub_sessions.specs.Sessions.{session_state, begins, Answers, AreApart, FallsShort, found_in, read_in};
 ghost use Rattle.hub_sessions.specs.Sessions.{TakesTurn, BreaksTurn, Ends, IsUnwritten, reply_line};
 ghost use Rattle.hub_sessions.specs.declared.conversation.TurnFault.TheVariants as turn_fault;
 
@@ -129,13 +129,13 @@ fn answer<'s, N: Naming + Ledger + Send + Sync, R: Threads + Wait + Copy + Send 
 ) -> Result<Answer<'s>, AllocError>
     requires { string_bytes out.old ≡ [] }
     ensures answers { IfOk result (λ answer. Answers request
-        (stands share.old held.old.items left.old hub.now.options) (string_bytes out.old)
+        (session_state share.old held.old.items left.old hub.now.options) (string_bytes out.old)
         (found_text answer.found ++ string_bytes out.new)
-        answer.reply (stands share.new held.new.items left.new hub.now.options)) }
+        answer.reply (session_state share.new held.new.items left.new hub.now.options)) }
     ensures apart { IfOk result (λ answer. AreApart request (found_text answer.found) (string_bytes out.new)) }
-    ensures short { OnErr result (FallsShort (stands share.old held.old.items left.old hub.now.options)
+    ensures short { OnErr result (FallsShort (session_state share.old held.old.items left.old hub.now.options)
         (string_bytes out.new)
-        (stands share.new held.new.items left.new hub.now.options)) }
+        (session_state share.new held.new.items left.new hub.now.options)) }
     ensures share { share.old ≤ share.new }
 {
     match request {
@@ -169,7 +169,7 @@ fn empty_reply(out: &mut String)
     out.shrink_to(REPLY_ROOM);
 }
 
-/// Reads a request, does what it asks, and puts the lines of the reply in place of those of the one before. The last
+/// Reads a request, does what it asks, and puts the lines of the reply where those of the one before were. The last
 /// line is there before what was found is written, so that no want of memory can come between them.
 fn take_turn<'s, N: Naming + Ledger + Send + Sync, R: Threads + Wait + Copy + Send + Sync, I: Read>(
     hub: &SessionHub<'s, '_, N, R>,
@@ -179,12 +179,13 @@ fn take_turn<'s, N: Naming + Ledger + Send + Sync, R: Threads + Wait + Copy + Se
     lines: &mut LineReader<I>,
     out: &mut String,
 ) -> Result<Turn<'s>, TurnFault>
-    ensures ok { IfOk result (λ turn. TakesTurn turn (stands share.old held.old.items left.old hub.now.options)
+    ensures ok { IfOk result (λ turn. TakesTurn turn (session_state share.old held.old.items left.old hub.now.options)
         lines.old.left (found_in turn ++ string_bytes out.new)
-        (stands share.new held.new.items left.new hub.now.options) lines.new.left) }
-    ensures err { IfErr result (λ fault. BreaksTurn fault (stands share.old held.old.items left.old hub.now.options)
+        (session_state share.new held.new.items left.new hub.now.options) lines.new.left) }
+    ensures err { IfErr result (λ fault. BreaksTurn fault
+        (session_state share.old held.old.items left.old hub.now.options)
         (string_bytes out.new)
-        (stands share.new held.new.items left.new hub.now.options)) }
+        (session_state share.new held.new.items left.new hub.now.options)) }
     ensures share { share.old ≤ share.new }
 {
     empty_reply(out);
@@ -221,7 +222,7 @@ fn converse<
     out: &mut String,
     writer: &mut O,
 ) -> Result<(), SessionFault>
-    ensures ends { Ends result (stands share.old held.old.items left.old hub.now.options) lines.old.left
+    ensures ends { Ends result (session_state share.old held.old.items left.old hub.now.options) lines.old.left
         (O.contents writer.old) share.new (O.contents writer.new) }
     ensures share { share.old ≤ share.new }
 {
@@ -252,7 +253,7 @@ fn begin<
     reader: I,
     writer: &mut O,
 ) -> Result<(), SessionFault>
-    ensures ends { Ends result (stands share.old held.old.items left.old hub.now.options) (I.remaining reader)
+    ensures ends { Ends result (session_state share.old held.old.items left.old hub.now.options) (I.remaining reader)
         (O.contents writer.old) share.new (O.contents writer.new) }
     ensures share { share.old ≤ share.new }
 {

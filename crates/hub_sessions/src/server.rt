@@ -197,8 +197,8 @@ fn serve_on<
     .map_err(ServeError::Connection)
 }
 
-/// Serves so many sessions over TCP on a port of 127.0.0.1, all on one hub and each in a thread of its own, and returns
-/// when all have ended. First it writes the line `port <number>`; at port 0 the system chooses one.
+/// Serves `sessions` sessions over TCP on a port of 127.0.0.1, all on one hub and each in a thread of its own, and
+/// returns when all have ended. First it writes the line `port <number>`; at port 0 the system chooses one.
 pub fn serve<
     R: Threads + Wait + Net<Listener = TcpListener, Stream = TcpStream> + Copy + Send + Sync,
     W: Write,

@@ -21,7 +21,7 @@ use std::sync::Wait;
 use std::sync::ledger::Ledger;
 use version_history::published::Naming;
 
-/// How many bytes the text of a change has, where the session has only so many left; else 0.
+/// How many bytes the text of a change has, where the session's bytes are limited; else 0.
 fn counted_bytes(alloc: Global, left: SessionLimits, change: &Change) -> Result<u64, AllocError>
     ensures takes { IfOk result (λ bytes. takes_change left bytes
         ≡ takes_change left (length (change_text change.now))) }

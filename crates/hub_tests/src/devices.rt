@@ -36,7 +36,7 @@ struct Outcome {
     told: String,
 }
 
-/// How a command ends where the reader fails after so many reads and the writer after so many writes.
+/// How a command ends where the reader fails after `reads` reads and the writer after `writes` writes.
 fn outcome_where_fails<
     H: AllocGlobal
         + Threads

@@ -6,7 +6,7 @@ use std::net::{Net, TcpListener, TcpStream};
 use std::sync::Wait;
 use std::test::Fail;
 use std::thread::Threads;
-use test_inputs::ids::{Id, Place};
+use test_inputs::ids::{Anchor, Id};
 use test_inputs::random::Random;
 
 /// The character that an inserted one stands behind, as a line names it.
@@ -36,8 +36,8 @@ struct Mark {
     id: Id,
     key: usize,
     value: Option<&'static str>,
-    start: Place,
-    end: Place,
+    start: Anchor,
+    end: Anchor,
 }
 
 /// A key as a line of a change names it, with two values of its marks, each as the line has it and as it is printed.
@@ -70,13 +70,13 @@ struct History {
     rounds: Vec<[String; 3]>,
 }
 
-fn any_place(random: &mut Random, known: &[Letter]) -> Place {
+fn any_anchor(random: &mut Random, known: &[Letter]) -> Anchor {
     let letter = known.get(random.below(known.len()));
     match (letter, random.below(8)) {
-        (_, 0) | (None, _) => Place::Start,
-        (_, 1) => Place::End,
-        (Some(letter), 2 | 3 | 4) => Place::Before(letter.id),
-        (Some(letter), _) => Place::After(letter.id),
+        (_, 0) | (None, _) => Anchor::Start,
+        (_, 1) => Anchor::End,
+        (Some(letter), 2 | 3 | 4) => Anchor::Before(letter.id),
+        (Some(letter), _) => Anchor::After(letter.id),
     }
 }
 
@@ -141,7 +141,7 @@ fn any_choice(random: &mut Random, form: Form) -> Option<Choice> {
 }
 
 impl History {
-    /// Adds so many letters, each behind the one before it, and writes their codes.
+    /// Adds `count` letters, each behind the one before it, and writes their codes.
     fn push_letters(
         &mut self,
         first: Id,
@@ -216,8 +216,8 @@ impl History {
             return Ok(());
         };
         let front = self.letters.get(..known).unwrap_or_default();
-        let start = any_place(random, front);
-        let end = any_place(random, front);
+        let start = any_anchor(random, front);
+        let end = any_anchor(random, front);
         let Choice {
             key,
             name,
@@ -322,21 +322,21 @@ fn place_of(alloc: Global, letters: &[Letter], id: Id) -> Result<usize, AllocErr
     Ok(count)
 }
 
-/// The anchor's place among all anchors, of which each character has two.
-fn anchor_of(alloc: Global, letters: &[Letter], place: Place) -> Result<usize, AllocError> {
-    match place {
-        Place::Start => Ok(0),
-        Place::Before(id) => Ok(
+/// The anchor's index among all anchors, of which each character has two.
+fn anchor_of(alloc: Global, letters: &[Letter], anchor: Anchor) -> Result<usize, AllocError> {
+    match anchor {
+        Anchor::Start => Ok(0),
+        Anchor::Before(id) => Ok(
             place_of(alloc, letters, id)?
                 .saturating_mul(2)
                 .saturating_add(1),
         ),
-        Place::After(id) => Ok(
+        Anchor::After(id) => Ok(
             place_of(alloc, letters, id)?
                 .saturating_mul(2)
                 .saturating_add(2),
         ),
-        Place::End => Ok(usize::MAX),
+        Anchor::End => Ok(usize::MAX),
     }
 }
 
@@ -362,8 +362,8 @@ fn newest_of(
 
 /// What is printed of the character's format: for each key what the covering operation with the greatest id says.
 fn format_of(alloc: Global, history: &History, id: Id) -> Result<String, AllocError> {
-    let before = anchor_of(alloc, &history.letters, Place::Before(id))?;
-    let after = anchor_of(alloc, &history.letters, Place::After(id))?;
+    let before = anchor_of(alloc, &history.letters, Anchor::Before(id))?;
+    let after = anchor_of(alloc, &history.letters, Anchor::After(id))?;
     let mut out = String::new(alloc);
     for key in 0..KEYS.len() {
         let newest = newest_of(alloc, history, key, before, after)?;

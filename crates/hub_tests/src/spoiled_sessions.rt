@@ -155,7 +155,7 @@ impl Session {
         self.spoiled.push_str(request)
     }
 
-    /// Adds so many refused requests of a table of requests and replies, behind a good one.
+    /// Adds `count` refused requests of a table of requests and replies, behind a good one.
     fn push_refused(
         &mut self,
         alloc: Global,

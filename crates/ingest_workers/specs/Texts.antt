@@ -1,21 +1,21 @@
 -- Texts of one change and nothing more, and what ingesting one answers.
 use Rattle.std.specs.Prelude.{◌≡◌, ◌⊎◌, ℕ, ◌+◌, Result, Ok, Err, List, [], length}
-use Rattle.change_ops.specs.Changes.{Edit}
+use Rattle.change_ops.specs.Changes.{Change}
 use Rattle.change_ops.specs.Spelling.{Spells}
 use Rattle.change_ops.specs.Refusals.{IsRefused}
 use Rattle.change_ops.specs.declared.refusal.ChangeError.{ChangeError}
 use Rattle.change_ops.specs.declared.refusal.ChangeError.TheVariants.{BadLine, OutOfMemory}
 use Rattle.ingest_workers.specs.declared.ingest.HubError.{HubError}
-use Rattle.ingest_workers.specs.declared.ingest.HubError.TheVariants.{Change, Submit}
+use Rattle.ingest_workers.specs.declared.ingest.HubError.TheVariants as fault
 use Rattle.ingest_workers.specs.Holdings.{InOneHolding, Ingests}
 
-abbrev pub IsOneChange : List ℕ → Edit → Type 0
+abbrev pub IsOneChange : List ℕ → Change → Type 0
 IsOneChange text change = Spells text change []
 
 -- a change, and a line after its last one
 abbrev pub HasMore : List ℕ → ChangeError → Type 0
 HasMore text e =
-    (change : Edit) × (rest : List ℕ) × Spells text change rest × (¬ (rest ≡ []))
+    (change : Change) × (rest : List ℕ) × Spells text change rest × (¬ (rest ≡ []))
     × (e ≡ BadLine (length change.lines + 2))
 
 -- why it is not: it begins with no change, or has more than one. Want of memory is no fault of a text
@@ -26,7 +26,7 @@ IsNotOne text e = (e ≡ OutOfMemory) ⊎ IsRefused text e ⊎ HasMore text e
 -- change's; or the change was refused there
 abbrev pub IngestsText : List ℕ → Result ℕ HubError → Type 0
 IngestsText text (Ok number) =
-    (change : Edit) × IsOneChange text change × InOneHolding (λ old new. Ingests old change (Ok number) new)
-IngestsText text (Err (Change e)) = IsNotOne text e
-IngestsText text (Err (Submit e)) =
-    (change : Edit) × IsOneChange text change × InOneHolding (λ old new. Ingests old change (Err e) new)
+    (change : Change) × IsOneChange text change × InOneHolding (λ old new. Ingests old change (Ok number) new)
+IngestsText text (Err (fault.Change e)) = IsNotOne text e
+IngestsText text (Err (fault.Submit e)) =
+    (change : Change) × IsOneChange text change × InOneHolding (λ old new. Ingests old change (Err e) new)

@@ -3,24 +3,24 @@ ghost use Rattle.std.specs.Prelude.{IfOk, OnOk, OnErr, MatchOption};
 ghost use Rattle.change_ops.specs.Spelling.{change_text};
 ghost use Rattle.char_sequence.specs.Newest.{IsLastCounter};
 ghost use Rattle.change_counters.specs.Counters.{greatest_counter};
-ghost use Rattle.meaning.specs.Safe.{Safe};
-ghost use Rattle.batches.specs.Feed.{Sub};
-ghost use Rattle.batches.specs.Promise.{Suits};
-ghost use Rattle.batches.specs.Stream.{BeginsStream};
+ghost use Rattle.semantics.specs.Safe.{Safe};
+ghost use Rattle.feeds.specs.Feed.{Subscriber};
+ghost use Rattle.feeds.specs.Promise.{Suits};
+ghost use Rattle.feeds.specs.Stream.{BeginsStream};
 ghost use Rattle.change_history.specs.Accepted.{AreAccepted, operations_of};
 ghost use Rattle.hub_core.specs.Machine.{Submits, Subscribes, TakesJob, Misses, Commits, Pumps, Reissues, Closes};
 ghost use Rattle.hub_core.specs.Consistent.{IsConsistent};
-ghost use Rattle.subscriber_queues.specs.Queue.{Sending, was_sent, IsFull};
+ghost use Rattle.subscriber_queues.specs.Queue.{QueueSink as QueueSinkValue, was_sent, IsFull};
 ghost use Rattle.ingest_workers.specs.Holdings.{AreConsistent};
 
 use crate::share::Share;
 use crate::text::{ChangeText, next_text, some_texts};
-use batches::batch::Batch;
-use batches::item::Job;
 use change_counters::greatest_with;
 use change_history::history::CHANGE_LIMIT;
 use change_history::refusal::SubmitError;
 use change_ops::change::Change;
+use feeds::batch::Batch;
+use feeds::item::Job;
 use hub_core::error::{CommitError, NoSubscriber, SubscribeError};
 use hub_core::hub::Core;
 use std::alloc::{AllocError, Global};
@@ -47,11 +47,11 @@ impl<'p, N: Naming + Ledger, R: Wait + Copy> Model for Books<'p, N, R> {
     ghost use Rattle.change_ops.specs.Spelling.{change_text};
     ghost use Rattle.change_counters.specs.Counters.{greatest_counter};
     ghost use Rattle.change_history.specs.Accepted.{operations_of};
-    ghost use Rattle.hub_core.specs.Machine.{State};
+    ghost use Rattle.hub_core.specs.Machine.{Core as CoreValue};
     ghost use Rattle.hub_core.specs.Consistent.{IsConsistent};
-    ghost use Rattle.subscriber_queues.specs.Queue.{Sending, was_sent, IsFull};
+    ghost use Rattle.subscriber_queues.specs.Queue.{QueueSink as QueueSinkValue, was_sent, IsFull};
 
-    ghost Value = { State Sending };
+    ghost Value = { CoreValue QueueSinkValue };
 
     ghost view = { λ b. b.core };
 
@@ -113,7 +113,7 @@ impl<'p, N: Naming + Ledger, R: Wait + Copy> Books<'p, N, R> {
 
     /// Whether as many subscribers were added as ever are, closed ones counted.
     pub fn is_full(&self) -> bool
-        ensures full { IsTrue result ↔ (length self.now.subs ≡ 64) }
+        ensures full { IsTrue result ↔ (length self.now.subscribers ≡ 64) }
         ensures consistent { IsConsistent was_sent IsFull self.now }
     {
         self.core.is_full()
@@ -245,7 +245,7 @@ impl<'p, N: Naming + Ledger, R: Wait + Copy> Books<'p, N, R> {
         self.core.version(number)
     }
 
-    /// The texts of so many accepted changes behind a version, or of as many as there are; None where no version has
+    /// The texts of `most` accepted changes behind a version, or of as many as there are; None where no version has
     /// that number yet.
     pub fn texts_behind(
         &self,
@@ -284,12 +284,13 @@ impl<'p, N: Naming + Ledger, R: Wait + Copy> Books<'p, N, R> {
     /// stream of its program, of which every run ends with a number, over the accepted changes, from the subscriber's
     /// first version to the last.
     pub fn sink(&self, id: usize) -> Option<&QueueSink<N, R>>
-        ensures value { MatchOption result (length self.now.subs ≤ id) (λ sink. (a : Sub Sending)
-            × (slice_get self.now.subs id ≡ Some a) × (sink.now ≡ a.sink)) }
-        ensures stream { (a : Sub Sending) → slice_get self.now.subs id ≡ Some a
+        ensures value { MatchOption result (length self.now.subscribers ≤ id) (λ sink. (a : Subscriber QueueSinkValue)
+            × (slice_get self.now.subscribers id ≡ Some a) × (sink.now ≡ a.sink)) }
+        ensures stream { (a : Subscriber QueueSinkValue) → slice_get self.now.subscribers id ≡ Some a
             → BeginsStream a.program.value self.now.changes a.first (length self.now.changes)
             (map (λ item. item.what) a.sink.sent) }
-        ensures safe { (a : Sub Sending) → slice_get self.now.subs id ≡ Some a → Safe a.program.value }
+        ensures safe { (a : Subscriber QueueSinkValue) → slice_get self.now.subscribers id ≡ Some a
+            → Safe a.program.value }
     {
         self.core.sink(id)
     }

@@ -3,7 +3,7 @@ ghost use Rattle.std.specs.Prelude.{IfOk, MatchOption, vec_len};
 ghost use Rattle.change_ops.specs.Spelling.{change_text};
 ghost use Rattle.char_sequence.specs.Newest.{IsLastCounter};
 ghost use Rattle.change_counters.specs.Counters.{greatest_counter};
-ghost use Rattle.batches.specs.Promise.{Suits};
+ghost use Rattle.feeds.specs.Promise.{Suits};
 ghost use Rattle.change_history.specs.Accepted.{operations_of};
 ghost use Rattle.hub_core.specs.Machine.{Subscribes, TakesJob, Misses, Commits, Pumps, Reissues, Closes};
 ghost use Rattle.subscriber_queues.specs.Queue.{was_sent, IsFull};
@@ -14,8 +14,8 @@ use crate::kept::Kept;
 use crate::share::{Share, cut};
 use crate::text::ChangeText;
 use crate::turns::{Turn, Turns};
-use batches::batch::Batch;
-use batches::item::Job;
+use feeds::batch::Batch;
+use feeds::item::Job;
 use hub_core::error::{CommitError, NoSubscriber, SubscribeError};
 use hub_core::hub::Core;
 use std::alloc::{AllocError, Global};
@@ -68,7 +68,7 @@ fn locked<'p, N: Naming + Ledger, R: Wait + Copy>(
 }
 
 impl<'p, N: Naming + Ledger, R: Wait + Copy> Hub<'p, N, R> {
-    /// A hub with no change and no subscriber, which publishes version 0, and so many shares of its count, which are 0.
+    /// A hub with no change and no subscriber, which publishes version 0, and `shares` shares of its count, each 0.
     pub fn new(
         rt: &R,
         alloc: Global,
@@ -99,7 +99,7 @@ impl<'p, N: Naming + Ledger, R: Wait + Copy> Hub<'p, N, R> {
     /// Whether as many subscribers were added as ever are, closed ones counted. It stays so for good, so one that asks
     /// first need not publish a program that no subscriber will have.
     pub fn is_full(&self, rt: &R) -> bool
-        ensures { InOneHolding (λ old new. (new ≡ old) × (IsTrue result ↔ (length old.subs ≡ 64))) }
+        ensures { InOneHolding (λ old new. (new ≡ old) × (IsTrue result ↔ (length old.subscribers ≡ 64))) }
     {
         self.hold(rt).books.is_full()
     }
@@ -126,7 +126,7 @@ impl<'p, N: Naming + Ledger, R: Wait + Copy> Hub<'p, N, R> {
         self.hold(rt).books.version(number)
     }
 
-    /// The texts of so many accepted changes behind a version, or of as many as there were; None where no version had
+    /// The texts of `most` accepted changes behind a version, or of as many as there were; None where no version had
     /// that number yet. They are shared, so that the lock is held for no longer than it takes to find them.
     pub fn texts_behind(
         &self,

@@ -1,5 +1,5 @@
 ghost use Rattle.std.specs.Prelude.{◌≡◌, ◌+◌, ◌≤◌, List, length, sum, IfOk, IfErr, OnOk, OnErr, vec_len};
-ghost use Rattle.change_ops.specs.Changes.{Edit};
+ghost use Rattle.change_ops.specs.Changes.{Change};
 ghost use Rattle.change_history.specs.Accepted.{AreAccepted};
 ghost use Rattle.ingest_workers.specs.Holdings.{InOneHolding, Ingests};
 ghost use Rattle.ingest_workers.specs.Texts.{IsOneChange, IsNotOne, IngestsText};
@@ -98,7 +98,7 @@ pub fn settle<N: Naming + Ledger, R: Wait + Copy>(
 ) -> u64
     requires { vec_len shares ≡ N.parts }
     ensures sum { result ≡ sum shares.items }
-    ensures accepted { (changes : List Edit) × AreAccepted changes × (result ≡ length changes) }
+    ensures accepted { (changes : List Change) × AreAccepted changes × (result ≡ length changes) }
 {
     let mut shares = shares;
     let Some(first) = shares.pop() else {

@@ -1,60 +1,60 @@
 //! What a hub keeps of its subscribers' verdicts.
 ghost use Rattle.std.specs.Prelude.{◌≡◌, IfSome};
 
-use batches::kept::KeptVerdicts;
-use batches::stretch::Stretch;
+use feeds::kept::KeptVerdicts;
+use feeds::stretch::Stretch;
 use hub_core::hub::SUBSCRIBER_LIMIT;
 use std::alloc::{AllocError, Global};
 use std::sync::{Mutex, Wait};
 use version_history::published::{Naming, Published, VersionToken};
 
 /// What is kept for one subscriber.
-enum Place<N: Naming> {
+enum Entry<N: Naming> {
     Nothing,
     Verdicts(KeptVerdicts<N>),
     /// The subscriber is closed, and nothing will be kept for it.
     Closed,
 }
 
-impl<N: Naming> Drop for Place<N> {
+impl<N: Naming> Drop for Entry<N> {
     fn drop(self) {
         match self {
-            Place::Nothing | Place::Closed => {}
-            Place::Verdicts(_) => {}
+            Entry::Nothing | Entry::Closed => {}
+            Entry::Verdicts(_) => {}
         }
     }
 }
 
-impl<N: Naming> Place<N> {
+impl<N: Naming> Entry<N> {
     fn verdicts(self) -> Option<KeptVerdicts<N>> {
         match self {
-            Place::Verdicts(kept) => Some(kept),
-            Place::Nothing | Place::Closed => None,
+            Entry::Verdicts(kept) => Some(kept),
+            Entry::Nothing | Entry::Closed => None,
         }
     }
 }
 
-/// The places of all subscribers, by id, and the two versions that were compared last.
+/// The entries of all subscribers, by id, and the two versions that were compared last.
 struct Shelf<N: Naming> {
-    places: Vec<Place<N>>,
+    entries: Vec<Entry<N>>,
     compared: Option<Stretch<N>>,
 }
 
 impl<N: Naming> Drop for Shelf<N> {
     fn drop(self) {
         let Shelf {
-            places: _,
+            entries: _,
             compared: _,
         } = self;
     }
 }
 
 impl<N: Naming> Shelf<N> {
-    /// Puts something in a subscriber's place, unless it is closed, and answers what was there.
-    fn replace(&mut self, subscriber: usize, what: Place<N>) -> Place<N> {
-        match self.places.get_mut(subscriber) {
-            None | Some(Place::Closed) => Place::Closed,
-            Some(place) => std::mem::replace(place, what),
+    /// Puts something in a subscriber's entry, unless it is closed, and answers what was there.
+    fn replace(&mut self, subscriber: usize, what: Entry<N>) -> Entry<N> {
+        match self.entries.get_mut(subscriber) {
+            None | Some(Entry::Closed) => Entry::Closed,
+            Some(entry) => std::mem::replace(entry, what),
         }
     }
 
@@ -83,12 +83,12 @@ pub struct Kept<N: Naming> {
 impl<N: Naming> Kept<N> {
     /// Keeps nothing yet.
     pub(crate) fn new(alloc: Global) -> Result<Kept<N>, AllocError> {
-        let mut places = Vec::with_capacity(alloc, SUBSCRIBER_LIMIT)?;
+        let mut entries = Vec::with_capacity(alloc, SUBSCRIBER_LIMIT)?;
         for _subscriber in 0..SUBSCRIBER_LIMIT {
-            places.push(Place::Nothing)?;
+            entries.push(Entry::Nothing)?;
         }
         let shelf = Shelf {
-            places,
+            entries,
             compared: None,
         };
         Ok(Kept {
@@ -99,19 +99,19 @@ impl<N: Naming> Kept<N> {
     /// Takes out what is kept of a subscriber's verdicts.
     pub fn take<R: Wait>(&self, rt: &R, subscriber: usize) -> Option<KeptVerdicts<N>> {
         let mut shelf = self.shelf.lock(rt);
-        shelf.replace(subscriber, Place::Nothing).verdicts()
+        shelf.replace(subscriber, Entry::Nothing).verdicts()
     }
 
-    /// Keeps a subscriber's verdicts in place of what was kept, unless it is closed.
+    /// Keeps a subscriber's verdicts instead of what was kept, unless it is closed.
     pub fn put<R: Wait>(&self, rt: &R, subscriber: usize, verdicts: KeptVerdicts<N>) {
         let mut shelf = self.shelf.lock(rt);
-        let _before = shelf.replace(subscriber, Place::Verdicts(verdicts));
+        let _before = shelf.replace(subscriber, Entry::Verdicts(verdicts));
     }
 
     /// Lets go what is kept of a subscriber's verdicts. Nothing is kept for it from now on.
     pub(crate) fn close<R: Wait>(&self, rt: &R, subscriber: usize) {
         let mut shelf = self.shelf.lock(rt);
-        let _before = shelf.replace(subscriber, Place::Closed);
+        let _before = shelf.replace(subscriber, Entry::Closed);
     }
 
     /// Compares two versions, unless they were compared last.

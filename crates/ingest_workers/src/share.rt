@@ -59,7 +59,7 @@ impl<N: Naming + Ledger> Share<N> {
     }
 }
 
-/// So many shares, of a ledger with as many parts.
+/// `shares` shares, of a ledger with as many parts.
 pub(crate) fn cut<N: Naming + Ledger>(
     alloc: Global,
     all: ledger::Share<N>,

@@ -68,7 +68,7 @@ pub(crate) fn next_text(
     ChangeText::of(alloc, change)
 }
 
-/// So many of these texts, from a place among them on, or as many as there are.
+/// `most` of these texts from the index `first` on, or as many as there are.
 pub(crate) fn some_texts(
     alloc: Global,
     texts: &[ChangeText],

@@ -2,9 +2,9 @@ use std::array;
 use std::sync::Wait;
 use std::sync::atomic::{AtomicU64, Ordering};
 
-/// How many places there are to wait at. While no more threads wait, each waits at a place of its own, so that the end
+/// How many words there are to wait at. While no more threads wait, each waits at a word of its own, so that the end
 /// of a turn wakes one thread and not all.
-const PLACES: u64 = 64;
+const WORDS: u64 = 64;
 
 /// The order in which threads come to what they share: first come, first served. Each takes a ticket and waits until
 /// the one before it has left. It keeps no two threads apart by itself: a lock does, which only the thread whose turn
@@ -13,8 +13,8 @@ const PLACES: u64 = 64;
 pub(crate) struct Turns {
     /// The ticket that the next thread takes.
     next: AtomicU64,
-    /// At the place of a ticket, the last ticket of that place whose turn came.
-    admitted: [AtomicU64; PLACES as usize],
+    /// At the word of a ticket, the last ticket of that word whose turn came.
+    admitted: [AtomicU64; WORDS as usize],
 }
 
 /// A thread's turn, which ends when it is dropped.
@@ -32,22 +32,22 @@ impl Turns {
         }
     }
 
-    /// Where it is told that a ticket's turn came.
-    fn place(&self, ticket: u64) -> &AtomicU64 {
-        &self.admitted[(ticket % PLACES) as usize]
+    /// The word that tells that a ticket's turn came.
+    fn word(&self, ticket: u64) -> &AtomicU64 {
+        &self.admitted[(ticket % WORDS) as usize]
     }
 
     /// Waits for a turn behind all threads that came before.
     pub(crate) fn wait<R: Wait>(&self, rt: &R) -> Turn<'_> {
         let ticket = self.next.fetch_add(1, Ordering::SeqCst);
-        let place = self.place(ticket);
+        let word = self.word(ticket);
         for _ in rt.forever() {
-            let admitted = place.load(Ordering::SeqCst);
+            let admitted = word.load(Ordering::SeqCst);
             if admitted == ticket {
                 break;
             }
-            // It sleeps only while the low half is as it was: tickets of one place that wait at once differ in it.
-            place.park(rt, (admitted & 0xffff_ffff) as u32);
+            // It sleeps only while the low half is as it was: tickets of one word that wait at once differ in it.
+            word.park(rt, (admitted & 0xffff_ffff) as u32);
         }
         Turn {
             turns: self,
@@ -59,10 +59,10 @@ impl Turns {
     /// turn has come, so it needs no wake.
     fn admit_after(&self, ticket: u64) {
         let admitted = ticket.wrapping_add(1);
-        let place = self.place(admitted);
-        place.store(admitted, Ordering::SeqCst);
+        let word = self.word(admitted);
+        word.store(admitted, Ordering::SeqCst);
         if self.next.load(Ordering::SeqCst) != admitted {
-            place.wake_all();
+            word.wake_all();
         }
     }
 }

@@ -1,24 +1,25 @@
 ghost use Rattle.std.specs.Prelude.{◌≡◌, ℕ, ◌+◌, ◌<◌, ◌≤◌, ◌^◌, List, length, OnOk, OnErr, IfErr, Ok, Err};
-ghost use Rattle.bpf_words.specs.Context.{span_bytes};
+ghost use Rattle.span_context.specs.Context.{span_bytes};
 ghost use Rattle.bpf_words.specs.Words.{program_of};
-ghost use Rattle.meaning.specs.State.{start, register_of, operand_in, written};
-ghost use Rattle.meaning.specs.Memory.{address_of, bytes_in, load as load_of};
-ghost use Rattle.meaning.specs.Step.{Next, go_by, write_and_go, first_of, perform, step};
+ghost use Rattle.semantics.specs.State.{start, register_of, operand_in, written};
+ghost use Rattle.semantics.specs.Memory.{address_of, bytes_in, load as load_of};
+ghost use Rattle.semantics.specs.Step.{Next, go_by, write_and_go, first_of, perform, step};
 ghost use Rattle.interpreter.specs.Progress.{move_of, result_of};
-ghost use Rattle.interpreter.specs.Running.{Run, Reads, Stays, state_of};
+ghost use Rattle.interpreter.specs.Running.{Machine as MachineValue};
+ghost use Rattle.interpreter.specs.Running.{Reads, Stays, state_of};
 
 use crate::memory::Memory;
-use bpf_words::context::{CONTEXT, FRAME};
+use alu::arithmetic::{convert, extend, holds, negate, sign, value};
 use bpf_words::instruction::{
-    Arithmetic, Comparison, Conversion, ConvertedBits, Extension, Insn, Operand, SignedSize, Size,
-    Width,
+    Arithmetic, Comparison, Conversion, ConvertedBits, Extension, Insn, Operand, SignedSize, Width,
 };
 use bpf_words::register::Register;
 use bpf_words::words::Words;
-use meaning::FaultKind;
-use meaning::sizes::size_read;
+use semantics::FaultKind;
+use semantics::sizes::size_read;
+use span_context::context::{CONTEXT, FRAME};
+use span_context::size::Size;
 use std::marker::Model;
-use word_values::arithmetic::{convert, extend, holds, negate, sign, value};
 
 /// The machine between two steps.
 #[derive(Drop)]
@@ -29,7 +30,7 @@ pub struct Machine<'a> {
 }
 
 impl<'a> Model for Machine<'a> {
-    ghost Value = { Run };
+    ghost Value = { MachineValue };
 
     ghost view = { λ m. record {
       bytes = m.memory.bytes;

@@ -1,16 +1,16 @@
 ghost use Rattle.std.specs.Prelude.{◌≡◌, ℕ, ◌+◌, ◌<◌, ◌≤◌, ◌^◌, ◌++◌, length, map, take, drop, replicate, Some, None};
 ghost use Rattle.std.specs.Prelude.{IfSome, IfOk, OnOk, IfErr, Ok, Err};
 ghost use Rattle.byteorder.specs.Endian.{little_bytes, little_number};
-ghost use Rattle.bpf_words.specs.Context.{span_bytes};
-ghost use Rattle.interpreter.specs.Running.{Regions};
-ghost use Rattle.meaning.specs.Memory.{load as load_of, store as store_of, bytes_in, lies_in, stack_number, stored};
+ghost use Rattle.interpreter.specs.Running.{Memory as MemoryValue};
+ghost use Rattle.span_context.specs.Context.{span_bytes};
+ghost use Rattle.semantics.specs.Memory.{load as load_of, store as store_of, bytes_in, lies_in, stack_number, stored};
 
-use bpf_words::context::{CONTEXT, LINK, STACK_BYTES, TEXT};
-use bpf_words::instruction::Size;
-use meaning::FaultKind;
-use meaning::sizes::count;
+use alu::bytes::{STACK, number};
+use semantics::FaultKind;
+use semantics::sizes::count;
+use span_context::context::{CONTEXT, LINK, STACK_BYTES, TEXT};
+use span_context::size::Size;
 use std::marker::Model;
-use word_values::bytes::{STACK, number};
 
 pub fn is_in(base: u64, long: usize, address: u64, count: usize) -> bool
     requires few { base + long < 2 ^ 63 }
@@ -22,17 +22,17 @@ pub fn is_in(base: u64, long: usize, address: u64, count: usize) -> bool
 }
 
 #[tactic(auto, using(crate::proofs::Joined::joins))]
-fn number_on_stack(stack: &[Option<u8>; STACK_BYTES], place: usize, count: usize) -> Option<u64>
+fn number_on_stack(stack: &[Option<u8>; STACK_BYTES], offset: usize, count: usize) -> Option<u64>
     requires short { count ≤ 8 }
-    requires within { place + count ≤ 512 }
-    ensures value { result ≡ stack_number stack.now place count }
+    requires within { offset + count ≤ 512 }
+    ensures value { result ≡ stack_number stack.now offset count }
     ensures small { IfSome result (λ number. number < 256 ^ count) }
 {
     if count == 0 {
         return Some(0);
     }
-    let high = number_on_stack(stack, place + 1, count - 1)?;
-    match &stack[place] {
+    let high = number_on_stack(stack, offset + 1, count - 1)?;
+    match &stack[offset] {
         Some(low) => Some(u64::from(*low) + 256 * high),
         None => None,
     }
@@ -56,13 +56,13 @@ fn set_bytes(value: u64) -> [Option<u8>; 8]
 }
 
 /// Writes as many of a number's low bytes as the size says, the lowest first.
-fn store_on_stack(stack: &mut [Option<u8>; STACK_BYTES], place: usize, size: Size, value: u64)
-    requires { place + bytes_in size ≤ 512 }
-    ensures { stack.new ≡ stored stack.old place (bytes_in size) value }
+fn store_on_stack(stack: &mut [Option<u8>; STACK_BYTES], offset: usize, size: Size, value: u64)
+    requires { offset + bytes_in size ≤ 512 }
+    ensures { stack.new ≡ stored stack.old offset (bytes_in size) value }
 {
     let count = count(size);
     let bytes = set_bytes(value);
-    stack[place..place + count].copy_from_slice(&bytes[..count]);
+    stack[offset..offset + count].copy_from_slice(&bytes[..count]);
 }
 
 /// What addresses lead to: the context, the text and the link's text of a span, and the run's stack.
@@ -75,7 +75,7 @@ pub struct Memory<'a> {
 }
 
 impl<'a> Model for Memory<'a> {
-    ghost Value = { Regions };
+    ghost Value = { MemoryValue };
 
     ghost view = { λ m. record { bytes = span_bytes m.context.now m.text.now m.link.now; stack = m.stack } };
 

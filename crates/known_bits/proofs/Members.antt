@@ -62,7 +62,7 @@ any_contains r em ev x h = record {
       (cases_lt k 64);
 }
 
--- the test of `has`, place by place
+-- the test of `has`, bit by bit
 pub has_contains : (b : Bits) (x : ℕ) → Fit b → x < 2 ^ 64 → ((k : ℕ) → k < 64 → min (bit x k) (1 - bit b.unknown k) ≡ bit b.value k) → Contains b x
 has_contains b x f h e = record {
   fits = h;

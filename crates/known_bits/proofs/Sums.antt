@@ -35,7 +35,7 @@ below_known a b x y h ca cb k =
     let u : bit (most b) k ≤ bit x k = known_one _ _ _ _ (bit-lt a.value k) (bit-lt x k) t (ca.agrees k) (apart _ _ a.disjoint k) (bit-lt a.unknown k) in
     omega (arith, within_most b y cb k)
 
--- the tests of `is_apart` and `covers`, place by place
+-- the tests of `is_apart` and `covers`, bit by bit
 pub is_apart_at : (a b : Bits) → IsApart a b → (k : ℕ) → min (max (bit a.value k) (bit a.unknown k)) (max (bit b.value k) (bit b.unknown k)) ≡ 0
 is_apart_at a b h k = simp bit-or at (apart (most a) (most b) h k)
 

@@ -1,6 +1,6 @@
-use bpf_words::context_field::ContextField;
-use bpf_words::instruction::Size;
-use meaning::sizes::count;
+use semantics::sizes::count;
+use span_context::context_field::ContextField;
+use span_context::size::Size;
 use std::test::Fail;
 
 /// The members of `struct linked_span` as examples/filters/span.h has them: offset, bytes, name.

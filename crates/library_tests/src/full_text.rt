@@ -17,7 +17,7 @@ fn line(alloc: Global, number: usize, is_appended: bool) -> Result<String, Alloc
     }
 }
 
-/// A change of the 256 characters that come after so many.
+/// A change of the 256 characters that come after the first `count`.
 fn change_text(alloc: Global, count: usize, is_appended: bool) -> Result<String, AllocError> {
     let mut text = String::from_str(alloc, "change 1 256\n")?;
     for offset in 1..257 {

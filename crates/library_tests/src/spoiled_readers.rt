@@ -1,8 +1,8 @@
-use bpf_words::context::{Context, Facts};
-use bpf_words::profile::Profile;
 use bpf_words::words::Words;
 use interpreter::run::{run, run_checked};
-use meaning::Outcome;
+use semantics::Outcome;
+use span_context::context::{Context, Facts};
+use span_context::profile::Profile;
 use std::alloc::Global;
 use std::test::Fail;
 use verifier::verify::{Verified, verify};
@@ -58,20 +58,20 @@ fn is_alike(alloc: Global, bytes: &[u8], profile: Profile) -> bool {
     })
 }
 
-/// Whether that is so with the byte at a place replaced by each value; the byte is put back.
-fn are_alike_at(alloc: Global, bytes: &mut [u8], place: usize, profile: Profile) -> bool {
-    let Some(was) = bytes.get(place).copied() else {
+/// Whether that is so with the byte at an index replaced by each value; the byte is put back.
+fn are_alike_at(alloc: Global, bytes: &mut [u8], index: usize, profile: Profile) -> bool {
+    let Some(was) = bytes.get(index).copied() else {
         return false;
     };
     for value in 0..=u8::MAX {
-        if let Some(byte) = bytes.get_mut(place) {
+        if let Some(byte) = bytes.get_mut(index) {
             *byte = value;
         }
         if !is_alike(alloc, bytes, profile) {
             return false;
         }
     }
-    if let Some(byte) = bytes.get_mut(place) {
+    if let Some(byte) = bytes.get_mut(index) {
         *byte = was;
     }
     true
@@ -84,8 +84,8 @@ fn is_spoiled_safely(alloc: Global, reader: &str, profile: Profile) -> Result<bo
         Ok(words) => verify(alloc, &words, profile).is_ok(),
         Err(_) => false,
     };
-    for place in 0..bytes.len() {
-        if !are_alike_at(alloc, &mut bytes, place, profile) {
+    for index in 0..bytes.len() {
+        if !are_alike_at(alloc, &mut bytes, index, profile) {
             return Ok(false);
         }
     }

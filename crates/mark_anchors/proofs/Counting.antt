@@ -108,8 +108,8 @@ rising_gap xs zero rising within = omega arith
 rising_gap xs (suc k) rising within =
     let before = rising_gap xs k rising (omega arith) in
     let next : get_or xs k 0 < get_or xs (k + 1) 0 = rising k (omega arith) in
-    let place : k + 1 ≡ suc k = omega arith in
-    let same : get_or xs (k + 1) 0 ≡ get_or xs (suc k) 0 = ap (λ n. get_or xs n 0) place in
+    let next_is : k + 1 ≡ suc k = omega arith in
+    let same : get_or xs (k + 1) 0 ≡ get_or xs (suc k) 0 = ap (λ n. get_or xs n 0) next_is in
     omega arith
 
 pub few_at : (runs : List CommentRun) (place : ℕ) → AreOrderly runs → length (numbers_at runs place) < 2 ^ 32

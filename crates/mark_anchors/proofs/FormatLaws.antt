@@ -17,7 +17,7 @@ use Rattle.char_sequence.proofs.TreeLaws.{Grows, before_kept}
 use Rattle.char_sequence.proofs.Lists.{same_in_order, MembersOf}
 use Rattle.mark_anchors.specs.Anchors.{NotAfter, AtOrBefore, Covers}
 use Rattle.mark_anchors.specs.Format.{Touches, Decides, Bears, IsFormat}
-use Rattle.mark_anchors.specs.Formatting.{Formatting}
+use Rattle.mark_anchors.specs.Formatting.{Format}
 use Rattle.mark_anchors.proofs.Formats.{same_fields}
 use Rattle.mark_anchors.proofs.Lists.{contains_at, contains_from}
 use Rattle.mark_anchors.proofs.Commenting.{rises}
@@ -60,7 +60,7 @@ bears_of_set ops others s e a bears = (bears.0, decides_of_set ops others s (key
 turned : (ops others : List Op) → SameSet ops others → SameSet others ops
 turned ops others s = record { forth = s.back; back = s.forth }
 
-pub format_of_set : (ops others : List Op) → SameSet ops others → (e : OpId) (f : Formatting) → IsFormat ops e f → IsFormat others e f
+pub format_of_set : (ops others : List Op) → SameSet ops others → (e : OpId) (f : Format) → IsFormat ops e f → IsFormat others e f
 format_of_set ops others s e f is =
     let there : (a : Attribute) → Bears ops e a → Bears others e a = bears_of_set ops others s e in
     let back : (a : Attribute) → Bears others e a → Bears ops e a = bears_of_set others ops (turned ops others s) e in
@@ -84,7 +84,7 @@ same_members : (P : ℕ → Type 0) (xs ys : List ℕ) → ((n : ℕ) → Contai
 same_members P xs ys h k i n g = contains_at ys n ((k n).1 ((h n).0 (contains_from xs i n g)))
 
 -- a character has one format
-pub one_format : (ops : List Op) (e : OpId) (f g : Formatting) → IsFormat ops e f → IsFormat ops e g → f ≡ g
+pub one_format : (ops : List Op) (e : OpId) (f g : Format) → IsFormat ops e f → IsFormat ops e g → f ≡ g
 one_format ops e f g is also =
     same_fields f g
     (one_answer f.strong g.strong is.strong also.strong)
@@ -96,5 +96,5 @@ one_format ops e f g is also =
     (same_members (λ n. Bears ops e (Comment n)) f.comments g.comments is.comments also.comments)
     (same_members (λ n. Bears ops e (Comment n)) g.comments f.comments also.comments is.comments))
 
-pub one_format_of_set : (ops others : List Op) → SameSet ops others → (e : OpId) (f g : Formatting) → IsFormat ops e f → IsFormat others e g → f ≡ g
+pub one_format_of_set : (ops others : List Op) → SameSet ops others → (e : OpId) (f g : Format) → IsFormat ops e f → IsFormat others e g → f ≡ g
 one_format_of_set ops others s e f g is also = one_format others e f g (format_of_set ops others s e f is) also

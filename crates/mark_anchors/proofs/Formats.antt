@@ -7,7 +7,7 @@ use Rattle.std.specs.Cmp.{booleans_Decides, unsigned_Decides}
 use Rattle.std.specs.Cmp.Lexicographic.{pointwise, pointwise_decides}
 use Rattle.std.proofs.lemmas.Bool.Decides.{Decides-and}
 use Rattle.std.proofs.lemmas.Option.{none-some}
-use Rattle.mark_anchors.specs.Formatting.{Formatting, formatting_eq}
+use Rattle.mark_anchors.specs.Formatting.{Format, formatting_eq}
 
 options_Decides : {X : Type 0} (E : X → X → Bool) → ((x y : X) → Decides (E x y) (x ≡ y)) → (a b : Option X) → Decides (option_eq E a b) (a ≡ b)
 options_Decides E decides None None = (λ e. refl, λ e. refl)
@@ -18,10 +18,10 @@ options_Decides E decides (Some x) (Some y) = (λ e. ap Some ((decides x y).0 e)
 pub lists_Decides : (xs ys : List ℕ) → Decides (pointwise nat_eq xs ys) (xs ≡ ys)
 lists_Decides = pointwise_decides unsigned_Decides
 
-pub same_fields : (a b : Formatting) → a.strong ≡ b.strong → a.em ≡ b.em → a.code ≡ b.code → a.link ≡ b.link → a.color ≡ b.color → a.comments ≡ b.comments → a ≡ b
+pub same_fields : (a b : Format) → a.strong ≡ b.strong → a.em ≡ b.em → a.code ≡ b.code → a.link ≡ b.link → a.color ≡ b.color → a.comments ≡ b.comments → a ≡ b
 same_fields a b strong em code link color comments = λ i. record { strong = strong i; em = em i; code = code i; link = link i; color = color i; comments = comments i }
 
-pub formatting_eq_Decides : (a b : Formatting) → Decides (formatting_eq a b) (a ≡ b)
+pub formatting_eq_Decides : (a b : Format) → Decides (formatting_eq a b) (a ≡ b)
 formatting_eq_Decides a b =
     let all =
     Decides-and _ _ (booleans_Decides a.strong b.strong)

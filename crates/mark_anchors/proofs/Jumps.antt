@@ -1,4 +1,4 @@
--- Jumps past the places that are painted.
+-- Jumps past the indices of the places that are painted.
 use Rattle.std.proofs.Common.{◌≡◌, ◌≢◌, ℕ, ◌+◌, ◌<◌, ◌≤◌, ◌↔◌, List, Option, Some, None, length, get_or, replicate, set, sym, ap, ◌∙◌, subst, ⊎_elim, arith}
 use Rattle.std.specs.List.{slice_get, range_with_len}
 use Rattle.std.proofs.lemmas.Bool.{cases_lt, cases_eq}
@@ -8,7 +8,7 @@ use Rattle.std.proofs.lemmas.Option.{same_Some, none-some, slice_get-get_or, sli
 use Rattle.char_sequence.proofs.Lists.{slice_get_set_same, slice_get_set_other, set_cases}
 use Rattle.mark_anchors.specs.KeyMarks.{IsFree, NoneFree, AreJumps, AreJumpsOver}
 
--- ---- a jump to the place that the next jump leads to
+-- ---- a jump to where the next jump leads
 module _ (jumps : List ℕ) (index to next : ℕ) (are : AreJumps jumps) (first : slice_get jumps index ≡ Some to) (far : to ≢ index) (second : slice_get jumps to ≡ Some next) where
   pub longer : (index < to) × (to ≤ next) × (next < length jumps)
   longer = let one = are index to first in let two = are to next second in let low : index ≤ to = one.0 in (omega arith, two.0, two.1)

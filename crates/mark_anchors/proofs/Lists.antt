@@ -1,10 +1,10 @@
--- Elements of a list by their places.
+-- Elements of a list by their indices.
 use Rattle.std.proofs.Common.{◌≡◌, ℕ, zero, suc, ◌+◌, ◌<◌, ◌≤◌, List, [], ◌∷◌, ◌++◌, Some, ◌⊎◌, inl, inr, length, get_or, sym, ap, refl, ◌∙◌, arith, ⊎_elim}
 use Rattle.std.specs.List.{slice_get, Contains}
 use Rattle.std.proofs.lemmas.Bool.{cases_lt}
 use Rattle.std.proofs.lemmas.Option.{same_Some, none-some, slice_get-get_or, get_or_from_slice_get, slice_get_within}
 
--- what was read at a place stands there
+-- what was read at an index stands there
 pub read_at : {X : Type 0} (xs : List X) (i : ℕ) (x : X) → x ≡ get_or xs i x → i < length xs → slice_get xs i ≡ Some x
 read_at xs i x is within = slice_get-get_or xs i x within ∙ ap Some (sym is)
 
@@ -14,7 +14,7 @@ contains_at xs x (i, within, is) = (i, slice_get-get_or xs i x within ∙ ap Som
 pub contains_from : {X : Type 0} (xs : List X) (i : ℕ) (x : X) → slice_get xs i ≡ Some x → Contains xs x
 contains_from xs i x g = (i, slice_get_within xs i x g, get_or_from_slice_get xs i x x g)
 
--- what stands at one of the first so many places and one more
+-- what stands at an index below k + 1 stands below k, or at k
 pub first_or_last : {X : Type 0} (xs : List X) (k j : ℕ) (x y : X) → j < k + 1 → slice_get xs k ≡ Some x → slice_get xs j ≡ Some y → (j < k) ⊎ ((j ≡ k) × (x ≡ y))
 first_or_last xs k j x y l at g =
     ⊎_elim
@@ -51,7 +51,7 @@ pushed_still [] y i x g = absurd (none-some x g)
 pushed_still (z ∷ zs) y zero x g = g
 pushed_still (z ∷ zs) y (suc i) x g = pushed_still zs y i x g
 
--- there is an element at each place
+-- there is an element at each index
 pub item_at : {X : Type 0} (xs : List X) (i : ℕ) → i < length xs → (x : X) × (slice_get xs i ≡ Some x)
 item_at [] i less = absurd (omega arith)
 item_at (x ∷ xs) zero less = (x, refl)

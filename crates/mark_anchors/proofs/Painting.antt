@@ -110,7 +110,7 @@ filled_none old from to number = record {
   behind = λ j ge. refl;
 }
 
--- up to the next free place there is nothing to fill
+-- up to the next free index there is nothing to fill
 pub filled_on : (jumps : List ℕ) (old new : List (Option ℕ)) (from upto next to number : ℕ) → AreJumpsOver jumps new → NoneFree jumps upto next → upto ≤ next → IsFilled old new from upto to number → IsFilled old new from next to number
 filled_on jumps old new from upto next to number over none low f =
     let taken = λ (j : ℕ) (ge : upto ≤ j) (less : j < next) (is : slice_get old j ≡ Some None).
@@ -134,7 +134,7 @@ filled_on jumps old new from upto next to number over none low f =
       behind = λ j ge. f.behind j (omega arith);
     }
 
--- the place that is free gets the number
+-- the index that is free gets the number
 pub filled_more : (jumps : List ℕ) (old new : List (Option ℕ)) (from upto to number : ℕ) → AreJumpsOver jumps new → IsFree jumps upto → upto < to → from ≤ upto → upto < length new → IsFilled old new from upto to number → IsFilled old (set new upto (Some number)) from (upto + 1) to number
 filled_more jumps old new from upto to number over free next low inside f =
     let none : slice_get old upto ≡ Some None = sym (f.behind upto (omega arith)) ∙ (over.free upto inside).0 free in
@@ -178,7 +178,7 @@ painted_none places marks numbers sized none = record {
 module _ (places : List ℕ) (marks : List PlacedMark) (old new : List (Option ℕ)) (from upto to k : ℕ) (mark : PlacedMark)
     (at : slice_get marks k ≡ Some mark) (starts : IsCountBelow places mark.start from) (ends : IsCountBelow places mark.end to)
     (filled : IsFilled old new from upto to k) (whole : to ≤ upto) (painted : ArePaintedFrom places marks (k + 1) old) where
-  -- a place without a number had none
+  -- an index without a number had none
   none_old : (j : ℕ) → slice_get new j ≡ Some None → slice_get old j ≡ Some None
   none_old j is =
       let within : j < length new = slice_get_within new j None is in

@@ -106,8 +106,8 @@ module _ (runs : List CommentRun) (first : CommentRun) (place : ℕ) (orderly : 
       (λ (apart : (run.number ≡ other.number) × (run.to ≤ other.from)). let before : run.to ≤ other.from = apart.1 in omega arith)
       (orderly.order i j run other less g h))
       (λ (ge : j ≤ i).
-      let place_same : i ≡ j = omega arith in
-      let one : run ≡ other = same_Some run other (sym g ∙ ap (slice_get runs) place_same ∙ h) in
+      let index_same : i ≡ j = omega arith in
+      let one : run ≡ other = same_Some run other (sym g ∙ ap (slice_get runs) index_same ∙ h) in
       let same : run.to ≡ other.to = ap (λ (z : CommentRun). z.to) one in
       omega arith)
       (cases_lt i j) in

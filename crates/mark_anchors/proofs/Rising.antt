@@ -10,7 +10,7 @@ use Rattle.char_sequence.proofs.Lists.{inserted_cases, inserted_here, inserted_s
 use Rattle.mark_anchors.specs.Anchored.{AreRising}
 use Rattle.mark_anchors.proofs.Lists.{contains_at, contains_from}
 
--- the first so many ids are not greater
+-- the first `count` ids are not greater
 abbrev pub AreUpto : List OpId → OpId → ℕ → Type 0
 AreUpto ids id count = (k : ℕ) (x : OpId) → k < count → slice_get ids k ≡ Some x → Less id x → ⊥
 

@@ -15,7 +15,7 @@ use Rattle.change_ops.specs.declared.operation.Op.TheVariants.{Insert, Remove, A
 use Rattle.char_sequence.specs.declared.sequence.Element.{Element}
 use Rattle.char_sequence.specs.Order.{Shows}
 use Rattle.mark_anchors.specs.Format.{Touches, Decides, Bears, IsFormat}
-use Rattle.mark_anchors.specs.Formatting.{Formatting}
+use Rattle.mark_anchors.specs.Formatting.{Format}
 use Rattle.mark_anchors.specs.Marks.{AreMarks}
 use Rattle.mark_anchors.specs.MarkRange.{IsRangeOf}
 use Rattle.mark_anchors.specs.Places.{IsBoundary, Lies}
@@ -40,7 +40,7 @@ module _ (ops : List Op) (e f : OpId) (alike : (key : Key) (o : Op) → Contains
 turned : (ops : List Op) (e f : OpId) → ((key : Key) (o : Op) → Contains ops o → Touches ops key e o ↔ Touches ops key f o) → (key : Key) (o : Op) → Contains ops o → Touches ops key f o ↔ Touches ops key e o
 turned ops e f alike key o held = ((alike key o held).1, (alike key o held).0)
 
-format_along : (ops : List Op) (e f : OpId) → ((key : Key) (o : Op) → Contains ops o → Touches ops key e o ↔ Touches ops key f o) → (g : Formatting) → IsFormat ops e g → IsFormat ops f g
+format_along : (ops : List Op) (e f : OpId) → ((key : Key) (o : Op) → Contains ops o → Touches ops key e o ↔ Touches ops key f o) → (g : Format) → IsFormat ops e g → IsFormat ops f g
 format_along ops e f alike g is =
     let there : (a : Attribute) → Bears ops e a → Bears ops f a = bears_along ops e f alike in
     let back : (a : Attribute) → Bears ops f a → Bears ops e a = bears_along ops f e (turned ops e f alike) in
@@ -84,7 +84,7 @@ module _ (ops : List Op) (es : List Element) (marks : List Op) (from to place : 
       (λ (late : to ≤ first). absurd (omega arith))
       u.1.2
 
-  pub one_format_between : (g : Formatting) → IsFormat ops e.id g → IsFormat ops f.id g
+  pub one_format_between : (g : Format) → IsFormat ops e.id g → IsFormat ops f.id g
   one_format_between g is = format_along ops e.id f.id (λ key o held. (one_side o key held, other_side o key held)) g is
 
 -- ---- the places of a mark's anchors

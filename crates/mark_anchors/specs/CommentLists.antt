@@ -16,12 +16,12 @@ abbrev pub numbers_in : {A : Type 0} → Option (ArcSlice CommentRun A) → ℕ 
 numbers_in None place = []
 numbers_in (Some runs) place = numbers_at (arc_slice_items runs) place
 
--- orderly runs, of which so many have the place
+-- orderly runs, of which `count` have the place
 pub record AreCounted (runs : List CommentRun) (place count : ℕ) : Type 0 where
   pub orderly : AreOrderly runs
   pub counted : count ≡ length (numbers_at runs place)
 
--- shared runs in order, of which so many have the place, by rising numbers
+-- shared runs in order, of which `count` have the place, by rising numbers
 pub record IsList {A : Type 0} (runs : Option (ArcSlice CommentRun A)) (place count : ℕ) : Type 0 where
   pub orderly : AreOrderly (runs_in runs)
   pub counted : count ≡ length (numbers_in runs place)
@@ -33,7 +33,7 @@ begin_of run = run.from
 abbrev pub end_of : CommentRun → ℕ
 end_of run = run.to
 
--- so many of the runs have this place of theirs at the place or before it
+-- the number of runs that have this place of theirs at the place or before it
 abbrev pub count_up_to : (CommentRun → ℕ) → List CommentRun → ℕ → ℕ
 count_up_to place_of runs place = count_by (λ run. nat_le (place_of run) place) runs
 

@@ -17,7 +17,7 @@ AreNumbered marks numbers = (n : ℕ) (p : PlacedMark) → Contains marks p → 
 abbrev pub AreEmpty : {A : Type 0} → List (Vec PlacedMark A) → Type 0
 AreEmpty {A} groups = (i : ℕ) (g : Vec PlacedMark A) → slice_get groups i ≡ Some g → g.items ≡ []
 
--- each group has the marks of the comment of its number among the first so many operations
+-- each group has the marks of the comment of its number among the first `count` operations
 abbrev pub AreGrouped : {A : Type 0} → List Element → List Op → ℕ → List ℕ → List (Vec PlacedMark A) → Type 0
 AreGrouped {A} es operations count numbers groups =
     (i n : ℕ) (g : Vec PlacedMark A) → slice_get numbers i ≡ Some n → slice_get groups i ≡ Some g

@@ -11,7 +11,7 @@ use Rattle.change_ops.specs.declared.attribute.Attribute.TheVariants.{Strong, Em
 use Rattle.change_ops.specs.declared.operation.Op.{Op}
 use Rattle.change_ops.specs.declared.operation.Op.TheVariants.{Insert, Remove, AddMark, RemoveMark}
 use Rattle.mark_anchors.specs.Anchors.{Covers}
-use Rattle.mark_anchors.specs.Formatting.{Formatting}
+use Rattle.mark_anchors.specs.Formatting.{Format}
 
 -- the operation adds or removes a mark of the key over the character
 abbrev pub Touches : List Op → Key → OpId → Op → Type 0
@@ -38,7 +38,7 @@ abbrev pub Bears : List Op → OpId → Attribute → Type 0
 Bears ops e attribute = (o : Op) × Decides ops (key_of attribute) e o × (added o ≡ Some attribute)
 
 -- the format says of each key whether it holds, and with which value
-pub record IsFormat (ops : List Op) (e : OpId) (f : Formatting) : Type 0 where
+pub record IsFormat (ops : List Op) (e : OpId) (f : Format) : Type 0 where
   pub strong : IsTrue f.strong ↔ Bears ops e Strong
   pub em : IsTrue f.em ↔ Bears ops e Em
   pub code : IsTrue f.code ↔ Bears ops e Code

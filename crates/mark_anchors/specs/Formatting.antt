@@ -7,7 +7,7 @@ use Rattle.std.specs.Cmp.{IsEquivalence, on_equiv, and_equiv, bool_eq_equiv, nat
 use Rattle.std.specs.Cmp.Lexicographic.{pointwise, options_equiv, nat_list_eq_equiv}
 
 -- what holds of each key: the link's target as bytes, the color's number, and the comments' numbers, rising
-pub record Formatting : Type 0 where
+pub record Format : Type 0 where
   pub strong : Bool
   pub em : Bool
   pub code : Bool
@@ -16,11 +16,11 @@ pub record Formatting : Type 0 where
   pub comments : List ℕ
 
 -- no key holds
-abbrev pub plain : Formatting
+abbrev pub plain : Format
 plain = record { strong = false; em = false; code = false; link = None; color = None; comments = [] }
 
 -- `==`, field by field
-abbrev pub formatting_eq : Formatting → Formatting → Bool
+abbrev pub formatting_eq : Format → Format → Bool
 formatting_eq =
     eq_of_both (on (λ f. f.strong) beq) (eq_of_both (on (λ f. f.em) beq) (eq_of_both (on (λ f. f.code) beq)
     (eq_of_both (on (λ f. f.link) (option_eq (pointwise nat_eq))) (eq_of_both (on (λ f. f.color) (option_eq nat_eq))

@@ -10,11 +10,11 @@ abbrev pub AreById : List PlacedMark → Type 0
 AreById marks =
     (i j : ℕ) (p q : PlacedMark) → i < j → slice_get marks i ≡ Some p → slice_get marks j ≡ Some q → Less q.id p.id → ⊥
 
--- so many of the places are before this one
+-- `n` of the places are before this one
 abbrev pub IsCountBelow : List ℕ → ℕ → ℕ → Type 0
 IsCountBelow places place n = (j x : ℕ) → slice_get places j ≡ Some x → (j < n) ↔ (x < place)
 
--- so many of the places are at this one or before it
+-- `n` of the places are at this one or before it
 abbrev pub IsCountUpTo : List ℕ → ℕ → ℕ → Type 0
 IsCountUpTo places place n = (j x : ℕ) → slice_get places j ≡ Some x → (j < n) ↔ (x ≤ place)
 
@@ -38,7 +38,7 @@ pub record AreEnds (marks : List PlacedMark) (places : List ℕ) : Type 0 where
   pub begins : (m : PlacedMark) → Contains marks m → Contains places m.start
   pub ends : (m : PlacedMark) → Contains marks m → Contains places m.end
 
--- at each place the mark of this number is the greatest, among the first so many, of those that cover it
+-- at each place the mark of this number is the greatest, among the first `count`, of those that cover it
 pub record ArePainted (places : List ℕ) (marks : List PlacedMark) (count : ℕ) (numbers : List (Option ℕ)) : Type 0 where
   pub sized : length numbers ≡ length places
   pub best : (j place : ℕ) (number : Option ℕ) → slice_get places j ≡ Some place → slice_get numbers j ≡ Some number
@@ -69,23 +69,23 @@ pub record ArePaintedFrom (places : List ℕ) (marks : List PlacedMark) (from : 
     pub last : (j place number : ℕ) → slice_get places j ≡ Some place → slice_get numbers j ≡ Some (Some number)
         → IsLast marks place number
 
--- a jump to itself: the place isn't painted
+-- a jump to itself: the place of this index isn't painted
 abbrev pub IsFree : List ℕ → ℕ → Type 0
 IsFree jumps j = slice_get jumps j ≡ Some j
 
--- no place from the one up to the other is free
+-- no index from the one up to the other is free
 abbrev pub NoneFree : List ℕ → ℕ → ℕ → Type 0
 NoneFree jumps from to = (j : ℕ) → from ≤ j → j < to → IsFree jumps j → ⊥
 
--- each jump leads past places that aren't free
+-- each jump leads past indices that aren't free
 abbrev pub AreJumps : List ℕ → Type 0
 AreJumps jumps = (i to : ℕ) → slice_get jumps i ≡ Some to → (i ≤ to) × (to < length jumps) × NoneFree jumps i to
 
--- the first free place from the one on
+-- the first free index from the one on
 abbrev pub IsNextFree : List ℕ → ℕ → ℕ → Type 0
 IsNextFree jumps from next = (from ≤ next) × IsFree jumps next × NoneFree jumps from next
 
--- jumps past the places that have a number, and one that stands behind all of them
+-- jumps past the indices that have a number, and one that stands behind all of them
 pub record AreJumpsOver (jumps : List ℕ) (numbers : List (Option ℕ)) : Type 0 where
   pub past : AreJumps jumps
   pub sized : length jumps ≡ length numbers + 1

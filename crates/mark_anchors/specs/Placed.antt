@@ -17,7 +17,7 @@ pub record IsPlaced (es : List Element) (key : Key) (o : Op) (p : PlacedMark) : 
   pub id : p.id ≡ id_of o
   pub lies : Lies es o p.start p.end
 
--- the marks are the first so many operations with their places, in the same order
+-- the marks are the first `count` operations with their places, in the same order
 pub record AreFirstMarks (es : List Element) (operations : List Op) (count : ℕ) (marks : List PlacedMark) : Type 0 where
   pub sized : length marks ≡ count
   pub placed : (i : ℕ) (p : PlacedMark) → slice_get marks i ≡ Some p
@@ -26,7 +26,7 @@ pub record AreFirstMarks (es : List Element) (operations : List Op) (count : ℕ
 abbrev pub AreAllPlaced : List Element → List Op → List PlacedMark → Type 0
 AreAllPlaced es operations marks = AreFirstMarks es operations (length operations) marks
 
--- the marks are the operations of the key among the first so many
+-- the marks are the operations of the key among the first `count`
 pub record AreFirstPlaced (es : List Element) (operations : List Op) (key : Key) (count : ℕ)
     (marks : List PlacedMark) : Type 0 where
   pub placed : (i : ℕ) (p : PlacedMark) → slice_get marks i ≡ Some p
@@ -40,7 +40,7 @@ ArePlaced es operations key marks = AreFirstPlaced es operations key (length ope
 abbrev pub CoversPlace : PlacedMark → ℕ → Type 0
 CoversPlace p place = (p.start ≤ place) × (place < p.end)
 
--- it covers the place, and none of the first so many that do has a greater id
+-- it covers the place, and none of the first `count` that do has a greater id
 pub record IsGreatest (marks : List PlacedMark) (place count : ℕ) (b : PlacedMark) : Type 0 where
   pub at : (i : ℕ) × (slice_get marks i ≡ Some b)
   pub covers : CoversPlace b place

@@ -9,7 +9,7 @@ use Rattle.change_ops.specs.declared.operation.Op.TheVariants.{Insert, Remove, A
 use Rattle.char_sequence.specs.declared.sequence.Element.{Element}
 use Rattle.char_sequence.specs.Order.{IsAt}
 
--- so many characters stand before the anchor
+-- `n` characters stand before the anchor
 abbrev pub IsBoundary : List Element → Anchor → ℕ → Type 0
 IsBoundary es TextStart n = n ≡ 0
 IsBoundary es (BeforeCharacter x) n = IsAt es x n
@@ -23,7 +23,7 @@ IsOfKey key (Remove id target) = ⊥
 IsOfKey key (AddMark id attribute start end) = key_of attribute ≡ key
 IsOfKey key (RemoveMark id k start end) = k ≡ key
 
--- its anchors have so many characters before them
+-- its anchors have `first` and `last` characters before them
 abbrev pub Lies : List Element → Op → ℕ → ℕ → Type 0
 Lies es (Insert id parent character) first last = ⊥
 Lies es (Remove id target) first last = ⊥

@@ -5,12 +5,12 @@ use Rattle.change_ops.specs.declared.operation.Op.{Op}
 use Rattle.char_sequence.specs.declared.sequence.Element.{Element}
 use Rattle.char_sequence.specs.Order.{Shows}
 use Rattle.mark_anchors.specs.Format.{IsFormat}
-use Rattle.mark_anchors.specs.Formatting.{Formatting}
+use Rattle.mark_anchors.specs.Formatting.{Format}
 use Rattle.mark_anchors.specs.Marks.{AreMarks}
 use Rattle.mark_anchors.specs.Places.{Lies}
 
 -- the character at the place has the format
-abbrev pub IsFormatAt : List Element → List Op → ℕ → Formatting → Type 0
+abbrev pub IsFormatAt : List Element → List Op → ℕ → Format → Type 0
 IsFormatAt es marks place format =
     (ops : List Op) (e : Element) → Shows es ops → AreMarks ops marks → slice_get es place ≡ Some e
     → IsFormat ops e.id format
@@ -29,7 +29,7 @@ pub record AreCuts (es : List Element) (marks : List Op) (cuts : List ℕ) : Typ
   pub end : Contains cuts (length es)
   pub every : (o : Op) → Contains marks o → IsCut es cuts o
 
--- the last of the first so many cuts, or the text's start
+-- the last of the first `k` cuts, or the text's start
 abbrev pub IsReached : List ℕ → ℕ → ℕ → Type 0
 IsReached cuts k from = ((k ≡ 0) × (from ≡ 0)) ⊎ ((j : ℕ) × (k ≡ j + 1) × (slice_get cuts j ≡ Some from))
 

@@ -5,7 +5,7 @@ use Rattle.change_ops.specs.declared.attribute.Key.TheVariants.{Strong, Em, Code
 use Rattle.change_ops.specs.declared.operation.Op.{Op}
 use Rattle.char_sequence.specs.declared.sequence.Element.{Element}
 use Rattle.char_sequence.specs.Order.{Shows}
-use Rattle.mark_anchors.specs.Formatting.{Formatting}
+use Rattle.mark_anchors.specs.Formatting.{Format}
 use Rattle.mark_anchors.specs.Marks.{AreMarks}
 use Rattle.mark_anchors.specs.Placed.{AreAllPlaced, ArePlaced}
 use Rattle.mark_anchors.specs.CommentRuns.{AreHolding, AreOrderly}
@@ -14,18 +14,18 @@ use Rattle.mark_anchors.specs.declared.comment_runs.CommentRun.{CommentRun}
 use Rattle.mark_anchors.specs.declared.resolved.Decided.{Decided}
 
 -- the marks, the elements against which they were resolved, and the places at which comments hold
-pub record Resolution : Type 0 where
+pub record ResolvedMarks : Type 0 where
   pub elements : List Element
   pub marks : List Op
   pub runs : List CommentRun
 
 -- where a walk over the characters stands
-pub record Standing : Type 0 where
-  pub resolution : Resolution
+pub record FormatSweep : Type 0 where
+  pub resolution : ResolvedMarks
   pub place : ℕ
 
 -- the format of what was decided of the other keys, and of the comments' numbers
-abbrev pub formatting_of : Decided → List ℕ → Formatting
+abbrev pub formatting_of : Decided → List ℕ → Format
 formatting_of d numbers =
     record {
       strong = d.strong;

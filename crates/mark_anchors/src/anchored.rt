@@ -18,15 +18,15 @@ pub(crate) struct AnchoredIds {
     lists: IndexMap<Anchor, Vec<OpId>>,
 }
 
-/// The first place whose id is greater.
+/// The first index whose id is greater.
 fn rank(ids: &[OpId], id: OpId) -> usize
     ensures within { result ≤ length ids.now }
     ensures below { (k : ℕ) (x : OpId) → k < result → slice_get ids.now k ≡ Some x → Less id x → ⊥ }
     ensures above { (x : OpId) → slice_get ids.now result ≡ Some x → Less id x }
 {
-    for place in 0..ids.len() {
-        if id.is_below(ids[place]) {
-            return place;
+    for index in 0..ids.len() {
+        if id.is_below(ids[index]) {
+            return index;
         }
     }
     ids.len()

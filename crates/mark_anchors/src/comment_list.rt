@@ -13,7 +13,7 @@ use std::alloc::{AllocError, Global};
 use std::marker::Model;
 use std::sync::ArcSlice;
 
-/// The numbers of the comments on a character, as the place of the character among the runs of a version, which the
+/// The numbers of the comments on a character, as the character's place and the runs of its version, which the
 /// version's formats share. Contracts see the numbers.
 pub(crate) struct CommentList {
     /// None where there is no comment.

@@ -83,7 +83,7 @@ fn ended_up_to(ends: &[CommentRun], place: usize) -> usize
     ends.partition_point(|run| run.to <= place)
 }
 
-/// Whether so many of the runs begin at the place or before it.
+/// Whether `count` of the runs begin at the place or before it.
 fn is_begun_up_to(begins: &[CommentRun], count: usize, place: usize) -> bool
     requires { IsNonDecreasingBy begin_of begins.now }
     ensures count { IsTrue result → count ≡ count_up_to begin_of begins.now place }
@@ -118,7 +118,7 @@ fn begun_near(begins: &[CommentRun], place: usize, near: &mut usize) -> usize
     *near
 }
 
-/// Whether so many of the runs end at the place or before it.
+/// Whether `count` of the runs end at the place or before it.
 fn is_ended_up_to(ends: &[CommentRun], count: usize, place: usize) -> bool
     requires { IsNonDecreasingBy end_of ends.now }
     ensures count { IsTrue result → count ≡ count_up_to end_of ends.now place }

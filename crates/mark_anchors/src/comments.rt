@@ -45,7 +45,7 @@ fn comment_numbers(alloc: Global, marks: &[PlacedMark]) -> Result<Vec<CommentNum
     Ok(numbers)
 }
 
-/// So many groups of no mark.
+/// `count` groups of no mark.
 fn empty_groups(alloc: Global, count: usize) -> Result<Vec<Vec<PlacedMark>>, AllocError>
     ensures sized { IfOk result (λ groups. length groups.items ≡ count) }
     ensures empty { IfOk result (λ groups. AreEmpty groups.items) }

@@ -37,9 +37,9 @@ impl Drop for Format {
 }
 
 impl Model for Format {
-    ghost use Rattle.mark_anchors.specs.Formatting.{Formatting};
+    ghost use Rattle.mark_anchors.specs.Formatting.{Format as FormatValue};
 
-    ghost Value = { Formatting };
+    ghost Value = { FormatValue };
 
     ghost view = { λ f. record {
       strong = f.strong;

@@ -1,6 +1,6 @@
 //! The formats of a text's characters, place after place.
 ghost use Rattle.std.specs.Prelude.{◌≡◌, ◌<◌, ◌≤◌, ◌↔◌, IfOk, IsTrue, length};
-ghost use Rattle.mark_anchors.specs.Formatting.{Formatting};
+ghost use Rattle.mark_anchors.specs.Formatting.{Format};
 ghost use Rattle.mark_anchors.specs.Ranges.{IsFormatAt};
 
 use crate::format::Format;
@@ -21,9 +21,9 @@ pub struct FormatSweep<'a> {
 impl<'a> Model for FormatSweep<'a> {
     ghost use Rattle.mark_anchors.specs.CommentRuns.{numbers_at};
     ghost use Rattle.mark_anchors.specs.Ranges.{IsFormatAt};
-    ghost use Rattle.mark_anchors.specs.Resolution.{Standing, formatting_of};
+    ghost use Rattle.mark_anchors.specs.Resolution.{FormatSweep as FormatSweepValue, formatting_of};
 
-    ghost Value = { Standing };
+    ghost Value = { FormatSweepValue };
 
     ghost view = { λ s. record { resolution = s.resolved.now; place = s.place } };
 
@@ -37,7 +37,7 @@ impl FormatSweep<'_> {
     pub fn advance(&mut self, place: usize) -> bool
         requires order { self.old.place ≤ place }
         requires there { place < length self.old.resolution.elements }
-        ensures alike { (format : Formatting)
+        ensures alike { (format : Format)
             → IsFormatAt self.old.resolution.elements self.old.resolution.marks self.old.place format
             → IsTrue result ↔ IsFormatAt self.old.resolution.elements self.old.resolution.marks place format }
         ensures resolution { self.new.resolution ≡ self.old.resolution }

@@ -54,7 +54,7 @@ fn count_below(places: &[usize], place: usize) -> usize
     }
 }
 
-/// The jumps over places none of which is painted: each to itself, and one behind all.
+/// The jumps over the indices of places none of which is painted: each to itself, and one behind all.
 fn jumps_over(alloc: Global, places: &[usize]) -> Result<Vec<usize>, AllocError>
     ensures sized { IfOk result (λ jumps. length jumps.items ≡ length places.now + 1) }
     ensures free { IfOk result (λ jumps. (j : ℕ) → j < length jumps.items → IsFree jumps.items j) }
@@ -62,8 +62,8 @@ fn jumps_over(alloc: Global, places: &[usize]) -> Result<Vec<usize>, AllocError>
     (0..places.len() + 1).collect(alloc)
 }
 
-/// The next place at or after this one that isn't painted yet, or the one behind all. The path there is halved (Tarjan
-/// and van Leeuwen, 1984: path halving), so that a call takes at most a logarithmic number of steps, amortized.
+/// The first index from `from` on of a place that isn't painted yet, or the one behind all. The path there is halved
+/// (Tarjan and van Leeuwen, 1984: path halving), so that a call takes at most a logarithmic number of steps, amortized.
 fn next_free(jumps: &mut Vec<usize>, from: usize) -> usize
     requires jumps { AreJumps jumps.old.items }
     requires within { from < length jumps.old.items }
@@ -120,7 +120,7 @@ fn count_up_to(places: &[usize], place: usize) -> usize
     }
 }
 
-/// Whether so many of the places are at this one or before it.
+/// Whether `count` of the places are at this one or before it.
 fn is_count_up_to(places: &[usize], count: usize, place: usize) -> bool
     requires { IsStrictlyIncreasing places.now }
     ensures up_to { IsTrue result → IsCountUpTo places.now place count }

@@ -6,7 +6,7 @@ ghost use Rattle.char_sequence.specs.Order.{Shows};
 ghost use Rattle.mark_anchors.specs.Format.{IsFormat};
 ghost use Rattle.mark_anchors.specs.Marks.{AreMarks};
 ghost use Rattle.mark_anchors.specs.CommentRuns.{numbers_at};
-ghost use Rattle.mark_anchors.specs.Formatting.{Formatting};
+ghost use Rattle.mark_anchors.specs.Formatting.{Format};
 ghost use Rattle.mark_anchors.specs.Resolution.{formatting_of};
 ghost use Rattle.mark_anchors.specs.Ranges.{AreCuts, IsFormatAt};
 
@@ -40,9 +40,9 @@ pub struct ResolvedMarks<'a> {
 }
 
 impl<'a> Model for ResolvedMarks<'a> {
-    ghost use Rattle.mark_anchors.specs.Resolution.{Resolution, AreResolved};
+    ghost use Rattle.mark_anchors.specs.Resolution.{ResolvedMarks as ResolvedMarksValue, AreResolved};
 
-    ghost Value = { Resolution };
+    ghost Value = { ResolvedMarksValue };
 
     ghost view = { λ r. record { elements = r.sequence.now.elements; marks = r.operations.now; runs = r.comments } };
 
@@ -197,7 +197,7 @@ impl ResolvedMarks<'_> {
             (formatting_of one.now (numbers_at self.now.runs first)) }
         requires other { IsFormatAt self.now.elements self.now.marks second
             (formatting_of other.now (numbers_at self.now.runs second)) }
-        ensures { (format : Formatting) → IsFormatAt self.now.elements self.now.marks first format
+        ensures { (format : Format) → IsFormatAt self.now.elements self.now.marks first format
             → IsTrue result ↔ IsFormatAt self.now.elements self.now.marks second format }
     {
         let decided = one.is_same_but_link(other) && is_same_link(one.link, other.link);

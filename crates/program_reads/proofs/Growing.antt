@@ -2,7 +2,7 @@
 use Rattle.std.proofs.Common.{ℕ, ◌+◌, arith}
 use Rattle.bpf_words.specs.declared.instruction.Insn.{Insn}
 use Rattle.bpf_words.specs.declared.instruction.Insn.TheVariants.{Compute, Negate, Extend, Convert, Jump, JumpLong, Branch, Load, LoadSigned, Store, LoadWide, Exit}
-use Rattle.meaning.specs.State.{State}
+use Rattle.semantics.specs.State.{State}
 use Rattle.program_reads.specs.declared.reads.Reads.{Reads}
 use Rattle.program_reads.specs.Reads.{CoversAt}
 use Rattle.program_reads.specs.Loads.{CoversLoad}
@@ -10,9 +10,9 @@ use Rattle.program_reads.specs.Marks.{Grows}
 
 covers_at : (old new : Reads) → Grows old new → (address count : ℕ) → CoversAt old address count → CoversAt new address count
 covers_at old new grows address count covers = record {
-  context = λ place at fits k less. grows.context (place + k) (covers.context place at fits k less);
-  text = λ place at fits. let low = covers.text place at fits in let high = grows.text in omega arith;
-  link = λ place at fits. let low = covers.link place at fits in let high = grows.link in omega arith;
+  context = λ offset at fits k less. grows.context (offset + k) (covers.context offset at fits k less);
+  text = λ offset at fits. let low = covers.text offset at fits in let high = grows.text in omega arith;
+  link = λ offset at fits. let low = covers.link offset at fits in let high = grows.link in omega arith;
 }
 
 pub covers_load : (old new : Reads) → Grows old new → (s : State) (insn : Insn) → CoversLoad old s insn → CoversLoad new s insn

@@ -3,4 +3,4 @@ pub mod Growing
 pub mod Naming
 pub mod Runs
 pub mod Narrow
-pub mod Places
+pub mod Positions

@@ -3,30 +3,30 @@ use Rattle.std.proofs.Common.{◌≡◌, ◌⊎◌, ℕ, zero, suc, ◌+◌, ◌
 use Rattle.std.proofs.lemmas.Bool.{leb-true, le-leb}
 use Rattle.std.proofs.lemmas.List.{get_or-take, get_or-drop, length-take-le}
 use Rattle.byteorder.specs.Endian.{little_number, little_from}
-use Rattle.bpf_words.specs.Context.{context_base, text_base, link_base, SpanBytes, narrowed}
-use Rattle.bpf_words.specs.declared.profile.Profile.{Profile}
-use Rattle.bpf_words.specs.declared.profile.Profile.TheVariants.{One, Two}
-use Rattle.meaning.specs.declared.FaultKind.TheVariants.{BadAddress}
-use Rattle.meaning.specs.State.{start}
-use Rattle.meaning.specs.Memory.{load, lies_in, in_context, in_text, in_link, in_stack, stack_base, or_unset, stack_number}
-use Rattle.meaning.specs.Step.{Program}
-use Rattle.meaning.specs.Outcomes.{outcome}
-use Rattle.meaning.specs.Safe.{SafeIn}
-use Rattle.meaning.specs.declared.Outcome.TheVariants.{Done}
-use Rattle.meaning.proofs.Witness.{both}
-use Rattle.meaning.proofs.More.{Extends, runs_more, narrow_span}
+use Rattle.span_context.specs.Context.{context_base, text_base, link_base, SpanBytes, narrowed}
+use Rattle.span_context.specs.declared.profile.Profile.{Profile}
+use Rattle.span_context.specs.declared.profile.Profile.TheVariants.{One, Two}
+use Rattle.semantics.specs.declared.FaultKind.TheVariants.{BadAddress}
+use Rattle.semantics.specs.State.{start}
+use Rattle.semantics.specs.Memory.{load, lies_in, in_context, in_text, in_link, in_stack, stack_base, or_unset, stack_number}
+use Rattle.semantics.specs.Step.{Program}
+use Rattle.semantics.specs.Outcomes.{outcome}
+use Rattle.semantics.specs.Safe.{SafeIn}
+use Rattle.semantics.specs.declared.Outcome.TheVariants.{Done}
+use Rattle.semantics.proofs.Witness.{both}
+use Rattle.semantics.proofs.More.{Extends, runs_more, narrow_span}
 use Rattle.program_reads.specs.declared.reads.Reads.{Reads}
 use Rattle.program_reads.specs.Reads.{AgreesOn, Determines}
 use Rattle.program_reads.specs.Loads.{CoversRuns}
 use Rattle.program_reads.proofs.Runs.{determines}
 
-same_number : (start count place : ℕ) (bytes : List ℕ) → place + start + count ≤ 56 → little_from start count (drop place (take 56 bytes)) ≡ little_from start count (drop place bytes)
-same_number start zero place bytes h = refl
-same_number start (suc count) place bytes h =
-    let first : get_or (drop place (take 56 bytes)) start 0 ≡ get_or (drop place bytes) start 0 =
-    get_or-drop place (take 56 bytes) start 0 ∙ get_or-take 56 bytes (place + start) 0 (omega arith) ∙ sym (get_or-drop place bytes start 0) in
-    ap (λ a. a + 256 * little_from (suc start) count (drop place (take 56 bytes))) first
-    ∙ ap (λ n. get_or (drop place bytes) start 0 + 256 * n) (same_number (suc start) count place bytes (omega arith))
+same_number : (start count offset : ℕ) (bytes : List ℕ) → offset + start + count ≤ 56 → little_from start count (drop offset (take 56 bytes)) ≡ little_from start count (drop offset bytes)
+same_number start zero offset bytes h = refl
+same_number start (suc count) offset bytes h =
+    let first : get_or (drop offset (take 56 bytes)) start 0 ≡ get_or (drop offset bytes) start 0 =
+    get_or-drop offset (take 56 bytes) start 0 ∙ get_or-take 56 bytes (offset + start) 0 (omega arith) ∙ sym (get_or-drop offset bytes start 0) in
+    ap (λ a. a + 256 * little_from (suc start) count (drop offset (take 56 bytes))) first
+    ∙ ap (λ n. get_or (drop offset bytes) start 0 + 256 * n) (same_number (suc start) count offset bytes (omega arith))
 
 cut_short : (context : List ℕ) → length context ≡ 72 → length (take 56 context) ≡ 56
 cut_short context long = length-take-le 56 context (omega arith)

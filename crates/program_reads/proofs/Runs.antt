@@ -5,26 +5,26 @@ use Rattle.std.proofs.lemmas.List.{get_or-drop}
 use Rattle.std.proofs.lemmas.Option.{slice_get_cases, get_or_from_slice_get}
 use Rattle.std.specs.List.{slice_get}
 use Rattle.byteorder.specs.Endian.{little_number, little_from}
-use Rattle.bpf_words.specs.Context.{context_base, text_base, text_limit, link_base, link_limit, SpanBytes}
-use Rattle.bpf_words.specs.declared.profile.Profile.{Profile}
-use Rattle.bpf_words.specs.declared.profile.Profile.TheVariants.{One, Two}
-use Rattle.bpf_words.specs.declared.instruction.Size.{Size}
-use Rattle.bpf_words.specs.declared.instruction.Size.TheVariants.{Byte, Half, Word, Double}
+use Rattle.span_context.specs.Context.{context_base, text_base, text_limit, link_base, link_limit, SpanBytes}
+use Rattle.span_context.specs.declared.profile.Profile.{Profile}
+use Rattle.span_context.specs.declared.profile.Profile.TheVariants.{One, Two}
+use Rattle.span_context.specs.declared.size.Size.{Size}
+use Rattle.span_context.specs.declared.size.Size.TheVariants.{Byte, Half, Word, Double}
 use Rattle.bpf_words.specs.declared.instruction.SignedSize.{SignedSize}
 use Rattle.bpf_words.specs.declared.instruction.SignedSize.TheVariants.{SignedByte, SignedHalf, SignedWord}
 use Rattle.bpf_words.specs.declared.instruction.Insn.{Insn}
 use Rattle.bpf_words.specs.declared.instruction.Insn.TheVariants.{Compute, Negate, Extend, Convert, Jump, JumpLong, Branch, Load, LoadSigned, Store, LoadWide, Exit}
 use Rattle.bpf_words.specs.Flow.{StartsAt}
-use Rattle.meaning.specs.declared.FaultKind.{FaultKind}
-use Rattle.meaning.specs.declared.FaultKind.TheVariants.{ReadOnly, BadAddress}
-use Rattle.meaning.specs.declared.Outcome.TheVariants.{Done}
-use Rattle.meaning.specs.State.{State, start, register_of, operand_in}
-use Rattle.meaning.specs.Value.{with_sign}
-use Rattle.meaning.specs.Memory.{load, store, stored, address_of, bytes_in, bytes_in_signed, lies_in, in_context, in_text, in_link, in_stack, stack_base, is_lent, or_unset, stack_number}
-use Rattle.meaning.specs.Step.{Program, Move, Moved, On, Gone, Next, Ends, Stepped, then_with, write_and_go, perform, land, step_at, step}
-use Rattle.meaning.specs.Outcomes.{after, outcome_from}
-use Rattle.meaning.proofs.Witness.{both}
-use Rattle.meaning.specs.Safe.{IsSpanIn, SafeIn}
+use Rattle.semantics.specs.declared.FaultKind.{FaultKind}
+use Rattle.semantics.specs.declared.FaultKind.TheVariants.{ReadOnly, BadAddress}
+use Rattle.semantics.specs.declared.Outcome.TheVariants.{Done}
+use Rattle.semantics.specs.State.{State, start, register_of, operand_in}
+use Rattle.semantics.specs.Value.{with_sign}
+use Rattle.semantics.specs.Memory.{load, store, stored, address_of, bytes_in, bytes_in_signed, lies_in, in_context, in_text, in_link, in_stack, stack_base, is_lent, or_unset, stack_number}
+use Rattle.semantics.specs.Step.{Program, Move, Moved, On, Gone, Next, Ends, Stepped, then_with, write_and_go, perform, land, step_at, step}
+use Rattle.semantics.specs.Outcomes.{after, outcome_from}
+use Rattle.semantics.proofs.Witness.{both}
+use Rattle.semantics.specs.Safe.{IsSpanIn, SafeIn}
 use Rattle.abstract_state.specs.declared.state.AbsState.{AbsState}
 use Rattle.abstract_state.specs.State.{Span, lengths_of}
 use Rattle.program_reads.specs.Runs.{Reaches, ContainAllRuns}
@@ -34,27 +34,27 @@ use Rattle.program_reads.specs.Reads.{AgreesOn, CoversAt, Determines}
 use Rattle.program_reads.specs.Loads.{CoversLoad, CoversRuns, CoversStates}
 
 -- ---- bytes
-same_bytes : (start count place : ℕ) (x y : List ℕ) → ((k : ℕ) → k < count → get_or x (place + start + k) 0 ≡ get_or y (place + start + k) 0) → little_from start count (drop place x) ≡ little_from start count (drop place y)
-same_bytes start zero place x y same = refl
-same_bytes start (suc count) place x y same =
-    let there : get_or x (place + start) 0 ≡ get_or y (place + start) 0 =
+same_bytes : (start count offset : ℕ) (x y : List ℕ) → ((k : ℕ) → k < count → get_or x (offset + start + k) 0 ≡ get_or y (offset + start + k) 0) → little_from start count (drop offset x) ≡ little_from start count (drop offset y)
+same_bytes start zero offset x y same = refl
+same_bytes start (suc count) offset x y same =
+    let there : get_or x (offset + start) 0 ≡ get_or y (offset + start) 0 =
     let zeroth = same 0 (omega arith) in
-    let at : place + start + 0 ≡ place + start = omega arith in
+    let at : offset + start + 0 ≡ offset + start = omega arith in
     subst (λ (n : ℕ). get_or x n 0 ≡ get_or y n 0) at zeroth in
-    let first : get_or (drop place x) start 0 ≡ get_or (drop place y) start 0 =
-    get_or-drop place x start 0 ∙ there ∙ sym (get_or-drop place y start 0) in
-    let rest : little_from (suc start) count (drop place x) ≡ little_from (suc start) count (drop place y) =
-    same_bytes (suc start) count place x y (λ k h.
+    let first : get_or (drop offset x) start 0 ≡ get_or (drop offset y) start 0 =
+    get_or-drop offset x start 0 ∙ there ∙ sym (get_or-drop offset y start 0) in
+    let rest : little_from (suc start) count (drop offset x) ≡ little_from (suc start) count (drop offset y) =
+    same_bytes (suc start) count offset x y (λ k h.
     let later = same (suc k) (omega arith) in
-    let at : place + start + suc k ≡ place + suc start + k = omega arith in
+    let at : offset + start + suc k ≡ offset + suc start + k = omega arith in
     subst (λ (n : ℕ). get_or x n 0 ≡ get_or y n 0) at later) in
-    ap (λ a. a + 256 * little_from (suc start) count (drop place x)) first
-    ∙ ap (λ n. get_or (drop place y) start 0 + 256 * n) rest
+    ap (λ a. a + 256 * little_from (suc start) count (drop offset x)) first
+    ∙ ap (λ n. get_or (drop offset y) start 0 + 256 * n) rest
 
-same_numbers : (count place : ℕ) (x y : List ℕ) → ((k : ℕ) → k < count → get_or x (place + k) 0 ≡ get_or y (place + k) 0) → little_number count (drop place x) ≡ little_number count (drop place y)
-same_numbers count place x y same =
-    same_bytes 0 count place x y (λ k h.
-    let at : place + k ≡ place + 0 + k = omega arith in
+same_numbers : (count offset : ℕ) (x y : List ℕ) → ((k : ℕ) → k < count → get_or x (offset + k) 0 ≡ get_or y (offset + k) 0) → little_number count (drop offset x) ≡ little_number count (drop offset y)
+same_numbers count offset x y same =
+    same_bytes 0 count offset x y (λ k h.
+    let at : offset + k ≡ offset + 0 + k = omega arith in
     subst (λ (n : ℕ). get_or x n 0 ≡ get_or y n 0) at (same k h))
 
 -- ---- regions

@@ -1,4 +1,4 @@
-pub mod Places
+pub mod Positions
 pub mod Lines
 pub mod Reads
 pub mod Runs

@@ -2,12 +2,12 @@
 use Rattle.std.specs.Prelude.{ℕ, zero, suc, Bool, true, false, List, [], ◌∷◌, ◌++◌, codes}
 use Rattle.std.specs.Fmt.{decimal}
 use Rattle.std.specs.List.{join_by}
-use Rattle.bpf_words.specs.declared.context_field.ContextField.{ContextField}
-use Rattle.bpf_words.specs.ContextField.{name_of, every_field}
-use Rattle.bpf_words.specs.declared.profile.Profile.{Profile}
-use Rattle.bpf_words.specs.declared.profile.Profile.TheVariants.{One, Two}
+use Rattle.span_context.specs.declared.context_field.ContextField.{ContextField}
+use Rattle.span_context.specs.ContextField.{name_of, every_field}
+use Rattle.span_context.specs.declared.profile.Profile.{Profile}
+use Rattle.span_context.specs.declared.profile.Profile.TheVariants.{One, Two}
 use Rattle.program_reads.specs.declared.reads.Reads.{Reads}
-use Rattle.program_reads.specs.Places.{marked, places_in}
+use Rattle.program_reads.specs.Positions.{marked, positions_in}
 
 -- what stands before a name, where there is one before it
 abbrev pub comma : Bool → List ℕ
@@ -19,7 +19,7 @@ abbrev pub names_text : List ContextField → List ℕ
 names_text [] = codes "nothing"
 names_text (field ∷ fields) = join_by name_of (codes ", ") (field ∷ fields)
 
--- so many bytes from the first on
+-- count bytes from the first on
 abbrev pub bytes_text : ℕ → List ℕ
 bytes_text zero = codes "nothing"
 bytes_text (suc last) = codes "bytes 0..=" ++ decimal last
@@ -35,15 +35,15 @@ abbrev pub link_line : Profile → Reads → List ℕ
 link_line One reads = []
 link_line Two reads = bytes_line (codes "link") reads.link
 
--- the spans on which the verdict is found again in the next version: those that change, or all where their places are
--- read
+-- the spans on which the verdict is found again in the next version: those that change, or all where their positions
+-- are read
 abbrev pub runs_text : List ContextField → List ℕ
 runs_text [] = codes "runs where a span changes"
 runs_text (field ∷ fields) =
     codes "runs on every span: it reads " ++ join_by (λ f. codes "the " ++ name_of f) (codes ", ") (field ∷ fields)
 
 abbrev pub runs_line : Reads → List ℕ
-runs_line reads = runs_text (places_in reads) ++ 10 ∷ []
+runs_line reads = runs_text (positions_in reads) ++ 10 ∷ []
 
 abbrev pub read_lines : Profile → Reads → List ℕ
 read_lines profile reads =

@@ -3,11 +3,11 @@ use Rattle.std.specs.Prelude.{◌≡◌, ℕ, List, Option, None, Ok, slice_inde
 use Rattle.bpf_words.specs.declared.instruction.Insn.{Insn}
 use Rattle.bpf_words.specs.declared.instruction.Insn.TheVariants.{Compute, Negate, Extend, Convert, Jump, JumpLong}
 use Rattle.bpf_words.specs.declared.instruction.Insn.TheVariants.{Branch, Load, LoadSigned, Store, LoadWide, Exit}
-use Rattle.bpf_words.specs.declared.profile.Profile.{Profile}
+use Rattle.span_context.specs.declared.profile.Profile.{Profile}
 use Rattle.bpf_words.specs.Flow.{StartsAt}
-use Rattle.meaning.specs.Memory.{address_of, bytes_in, bytes_in_signed}
-use Rattle.meaning.specs.State.{State, register_of}
-use Rattle.meaning.specs.Step.{Program}
+use Rattle.semantics.specs.Memory.{address_of, bytes_in, bytes_in_signed}
+use Rattle.semantics.specs.State.{State, register_of}
+use Rattle.semantics.specs.Step.{Program}
 use Rattle.abstract_state.specs.declared.state.AbsState.{AbsState}
 use Rattle.abstract_state.specs.Lent.{Lengths}
 use Rattle.abstract_state.specs.State.{Span, WithinState}

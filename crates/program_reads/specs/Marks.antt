@@ -1,7 +1,7 @@
 -- What is listed grows, load by load.
 use Rattle.std.specs.Prelude.{ℕ, ◌+◌, ◌<◌, ◌≤◌}
-use Rattle.bpf_words.specs.declared.context_field.ContextField.{ContextField}
-use Rattle.bpf_words.specs.ContextField.{offset_of, bytes_of}
+use Rattle.span_context.specs.declared.context_field.ContextField.{ContextField}
+use Rattle.span_context.specs.ContextField.{offset_of, bytes_of}
 use Rattle.program_reads.specs.declared.reads.Reads.{Reads}
 use Rattle.program_reads.specs.Reads.{HasByte}
 

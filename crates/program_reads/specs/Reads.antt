@@ -1,13 +1,13 @@
 -- What a list of what can be read of a span has, spans that agree on it, and that they give a program one outcome.
 use Rattle.std.specs.Prelude.{◌≡◌, ℕ, ◌+◌, ◌<◌, ◌≤◌, Bool, true, false, List, length, slice_get, slice_index}
 use Rattle.std.specs.Prelude.{slice_index_or, Some}
-use Rattle.bpf_words.specs.Context.{SpanBytes, context_base, text_base, text_limit, link_base, link_limit}
-use Rattle.bpf_words.specs.declared.context_field.ContextField.{ContextField}
-use Rattle.bpf_words.specs.ContextField.{offset_of, bytes_of, every_field}
-use Rattle.bpf_words.specs.declared.profile.Profile.{Profile}
-use Rattle.meaning.specs.Safe.{IsSpanIn}
-use Rattle.meaning.specs.Step.{Program}
-use Rattle.meaning.specs.Outcomes.{outcome}
+use Rattle.span_context.specs.Context.{SpanBytes, context_base, text_base, text_limit, link_base, link_limit}
+use Rattle.span_context.specs.declared.context_field.ContextField.{ContextField}
+use Rattle.span_context.specs.ContextField.{offset_of, bytes_of, every_field}
+use Rattle.span_context.specs.declared.profile.Profile.{Profile}
+use Rattle.semantics.specs.Safe.{IsSpanIn}
+use Rattle.semantics.specs.Step.{Program}
+use Rattle.semantics.specs.Outcomes.{outcome}
 use Rattle.program_reads.specs.declared.reads.Reads.{Reads}
 
 -- byte k of the context is one of a field that is marked
@@ -31,9 +31,9 @@ Determines reads profile program =
     (a b : SpanBytes) → IsSpanIn profile a → IsSpanIn profile b → AgreesOn reads a b
     → outcome program a ≡ outcome program b
 
--- so many bytes at an address are listed, in whichever lent region they lie
+-- count bytes at an address are listed, in whichever lent region they lie
 pub record CoversAt (reads : Reads) (address count : ℕ) : Type 0 where
-  pub context : (place : ℕ) → address ≡ context_base + place → place + count ≤ 72 → (k : ℕ) → k < count
-      → HasByte reads.fields (place + k)
-  pub text : (place : ℕ) → address ≡ text_base + place → place + count ≤ text_limit → place + count ≤ reads.text
-  pub link : (place : ℕ) → address ≡ link_base + place → place + count ≤ link_limit → place + count ≤ reads.link
+  pub context : (offset : ℕ) → address ≡ context_base + offset → offset + count ≤ 72 → (k : ℕ) → k < count
+      → HasByte reads.fields (offset + k)
+  pub text : (offset : ℕ) → address ≡ text_base + offset → offset + count ≤ text_limit → offset + count ≤ reads.text
+  pub link : (offset : ℕ) → address ≡ link_base + offset → offset + count ≤ link_limit → offset + count ≤ reads.link

@@ -1,8 +1,8 @@
 -- The states that the runs of a program come to, and what is known of them.
 use Rattle.std.specs.Prelude.{◌≡◌, ℕ, ◌<◌, List, length, Option, None, Ok, slice_index_or}
-use Rattle.bpf_words.specs.declared.profile.Profile.{Profile}
-use Rattle.meaning.specs.State.{State, start}
-use Rattle.meaning.specs.Step.{Program, Next, step}
+use Rattle.span_context.specs.declared.profile.Profile.{Profile}
+use Rattle.semantics.specs.State.{State, start}
+use Rattle.semantics.specs.Step.{Program, Next, step}
 use Rattle.abstract_state.specs.declared.state.AbsState.{AbsState}
 use Rattle.abstract_state.specs.State.{Span, lengths_of, WithinState}
 

@@ -1,11 +1,11 @@
 //! The fields of a context by their bytes.
 ghost use Rattle.std.specs.Prelude.{◌≡◌, ◌↔◌, ℕ, ◌<◌, ◌≤◌, IsTrue};
-ghost use Rattle.bpf_words.specs.ContextField.{bytes_of};
+ghost use Rattle.span_context.specs.ContextField.{bytes_of};
 ghost use Rattle.program_reads.specs.Reads.{HasByte};
 ghost use Rattle.program_reads.specs.Marks.{Takes};
 
-use bpf_words::context_field::ContextField;
-use meaning::sizes::count;
+use semantics::sizes::count;
+use span_context::context_field::ContextField;
 
 /// How many bytes a field has.
 fn field_bytes(field: ContextField) -> u64

@@ -1,10 +1,10 @@
 //! What the loads of a program can read of a span. Spans that agree on it give the program one outcome.
 #![tactic(auto)]
 
-ghost use Rattle.bpf_words.specs.declared.profile.Profile.{Profile};
-ghost use Rattle.bpf_words.specs.declared.profile.Profile.TheVariants.{Two};
-ghost use Rattle.meaning.specs.Safe.{SafeIn};
-ghost use Rattle.meaning.specs.Step.{Program};
+ghost use Rattle.span_context.specs.declared.profile.Profile.{Profile};
+ghost use Rattle.span_context.specs.declared.profile.Profile.TheVariants.{Two};
+ghost use Rattle.semantics.specs.Safe.{SafeIn};
+ghost use Rattle.semantics.specs.Step.{Program};
 ghost use Rattle.program_reads.specs.declared.reads.Reads.{Reads};
 ghost use Rattle.program_reads.specs.Reads.{Determines};
 ghost use Rattle.program_reads.specs.Loads.{CoversRuns};

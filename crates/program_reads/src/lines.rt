@@ -1,13 +1,13 @@
 //! The lines that say what loads can read of a span.
 ghost use Rattle.std.specs.Prelude.{◌≡◌, ◌++◌, ◌∷◌, [], drop, OnOk, string_bytes};
-ghost use Rattle.program_reads.specs.Places.{marked, place_fields};
+ghost use Rattle.program_reads.specs.Positions.{marked, position_fields};
 ghost use Rattle.program_reads.specs.Lines.{comma, names_text, fields_line, bytes_line, runs_text, runs_line};
 ghost use Rattle.program_reads.specs.Lines.{read_lines};
-ghost use Rattle.bpf_words.specs.ContextField.{name_of, every_field};
+ghost use Rattle.span_context.specs.ContextField.{name_of, every_field};
 
 use crate::reads::Reads;
-use bpf_words::context_field::ContextField;
-use bpf_words::profile::Profile;
+use span_context::context_field::ContextField;
+use span_context::profile::Profile;
 use std::alloc::AllocError;
 use std::fmt::Write as _;
 
@@ -58,10 +58,10 @@ fn push_bytes(text: &mut String, name: &str, count: u64) -> Result<(), AllocErro
     }
 }
 
-/// On which spans the verdict is found again, where these of the three fields that say where a span stands are listed.
-#[tactic(auto, unfolding(crate::specs::Places::marked))]
+/// On which spans the verdict is found again, where these of the three fields that give a span's position are listed.
+#[tactic(auto, unfolding(crate::specs::Positions::marked))]
 fn runs_on(index: bool, count: bool, version: bool) -> &'static str
-    ensures { result.now ≡ runs_text (marked (index ∷ count ∷ version ∷ []) place_fields) }
+    ensures { result.now ≡ runs_text (marked (index ∷ count ∷ version ∷ []) position_fields) }
 {
     match (index, count, version) {
         (false, false, false) => "runs where a span changes",
@@ -78,7 +78,7 @@ fn runs_on(index: bool, count: bool, version: bool) -> &'static str
 /// Appends on which spans the verdict is found again in the next version.
 fn push_runs(text: &mut String, fields: &[bool; 13]) -> Result<(), AllocError>
     ensures { OnOk result (string_bytes text.new ≡ string_bytes text.old
-        ++ runs_text (marked (drop 8 fields.now) place_fields) ++ 10 ∷ []) }
+        ++ runs_text (marked (drop 8 fields.now) position_fields) ++ 10 ∷ []) }
 {
     text.push_str(runs_on(fields[8], fields[9], fields[10]))?;
     text.push('\n')

@@ -1,31 +1,31 @@
 //! The list of what loads can read, by what is known of the machine before each.
 ghost use Rattle.std.specs.Prelude.{◌≡◌, ◌↔◌, ℕ, ◌+◌, ◌≤◌, Some, length, IsTrue};
-ghost use Rattle.bpf_words.specs.Context.{context_base};
+ghost use Rattle.span_context.specs.Context.{context_base};
 ghost use Rattle.bpf_words.specs.Words.{program_of};
 ghost use Rattle.bpf_words.specs.declared.instruction.Insn.{Insn as TheInsn};
-ghost use Rattle.bpf_words.specs.declared.profile.Profile.{Profile as TheProfile};
-ghost use Rattle.meaning.specs.Memory.{address_of};
-ghost use Rattle.meaning.specs.Safe.{SafeIn};
-ghost use Rattle.meaning.specs.State.{State};
+ghost use Rattle.span_context.specs.declared.profile.Profile.{Profile as TheProfile};
+ghost use Rattle.semantics.specs.Memory.{address_of};
+ghost use Rattle.semantics.specs.Safe.{SafeIn};
+ghost use Rattle.semantics.specs.State.{State};
 ghost use Rattle.abstract_state.specs.declared.known.Known.{Known as TheKnown};
 ghost use Rattle.abstract_state.specs.Known.{ContainsKnown};
 ghost use Rattle.abstract_state.specs.Lent.{Lengths, base_of, limit_of};
 ghost use Rattle.abstract_state.specs.State.{ContainsRegister, Contains, WithinState};
 ghost use Rattle.program_reads.specs.Runs.{ContainAllRuns};
-ghost use Rattle.program_reads.specs.Places.{IsPlaceless};
+ghost use Rattle.program_reads.specs.Positions.{IsPositionless};
 ghost use Rattle.program_reads.specs.Reads.{CoversAt, Determines};
 ghost use Rattle.program_reads.specs.Loads.{CoversLoad, CoversStates};
 ghost use Rattle.program_reads.specs.Marks.{Grows};
 
 use crate::fields::mark;
+use abstract_state::address::{ContextAddress, LentAddress};
 use abstract_state::known::Known;
-use abstract_state::place::{ContextPlace, LentPlace};
 use abstract_state::region::Region;
 use abstract_state::state::{AbsReg, AbsState};
-use bpf_words::context::{LINK_LIMIT, TEXT_LIMIT};
 use bpf_words::instruction::Insn;
 use bpf_words::words::Words;
-use meaning::sizes::{count, count_signed};
+use semantics::sizes::{count, count_signed};
+use span_context::context::{LINK_LIMIT, TEXT_LIMIT};
 
 /// What loads can read of a span.
 #[derive(Clone, Copy)]
@@ -39,11 +39,11 @@ pub struct Reads {
 }
 
 /// How many bytes of a lent region there are up to the last one that a load can take, however long the region is.
-fn end_of(base: LentPlace, offset: i16, bytes: u64) -> u64
+fn end_of(base: LentAddress, offset: i16, bytes: u64) -> u64
     requires { bytes ≤ 8 }
-    ensures { (lengths : Lengths) (n place : ℕ) → ContainsKnown (TheKnown.Lent base) lengths n
-        → address_of n offset ≡ base_of base.region + place → place + bytes ≤ limit_of base.region
-        → place + bytes ≤ result }
+    ensures { (lengths : Lengths) (n start : ℕ) → ContainsKnown (TheKnown.Lent base) lengths n
+        → address_of n offset ≡ base_of base.region + start → start + bytes ≤ limit_of base.region
+        → start + bytes ≤ result }
 {
     let last = base
         .offset
@@ -54,18 +54,18 @@ fn end_of(base: LentPlace, offset: i16, bytes: u64) -> u64
 }
 
 /// The first byte of the context that a load takes.
-fn first_of(base: ContextPlace, offset: i16) -> u64
-    ensures { (place : ℕ) → address_of (context_base + base.place) offset ≡ context_base + place → place ≤ 72
-        → result ≡ place }
+fn first_of(base: ContextAddress, offset: i16) -> u64
+    ensures { (start : ℕ) → address_of (context_base + base.offset) offset ≡ context_base + start → start ≤ 72
+        → result ≡ start }
 {
-    base.place.wrapping_add_signed(i64::from(offset))
+    base.offset.wrapping_add_signed(i64::from(offset))
 }
 
 impl Reads {
-    /// Whether it lists none of the fields that say where a span stands: its index, the count of spans and the
+    /// Whether it lists none of the fields that give a span's position: its index, the count of spans and the
     /// version's number.
-    pub fn is_placeless(&self) -> bool
-        ensures { IsTrue result ↔ IsPlaceless self.now }
+    pub fn is_positionless(&self) -> bool
+        ensures { IsTrue result ↔ IsPositionless self.now }
     {
         !(self.fields[8] | self.fields[9] | self.fields[10])
     }
@@ -174,17 +174,17 @@ impl Reads {
     }
 
     /// Adds the fields of which a load takes bytes from the context.
-    fn add_fields(&mut self, base: ContextPlace, offset: i16, bytes: u64)
+    fn add_fields(&mut self, base: ContextAddress, offset: i16, bytes: u64)
         requires { bytes ≤ 8 }
         ensures grows { Grows self.old self.new }
-        ensures covers { CoversAt self.new (address_of (context_base + base.place) offset) bytes }
+        ensures covers { CoversAt self.new (address_of (context_base + base.offset) offset) bytes }
     {
         let first = first_of(base, offset);
         mark(&mut self.fields, first, first.saturating_add(bytes));
     }
 
     /// Adds the bytes up to the last one that a load can take from a region, however long.
-    fn add_bytes(&mut self, base: LentPlace, offset: i16, bytes: u64)
+    fn add_bytes(&mut self, base: LentAddress, offset: i16, bytes: u64)
         requires { bytes ≤ 8 }
         ensures grows { Grows self.old self.new }
         ensures covers { (lengths : Lengths) (n : ℕ) → ContainsKnown (TheKnown.Lent base) lengths n

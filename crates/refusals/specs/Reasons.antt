@@ -1,4 +1,4 @@
--- What is printed of each reason to refuse an input or a line: its number and name, and where the fault stands.
+-- What is printed of each reason to refuse an input or a line: its number and name, and where the fault is.
 use Rattle.std.specs.Prelude.{ℕ, ◌+◌, List, [], ◌++◌, codes}
 use Rattle.std.specs.Fmt.{decimal}
 use Rattle.bpf_words.specs.declared.refusal.WordError.{WordError}
@@ -11,18 +11,18 @@ use Rattle.change_ops.specs.declared.refusal.ChangeError.{ChangeError}
 use Rattle.change_ops.specs.declared.refusal.ChangeError.TheVariants as reading
 use Rattle.change_history.specs.declared.refusal.SubmitError.{SubmitError}
 use Rattle.change_history.specs.declared.refusal.SubmitError.TheVariants as submit
-use Rattle.refusals.specs.declared.reason.Place.{Place}
-use Rattle.refusals.specs.declared.reason.Place.TheVariants.{Whole, Slot, Line}
+use Rattle.refusals.specs.declared.reason.Location.{Location}
+use Rattle.refusals.specs.declared.reason.Location.TheVariants.{Whole, Slot, Line}
 use Rattle.refusals.specs.declared.reason.Reason.{Reason}
 use Rattle.refusals.specs.declared.reason.Reason.TheVariants as reason
 use Rattle.refusals.specs.declared.reason.ChangeReason.{ChangeReason}
 use Rattle.refusals.specs.Names.{slot_fault, structure_fault, state_fault, line_fault, refusal_name}
 
 -- slots are counted from 0, lines from 1
-abbrev pub place_text : Place → List ℕ
-place_text Whole = []
-place_text (Slot slot) = codes " slot " ++ decimal slot
-place_text (Line line) = codes " line " ++ decimal line
+abbrev pub location_text : Location → List ℕ
+location_text Whole = []
+location_text (Slot slot) = codes " slot " ++ decimal slot
+location_text (Line line) = codes " line " ++ decimal line
 
 abbrev pub word_title : WordError → List ℕ
 word_title words.Empty = codes "1 Empty"
@@ -30,29 +30,29 @@ word_title words.TooLong = codes "2 TooLong"
 word_title words.LengthNotEight = codes "3 LengthNotEight"
 word_title (words.Slot slot fault) = slot_fault fault
 
-abbrev pub word_place : WordError → Place
-word_place words.Empty = Whole
-word_place words.TooLong = Whole
-word_place words.LengthNotEight = Whole
-word_place (words.Slot slot fault) = Slot slot
+abbrev pub word_location : WordError → Location
+word_location words.Empty = Whole
+word_location words.TooLong = Whole
+word_location words.LengthNotEight = Whole
+word_location (words.Slot slot fault) = Slot slot
 
 abbrev pub verdict_title : VerifyError → List ℕ
 verdict_title (verifying.Structure slot fault) = structure_fault fault
 verdict_title (verifying.State slot fault) = state_fault fault
 verdict_title verifying.OutOfMemory = codes "27 OutOfMemory"
 
-abbrev pub verdict_place : VerifyError → Place
-verdict_place (verifying.Structure slot fault) = Slot slot
-verdict_place (verifying.State slot fault) = Slot slot
-verdict_place verifying.OutOfMemory = Whole
+abbrev pub verdict_location : VerifyError → Location
+verdict_location (verifying.Structure slot fault) = Slot slot
+verdict_location (verifying.State slot fault) = Slot slot
+verdict_location verifying.OutOfMemory = Whole
 
 abbrev pub source_title : AsmError → List ℕ
 source_title (source.Line line fault) = line_fault fault
 source_title source.OutOfMemory = codes "36 OutOfMemory"
 
-abbrev pub source_place : AsmError → Place
-source_place (source.Line line fault) = Line line
-source_place source.OutOfMemory = Whole
+abbrev pub source_location : AsmError → Location
+source_location (source.Line line fault) = Line line
+source_location source.OutOfMemory = Whole
 
 -- why a change can't be read
 abbrev pub unread_title : ChangeError → List ℕ
@@ -63,13 +63,13 @@ unread_title (reading.CharRefused line) = codes "43 CharRefused"
 unread_title (reading.WrongPeer line) = codes "44 WrongPeer"
 unread_title reading.OutOfMemory = codes "45 OutOfMemory"
 
-abbrev pub unread_place : ChangeError → Place
-unread_place (reading.BadLine line) = Line line
-unread_place reading.Truncated = Whole
-unread_place (reading.Limit line) = Line line
-unread_place (reading.CharRefused line) = Line line
-unread_place (reading.WrongPeer line) = Line line
-unread_place reading.OutOfMemory = Whole
+abbrev pub unread_location : ChangeError → Location
+unread_location (reading.BadLine line) = Line line
+unread_location reading.Truncated = Whole
+unread_location (reading.Limit line) = Line line
+unread_location (reading.CharRefused line) = Line line
+unread_location (reading.WrongPeer line) = Line line
+unread_location reading.OutOfMemory = Whole
 
 -- why a change isn't accepted; its other lines stand behind the first one, from line 2 on
 abbrev pub unaccepted_title : SubmitError → List ℕ
@@ -77,10 +77,10 @@ unaccepted_title submit.HistoryFull = codes "50 HistoryFull"
 unaccepted_title (submit.Refused index refusal) = refusal_name refusal
 unaccepted_title submit.OutOfMemory = codes "45 OutOfMemory"
 
-abbrev pub unaccepted_place : SubmitError → Place
-unaccepted_place submit.HistoryFull = Whole
-unaccepted_place (submit.Refused index refusal) = Line (index + 2)
-unaccepted_place submit.OutOfMemory = Whole
+abbrev pub unaccepted_location : SubmitError → Location
+unaccepted_location submit.HistoryFull = Whole
+unaccepted_location (submit.Refused index refusal) = Line (index + 2)
+unaccepted_location submit.OutOfMemory = Whole
 
 abbrev pub reason_title : Reason → List ℕ
 reason_title (reason.Words error) = word_title error
@@ -98,26 +98,26 @@ reason_title reason.LineTooLong = codes "61 LineTooLong"
 reason_title reason.TextRefused = codes "62 TextRefused"
 reason_title reason.BadHex = codes "63 BadHex"
 
-abbrev pub reason_place : Reason → Place
-reason_place (reason.Words error) = word_place error
-reason_place (reason.Unverified error) = verdict_place error
-reason_place (reason.Source error) = source_place error
-reason_place (reason.Unread error) = unread_place error
-reason_place (reason.Unaccepted error) = unaccepted_place error
-reason_place reason.OutOfMemory = Whole
-reason_place reason.SubscribersFull = Whole
-reason_place reason.NoSubscriber = Whole
-reason_place reason.BadCapacity = Whole
-reason_place reason.NoVersion = Whole
-reason_place reason.BadCommand = Whole
-reason_place reason.LineTooLong = Whole
-reason_place reason.TextRefused = Whole
-reason_place reason.BadHex = Whole
+abbrev pub reason_location : Reason → Location
+reason_location (reason.Words error) = word_location error
+reason_location (reason.Unverified error) = verdict_location error
+reason_location (reason.Source error) = source_location error
+reason_location (reason.Unread error) = unread_location error
+reason_location (reason.Unaccepted error) = unaccepted_location error
+reason_location reason.OutOfMemory = Whole
+reason_location reason.SubscribersFull = Whole
+reason_location reason.NoSubscriber = Whole
+reason_location reason.BadCapacity = Whole
+reason_location reason.NoVersion = Whole
+reason_location reason.BadCommand = Whole
+reason_location reason.LineTooLong = Whole
+reason_location reason.TextRefused = Whole
+reason_location reason.BadHex = Whole
 
 abbrev pub reason_text : Reason → List ℕ
-reason_text reason = reason_title reason ++ place_text (reason_place reason)
+reason_text reason = reason_title reason ++ location_text (reason_location reason)
 
 -- the same of a change in an input of many, by its number
 abbrev pub change_reason_text : ChangeReason → List ℕ
 change_reason_text change =
-    reason_title change.reason ++ codes " change " ++ decimal change.number ++ place_text (reason_place change.reason)
+    reason_title change.reason ++ codes " change " ++ decimal change.number ++ location_text (reason_location change.reason)

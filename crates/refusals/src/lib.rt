@@ -1,4 +1,4 @@
-//! The number and name of each refusal that is printed, and where the fault stands.
+//! The number and name of each refusal that is printed, and where the fault is.
 #![tactic(auto)]
 
 mod names;

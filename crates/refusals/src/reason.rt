@@ -1,8 +1,9 @@
 ghost use Rattle.std.specs.Prelude.{◌≡◌};
 ghost use Rattle.std.specs.declared.option.Option.TheVariants.{Some};
-ghost use Rattle.refusals.specs.Reasons.{word_place, place_text, reason_title, reason_place, reason_text};
-ghost use Rattle.refusals.specs.Reasons.{change_reason_text, verdict_title, verdict_place, source_title, source_place};
-ghost use Rattle.refusals.specs.Reasons.{unread_title, unread_place, unaccepted_title, unaccepted_place, word_title};
+ghost use Rattle.refusals.specs.Reasons.{word_location, location_text, reason_title, reason_location, reason_text};
+ghost use Rattle.refusals.specs.Reasons.{change_reason_text, verdict_title, verdict_location, source_title};
+ghost use Rattle.refusals.specs.Reasons.{source_location, unread_title, unread_location, unaccepted_title};
+ghost use Rattle.refusals.specs.Reasons.{unaccepted_location, word_title};
 
 use crate::names::{line_fault, refusal_name, slot_fault, state_fault, structure_fault};
 use assembler::fault::AsmError;
@@ -45,9 +46,9 @@ pub enum Reason {
     BadHex,
 }
 
-/// Where a fault stands.
+/// Where a fault is.
 #[derive(Clone, Copy)]
-pub enum Place {
+pub enum Location {
     /// In the whole.
     Whole,
     /// In a slot of a program, counted from 0.
@@ -56,14 +57,14 @@ pub enum Place {
     Line(u128),
 }
 
-impl fmt::Display for Place {
-    ghost output = { λ place. Some (place_text place) };
+impl fmt::Display for Location {
+    ghost output = { λ location. Some (location_text location) };
 
     fn fmt<W: fmt::Write>(&self, f: &mut fmt::Formatter<W>) -> fmt::Result {
         match *self {
-            Place::Whole => Ok(()),
-            Place::Slot(slot) => write!(f, " slot {slot}"),
-            Place::Line(line) => write!(f, " line {line}"),
+            Location::Whole => Ok(()),
+            Location::Slot(slot) => write!(f, " slot {slot}"),
+            Location::Line(line) => write!(f, " line {line}"),
         }
     }
 }
@@ -79,12 +80,12 @@ fn word_title(error: WordError) -> &'static str
     }
 }
 
-fn word_place(error: WordError) -> Place
-    ensures { result ≡ word_place error }
+fn word_location(error: WordError) -> Location
+    ensures { result ≡ word_location error }
 {
     match error {
-        WordError::Slot { slot, .. } => Place::Slot(slot),
-        _ => Place::Whole,
+        WordError::Slot { slot, .. } => Location::Slot(slot),
+        _ => Location::Whole,
     }
 }
 
@@ -98,13 +99,13 @@ fn verdict_title(error: VerifyError) -> &'static str
     }
 }
 
-fn verdict_place(error: VerifyError) -> Place
-    ensures { result ≡ verdict_place error }
+fn verdict_location(error: VerifyError) -> Location
+    ensures { result ≡ verdict_location error }
 {
     match error {
-        VerifyError::Structure { slot, .. } => Place::Slot(slot),
-        VerifyError::State { slot, .. } => Place::Slot(slot),
-        VerifyError::OutOfMemory => Place::Whole,
+        VerifyError::Structure { slot, .. } => Location::Slot(slot),
+        VerifyError::State { slot, .. } => Location::Slot(slot),
+        VerifyError::OutOfMemory => Location::Whole,
     }
 }
 
@@ -117,12 +118,12 @@ fn source_title(error: AsmError) -> &'static str
     }
 }
 
-fn source_place(error: AsmError) -> Place
-    ensures { result ≡ source_place error }
+fn source_location(error: AsmError) -> Location
+    ensures { result ≡ source_location error }
 {
     match error {
-        AsmError::Line { line, .. } => Place::Line(line as u128),
-        AsmError::OutOfMemory => Place::Whole,
+        AsmError::Line { line, .. } => Location::Line(line as u128),
+        AsmError::OutOfMemory => Location::Whole,
     }
 }
 
@@ -139,16 +140,16 @@ fn unread_title(error: ChangeError) -> &'static str
     }
 }
 
-fn unread_place(error: ChangeError) -> Place
-    ensures { result ≡ unread_place error }
+fn unread_location(error: ChangeError) -> Location
+    ensures { result ≡ unread_location error }
 {
     match error {
-        ChangeError::BadLine(line) => Place::Line(line as u128),
-        ChangeError::Limit(line) => Place::Line(line as u128),
-        ChangeError::CharRefused(line) => Place::Line(line as u128),
-        ChangeError::WrongPeer(line) => Place::Line(line as u128),
-        ChangeError::Truncated => Place::Whole,
-        ChangeError::OutOfMemory => Place::Whole,
+        ChangeError::BadLine(line) => Location::Line(line as u128),
+        ChangeError::Limit(line) => Location::Line(line as u128),
+        ChangeError::CharRefused(line) => Location::Line(line as u128),
+        ChangeError::WrongPeer(line) => Location::Line(line as u128),
+        ChangeError::Truncated => Location::Whole,
+        ChangeError::OutOfMemory => Location::Whole,
     }
 }
 
@@ -163,14 +164,14 @@ fn unaccepted_title(error: SubmitError) -> &'static str
 }
 
 /// A change's other lines stand behind its first one, from line 2 on.
-fn unaccepted_place(error: SubmitError) -> Place
-    ensures { result ≡ unaccepted_place error }
+fn unaccepted_location(error: SubmitError) -> Location
+    ensures { result ≡ unaccepted_location error }
 {
     match error {
         // No index is so great that the sum of 128 bits wraps.
-        SubmitError::Refused { index, .. } => Place::Line(index as u128 + 2),
-        SubmitError::HistoryFull => Place::Whole,
-        SubmitError::OutOfMemory => Place::Whole,
+        SubmitError::Refused { index, .. } => Location::Line(index as u128 + 2),
+        SubmitError::HistoryFull => Location::Whole,
+        SubmitError::OutOfMemory => Location::Whole,
     }
 }
 
@@ -197,17 +198,17 @@ impl Reason {
         }
     }
 
-    /// Where the fault stands.
-    pub fn place(self) -> Place
-        ensures { result ≡ reason_place self }
+    /// Where the fault is.
+    pub fn location(self) -> Location
+        ensures { result ≡ reason_location self }
     {
         match self {
-            Reason::Words(error) => word_place(error),
-            Reason::Unverified(error) => verdict_place(error),
-            Reason::Source(error) => source_place(error),
-            Reason::Unread(error) => unread_place(error),
-            Reason::Unaccepted(error) => unaccepted_place(error),
-            _ => Place::Whole,
+            Reason::Words(error) => word_location(error),
+            Reason::Unverified(error) => verdict_location(error),
+            Reason::Source(error) => source_location(error),
+            Reason::Unread(error) => unread_location(error),
+            Reason::Unaccepted(error) => unaccepted_location(error),
+            _ => Location::Whole,
         }
     }
 }
@@ -217,7 +218,7 @@ impl fmt::Display for Reason {
     ghost output = { λ reason. Some (reason_text reason) };
 
     fn fmt<W: fmt::Write>(&self, f: &mut fmt::Formatter<W>) -> fmt::Result {
-        write!(f, "{}{}", self.title(), self.place())
+        write!(f, "{}{}", self.title(), self.location())
     }
 }
 
@@ -239,7 +240,7 @@ impl fmt::Display for ChangeReason {
             "{} change {}{}",
             self.reason.title(),
             self.number,
-            self.reason.place()
+            self.reason.location()
         )
     }
 }

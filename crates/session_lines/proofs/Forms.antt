@@ -12,8 +12,8 @@ use Rattle.change_ops.proofs.Grammar.{Lacks, bind_some, split_again, split_takes
 use Rattle.change_ops.proofs.Phrases.{same_bytes}
 use Rattle.change_ops.proofs.Keys.{lacks_all}
 use Rattle.change_ops.proofs.NumeralForms.{number_takes, number_again}
-use Rattle.bpf_words.specs.declared.profile.Profile.{Profile}
-use Rattle.bpf_words.specs.declared.profile.Profile.TheVariants.{One, Two}
+use Rattle.span_context.specs.declared.profile.Profile.{Profile}
+use Rattle.span_context.specs.declared.profile.Profile.TheVariants.{One, Two}
 use Rattle.session_lines.specs.Commands.{Command, name_of, subscribe, pull, close, read, Number, IsCount, Count, IsFewChanges, FewChanges, OneWord, CommandForm, Grants, IsAsked}
 use Rattle.session_lines.specs.Reading.{small, small_number, is_count, is_few_changes, is_one_word, from_at, program_at, subscribe_at, pull_at, close_at, show_at, changes_at, newest_at, query_at, words_at, command_at}
 use Rattle.session_lines.specs.declared.query.Query.TheVariants.{Latest, Show, Changes, Newest}

@@ -6,9 +6,9 @@ use Rattle.std.proofs.KnownBytes.{Consumes-nil, Consumes-trans}
 use Rattle.std.proofs.lemmas.List.{append-nil, map-append}
 use Rattle.std.proofs.lemmas.List.Concat.{flat_map-append}
 use Rattle.std.proofs.lemmas.List.Elements.{All-push, All-cons}
-use Rattle.change_ops.specs.Changes.{Edit}
+use Rattle.change_ops.specs.Changes.{Change}
 use Rattle.change_ops.specs.declared.refusal.ChangeError.{ChangeError}
-use Rattle.session_lines.specs.Lines.{Input, IsLine, Arrives, joined}
+use Rattle.session_lines.specs.Lines.{LineReader, IsLine, Arrives, joined}
 use Rattle.session_lines.specs.Changes.{is_header, right_header, followers, legible, text_of}
 use Rattle.session_lines.specs.Gathering.{IsSettled, KeepsLine, IsReadAs, Gathers}
 use Rattle.session_lines.specs.Requests.{changed, IsRead, ChangeLines, change, cut, long_within, GoesOn}
@@ -19,7 +19,7 @@ use Rattle.session_lines.specs.declared.request.Gathered.TheVariants.{AllThere, 
 use Rattle.session_lines.specs.declared.request.Next.{Next}
 use Rattle.session_lines.specs.declared.request.Next.TheVariants as next
 
--- so many lines were gathered; the text is that of all of them, or what is read of it is settled by some of them
+-- `count` lines were gathered; the text is that of all of them, or what is read of it is settled by some of them
 pub record GatheredSoFar (settled : Bool) (count : ℕ) (old : Option (List ℕ)) (had : List ℕ) (now : Option (List ℕ)) (text : List ℕ) : Type 0 where
   pub lines : List (List ℕ)
   pub are_lines : All IsLine lines
@@ -59,7 +59,7 @@ one_more had line lines =
     let all : text_of (lines ++ line ∷ []) ≡ text_of lines ++ (legible line ++ 10 ∷ []) = ap joined mapped ∙ one_joined (map legible lines) (legible line) in
     ap (λ (t : List ℕ). had ++ t) all ∙ sym (append_assoc had (text_of lines) (legible line ++ 10 ∷ []))
 
-pub gathered_more : (settled next : Bool) (count : ℕ) (old now : Option (List ℕ)) (new : Input) (had text longer : List ℕ) → GatheredSoFar settled count old had now text
+pub gathered_more : (settled next : Bool) (count : ℕ) (old now : Option (List ℕ)) (new : LineReader) (had text longer : List ℕ) → GatheredSoFar settled count old had now text
     → Arrives now arrival.Whole new → KeepsLine settled text (legible new.line ++ 10 ∷ []) next longer → GatheredSoFar next (count + 1) old had new.left longer
 gathered_more true next count old now new had text longer g a e = record {
   lines = g.lines ++ new.line ∷ [];
@@ -96,7 +96,7 @@ gathered_all settled count i old now had text g e = record {
   ends = (g.many ∙ e, refl);
 }
 
-pub gathered_cut : (settled : Bool) (count i : ℕ) (old now : Option (List ℕ)) (new : Input) (had text : List ℕ) → GatheredSoFar settled i old had now text → i < count → Arrives now arrival.Unended new
+pub gathered_cut : (settled : Bool) (count i : ℕ) (old now : Option (List ℕ)) (new : LineReader) (had text : List ℕ) → GatheredSoFar settled i old had now text → i < count → Arrives now arrival.Unended new
     → Gathers count old had Cut new.left text
 gathered_cut settled count i old now new had text g lt a = record {
   lines = g.lines;
@@ -107,7 +107,7 @@ gathered_cut settled count i old now new had text g lt a = record {
   ends = (subst (λ (n : ℕ). n < count) (sym g.many) lt, a.shape.0, over_since old now new.left (joined g.lines) g.front a.shape.3);
 }
 
-pub gathered_end : (settled : Bool) (count i : ℕ) (old now : Option (List ℕ)) (new : Input) (had text : List ℕ) → GatheredSoFar settled i old had now text → i < count → Arrives now arrival.End new
+pub gathered_end : (settled : Bool) (count i : ℕ) (old now : Option (List ℕ)) (new : LineReader) (had text : List ℕ) → GatheredSoFar settled i old had now text → i < count → Arrives now arrival.End new
     → Gathers count old had Cut new.left text
 gathered_end settled count i old now new had text g lt a = record {
   lines = g.lines;
@@ -118,7 +118,7 @@ gathered_end settled count i old now new had text g lt a = record {
   ends = (subst (λ (n : ℕ). n < count) (sym g.many) lt, record { one = tt; short = omega arith }, over_since old now new.left (joined g.lines) g.front a.shape.1);
 }
 
-pub gathered_long : (settled : Bool) (count i : ℕ) (old now : Option (List ℕ)) (new : Input) (had text : List ℕ) → GatheredSoFar settled i old had now text → i < count → Arrives now arrival.TooLong new
+pub gathered_long : (settled : Bool) (count i : ℕ) (old now : Option (List ℕ)) (new : LineReader) (had text : List ℕ) → GatheredSoFar settled i old had now text → i < count → Arrives now arrival.TooLong new
     → Gathers count old had TooLong new.left text
 gathered_long settled count i old now new had text g lt a = record {
   lines = g.lines;
@@ -138,14 +138,14 @@ change_front old left new line last lines f g =
 lines_of : (line : List ℕ) (lines : List (List ℕ)) → IsLine line → All IsLine lines → IsTrue (is_header line) → ChangeLines line lines
 lines_of line lines h all first = record { first = first; are_lines = All-cons IsLine line lines h all }
 
-pub goes_on_all : (count : ℕ) (left new : Option (List ℕ)) (line text : List ℕ) (what : Next) (read : Result Edit ChangeError) → count ≡ followers (right_header line)
+pub goes_on_all : (count : ℕ) (left new : Option (List ℕ)) (line text : List ℕ) (what : Next) (read : Result Change ChangeError) → count ≡ followers (right_header line)
     → Gathers count left (legible line ++ 10 ∷ []) AllThere new text → IsRead text read → what ≡ changed read → GoesOn line left what new
 goes_on_all count left new line text what read e g r is = λ old h first front.
     change line g.lines read (lines_of line g.lines h g.are_lines first) (g.ends.0 ∙ e)
     (subst (Consumes old new) (append-nil (joined (line ∷ g.lines))) (change_front old left new line [] g.lines front (subst (λ (l : List ℕ). Consumes left new (joined g.lines ++ l)) g.ends.1 g.front)))
     (g.read read r) is
 
-pub goes_on_cut : (count : ℕ) (left new : Option (List ℕ)) (line text : List ℕ) (what : Next) (read : Result Edit ChangeError) → count ≡ followers (right_header line)
+pub goes_on_cut : (count : ℕ) (left new : Option (List ℕ)) (line text : List ℕ) (what : Next) (read : Result Change ChangeError) → count ≡ followers (right_header line)
     → Gathers count left (legible line ++ 10 ∷ []) Cut new text → IsRead text read → what ≡ changed read → GoesOn line left what new
 goes_on_cut count left new line text what read e g r is = λ old h first front.
     cut line g.lines g.last read (lines_of line g.lines h g.are_lines first) (subst (λ (n : ℕ). length g.lines < n) e g.ends.0) g.ends.1
@@ -166,10 +166,10 @@ module _ (count : ℕ) (left new : Option (List ℕ)) (line lent had text : List
   first_text : had ≡ legible line ++ 10 ∷ []
   first_text = begun ∙ ap (λ (l : List ℕ). legible l ++ 10 ∷ []) is
 
-  pub lent_all : (what : Next) (read : Result Edit ChangeError) → Gathers count left had AllThere new text → IsRead text read → what ≡ changed read → GoesOn line left what new
+  pub lent_all : (what : Next) (read : Result Change ChangeError) → Gathers count left had AllThere new text → IsRead text read → what ≡ changed read → GoesOn line left what new
   lent_all what read g r e = goes_on_all count left new line text what read first_count (subst (λ (t : List ℕ). Gathers count left t AllThere new text) first_text g) r e
 
-  pub lent_cut : (what : Next) (read : Result Edit ChangeError) → Gathers count left had Cut new text → IsRead text read → what ≡ changed read → GoesOn line left what new
+  pub lent_cut : (what : Next) (read : Result Change ChangeError) → Gathers count left had Cut new text → IsRead text read → what ≡ changed read → GoesOn line left what new
   lent_cut what read g r e = goes_on_cut count left new line text what read first_count (subst (λ (t : List ℕ). Gathers count left t Cut new text) first_text g) r e
 
   pub lent_long : Gathers count left had TooLong new text → GoesOn line left next.TooLong new

@@ -39,7 +39,7 @@ begun old new had line room n h a fits =
     empty (x ∷ xs) [] e = ap (λ (zs : List ℕ). x ∷ zs) (empty xs [] e)
     empty xs (y ∷ ys) e = absurd (omega arith)
 
--- ---- how it stands
+-- ---- what comes of a line
 pub remains : (n : ℕ) (xs : List ℕ) → IsBegun n xs → length xs ≤ 70000 → 0 < length xs → get_or xs (length xs - 1) 0 ≢ 10 → IsRemainder xs
 remains n xs b few some last = record {
   one = unended_each xs (λ k lt. elim (cases_lt k (length xs - 1)) [

@@ -1,6 +1,6 @@
 -- What is read of a text, where it doesn't wait for further lines, is read of it with more behind it too.
 use Rattle.std.proofs.Common.{◌≡◌, ℕ, ◌-◌, ◌⊎◌, List, [], ◌∷◌, ◌++◌, Result, Ok, Err, inl, inr, sym, ap, ◌∙◌, append_assoc}
-use Rattle.change_ops.specs.Changes.{Edit}
+use Rattle.change_ops.specs.Changes.{Change}
 use Rattle.change_ops.specs.Lines.{count_of}
 use Rattle.change_ops.specs.Spelling.{change_text}
 use Rattle.change_ops.specs.Refusals.{Line, Accepted, AcceptedLines, Reached, IsRefused}
@@ -67,7 +67,7 @@ refused_on text (CharRefused number) more settled r = fault_on text more number 
 refused_on text (WrongPeer number) more settled r = fault_on text more number _ _ r
 refused_on text OutOfMemory more settled r = r
 
-pub read_on : (text more : List ℕ) (read : Result Edit ChangeError) → IsSettled text → IsRead text read → IsRead (text ++ more) read
+pub read_on : (text more : List ℕ) (read : Result Change ChangeError) → IsSettled text → IsRead text read → IsRead (text ++ more) read
 read_on text more (Ok change) settled r = (r.0 ++ more, (r.1.0, ap (λ t. t ++ more) r.1.1 ∙ append_assoc (change_text change) r.0 more))
 read_on text more (Err e) settled (inl none) = inl none
 read_on text more (Err e) settled (inr r) = inr (refused_on text e more settled r)

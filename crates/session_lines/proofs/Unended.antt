@@ -35,7 +35,7 @@ unended_short n xs le h =
     let other : get_or (take (n - 1) xs) k 0 ≡ get_or xs k 0 = get_or-take (n - 1) xs k 0 j in
     ne_eqb (get_or (take (n - 1) (take n xs)) k 0) 10 (λ e. each_unended (take (n - 1) xs) k h (omega (arith, length-take (n - 1) xs)) (other ∙ sym there ∙ sym here ∙ e)))
 
--- what stands before the first LF of the first bytes
+-- what is before the first LF of the first bytes
 pub before_feed : (xs : List ℕ) (m i : ℕ) → m ≤ length xs → position (λ b. eqb b 10) (take m xs) ≡ Some i → IsUnended (take (i + 1 - 1) xs)
 before_feed xs m i le e =
     let h = position-Some (λ b. eqb b 10) (take m xs) i 0 e in

@@ -3,8 +3,8 @@ use Rattle.std.specs.Prelude.{◌≡◌, ◌≢◌, ℕ, ◌^◌, ◌<◌, ◌�
 use Rattle.std.specs.List.{AllByRecursion}
 use Rattle.hex.specs.Hex.{decode_of}
 use Rattle.hex.specs.declared.error.FromHexError.{FromHexError}
-use Rattle.bpf_words.specs.declared.profile.Profile.{Profile}
-use Rattle.bpf_words.specs.declared.profile.Profile.TheVariants.{One, Two}
+use Rattle.span_context.specs.declared.profile.Profile.{Profile}
+use Rattle.span_context.specs.declared.profile.Profile.TheVariants.{One, Two}
 use Rattle.change_ops.specs.Forms.{Numeral, Word, ◌⎵◌}
 use Rattle.session_lines.specs.declared.request.SessionRequest.{SessionRequest}
 use Rattle.session_lines.specs.declared.request.SessionRequest.TheVariants.{Subscribe, Pull, Close, Read}

@@ -1,7 +1,7 @@
 -- How the lines behind a change's first line are gathered.
 use Rattle.std.specs.Prelude.{◌≡◌, ℕ, ◌<◌, Bool, true, false, List, [], ◌++◌, length, All, Option, Result}
 use Rattle.std.specs.Io.KnownBytes.{Consumes}
-use Rattle.change_ops.specs.Changes.{Edit}
+use Rattle.change_ops.specs.Changes.{Change}
 use Rattle.change_ops.specs.Refusals.{IsRefused}
 use Rattle.change_ops.specs.declared.refusal.ChangeError.{ChangeError}
 use Rattle.change_ops.specs.declared.refusal.ChangeError.TheVariants.{Truncated}
@@ -11,7 +11,7 @@ use Rattle.session_lines.specs.Changes.{text_of}
 use Rattle.session_lines.specs.declared.request.Gathered.{Gathered}
 use Rattle.session_lines.specs.declared.request.Gathered.TheVariants.{AllThere, Cut, TooLong}
 
--- so many lines were wanted: these came, and then this
+-- `wanted` lines were wanted: these came, and then this
 abbrev pub Ends : Gathered → ℕ → List (List ℕ) → List ℕ → Option (List ℕ) → Option (List ℕ) → Type 0
 Ends AllThere wanted lines last old new = (length lines ≡ wanted) × (last ≡ [])
 Ends Cut wanted lines last old new = (length lines < wanted) × IsRemainder last × IsOver old new
@@ -28,7 +28,7 @@ KeepsLine false text line settled text' = (text' ≡ text ++ line) × (settled �
 
 -- whatever the first text is read as, the second one is
 abbrev pub IsReadAs : List ℕ → List ℕ → Type 0
-IsReadAs text whole = (read : Result Edit ChangeError) → IsRead text read → IsRead whole read
+IsReadAs text whole = (read : Result Change ChangeError) → IsRead text read → IsRead whole read
 
 -- an input had these bytes left, and the change a text that is read as this one
 pub record Gathers (wanted : ℕ) (old : Option (List ℕ)) (had : List ℕ) (gathered : Gathered) (new : Option (List ℕ))

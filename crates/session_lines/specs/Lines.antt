@@ -6,7 +6,7 @@ use Rattle.session_lines.specs.declared.reader.Arrival.{Arrival}
 use Rattle.session_lines.specs.declared.reader.Arrival.TheVariants.{Whole, Unended, TooLong, End}
 
 -- an input: the line that was read last, and the bytes that are left, where they are known
-pub record Input : Type 0 where
+pub record LineReader : Type 0 where
   pub line : List ℕ
   pub left : Option (List ℕ)
 
@@ -30,14 +30,14 @@ abbrev pub IsOver : Option (List ℕ) → Option (List ℕ) → Type 0
 IsOver old new = OnSome old (IsAtEnd new)
 
 -- what these bytes of an input are, and the line among them
-abbrev pub Takes : Option (List ℕ) → Arrival → Input → List ℕ → Type 0
+abbrev pub Takes : Option (List ℕ) → Arrival → LineReader → List ℕ → Type 0
 Takes old Whole new taken = IsLine new.line × (taken ≡ new.line ++ 10 ∷ [])
 Takes old Unended new taken = IsRemainder new.line × (1 ≤ length new.line) × (taken ≡ new.line) × IsOver old new.left
 Takes old TooLong new taken = IsTooLong taken
 Takes old End new taken = (taken ≡ []) × IsOver old new.left
 
 -- this came next of an input that had some bytes left
-pub record Arrives (old : Option (List ℕ)) (arrival : Arrival) (new : Input) : Type 0 where
+pub record Arrives (old : Option (List ℕ)) (arrival : Arrival) (new : LineReader) : Type 0 where
   pub taken : List ℕ
   pub front : Consumes old new.left taken
   pub shape : Takes old arrival new taken

@@ -3,8 +3,8 @@ use Rattle.std.specs.Prelude.{ℕ, ◌+◌, ◌*◌, ◌^◌, nat_lt, nat_le, �
 use Rattle.std.specs.Prelude.{codes, Option, Some, None}
 use Rattle.std.specs.List.{list_all}
 use Rattle.std.specs.Str.{bytes_eq}
-use Rattle.bpf_words.specs.declared.profile.Profile.{Profile}
-use Rattle.bpf_words.specs.declared.profile.Profile.TheVariants.{One, Two}
+use Rattle.span_context.specs.declared.profile.Profile.{Profile}
+use Rattle.span_context.specs.declared.profile.Profile.TheVariants.{One, Two}
 use Rattle.change_ops.specs.Ids.{checked}
 use Rattle.change_ops.specs.Words.{split, digit_of, number_in}
 use Rattle.change_ops.specs.Reading.{◌>>=◌}

@@ -2,7 +2,7 @@
 use Rattle.std.specs.Prelude.{◌≡◌, ℕ, ◌<◌, ◌≤◌, ◌⊎◌, IsTrue, IsFalse, List, [], ◌∷◌, ◌++◌, length, All, Option, Result}
 use Rattle.std.specs.Prelude.{Ok, Err, if◌then◌else◌}
 use Rattle.std.specs.Io.KnownBytes.{Consumes}
-use Rattle.change_ops.specs.Changes.{Edit}
+use Rattle.change_ops.specs.Changes.{Change}
 use Rattle.change_ops.specs.Refusals.{IsRefused}
 use Rattle.change_ops.specs.Spelling.{Spells}
 use Rattle.change_ops.specs.declared.refusal.ChangeError.{ChangeError}
@@ -21,12 +21,12 @@ abbrev pub answered : Result SessionRequest LineRefusal → Next
 answered (Ok request) = Request request
 answered (Err refusal) = Refused refusal
 
-abbrev pub changed : Result Edit ChangeError → Next
+abbrev pub changed : Result Change ChangeError → Next
 changed (Ok change) = Request (asked.Change change)
 changed (Err error) = Refused (BadChange error)
 
 -- a text is read as the change that it begins with, or refused
-abbrev pub IsRead : List ℕ → Result Edit ChangeError → Type 0
+abbrev pub IsRead : List ℕ → Result Change ChangeError → Type 0
 IsRead text (Ok change) = (rest : List ℕ) × Spells text change rest
 IsRead text (Err error) = (error ≡ reading.OutOfMemory) ⊎ IsRefused text error
 
@@ -41,11 +41,11 @@ pub data IsNext (old : Option (List ℕ)) (next : Next) (new : Option (List ℕ)
   command : (line : List ℕ) (answer : Result SessionRequest LineRefusal) → IsLine line → IsFalse (is_header line)
       → Consumes old new (line ++ 10 ∷ []) → IsAsked line answer → next ≡ answered answer → IsNext old next new
   -- a change: its first line, and as many as follow that
-  change : (header : List ℕ) (others : List (List ℕ)) (read : Result Edit ChangeError) → ChangeLines header others
+  change : (header : List ℕ) (others : List (List ℕ)) (read : Result Change ChangeError) → ChangeLines header others
       → length others ≡ followers (right_header header) → Consumes old new (joined (header ∷ others))
       → IsRead (text_of (header ∷ others)) read → next ≡ changed read → IsNext old next new
   -- the input ends within a change
-  cut : (header : List ℕ) (others : List (List ℕ)) (last : List ℕ) (read : Result Edit ChangeError)
+  cut : (header : List ℕ) (others : List (List ℕ)) (last : List ℕ) (read : Result Change ChangeError)
       → ChangeLines header others
       → length others < followers (right_header header) → IsRemainder last
       → Consumes old new (joined (header ∷ others) ++ last) → IsOver old new

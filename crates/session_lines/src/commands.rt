@@ -13,7 +13,7 @@ use crate::fault::LineRefusal;
 use crate::query::Query;
 use crate::request::SessionRequest;
 use crate::words::{is_one_word, number, word_of};
-use bpf_words::profile::Profile;
+use span_context::profile::Profile;
 use std::alloc::Global;
 
 const SUBSCRIBE: &[u8] = b"sub";

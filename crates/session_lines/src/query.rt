@@ -3,13 +3,13 @@
 pub enum Query {
     /// The number of the latest version.
     Latest,
-    /// So many spans of a version, from this one on, 1 to 1,024.
+    /// `count` spans of a version, from this one on, 1 to 1,024.
     Show {
         version: u64,
         first: u64,
         count: u64,
     },
-    /// So many accepted changes behind this version, 1 to 64.
+    /// `count` accepted changes behind this version, 1 to 64.
     Changes {
         from: u64,
         count: u64,

@@ -35,16 +35,16 @@ pub struct LineReader<R: Read> {
 
 impl<R: Read> Model for LineReader<R> {
     ghost use Rattle.std.specs.Io.Buffered.{reader_remaining};
-    ghost use Rattle.session_lines.specs.Lines.{Input};
+    ghost use Rattle.session_lines.specs.Lines.{LineReader as LineReaderValue};
 
-    ghost Value = { Input };
+    ghost Value = { LineReaderValue };
 
     ghost view = { λ r. record { line = r.line.items; left = reader_remaining R.remaining r.reader } };
 }
 
 /// Where the first LF is.
 fn feed_in(bytes: &[u8]) -> Option<usize>
-    ensures place { result ≡ position (λ b. b == 10) bytes.now }
+    ensures index { result ≡ position (λ b. b == 10) bytes.now }
     ensures bound { IfSome result (λ at. at < length bytes.now) }
 {
     bytes.iter().position(|byte| *byte == b'\n')
@@ -81,7 +81,7 @@ fn append_part<B: BufRead>(reader: &mut B, room: usize, line: &mut Vec<u8>) -> i
 }
 
 #[tactic(auto, using(crate::proofs::Lining::remains, crate::proofs::Lining::a_line, crate::proofs::Lining::too_long))]
-/// How a line stands whose last part had so many bytes, if it is read; its LF is then taken away.
+/// What comes of a line whose last part had `part` bytes, if it is read; its LF is then taken away.
 fn arrival_of(line: &mut Vec<u8>, part: usize) -> Option<Arrival>
     requires { IsBegun part line.old.items }
     ensures { Stands part line.old.items result line.new.items }
@@ -130,7 +130,7 @@ fn read_line<B: BufRead>(reader: &mut B, line: &mut Vec<u8>) -> io::Result<Arriv
 }
 
 impl<R: Read> LineReader<R> {
-    ghost use Rattle.session_lines.specs.Lines.{Input, Arrives};
+    ghost use Rattle.session_lines.specs.Lines.{Arrives};
 
     /// The reader of the lines of an input; the error is want of memory.
     pub fn new(alloc: Global, reader: R) -> io::Result<LineReader<R>>
@@ -150,7 +150,7 @@ impl<R: Read> LineReader<R> {
         self.line.as_slice()
     }
 
-    /// Reads the next line. After an error the input stands somewhere within a line.
+    /// Reads the next line. After an error the input may be left within a line.
     pub fn advance(&mut self) -> io::Result<Arrival>
         ensures { IfOk result (λ arrival. Arrives self.old.left arrival self.new) }
     {

@@ -2,13 +2,13 @@
 ghost use Rattle.std.specs.Prelude.{◌≡◌, ◌≤◌, ◌+◌, ◌++◌, ◌∷◌, [], OnOk, OnErr, length, string_bytes, string_len};
 ghost use Rattle.std.specs.String.{string_capacity};
 ghost use Rattle.std.specs.Fmt.{decimal};
-ghost use Rattle.refusals.specs.Reasons.{place_text};
+ghost use Rattle.refusals.specs.Reasons.{location_text};
 ghost use Rattle.session_lines.specs.Replies.{reply_text, reason_of};
 ghost use Rattle.session_lines.specs.declared.reply.Reply.TheVariants as told;
 
 use crate::fault::LineRefusal;
 use itoa::Buffer;
-use refusals::reason::{Place, Reason};
+use refusals::reason::{Location, Reason};
 use std::alloc::AllocError;
 
 /// A line that answers a request.
@@ -24,20 +24,20 @@ pub enum Reply {
         span: usize,
         verdict: u64,
     },
-    /// An item: the end of a version that has so many spans.
+    /// An item: the end of a version, and the count of its spans.
     End {
         version: u64,
         spans: usize,
     },
-    /// So many items were taken.
+    /// The count of the items that were taken.
     Items(usize),
     /// The subscriber of this id is closed.
     Closed(usize),
     /// The latest version has this number.
     Latest(u64),
-    /// The version has so many spans.
+    /// The count of the version's spans.
     Spans(usize),
-    /// So many changes were read.
+    /// The count of the changes that were read.
     Changes(usize),
     /// The greatest counter of the peer's accepted operations, 0 where it has none.
     Newest(u64),
@@ -76,18 +76,18 @@ fn append_number(out: &mut String, word: &str, number: u64)
     append(out, digits.format(number));
 }
 
-/// Appends where a fault stands, for which there is room.
-fn append_place(out: &mut String, place: Place)
+/// Appends where a fault is, for which there is room.
+fn append_location(out: &mut String, location: Location)
     requires { string_len out.old + 46 ≤ string_capacity out.old }
-    ensures bytes { string_bytes out.new ≡ string_bytes out.old ++ place_text place }
+    ensures bytes { string_bytes out.new ≡ string_bytes out.old ++ location_text location }
     ensures len { string_len out.new ≤ string_len out.old + 46 }
     ensures capacity { string_capacity out.old ≤ string_capacity out.new }
 {
     let mut digits = Buffer::new();
-    match place {
-        Place::Whole => {}
-        Place::Slot(slot) => append_number(out, " slot ", slot as u64),
-        Place::Line(line) => {
+    match location {
+        Location::Whole => {}
+        Location::Slot(slot) => append_number(out, " slot ", slot as u64),
+        Location::Line(line) => {
             append(out, " line ");
             append(out, digits.format(line));
         }
@@ -143,7 +143,7 @@ fn push_refusal(out: &mut String, reason: Reason) -> Result<(), AllocError>
     out.reserve(title.len() + REFUSAL_ROOM)?;
     append(out, "no ");
     append(out, title);
-    append_place(out, reason.place());
+    append_location(out, reason.location());
     append(out, "\n");
     Ok(())
 }

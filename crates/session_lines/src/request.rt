@@ -1,6 +1,6 @@
 //! The requests of a session.
 ghost use Rattle.std.specs.Prelude.{◌≡◌, ◌++◌, ◌∷◌, [], Result, IfOk, IsTrue, if◌then◌else◌, string_bytes};
-ghost use Rattle.change_ops.specs.Changes.{Edit};
+ghost use Rattle.change_ops.specs.Changes.{Change};
 ghost use Rattle.change_ops.specs.declared.refusal.ChangeError.{ChangeError};
 ghost use Rattle.change_ops.specs.declared.refusal.ChangeError.TheVariants as reading;
 ghost use Rattle.session_lines.specs.declared.fault.LineRefusal.TheVariants as why;
@@ -13,9 +13,9 @@ use crate::commands::command_of;
 use crate::fault::{LineRefusal, ReadFault};
 use crate::query::Query;
 use crate::reader::{Arrival, LineReader};
-use bpf_words::profile::Profile;
 use change_ops::change::{Change, read_change};
 use change_ops::refusal::ChangeError;
+use span_context::profile::Profile;
 use std::alloc::{AllocError, Global};
 use std::io::Read;
 
@@ -61,7 +61,7 @@ pub enum Next {
     End,
 }
 
-/// How the lines behind a change's first line stand.
+/// What came of the lines behind a change's first line.
 #[derive(Clone, Copy)]
 enum Gathered {
     /// All are there.
@@ -133,7 +133,7 @@ fn keep_line(
 }
 
 #[tactic(auto, using(crate::proofs::Gatherings::gathered_none, crate::proofs::Gatherings::gathered_more, crate::proofs::Gatherings::gathered_all, crate::proofs::Gatherings::gathered_cut, crate::proofs::Gatherings::gathered_end, crate::proofs::Gatherings::gathered_long))]
-/// Reads so many lines, and appends them to the text of a change, as far as what is read of it needs them.
+/// Reads `count` lines, and appends them to the text of a change, as far as what is read of it needs them.
 fn gather<R: Read>(
     alloc: Global,
     reader: &mut LineReader<R>,
@@ -156,7 +156,7 @@ fn gather<R: Read>(
 
 /// What the text of a change's lines is read as.
 fn change_of(alloc: Global, text: &str) -> Next
-    ensures { (read : Result Edit ChangeError) × IsRead text.now read × (result ≡ changed read) }
+    ensures { (read : Result Change ChangeError) × IsRead text.now read × (result ≡ changed read) }
 {
     match read_change(alloc, text) {
         Ok((change, _)) => Next::Request(SessionRequest::Change(change)),

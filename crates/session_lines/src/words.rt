@@ -6,7 +6,7 @@ ghost use Rattle.session_lines.specs.Reading.{small, with_digit, is_one_word};
 
 /// Where a line's first space is.
 fn space_in(line: &[u8]) -> Option<usize>
-    ensures place { result ≡ position (λ b. b == 32) line.now }
+    ensures index { result ≡ position (λ b. b == 32) line.now }
     ensures bound { IfSome result (λ at. at < length line.now) }
 {
     line.iter().position(|byte| *byte == b' ')

@@ -1,16 +1,16 @@
 -- What a session is shown of the text.
 use Rattle.std.specs.Prelude.{◌≡◌, ℕ, ◌<◌, ◌≤◌, Some, None, List, [], length, take, drop, slice_get, Bool, true, false}
 use Rattle.std.specs.List.{flat_map}
-use Rattle.change_ops.specs.Changes.{Edit}
+use Rattle.change_ops.specs.Changes.{Change}
 use Rattle.change_ops.specs.Spelling.{change_text}
 use Rattle.change_ops.specs.declared.refusal.ChangeError.TheVariants as change
 use Rattle.char_sequence.specs.Newest.{IsLastCounter}
-use Rattle.span_flatten.specs.Version.{Snapshot}
+use Rattle.span_flatten.specs.Version.{Version}
 use Rattle.span_lines.specs.SpanLines.{some_lines}
 use Rattle.version_history.specs.Tokens.{Token}
 use Rattle.change_history.specs.Accepted.{operations_of}
-use Rattle.hub_core.specs.Machine.{State}
-use Rattle.subscriber_queues.specs.Queue.{Sending}
+use Rattle.hub_core.specs.Machine.{Core}
+use Rattle.subscriber_queues.specs.Queue.{QueueSink}
 use Rattle.ingest_workers.specs.Holdings.{InOneHolding}
 use Rattle.refusals.specs.declared.reason.Reason.TheVariants as reason
 use Rattle.session_lines.specs.declared.query.Query.{Query}
@@ -19,23 +19,23 @@ use Rattle.session_lines.specs.declared.reply.Reply.{Reply}
 use Rattle.session_lines.specs.declared.reply.Reply.TheVariants as reply
 
 -- in one holding of the lock, which changed nothing, this was so of the hub
-abbrev pub WasSo : (State Sending → Type 0) → Type 0
+abbrev pub WasSo : (Core QueueSink → Type 0) → Type 0
 WasSo fact = InOneHolding (λ old new. (new ≡ old) × fact old)
 
--- so many spans of a version, from one of them on, and how many it has; or no version had the number
+-- `most` spans of a version, from one of them on, and how many it has; or no version had the number
 abbrev pub Shows : ℕ → ℕ → ℕ → List ℕ → Reply → Type 0
 Shows number first most text (reply.Spans count) =
-    (token : Token Snapshot) × WasSo (λ s. slice_get s.versions number ≡ Some token)
+    (token : Token Version) × WasSo (λ s. slice_get s.versions number ≡ Some token)
     × (text ≡ some_lines first most token.value) × (count ≡ length token.value.rows)
 Shows number first most text (reply.Refused reason.NoVersion) =
     WasSo (λ s. slice_get s.versions number ≡ None) × (text ≡ [])
 Shows number first most text _ = ⊥
 
 -- the texts of changes, one behind the other, and how many they are
-abbrev pub AreTexts : List Edit → List ℕ → ℕ → Type 0
+abbrev pub AreTexts : List Change → List ℕ → ℕ → Type 0
 AreTexts changes text count = (text ≡ flat_map change_text changes) × (count ≡ length changes)
 
--- the accepted changes behind a version, so many or as many as there were; or no version had the number
+-- the accepted changes behind a version, `most` or as many as there were; or no version had the number
 abbrev pub Lists : ℕ → ℕ → List ℕ → Reply → Type 0
 Lists from most text (reply.Changes count) =
     WasSo (λ s. (from ≤ length s.changes) × AreTexts (take most (drop from s.changes)) text count)

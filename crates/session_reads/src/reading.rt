@@ -15,7 +15,7 @@ use std::sync::Wait;
 use std::sync::ledger::Ledger;
 use version_history::published::{Naming, Published};
 
-/// So many spans of a version, from one of them on.
+/// `most` spans of a version, from one of them on.
 fn show<'a, N: Naming + Ledger, R: Wait + Copy>(
     rt: &R,
     hub: &Hub<'_, N, R>,
@@ -41,7 +41,7 @@ fn show<'a, N: Naming + Ledger, R: Wait + Copy>(
     }
 }
 
-/// So many accepted changes behind a version.
+/// `most` accepted changes behind a version.
 fn list<'a, N: Naming + Ledger, R: Wait + Copy>(
     rt: &R,
     hub: &Hub<'_, N, R>,

@@ -3,63 +3,63 @@ use Rattle.std.proofs.Common.{◌≡◌, ℕ, ◌<◌, ◌==◌, List, [], Resul
 use Rattle.std.specs.Prelude.{Option, Some, None, IfOk, IfErr, OnErr, Bool, IsTrue, ◌↔◌}
 use Rattle.std.proofs.lemmas.List.Quantifiers.{position-Some}
 use Rattle.std.proofs.lemmas.Option.{slice_get_read}
-use Rattle.bpf_words.specs.declared.profile.Profile.{Profile}
+use Rattle.span_context.specs.declared.profile.Profile.{Profile}
 use Rattle.bpf_words.specs.Words.{IsProgram, program_of}
-use Rattle.meaning.specs.Step.{Program}
-use Rattle.meaning.specs.Safe.{SafeIn}
-use Rattle.batches.specs.Orderly.{IsOrderly}
-use Rattle.batches.specs.Promise.{Promise, IsPromised, Suits}
-use Rattle.subscriber_queues.specs.Queue.{Taking}
+use Rattle.semantics.specs.Step.{Program}
+use Rattle.semantics.specs.Safe.{SafeIn}
+use Rattle.feeds.specs.Orderly.{IsOrderly}
+use Rattle.feeds.specs.Promise.{Promise, IsPromised, Suits}
+use Rattle.subscriber_queues.specs.Queue.{Subscription}
 use Rattle.ingest_workers.specs.Holdings.{InOneHolding}
 use Rattle.refusals.specs.declared.reason.Reason.TheVariants as reason
 use Rattle.session_lines.specs.declared.reply.Reply.{Reply}
 use Rattle.session_lines.specs.declared.reply.Reply.TheVariants.{Refused}
 use Rattle.session_subscribers.specs.Items.{TakesShort}
-use Rattle.session_subscribers.specs.Holding.{Watched, place_in, AreSafe, Pulls, PullsAny, PullsShort}
+use Rattle.session_subscribers.specs.Holding.{Held, index_in, AreSafe, Pulls, PullsAny, PullsShort}
 
-pub place_within : (held : List Watched) (some : Watched) (id place : ℕ) → place_in held id ≡ Some place → place < length held
-place_within held some id place there = (position-Some (λ one. one.id == id) held place some there).0
+pub index_within : (held : List Held) (some : Held) (id index : ℕ) → index_in held id ≡ Some index → index < length held
+index_within held some id index there = (position-Some (λ one. one.id == id) held index some there).0
 
-pub pulled : (id count place : ℕ) (held : List Watched) (one : Watched) (items : Taking) (out out' : List ℕ) (answer : Reply) → place_in held id ≡ Some place → one ≡ get_or held place one
-    → Pulls count one.items items out out' answer → IsOrderly items.taken → IsPromised items.promise items.taken → PullsAny id count held (set held place (record one { items = items })) out out' answer
-pulled id count place held one items out out' answer there read pulls orderly promised = inl (record {
-  place = place;
+pub pulled : (id count index : ℕ) (held : List Held) (one : Held) (items : Subscription) (out out' : List ℕ) (answer : Reply) → index_in held id ≡ Some index → one ≡ get_or held index one
+    → Pulls count one.items items out out' answer → IsOrderly items.taken → IsPromised items.promise items.taken → PullsAny id count held (set held index (record one { items = items })) out out' answer
+pulled id count index held one items out out' answer there read pulls orderly promised = inl (record {
+  index = index;
   there = there;
   one = one;
-  is = slice_get_read held (length held) place one refl (place_within held one id place there) read;
+  is = slice_get_read held (length held) index one refl (index_within held one id index there) read;
   items = items;
   others = refl;
   orderly = orderly;
-  promised = subst (λ p. IsPromised p items.taken) (ap (λ (e : Taking). e.promise) pulls.takes.next) promised;
+  promised = subst (λ p. IsPromised p items.taken) (ap (λ (e : Subscription). e.promise) pulls.takes.next) promised;
   pulls = pulls;
 })
 
-pub pulled_short : (id count place : ℕ) (held : List Watched) (one : Watched) (items : Taking) (out out' : List ℕ) → place_in held id ≡ Some place → one ≡ get_or held place one
-    → TakesShort count one.items items out out' → IsOrderly items.taken → IsPromised items.promise items.taken → PullsShort id count held (set held place (record one { items = items })) out out'
-pulled_short id count place held one items out out' there read takes orderly promised = record {
-  place = place;
+pub pulled_short : (id count index : ℕ) (held : List Held) (one : Held) (items : Subscription) (out out' : List ℕ) → index_in held id ≡ Some index → one ≡ get_or held index one
+    → TakesShort count one.items items out out' → IsOrderly items.taken → IsPromised items.promise items.taken → PullsShort id count held (set held index (record one { items = items })) out out'
+pulled_short id count index held one items out out' there read takes orderly promised = record {
+  index = index;
   there = there;
   one = one;
-  is = slice_get_read held (length held) place one refl (place_within held one id place there) read;
+  is = slice_get_read held (length held) index one refl (index_within held one id index there) read;
   items = items;
   others = refl;
   orderly = orderly;
-  promised = subst (λ p. IsPromised p items.taken) (ap (λ (e : Taking). e.promise) takes.next) promised;
+  promised = subst (λ p. IsPromised p items.taken) (ap (λ (e : Subscription). e.promise) takes.next) promised;
   takes = takes;
 }
 
 -- what was answered to a pull of a subscriber that is held
-pub pulled_ok : {E : Type 0} (r : Result Reply E) (id count place : ℕ) (held : List Watched) (one : Watched) (items : Taking) (out out' : List ℕ) → place_in held id ≡ Some place → one ≡ get_or held place one
-    → IsOrderly items.taken → IsPromised items.promise items.taken → IfOk r (Pulls count one.items items out out') → IfOk r (PullsAny id count held (set held place (record one { items = items })) out out')
-pulled_ok (Ok answer) id count place held one items out out' there read orderly promised pulls = pulled id count place held one items out out' answer there read pulls orderly promised
-pulled_ok (Err e) id count place held one items out out' there read orderly promised pulls = tt
+pub pulled_ok : {E : Type 0} (r : Result Reply E) (id count index : ℕ) (held : List Held) (one : Held) (items : Subscription) (out out' : List ℕ) → index_in held id ≡ Some index → one ≡ get_or held index one
+    → IsOrderly items.taken → IsPromised items.promise items.taken → IfOk r (Pulls count one.items items out out') → IfOk r (PullsAny id count held (set held index (record one { items = items })) out out')
+pulled_ok (Ok answer) id count index held one items out out' there read orderly promised pulls = pulled id count index held one items out out' answer there read pulls orderly promised
+pulled_ok (Err e) id count index held one items out out' there read orderly promised pulls = tt
 
-pub pulled_err : {E : Type 0} (r : Result Reply E) (id count place : ℕ) (held : List Watched) (one : Watched) (items : Taking) (out out' : List ℕ) → place_in held id ≡ Some place → one ≡ get_or held place one
-    → IsOrderly items.taken → IsPromised items.promise items.taken → OnErr r (TakesShort count one.items items out out') → OnErr r (PullsShort id count held (set held place (record one { items = items })) out out')
-pulled_err (Ok answer) id count place held one items out out' there read orderly promised takes = tt
-pulled_err (Err e) id count place held one items out out' there read orderly promised takes = pulled_short id count place held one items out out' there read takes orderly promised
+pub pulled_err : {E : Type 0} (r : Result Reply E) (id count index : ℕ) (held : List Held) (one : Held) (items : Subscription) (out out' : List ℕ) → index_in held id ≡ Some index → one ≡ get_or held index one
+    → IsOrderly items.taken → IsPromised items.promise items.taken → OnErr r (TakesShort count one.items items out out') → OnErr r (PullsShort id count held (set held index (record one { items = items })) out out')
+pulled_err (Ok answer) id count index held one items out out' there read orderly promised takes = tt
+pulled_err (Err e) id count index held one items out out' there read orderly promised takes = pulled_short id count index held one items out out' there read takes orderly promised
 
-pub none_pulled : (id count : ℕ) (held : List Watched) (out : List ℕ) → place_in held id ≡ None → PullsAny id count held held out out (Refused reason.NoSubscriber)
+pub none_pulled : (id count : ℕ) (held : List Held) (out : List ℕ) → index_in held id ≡ None → PullsAny id count held held out out (Refused reason.NoSubscriber)
 none_pulled id count held out none = inr (record { none = none; same = refl; printed = refl; told = refl })
 
 -- the promise of a program's stream suits it from each version on, where none is named
@@ -75,7 +75,7 @@ suits_named promise program first number is named =
     subst (λ q. Suits q program number) (sym (is ∙ ap (λ (f : Option ℕ). Some (record { program = program; first = f })) named)) (refl, refl)
 
 -- what a test of a full hub found
-pub full : (test : Bool) → IsTrue test → InOneHolding (λ old new. (new ≡ old) × (IsTrue test ↔ (length old.subs ≡ 64))) → InOneHolding (λ old new. (new ≡ old) × (length old.subs ≡ 64))
+pub full : (test : Bool) → IsTrue test → InOneHolding (λ old new. (new ≡ old) × (IsTrue test ↔ (length old.subscribers ≡ 64))) → InOneHolding (λ old new. (new ≡ old) × (length old.subscribers ≡ 64))
 full test is found = (found.0, found.1, (found.2.0, found.2.1.0 is), found.3)
 
 -- the bytes of a program that was accepted

@@ -2,13 +2,13 @@
 use Rattle.std.proofs.Common.{◌≡◌, ℕ, ◌+◌, ◌<◌, ◌≤◌, List, [], ◌∷◌, ◌++◌, arith, refl, sym, ap, ◌∙◌, append_assoc, length-append}
 use Rattle.std.specs.Prelude.{Result, Ok, Err, OnErr}
 use Rattle.std.specs.List.{flat_map}
-use Rattle.batches.specs.Batches.{Entry}
-use Rattle.subscriber_queues.specs.Queue.{Taking}
+use Rattle.feeds.specs.Batches.{Item}
+use Rattle.subscriber_queues.specs.Queue.{Subscription}
 use Rattle.session_lines.specs.Replies.{reply_text}
 use Rattle.session_lines.specs.declared.reply.Reply.{Reply}
 use Rattle.session_subscribers.specs.Items.{item_reply, item_line, Takes, TakesShort}
 
-lines_of_both : (one more : List Entry) → flat_map item_line (one ++ more) ≡ flat_map item_line one ++ flat_map item_line more
+lines_of_both : (one more : List Item) → flat_map item_line (one ++ more) ≡ flat_map item_line one ++ flat_map item_line more
 lines_of_both [] more = refl
 lines_of_both (item ∷ one) more = ap (λ l. item_line item ++ l) (lines_of_both one more) ∙ sym (append_assoc (item_line item) (flat_map item_line one) (flat_map item_line more))
 
@@ -16,17 +16,17 @@ append_none : (l : List ℕ) → l ++ [] ≡ l
 append_none [] = refl
 append_none (x ∷ l) = ap (λ m. x ∷ m) (append_none l)
 
-pub taken_both : (n m k : ℕ) (a b c : Taking) (out out' out'' : List ℕ) → k ≡ n + m → Takes n a b out out' → Takes m b c out' out'' → Takes k a c out out''
+pub taken_both : (n m k : ℕ) (a b c : Subscription) (out out' out'' : List ℕ) → k ≡ n + m → Takes n a b out out' → Takes m b c out' out'' → Takes k a c out out''
 taken_both n m k a b c out out' out'' is one two = record {
   items = one.items ++ two.items;
-  next = two.next ∙ ap (λ (e : Taking). record e { taken = e.taken ++ two.items }) one.next ∙ ap (λ l. record a { taken = l }) (append_assoc a.taken one.items two.items);
+  next = two.next ∙ ap (λ (e : Subscription). record e { taken = e.taken ++ two.items }) one.next ∙ ap (λ l. record a { taken = l }) (append_assoc a.taken one.items two.items);
   printed = two.printed ∙ ap (λ l. l ++ flat_map item_line two.items) one.printed ∙ append_assoc out (flat_map item_line one.items) (flat_map item_line two.items)
       ∙ ap (λ l. out ++ l) (sym (lines_of_both one.items two.items));
   many = omega (arith, length-append one.items two.items, one.many, two.many, is);
 }
 
 -- an item is taken and its line appended
-pub one_taken : (item : Entry) (reply : Reply) (a b : Taking) (out out' : List ℕ) → b ≡ record a { taken = a.taken ++ item ∷ [] } → reply ≡ item_reply item.what → out' ≡ out ++ (reply_text reply ++ 10 ∷ []) → Takes 1 a b out out'
+pub one_taken : (item : Item) (reply : Reply) (a b : Subscription) (out out' : List ℕ) → b ≡ record a { taken = a.taken ++ item ∷ [] } → reply ≡ item_reply item.what → out' ≡ out ++ (reply_text reply ++ 10 ∷ []) → Takes 1 a b out out'
 one_taken item reply a b out out' next is printed = record {
   items = item ∷ [];
   next = next;
@@ -35,23 +35,23 @@ one_taken item reply a b out out' next is printed = record {
 }
 
 -- after some items one is taken whose line isn't appended
-pub one_unshown : (n most : ℕ) (item : Entry) (a b c : Taking) (out out' out'' : List ℕ) → n < most → Takes n a b out out' → c ≡ record b { taken = b.taken ++ item ∷ [] } → out'' ≡ out'
+pub one_unshown : (n most : ℕ) (item : Item) (a b c : Subscription) (out out' out'' : List ℕ) → n < most → Takes n a b out out' → c ≡ record b { taken = b.taken ++ item ∷ [] } → out'' ≡ out'
     → TakesShort most a c out out''
 one_unshown n most item a b c out out' out'' lt taken next same = record {
   shown = taken.items;
   unshown = item ∷ [];
-  next = next ∙ ap (λ (e : Taking). record e { taken = e.taken ++ item ∷ [] }) taken.next ∙ ap (λ l. record a { taken = l }) (append_assoc a.taken taken.items (item ∷ []));
+  next = next ∙ ap (λ (e : Subscription). record e { taken = e.taken ++ item ∷ [] }) taken.next ∙ ap (λ l. record a { taken = l }) (append_assoc a.taken taken.items (item ∷ []));
   printed = same ∙ taken.printed;
   few = omega (arith, taken.many, lt);
   last = omega arith;
 }
 
 -- items are taken before
-pub taken_short : (n m most : ℕ) (a b c : Taking) (out out' out'' : List ℕ) → n + m ≤ most → Takes n a b out out' → TakesShort m b c out' out'' → TakesShort most a c out out''
+pub taken_short : (n m most : ℕ) (a b c : Subscription) (out out' out'' : List ℕ) → n + m ≤ most → Takes n a b out out' → TakesShort m b c out' out'' → TakesShort most a c out out''
 taken_short n m most a b c out out' out'' le one two = record {
   shown = one.items ++ two.shown;
   unshown = two.unshown;
-  next = two.next ∙ ap (λ (e : Taking). record e { taken = e.taken ++ (two.shown ++ two.unshown) }) one.next
+  next = two.next ∙ ap (λ (e : Subscription). record e { taken = e.taken ++ (two.shown ++ two.unshown) }) one.next
       ∙ ap (λ l. record a { taken = l }) (append_assoc a.taken one.items (two.shown ++ two.unshown) ∙ ap (λ l. a.taken ++ l) (sym (append_assoc one.items two.shown two.unshown)));
   printed = two.printed ∙ ap (λ l. l ++ flat_map item_line two.shown) one.printed ∙ append_assoc out (flat_map item_line one.items) (flat_map item_line two.shown)
       ∙ ap (λ l. out ++ l) (sym (lines_of_both one.items two.shown));

@@ -2,17 +2,17 @@
 use Rattle.std.specs.Prelude.{◌≡◌, ◌<◌, ◌≤◌, ◌⊎◌, ◌==◌, ℕ, Option, None, Some, Result, Ok, List, [], ◌∷◌, ◌++◌, length}
 use Rattle.std.specs.Prelude.{position, slice_get, slice_set, IsTrue, IsFalse, ⊤}
 use Rattle.std.specs.List.{remove}
-use Rattle.bpf_words.specs.declared.profile.Profile.{Profile}
+use Rattle.span_context.specs.declared.profile.Profile.{Profile}
 use Rattle.bpf_words.specs.Words.{IsProgram, IsRefused, program_of}
-use Rattle.meaning.specs.Step.{Program}
-use Rattle.meaning.specs.Safe.{SafeIn}
+use Rattle.semantics.specs.Step.{Program}
+use Rattle.semantics.specs.Safe.{SafeIn}
 use Rattle.verifier.specs.Judged.{Rejects}
 use Rattle.version_history.specs.Tokens.{Token}
-use Rattle.batches.specs.Orderly.{IsOrderly}
-use Rattle.batches.specs.Promise.{Promise, IsPromised}
-use Rattle.hub_core.specs.Machine.{State, Subscribes, Closes as ClosesAtHub}
+use Rattle.feeds.specs.Orderly.{IsOrderly}
+use Rattle.feeds.specs.Promise.{Promise, IsPromised}
+use Rattle.hub_core.specs.Machine.{Core, Subscribes, Closes as ClosesAtHub}
 use Rattle.hub_core.specs.declared.error.NoSubscriber.{NoSubscriber}
-use Rattle.subscriber_queues.specs.Queue.{Line, Sending, Taking, IsCapacity}
+use Rattle.subscriber_queues.specs.Queue.{Line, QueueSink, Subscription, IsCapacity}
 use Rattle.ingest_workers.specs.Holdings.{InOneHolding}
 use Rattle.hub_requests.specs.Limits.{takes_subscriber, after_subscriber}
 use Rattle.hub_requests.specs.declared.limits.SessionLimits.{SessionLimits}
@@ -23,16 +23,16 @@ use Rattle.session_lines.specs.declared.reply.Reply.TheVariants as reply
 use Rattle.session_subscribers.specs.Items.{Takes, TakesShort}
 
 -- a subscriber that a session holds: its id, and its end of the queue
-pub record Watched : Type 0 where
+pub record Held : Type 0 where
   pub id : ℕ
-  pub items : Taking
+  pub items : Subscription
 
--- where the one with an id is among these
-abbrev pub place_in : List Watched → ℕ → Option ℕ
-place_in held id = position (λ one. one.id == id) held
+-- the index of the one with an id among these
+abbrev pub index_in : List Held → ℕ → Option ℕ
+index_in held id = position (λ one. one.id == id) held
 
 -- the first version of a subscription: the one that is named, or the latest
-abbrev pub first_of : Option ℕ → State Sending → ℕ
+abbrev pub first_of : Option ℕ → Core QueueSink → ℕ
 first_of None s = length s.changes
 first_of (Some number) s = number
 
@@ -64,7 +64,7 @@ IsNotSubscribed profile capacity bytes first (reason.Unverified error) =
     IsProgram bytes × Rejects profile (program_of bytes) error
 IsNotSubscribed profile capacity bytes first reason.BadCapacity = AreSafe profile bytes × (¬ IsCapacity capacity)
 IsNotSubscribed profile capacity bytes first reason.SubscribersFull =
-    AreSafe profile bytes × InOneHolding (λ old new. (new ≡ old) × (length old.subs ≡ 64))
+    AreSafe profile bytes × InOneHolding (λ old new. (new ≡ old) × (length old.subscribers ≡ 64))
 IsNotSubscribed profile capacity bytes (Some number) reason.NoVersion =
     AreSafe profile bytes × InOneHolding (λ old new. (new ≡ old) × (length old.changes < number))
 IsNotSubscribed profile capacity bytes first reason.OutOfMemory = AreSafe profile bytes
@@ -77,7 +77,7 @@ IsPastShare profile bytes left why =
 
 -- one more is held, with the end of its queue, which has that promise and which nothing was taken from, and the session
 -- has one less left; or the same as before
-abbrev pub Adds : Profile → ℕ → List ℕ → Option ℕ → SessionLimits → List Watched → Reply → SessionLimits → List Watched
+abbrev pub Adds : Profile → ℕ → List ℕ → Option ℕ → SessionLimits → List Held → Reply → SessionLimits → List Held
     → Type 0
 Adds profile capacity bytes first left held (reply.Subscribed id) left' held' =
     (line : Line) × (held' ≡ held
@@ -98,14 +98,14 @@ abbrev pub IsClosed : ℕ → Type 0
 IsClosed id = (found : Result ⊤ NoSubscriber) × InOneHolding (λ old new. ClosesAtHub old id found new)
 
 -- the one with the id is closed at the hub and held no more, and the others are; or none had it
-abbrev pub Closes : List Watched → ℕ → Reply → List Watched → Type 0
+abbrev pub Closes : List Held → ℕ → Reply → List Held → Type 0
 Closes held id (reply.Closed closed) held' =
-    (closed ≡ id) × (place : ℕ) × (place_in held id ≡ Some place) × (held' ≡ remove held place) × IsClosed id
-Closes held id (reply.Refused why) held' = (why ≡ reason.NoSubscriber) × (place_in held id ≡ None) × (held' ≡ held)
+    (closed ≡ id) × (index : ℕ) × (index_in held id ≡ Some index) × (held' ≡ remove held index) × IsClosed id
+Closes held id (reply.Refused why) held' = (why ≡ reason.NoSubscriber) × (index_in held id ≡ None) × (held' ≡ held)
 Closes held id _ held' = ⊥
 
--- items of one subscriber were taken, at most so many, and it is answered how many; or that no memory was found
-pub record Pulls (count : ℕ) (items items' : Taking) (out out' : List ℕ) (answer : Reply) : Type 0 where
+-- items of one subscriber were taken, at most `count`, and it is answered how many; or that no memory was found
+pub record Pulls (count : ℕ) (items items' : Subscription) (out out' : List ℕ) (answer : Reply) : Type 0 where
   pub many : ℕ
   pub most : many ≤ count
   pub takes : Takes many items items' out out'
@@ -114,37 +114,37 @@ pub record Pulls (count : ℕ) (items items' : Taking) (out out' : List ℕ) (an
 -- items of the subscriber with the id were taken, and of no other. All that the session ever took of it are the batches
 -- of one program on versions one after another, the last perhaps unfinished; and as was promised: they begin the stream
 -- of its own program over accepted changes, from its first version on
-pub record PullsHeld (id count : ℕ) (held held' : List Watched) (out out' : List ℕ) (answer : Reply) : Type 0 where
-  pub place : ℕ
-  pub there : place_in held id ≡ Some place
-  pub one : Watched
-  pub is : slice_get held place ≡ Some one
-  pub items : Taking
-  pub others : held' ≡ slice_set held place (record one { items = items })
+pub record PullsHeld (id count : ℕ) (held held' : List Held) (out out' : List ℕ) (answer : Reply) : Type 0 where
+  pub index : ℕ
+  pub there : index_in held id ≡ Some index
+  pub one : Held
+  pub is : slice_get held index ≡ Some one
+  pub items : Subscription
+  pub others : held' ≡ slice_set held index (record one { items = items })
   pub orderly : IsOrderly items.taken
   pub promised : IsPromised one.items.promise items.taken
   pub pulls : Pulls count one.items items out out' answer
 
 -- or none had it, and nothing was done
-pub record PullsNone (id : ℕ) (held held' : List Watched) (out out' : List ℕ) (answer : Reply) : Type 0 where
-  pub none : place_in held id ≡ None
+pub record PullsNone (id : ℕ) (held held' : List Held) (out out' : List ℕ) (answer : Reply) : Type 0 where
+  pub none : index_in held id ≡ None
   pub same : held' ≡ held
   pub printed : out' ≡ out
   pub told : answer ≡ reply.Refused reason.NoSubscriber
 
-abbrev pub PullsAny : ℕ → ℕ → List Watched → List Watched → List ℕ → List ℕ → Reply → Type 0
+abbrev pub PullsAny : ℕ → ℕ → List Held → List Held → List ℕ → List ℕ → Reply → Type 0
 PullsAny id count held held' out out' answer =
     PullsHeld id count held held' out out' answer ⊎ PullsNone id held held' out out' answer
 
 -- no memory was found for the lines of a pull: items of the subscriber with the id were taken, and of no other, and
--- whole lines of them stand
-pub record PullsShort (id count : ℕ) (held held' : List Watched) (out out' : List ℕ) : Type 0 where
-  pub place : ℕ
-  pub there : place_in held id ≡ Some place
-  pub one : Watched
-  pub is : slice_get held place ≡ Some one
-  pub items : Taking
-  pub others : held' ≡ slice_set held place (record one { items = items })
+-- whole lines of them are printed
+pub record PullsShort (id count : ℕ) (held held' : List Held) (out out' : List ℕ) : Type 0 where
+  pub index : ℕ
+  pub there : index_in held id ≡ Some index
+  pub one : Held
+  pub is : slice_get held index ≡ Some one
+  pub items : Subscription
+  pub others : held' ≡ slice_set held index (record one { items = items })
   pub orderly : IsOrderly items.taken
   pub promised : IsPromised one.items.promise items.taken
   pub takes : TakesShort count one.items items out out'

@@ -1,10 +1,10 @@
 -- What a session prints of the items that it takes.
 use Rattle.std.specs.Prelude.{◌≡◌, ℕ, ◌+◌, ◌≤◌, List, [], ◌∷◌, ◌++◌, length}
 use Rattle.std.specs.List.{flat_map}
-use Rattle.batches.specs.declared.item.Finding.{Finding}
-use Rattle.batches.specs.declared.item.Finding.TheVariants as finding
-use Rattle.batches.specs.Batches.{Entry}
-use Rattle.subscriber_queues.specs.Queue.{Taking}
+use Rattle.feeds.specs.declared.item.Finding.{Finding}
+use Rattle.feeds.specs.declared.item.Finding.TheVariants as finding
+use Rattle.feeds.specs.Batches.{Item}
+use Rattle.subscriber_queues.specs.Queue.{Subscription}
 use Rattle.session_lines.specs.Replies.{reply_text}
 use Rattle.session_lines.specs.declared.reply.Reply.{Reply}
 use Rattle.session_lines.specs.declared.reply.Reply.TheVariants as reply
@@ -15,22 +15,22 @@ item_reply (finding.Hit version span verdict) = reply.Hit version span verdict
 item_reply (finding.End version spans) = reply.End version spans
 
 -- the line of an item, with its LF
-abbrev pub item_line : Entry → List ℕ
+abbrev pub item_line : Item → List ℕ
 item_line item = reply_text (item_reply item.what) ++ 10 ∷ []
 
--- so many items were taken of a queue after those that were taken before, and their lines appended in the same order
-pub record Takes (count : ℕ) (end end' : Taking) (out out' : List ℕ) : Type 0 where
-  pub items : List Entry
+-- `count` items were taken of a queue after those that were taken before, and their lines appended in the same order
+pub record Takes (count : ℕ) (end end' : Subscription) (out out' : List ℕ) : Type 0 where
+  pub items : List Item
   pub next : end' ≡ record end { taken = end.taken ++ items }
   pub printed : out' ≡ out ++ flat_map item_line items
   pub many : length items ≡ count
 
--- no memory was found for the line of an item, or for the one after it: at most so many items were taken of a queue
+-- no memory was found for the line of an item, or for the one after it: at most `most` items were taken of a queue
 -- after those that were taken before, and their lines appended in the same order, each whole, but for the last item,
 -- which may have none
-pub record TakesShort (most : ℕ) (end end' : Taking) (out out' : List ℕ) : Type 0 where
-  pub shown : List Entry
-  pub unshown : List Entry
+pub record TakesShort (most : ℕ) (end end' : Subscription) (out out' : List ℕ) : Type 0 where
+  pub shown : List Item
+  pub unshown : List Item
   pub next : end' ≡ record end { taken = end.taken ++ (shown ++ unshown) }
   pub printed : out' ≡ out ++ flat_map item_line shown
   pub few : length shown + length unshown ≤ most

@@ -2,8 +2,8 @@ ghost use Rattle.std.specs.Prelude.{◌≡◌, ◌≤◌, IfOk, OnErr, string_by
 ghost use Rattle.session_subscribers.specs.Holding.{Pulls, PullsAny, PullsShort};
 ghost use Rattle.session_subscribers.specs.Items.{item_reply, Takes, TakesShort};
 
-use crate::session_hub::{Held, SessionHub, place_of};
-use batches::item::Finding;
+use crate::session_hub::{Held, SessionHub, index_of};
+use feeds::item::Finding;
 use filter_workers::work::{catch_up, help};
 use refusals::reason::Reason;
 use session_lines::reply::Reply;
@@ -36,7 +36,7 @@ fn reply_of(what: Finding) -> Reply
     }
 }
 
-/// Takes the items that wait, at most so many, and appends their lines. It answers how many.
+/// Takes the items that wait, at most `most`, and appends their lines. It answers how many.
 fn take_waiting<N: Naming, R: Wait + Copy>(
     items: &mut Subscription<N, R>,
     most: usize,
@@ -61,7 +61,7 @@ impl<N: Naming + Ledger + Send + Sync, R: Threads + Wait + Copy + Send + Sync> S
     N,
     R,
 > {
-    /// Has items sent and takes them, until so many are taken or none is left. It answers how many.
+    /// Has items sent and takes them, until `most` are taken or none is left. It answers how many.
     fn drain(
         &self,
         id: usize,
@@ -118,7 +118,7 @@ impl<N: Naming + Ledger + Send + Sync, R: Threads + Wait + Copy + Send + Sync> S
         }
     }
 
-    /// Computes and takes items of the versions up to the one that is the latest now, until so many are taken or none
+    /// Computes and takes items of the versions up to the one that is the latest now, until `count` are taken or none
     /// is due.
     ///
     /// In a round where the subscriber waited for a batch, at least one item is taken. Where it waited for none and no
@@ -163,10 +163,10 @@ impl<N: Naming + Ledger + Send + Sync, R: Threads + Wait + Copy + Send + Sync> S
         ensures err { OnErr result (PullsShort id count held.old.items held.new.items (string_bytes out.old)
             (string_bytes out.new)) }
     {
-        let Some(place) = place_of(held.as_slice(), id) else {
+        let Some(index) = index_of(held.as_slice(), id) else {
             return Ok(Reply::Refused(Reason::NoSubscriber));
         };
-        let one = &mut held[place];
+        let one = &mut held[index];
         let reply = self.pull_from(one.id, &mut one.items, count, out);
         one.items.stays_orderly();
         reply

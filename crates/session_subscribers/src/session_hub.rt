@@ -1,5 +1,5 @@
 ghost use Rattle.std.specs.Prelude.{◌≡◌, ◌≤◌, ◌==◌};
-ghost use Rattle.session_subscribers.specs.Holding.{place_in};
+ghost use Rattle.session_subscribers.specs.Holding.{index_in};
 
 use hub_requests::limits::SessionOptions;
 use ingest_workers::hub::Hub;
@@ -33,9 +33,9 @@ pub struct Held<N: Naming, R: Wait + Copy> {
 }
 
 impl<N: Naming, R: Wait + Copy> Model for Held<N, R> {
-    ghost use Rattle.session_subscribers.specs.Holding.{Watched};
+    ghost use Rattle.session_subscribers.specs.Holding.{Held as HeldValue};
 
-    ghost Value = { Watched };
+    ghost Value = { HeldValue };
 
     ghost view = { λ h. record { id = h.id; items = h.items } };
 }
@@ -47,9 +47,9 @@ fn has_id<N: Naming, R: Wait + Copy>(one: &Held<N, R>, id: usize) -> bool
     one.id == id
 }
 
-/// Where the subscriber of an id is among these.
-pub fn place_of<N: Naming, R: Wait + Copy>(held: &[Held<N, R>], id: usize) -> Option<usize>
-    ensures { result ≡ place_in held.now id }
+/// The index of the subscriber of an id among these.
+pub fn index_of<N: Naming, R: Wait + Copy>(held: &[Held<N, R>], id: usize) -> Option<usize>
+    ensures { result ≡ index_in held.now id }
 {
     held.iter().position(|one| has_id(one, id))
 }

@@ -1,18 +1,18 @@
 ghost use Rattle.std.specs.Prelude.{◌≡◌, ℕ, List, Option, Some, [], Ok, IfOk, IfErr};
 ghost use Rattle.bpf_words.specs.Words.{IsProgram, program_of};
-ghost use Rattle.bpf_words.specs.declared.profile.Profile.{Profile as TheProfile};
-ghost use Rattle.meaning.specs.Safe.{SafeIn};
+ghost use Rattle.span_context.specs.declared.profile.Profile.{Profile as TheProfile};
+ghost use Rattle.semantics.specs.Safe.{SafeIn};
 ghost use Rattle.hub_core.specs.Machine.{Subscribes};
 ghost use Rattle.ingest_workers.specs.Holdings.{InOneHolding};
 ghost use Rattle.session_subscribers.specs.Holding.{AreSafe, first_of, IsNotSubscribed, Adds, Closes};
 
-use crate::session_hub::{Held, SessionHub, place_of};
-use bpf_words::profile::Profile;
+use crate::session_hub::{Held, SessionHub, index_of};
 use bpf_words::words::Words;
 use hub_core::error::SubscribeError;
 use hub_requests::limits::SessionLimits;
 use refusals::reason::Reason;
 use session_lines::reply::Reply;
+use span_context::profile::Profile;
 use std::alloc::Global;
 use std::sync::Wait;
 use std::sync::ledger::Ledger;
@@ -135,8 +135,8 @@ impl<N: Naming + Ledger, R: Wait + Copy> SessionHub<'_, '_, N, R> {
     /// Adds a subscriber, and keeps it among those of the session, unless the session has none left.
     ///
     /// What is published stays for good, so the program is published last, and not at all once the hub is full, which
-    /// it then remains, or where the first version isn't there yet. Only where sessions race for the last place may
-    /// each of them leave one program that no subscriber has.
+    /// it then remains, or where the first version isn't there yet. Only where sessions race for the hub's last
+    /// subscriber may each of them leave one program that no subscriber has.
     fn add(
         &self,
         held: &mut Vec<Held<N, R>>,
@@ -190,10 +190,10 @@ impl<N: Naming + Ledger, R: Wait + Copy> SessionHub<'_, '_, N, R> {
     pub fn close(&self, held: &mut Vec<Held<N, R>>, id: usize) -> Reply
         ensures { Closes held.old.items id result held.new.items }
     {
-        let Some(place) = place_of(held.as_slice(), id) else {
+        let Some(index) = index_of(held.as_slice(), id) else {
             return Reply::Refused(Reason::NoSubscriber);
         };
-        let _one = held.remove(place);
+        let _one = held.remove(index);
         // Refused where the hub has it as closed, which it then is.
         let _ = self.hub.close(&self.rt, id);
         Reply::Closed(id)

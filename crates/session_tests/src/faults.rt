@@ -15,7 +15,7 @@ use test_inputs::devices::{FailingReader, FailingWriter};
 use verifier::verify::Verified;
 use version_history::published::{Naming, Published};
 
-/// How a session went whose reader and writer did so many reads and writes, and what the hub was left at.
+/// How a session went whose reader and writer failed after some reads and writes, and what the hub was left at.
 #[derive(Drop)]
 struct Outcome {
     /// How it ended.

@@ -42,12 +42,12 @@ impl<N: Naming + Ledger, R: Wait + Copy> io::Read for JobTaker<'_, '_, '_, N, R>
     fn read(&mut self, buf: &mut [u8]) -> io::Result<usize> {
         self.take_jobs();
         let mut given = 0;
-        for place in buf.iter_mut() {
+        for target in buf.iter_mut() {
             let rest = self.rest;
             let Some((byte, rest)) = rest.split_first() else {
                 break;
             };
-            *place = *byte;
+            *target = *byte;
             self.rest = rest;
             given += 1;
             if *byte == b'\n' {

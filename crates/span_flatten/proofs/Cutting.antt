@@ -6,7 +6,7 @@ use Rattle.std.proofs.lemmas.Option.{none-some}
 use Rattle.std.proofs.lemmas.List.{append-nil, length_push, map-append}
 use Rattle.std.proofs.lemmas.List.Elements.{All-append, All-contains, All-head, All-tail}
 use Rattle.std.proofs.lemmas.Str.{encodes-append}
-use Rattle.mark_anchors.specs.Formatting.{Formatting}
+use Rattle.mark_anchors.specs.Formatting.{Format}
 use Rattle.span_flatten.specs.Spans.{Shown, Span, IsRun, Cuts}
 use Rattle.span_flatten.specs.Version.{IsPiece}
 
@@ -14,10 +14,10 @@ pub cuts_nil : (spans : List Span) → Cuts [] spans → spans ≡ []
 cuts_nil [] c = refl
 cuts_nil (x ∷ xs) c = absurd (let some = c.1.2.some in omega (arith, length-append c.0 c.1.0, ap length c.1.1))
 
-first_of : (more : List Shown) (f : Formatting) (next : Shown) → All (λ s. s.format ≡ f) more → slice_get more 0 ≡ Some next → next.format ≡ f
+first_of : (more : List Shown) (f : Format) (next : Shown) → All (λ s. s.format ≡ f) more → slice_get more 0 ≡ Some next → next.format ≡ f
 first_of more f next alike g = All-contains (λ s. s.format ≡ f) more next alike (0, slice_get_within more 0 next g, get_or_from_slice_get more 0 next next g)
 
-still_longest : (x : Span) (xs : List Span) (more : List Shown) (f : Formatting) (rest : List Shown) → All (λ s. s.format ≡ f) more → Cuts rest xs → ((next : Shown) → slice_get rest 0 ≡ Some next → next.format ≢ x.format) → (xs ≡ [] → x.format ≡ f → ⊥) → (next : Shown) → slice_get (rest ++ more) 0 ≡ Some next → next.format ≢ x.format
+still_longest : (x : Span) (xs : List Span) (more : List Shown) (f : Format) (rest : List Shown) → All (λ s. s.format ≡ f) more → Cuts rest xs → ((next : Shown) → slice_get rest 0 ≡ Some next → next.format ≢ x.format) → (xs ≡ [] → x.format ≡ f → ⊥) → (next : Shown) → slice_get (rest ++ more) 0 ≡ Some next → next.format ≢ x.format
 still_longest x xs more f [] alike c old other next g = λ e. other (cuts_nil xs c) (sym e ∙ first_of more f next alike g)
 still_longest x xs more f (r ∷ rs) alike c old other next g = old next g
 
@@ -69,7 +69,7 @@ cuts_longer shown (x ∷ xs) last longer more piece c is same kept text =
     (c.0, (c.1.0 ++ more, ap (λ l. l ++ more) c.1.1 ∙ append_assoc c.0 c.1.0 more, run, cuts_longer c.1.0 xs last longer more piece c.1.3 is same kept text))
 
 -- two fronts of one format, each followed by another, are one
-one_front : (format : Formatting) (a b r q : List Shown) → a ++ r ≡ b ++ q → All (λ s. s.format ≡ format) a → All (λ s. s.format ≡ format) b → ((next : Shown) → slice_get r 0 ≡ Some next → next.format ≢ format) → ((next : Shown) → slice_get q 0 ≡ Some next → next.format ≢ format) → (a ≡ b) × (r ≡ q)
+one_front : (format : Format) (a b r q : List Shown) → a ++ r ≡ b ++ q → All (λ s. s.format ≡ format) a → All (λ s. s.format ≡ format) b → ((next : Shown) → slice_get r 0 ≡ Some next → next.format ≢ format) → ((next : Shown) → slice_get q 0 ≡ Some next → next.format ≢ format) → (a ≡ b) × (r ≡ q)
 one_front format [] [] r q e alike alike' longest longest' = (refl, e)
 one_front format [] (y ∷ ys) r q e alike alike' longest longest' = absurd (longest y (ap (λ l. slice_get l 0) e) (All-head (λ s. s.format ≡ format) y ys alike'))
 one_front format (x ∷ xs) [] r q e alike alike' longest longest' = absurd (longest' x (sym (ap (λ l. slice_get l 0) e)) (All-head (λ s. s.format ≡ format) x xs alike))
@@ -79,7 +79,7 @@ one_front format (x ∷ xs) (y ∷ ys) r q e alike alike' longest longest' =
     let rest = one_front format xs ys r q tails (All-tail (λ s. s.format ≡ format) x xs alike) (All-tail (λ s. s.format ≡ format) y ys alike') longest longest' in
     (let same : xs ≡ ys = rest.0 in cc, rest.1)
 
-first_format : (a b r q : List Shown) (f g : Formatting) → a ++ r ≡ b ++ q → 0 < length a → 0 < length b → All (λ s. s.format ≡ f) a → All (λ s. s.format ≡ g) b → f ≡ g
+first_format : (a b r q : List Shown) (f g : Format) → a ++ r ≡ b ++ q → 0 < length a → 0 < length b → All (λ s. s.format ≡ f) a → All (λ s. s.format ≡ g) b → f ≡ g
 first_format [] b r q f g e some some' alike alike' = absurd (omega arith)
 first_format (x ∷ xs) [] r q f g e some some' alike alike' = absurd (omega arith)
 first_format (x ∷ xs) (y ∷ ys) r q f g e some some' alike alike' =

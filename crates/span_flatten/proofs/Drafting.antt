@@ -4,7 +4,7 @@ use Rattle.std.proofs.lemmas.List.Elements.{All-push, All-cons, All-head, All-ta
 use Rattle.std.specs.Str.{chars}
 use Rattle.std.proofs.lemmas.Str.{IsUtf8-append, chars-append}
 use Rattle.std.proofs.lemmas.List.{length_push, length-set, get_or_push, get_or-set_same, set_at, get_or_default}
-use Rattle.mark_anchors.specs.Formatting.{Formatting}
+use Rattle.mark_anchors.specs.Formatting.{Format}
 use Rattle.span_flatten.specs.declared.version.Row.{Row}
 use Rattle.span_flatten.specs.Spans.{Shown, Span, Cuts}
 use Rattle.span_flatten.specs.Version.{joined, rows_from, IsLayout, IsPiece, IsDraft}
@@ -80,10 +80,10 @@ draft_longer shown spans text text' rows count was kept now more piece cut layou
     }
 
 -- the last row has another format
-pub other_last : (rows : List Row) (count : ℕ) (was : Row) (f : Formatting) → count ≡ length rows → was ≡ get_or rows (count - 1) was → (was.format ≡ f → ⊥) → (d : Row) → 0 < length rows → (get_or rows (length rows - 1) d).format ≡ f → ⊥
+pub other_last : (rows : List Row) (count : ℕ) (was : Row) (f : Format) → count ≡ length rows → was ≡ get_or rows (count - 1) was → (was.format ≡ f → ⊥) → (d : Row) → 0 < length rows → (get_or rows (length rows - 1) d).format ≡ f → ⊥
 other_last rows count was f counted reads other d some same =
-    let place : count - 1 ≡ length rows - 1 = ap (λ n. n - 1) counted in
-    other (ap (λ r. r.format) (reads ∙ ap (λ n. get_or rows n was) place ∙ get_or_default rows (length rows - 1) was d (omega arith)) ∙ same)
+    let last_is : count - 1 ≡ length rows - 1 = ap (λ n. n - 1) counted in
+    other (ap (λ r. r.format) (reads ∙ ap (λ n. get_or rows n was) last_is ∙ get_or_default rows (length rows - 1) was d (omega arith)) ∙ same)
 
 -- a row is added
 pub draft_fresh : (shown : List Shown) (spans : List Span) (text text' : List ℕ) (rows : List Row) (now : Row) (more : List Shown) (piece : Span) → Cuts shown spans → IsLayout spans text rows → All (λ s. IsUtf8 s.text) spans → ((d : Row) → 0 < length rows → (get_or rows (length rows - 1) d).format ≡ piece.format → ⊥) → IsPiece more piece → text' ≡ text ++ piece.text → now.start ≡ length text → now.end ≡ length text' → now.characters ≡ length (chars piece.text) → now.format ≡ piece.format → IsDraft (shown ++ more) text' (rows ++ now ∷ [])
@@ -111,18 +111,18 @@ draft_fresh shown spans text text' rows now more piece cut layout texts other is
     }
 
 -- what holds of the last row's format
-pub last_read : (P : Formatting → Type 0) (rows : List Row) (count : ℕ) (was : Row) → count ≡ length rows → 0 < count → was ≡ get_or rows (count - 1) was → ((d : Row) → 0 < length rows → P (get_or rows (length rows - 1) d).format) → P was.format
+pub last_read : (P : Format → Type 0) (rows : List Row) (count : ℕ) (was : Row) → count ≡ length rows → 0 < count → was ≡ get_or rows (count - 1) was → ((d : Row) → 0 < length rows → P (get_or rows (length rows - 1) d).format) → P was.format
 last_read P rows count was counted some reads last =
-    let place : count - 1 ≡ length rows - 1 = ap (λ n. n - 1) counted in
-    subst (λ (r : Row). P r.format) (sym (reads ∙ ap (λ n. get_or rows n was) place)) (last was (omega arith))
+    let last_is : count - 1 ≡ length rows - 1 = ap (λ n. n - 1) counted in
+    subst (λ (r : Row). P r.format) (sym (reads ∙ ap (λ n. get_or rows n was) last_is)) (last was (omega arith))
 
-pub last_set : (P : Formatting → Type 0) (rows : List Row) (count : ℕ) (now : Row) → count ≡ length rows → 0 < count → P now.format → (d : Row) → 0 < length (set rows (count - 1) now) → P (get_or (set rows (count - 1) now) (length (set rows (count - 1) now) - 1) d).format
+pub last_set : (P : Format → Type 0) (rows : List Row) (count : ℕ) (now : Row) → count ≡ length rows → 0 < count → P now.format → (d : Row) → 0 < length (set rows (count - 1) now) → P (get_or (set rows (count - 1) now) (length (set rows (count - 1) now) - 1) d).format
 last_set P rows count now counted some is d more =
     let size : length (set rows (count - 1) now) ≡ length rows = length-set rows (count - 1) now in
-    let place : length (set rows (count - 1) now) - 1 ≡ count - 1 = ap (λ n. n - 1) (size ∙ sym counted) in
-    subst (λ (r : Row). P r.format) (sym (ap (λ n. get_or (set rows (count - 1) now) n d) place ∙ get_or-set_same rows (count - 1) now d (omega arith))) is
+    let last_is : length (set rows (count - 1) now) - 1 ≡ count - 1 = ap (λ n. n - 1) (size ∙ sym counted) in
+    subst (λ (r : Row). P r.format) (sym (ap (λ n. get_or (set rows (count - 1) now) n d) last_is ∙ get_or-set_same rows (count - 1) now d (omega arith))) is
 
-pub last_push : (P : Formatting → Type 0) (rows : List Row) (now : Row) → P now.format → (d : Row) → 0 < length (rows ++ now ∷ []) → P (get_or (rows ++ now ∷ []) (length (rows ++ now ∷ []) - 1) d).format
+pub last_push : (P : Format → Type 0) (rows : List Row) (now : Row) → P now.format → (d : Row) → 0 < length (rows ++ now ∷ []) → P (get_or (rows ++ now ∷ []) (length (rows ++ now ∷ []) - 1) d).format
 last_push P rows now is d more =
     let size = length_push rows now in
     subst (λ (r : Row). P r.format) (sym (get_or_push rows now d (length (rows ++ now ∷ []) - 1) (omega (arith, size)))) is

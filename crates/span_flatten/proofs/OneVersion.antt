@@ -10,7 +10,7 @@ use Rattle.char_sequence.proofs.Lists.{InOrder, MembersOf, same_in_order}
 use Rattle.mark_anchors.specs.Format.{IsFormat}
 use Rattle.mark_anchors.proofs.FormatLaws.{format_of_set, one_format}
 use Rattle.span_flatten.specs.Spans.{Shown, Span, AreVisible, Cuts, AreSpans}
-use Rattle.span_flatten.specs.Version.{Snapshot, joined, rows_from, spans_of, IsVersion}
+use Rattle.span_flatten.specs.Version.{Version, joined, rows_from, spans_of, IsVersion}
 use Rattle.span_flatten.proofs.Cutting.{one_cut}
 use Rattle.span_flatten.proofs.Showing.{contains_at, at_contains}
 
@@ -52,7 +52,7 @@ one_spans ops others es h s a b p q =
     let same : p.0 ≡ q.0 = one_visible ops es h p.0 q.0 p.1 (visible_of_set ops others s q.0 q.1) in
     one_cut p.0 a b p.2 (subst (λ l. Cuts l b) (sym same) q.2)
 
-pub one_version : (ops others : List Op) (es : List Element) (number : ℕ) (first second : Snapshot) → Shows es ops → SameSet ops others → IsVersion ops number first → IsVersion others number second → first ≡ second
+pub one_version : (ops others : List Op) (es : List Element) (number : ℕ) (first second : Version) → Shows es ops → SameSet ops others → IsVersion ops number first → IsVersion others number second → first ≡ second
 one_version ops others es number first second h s v w =
     let same = one_spans ops others es h s (spans_of first) (spans_of second) v.spans w.spans in
     let numbers = v.numbered ∙ sym w.numbered in

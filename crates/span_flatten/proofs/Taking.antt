@@ -14,7 +14,7 @@ use Rattle.char_sequence.specs.declared.sequence.Element.{Element}
 use Rattle.char_sequence.specs.Order.{Shows}
 use Rattle.char_sequence.specs.Visible.{visible_text, visible_count}
 use Rattle.mark_anchors.specs.Format.{IsFormat}
-use Rattle.mark_anchors.specs.Formatting.{Formatting}
+use Rattle.mark_anchors.specs.Formatting.{Format}
 use Rattle.mark_anchors.specs.Marks.{AreMarks}
 use Rattle.mark_anchors.specs.Ranges.{IsFormatAt, IsUniform}
 use Rattle.mark_anchors.proofs.Uniform.{one_format_between}
@@ -29,7 +29,7 @@ use Rattle.span_flatten.proofs.Showing.{filter_from, shown_visible}
 pub record FormattedRange : Type 0 where
   pub from : ℕ
   pub to : ℕ
-  pub format : Formatting
+  pub format : Format
 
 -- each character of the range has its format
 abbrev pub IsOfFormat : List Element → List Op → FormattedRange → Type 0
@@ -37,7 +37,7 @@ IsOfFormat es marks r =
     (ops : List Op) (place : ℕ) (e : Element) → Shows es ops → AreMarks ops marks → r.from ≤ place → place < r.to → slice_get es place ≡ Some e → IsFormat ops e.id r.format
 
 -- between two cuts all characters have the first one's format
-pub uniform_range : (es : List Element) (marks : List Op) (from to : ℕ) (format : Formatting) → from < to → to ≤ length es → IsUniform es marks from to → IsFormatAt es marks from format → IsOfFormat es marks (record { from = from; to = to; format = format })
+pub uniform_range : (es : List Element) (marks : List Op) (from to : ℕ) (format : Format) → from < to → to ≤ length es → IsUniform es marks from to → IsFormatAt es marks from format → IsOfFormat es marks (record { from = from; to = to; format = format })
 uniform_range es marks from to format some within uniform is ops place e shows held low high at =
     let first : Element = get_or es from e in
     let here : slice_get es from ≡ Some first = slice_get-get_or es from e (omega arith) in
@@ -91,13 +91,13 @@ in_range es from to m x g =
     (from + m, omega arith, omega arith, in_drop from es m x r.1)
 
 -- ---- the visible characters of a range, with its format
-abbrev pub shown_as : Formatting → Element → Shown
+abbrev pub shown_as : Format → Element → Shown
 shown_as f e = record { id = e.id; character = e.character; format = f }
 
-abbrev pub more_of : Formatting → List Element → List Shown
+abbrev pub more_of : Format → List Element → List Shown
 more_of f es = map (shown_as f) (filter is_visible es)
 
-drawn_more : (f : Formatting) (es : List Element) → map element_of (more_of f es) ≡ filter is_visible es
+drawn_more : (f : Format) (es : List Element) → map element_of (more_of f es) ≡ filter is_visible es
 drawn_more f [] = refl
 drawn_more f (e ∷ es) =
     ⊎_elim
@@ -112,15 +112,15 @@ drawn_more f (e ∷ es) =
     ∙ ap (λ b. cond b (e ∷ filter is_visible es) (filter is_visible es)) (sym no))
     (cases_Bool e.visible)
 
-all_as : (P : Shown → Type 0) (f : Formatting) (xs : List Element) → ((m : ℕ) (x : Element) → slice_get xs m ≡ Some x → P (shown_as f x)) → All P (map (shown_as f) xs)
+all_as : (P : Shown → Type 0) (f : Format) (xs : List Element) → ((m : ℕ) (x : Element) → slice_get xs m ≡ Some x → P (shown_as f x)) → All P (map (shown_as f) xs)
 all_as P f [] each = none P
 all_as P f (x ∷ xs) each = All-cons P (shown_as f x) (map (shown_as f) xs) (each zero x refl) (all_as P f xs (λ m y g. each (suc m) y g))
 
-characters_as : (f : Formatting) (xs : List Element) → map (λ s. s.character) (map (shown_as f) xs) ≡ map (λ e. e.character) xs
+characters_as : (f : Format) (xs : List Element) → map (λ s. s.character) (map (shown_as f) xs) ≡ map (λ e. e.character) xs
 characters_as f [] = refl
 characters_as f (x ∷ xs) = ap (λ l. x.character ∷ l) (characters_as f xs)
 
-spelt_more : (f : Formatting) (es : List Element) → visible_text es ≡ encode_utf8_all (map (λ s. s.character) (more_of f es))
+spelt_more : (f : Format) (es : List Element) → visible_text es ≡ encode_utf8_all (map (λ s. s.character) (more_of f es))
 unfolding visible_text
 spelt_more f es = ap encode_utf8_all (sym (characters_as f (filter is_visible es)))
 
@@ -197,7 +197,7 @@ range_short es from to = length_take_le (to - from) (drop from es)
     length_take_le (suc n) (x ∷ xs) = let rest : length (take n xs) ≤ n = length_take_le n xs in omega arith
 
 -- ---- one range more
-drawn_range : (es : List Element) (f : Formatting) (shown : List Shown) (from to : ℕ) → from ≤ to → map element_of shown ≡ filter is_visible (take from es) → map element_of (shown ++ more_of f (slice_range es from to)) ≡ filter is_visible (take to es)
+drawn_range : (es : List Element) (f : Format) (shown : List Shown) (from to : ℕ) → from ≤ to → map element_of shown ≡ filter is_visible (take from es) → map element_of (shown ++ more_of f (slice_range es from to)) ≡ filter is_visible (take to es)
 drawn_range es f shown from to le drawn =
     map-append element_of shown (more_of f (slice_range es from to))
     ∙ ap (λ l. l ++ map element_of (more_of f (slice_range es from to))) drawn

@@ -8,13 +8,13 @@ use Rattle.change_ops.specs.declared.operation.Op.TheVariants.{Insert}
 use Rattle.char_sequence.specs.Tree.{Removed}
 use Rattle.char_sequence.specs.Order.{Before}
 use Rattle.mark_anchors.specs.Format.{IsFormat}
-use Rattle.mark_anchors.specs.Formatting.{Formatting}
+use Rattle.mark_anchors.specs.Formatting.{Format}
 
 -- a visible character with its format
 pub record Shown : Type 0 where
   pub id : OpId
   pub character : ℕ
-  pub format : Formatting
+  pub format : Format
 
 -- the characters that are inserted and not removed, in order, each with its format
 pub record AreVisible (ops : List Op) (shown : List Shown) : Type 0 where
@@ -28,7 +28,7 @@ pub record AreVisible (ops : List Op) (shown : List Shown) : Type 0 where
 -- a piece of text, as UTF-8, with one format
 pub record Span : Type 0 where
   pub text : List ℕ
-  pub format : Formatting
+  pub format : Format
 
 -- the front spells the span: it is not empty, all of it has the span's format, and what comes next has another one
 pub record IsRun (front rest : List Shown) (span : Span) : Type 0 where

@@ -7,7 +7,7 @@ use Rattle.span_flatten.specs.declared.version.Row.{Row}
 use Rattle.span_flatten.specs.Spans.{Shown, Span, Cuts, AreSpans}
 
 -- what is seen of a version: its number, its text as UTF-8, and its rows
-pub record Snapshot : Type 0 where
+pub record Version : Type 0 where
   pub number : ℕ
   pub text : List ℕ
   pub rows : List Row
@@ -19,14 +19,14 @@ span_at text row = record { text = slice_range text row.start row.end; format = 
 abbrev pub spans_in : List ℕ → List Row → List Span
 spans_in text rows = map (λ row. span_at text row) rows
 
-abbrev pub spans_of : Snapshot → List Span
+abbrev pub spans_of : Version → List Span
 spans_of version = spans_in version.text version.rows
 
 -- the spans' texts, one after another
 abbrev pub joined : List Span → List ℕ
 joined spans = flat_map (λ span. span.text) spans
 
--- a row for each span, one after another from this place on, each as long as its span's text, with the number of its
+-- a row for each span, one after another from byte `start` on, each as long as its span's text, with the number of its
 -- characters
 abbrev pub rows_from : ℕ → List Span → List Row
 rows_from start [] = []
@@ -56,7 +56,7 @@ pub record IsWhole (text : List ℕ) (rows : List Row) : Type 0 where
   pub counted : All (λ row. row.characters ≡ length (chars (slice_range text row.start row.end))) rows
 
 -- the version with this number of a set of operations
-pub record IsVersion (ops : List Op) (number : ℕ) (version : Snapshot) : Type 0 where
+pub record IsVersion (ops : List Op) (number : ℕ) (version : Version) : Type 0 where
   pub numbered : version.number ≡ number
   pub spans : AreSpans ops (spans_of version)
   pub layout : IsLayout (spans_of version) version.text version.rows

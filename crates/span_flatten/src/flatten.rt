@@ -4,7 +4,7 @@ ghost use Rattle.change_ops.specs.declared.operation.Op.{Op};
 ghost use Rattle.char_sequence.specs.declared.sequence.Element.{Element};
 ghost use Rattle.char_sequence.specs.Order.{Shows, SameSet};
 ghost use Rattle.mark_anchors.specs.Marks.{AreMarks};
-ghost use Rattle.mark_anchors.specs.Formatting.{Formatting};
+ghost use Rattle.mark_anchors.specs.Formatting.{Format};
 ghost use Rattle.mark_anchors.specs.Ranges.{IsFormatAt, IsUniform};
 ghost use Rattle.span_flatten.specs.Spans.{Shown, Span, AreSpans};
 ghost use Rattle.span_flatten.specs.Taken.{IsLastFormat, IsTaken};
@@ -17,7 +17,7 @@ use mark_anchors::format_sweep::FormatSweep;
 use mark_anchors::marks::Marks;
 use std::alloc::{AllocError, Global};
 
-/// Lengthens a row by so many characters, up to a new end.
+/// Lengthens a row by `characters` characters, up to a new end.
 fn lengthen(row: &mut Row, end: usize, characters: usize)
     requires { row.old.characters + characters < 2 ^ 64 }
     ensures { row.new ≡ record {
@@ -53,7 +53,7 @@ fn add_row(
         rows.old.items }
     requires counted { All (λ earlier. earlier.characters ≤ extent.start) rows.old.items }
     requires within { extent.start + extent.characters ≤ extent.end }
-    ensures draft { IfOk result (λ _. (f : Formatting)
+    ensures draft { IfOk result (λ _. (f : Format)
         × IsFormatAt sweep.old.resolution.elements sweep.old.resolution.marks from f
         × ((shown more : List Shown) (piece : Span) (text text' : List ℕ) → IsPiece more piece → piece.format ≡ f
         → text' ≡ text ++ piece.text → extent.start ≡ length text → extent.end ≡ length text'

@@ -41,9 +41,9 @@ impl Drop for Version {
 
 impl Model for Version {
     ghost use Rattle.std.specs.String.{string_bytes};
-    ghost use Rattle.span_flatten.specs.Version.{Snapshot, IsWhole};
+    ghost use Rattle.span_flatten.specs.Version.{Version as VersionValue, IsWhole};
 
-    ghost Value = { Snapshot };
+    ghost Value = { VersionValue };
 
     ghost view = { λ v. record { number = v.number; text = string_bytes v.text; rows = v.rows.items } };
 

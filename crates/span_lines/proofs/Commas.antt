@@ -2,7 +2,7 @@
 use Rattle.std.proofs.Common.{◌≡◌, ◌||◌, IsTrue, true, false, if◌then◌else◌, Bool, ℕ, List, [], ◌∷◌, ◌++◌, Option, Some, None, map, codes, refl, sym, ap, ◌∙◌, append_assoc, Bor}
 use Rattle.std.specs.Option.{is_some, option_copied}
 use Rattle.std.proofs.lemmas.Grind.{flat_map-append}
-use Rattle.mark_anchors.specs.Formatting.{Formatting, plain}
+use Rattle.mark_anchors.specs.Formatting.{Format, plain}
 use Rattle.span_lines.specs.SpanLines.{flag_keys, link_keys, color_keys, comment_key, keys_of, behind_commas, parted, format_text}
 
 behind_one : (keys : List (List ℕ)) → parted true keys ≡ behind_commas keys
@@ -52,10 +52,10 @@ pieces strong em code link linked color colored comments =
     ++ (parted (((strong || em) || code) || linked) (color_keys color)
     ++ parted ((((strong || em) || code) || linked) || colored) (map comment_key comments)))))
 
-in_pieces : (format : Formatting) → pieces format.strong format.em format.code format.link (is_some format.link) format.color (is_some format.color) format.comments ≡ parted false (keys_of format)
+in_pieces : (format : Format) → pieces format.strong format.em format.code format.link (is_some format.link) format.color (is_some format.color) format.comments ≡ parted false (keys_of format)
 in_pieces format = simp (parted_both, begun_flag, begun_link, begun_color, append_assoc) refl
 
-abbrev formatting : Bool → Bool → Bool → Option (List ℕ) → Option ℕ → List ℕ → Formatting
+abbrev formatting : Bool → Bool → Bool → Option (List ℕ) → Option ℕ → List ℕ → Format
 formatting strong em code link color comments = record { strong = strong; em = em; code = code; link = link; color = color; comments = comments }
 
 -- some key holds
@@ -74,7 +74,7 @@ copied_is (Some target) = refl
 copied_is None = refl
 
 -- the pieces are the text of a format where a key holds
-pub keys_written : (format : Formatting) (strong em code linked colored : Bool) (link : Option (Bor (List ℕ))) (color : Option ℕ) → (format ≡ plain → IsTrue false)
+pub keys_written : (format : Format) (strong em code linked colored : Bool) (link : Option (Bor (List ℕ))) (color : Option ℕ) → (format ≡ plain → IsTrue false)
     → strong ≡ format.strong → em ≡ format.em → code ≡ format.code → option_copied link ≡ format.link → linked ≡ is_some link → color ≡ format.color → colored ≡ is_some color
     → pieces strong em code (option_copied link) linked color colored format.comments ≡ format_text format
 keys_written format strong em code linked colored link color some a b d e l f o =

@@ -9,7 +9,7 @@ use Rattle.std.proofs.lemmas.Str.{inside_one}
 use Rattle.change_ops.specs.Spelling.{last_digits}
 use Rattle.change_ops.proofs.Numerals.{six_written}
 use Rattle.span_flatten.specs.declared.version.Row.{Row}
-use Rattle.span_flatten.specs.Version.{Snapshot, spans_in, spans_of}
+use Rattle.span_flatten.specs.Version.{Version, spans_in, spans_of}
 use Rattle.span_view.specs.Views.{view_of, views}
 use Rattle.span_lines.specs.SpanLines.{escaped_byte, escaped, span_line, span_lines, lent_line}
 
@@ -39,11 +39,11 @@ escaped_character c feed slash =
     (λ k h e. slash (inside_one c [] (encode_utf8 c) k whole h (omega arith) ∙ e))
 
 -- ---- the spans as they are lent
-lines_from : (version : Snapshot) (index : ℕ) (rows : List Row) → flat_map lent_line (map (λ placed. view_of version placed.0 placed.1) (enumerate_from index rows)) ≡ flat_map (λ placed. span_line placed.0 placed.1) (enumerate_from index (spans_in version.text rows))
+lines_from : (version : Version) (index : ℕ) (rows : List Row) → flat_map lent_line (map (λ indexed. view_of version indexed.0 indexed.1) (enumerate_from index rows)) ≡ flat_map (λ indexed. span_line indexed.0 indexed.1) (enumerate_from index (spans_in version.text rows))
 lines_from version index [] = refl
 lines_from version index (row ∷ rows) = ap (λ (lines : List ℕ). lent_line (view_of version index row) ++ lines) (lines_from version (index + 1) rows)
 
-pub lent_lines : (version : Snapshot) → flat_map lent_line (views version) ≡ span_lines (spans_of version)
+pub lent_lines : (version : Version) → flat_map lent_line (views version) ≡ span_lines (spans_of version)
 lent_lines version = lines_from version 0 version.rows
 
 -- ---- what is written of a color

@@ -4,10 +4,10 @@ use Rattle.std.specs.Prelude.{Some, None, codes}
 use Rattle.std.specs.List.{flat_map, enumerate_from}
 use Rattle.std.specs.Fmt.{decimal}
 use Rattle.change_ops.specs.Spelling.{◌␣◌, last_digits}
-use Rattle.mark_anchors.specs.Formatting.{Formatting}
+use Rattle.mark_anchors.specs.Formatting.{Format}
 use Rattle.span_flatten.specs.Spans.{Span}
-use Rattle.span_flatten.specs.Version.{Snapshot}
-use Rattle.span_view.specs.Views.{LentSpan, views}
+use Rattle.span_flatten.specs.Version.{Version}
+use Rattle.span_view.specs.Views.{SpanView, views}
 
 -- a key without a value, where it holds
 abbrev pub flag_keys : Bool → List ℕ → List (List ℕ)
@@ -27,7 +27,7 @@ abbrev pub comment_key : ℕ → List ℕ
 comment_key number = codes "comment:" ++ decimal number
 
 -- the keys that hold, with their values, in the order in which they are printed
-abbrev pub keys_of : Formatting → List (List ℕ)
+abbrev pub keys_of : Format → List (List ℕ)
 keys_of format =
     flag_keys format.strong (codes "strong") ++ flag_keys format.em (codes "em") ++ flag_keys format.code (codes "code")
     ++ link_keys format.link ++ color_keys format.color ++ map comment_key format.comments
@@ -46,7 +46,7 @@ abbrev pub keys_text : List (List ℕ) → List ℕ
 keys_text [] = codes "plain"
 keys_text (key ∷ keys) = key ++ behind_commas keys
 
-abbrev pub format_text : Formatting → List ℕ
+abbrev pub format_text : Format → List ℕ
 format_text format = keys_text (keys_of format)
 
 -- a byte of a text as it is printed: a line feed and a backslash are escaped
@@ -61,17 +61,17 @@ abbrev pub span_line : ℕ → Span → List ℕ
 span_line index span = (decimal index ␣ format_text span.format ␣ escaped span.text) ++ 10 ∷ []
 
 -- the line of a span as it is lent
-abbrev pub lent_line : LentSpan → List ℕ
+abbrev pub lent_line : SpanView → List ℕ
 lent_line lent = span_line lent.index (record { text = lent.text; format = lent.format })
 
 -- the lines of the spans, from index 0
 abbrev pub span_lines : List Span → List ℕ
-span_lines spans = flat_map (λ placed. span_line placed.0 placed.1) (enumerate_from 0 spans)
+span_lines spans = flat_map (λ indexed. span_line indexed.0 indexed.1) (enumerate_from 0 spans)
 
 -- the same behind a word, where other lines stand beside it
-abbrev pub named_line : LentSpan → List ℕ
+abbrev pub named_line : SpanView → List ℕ
 named_line lent = codes "span " ++ lent_line lent
 
--- so many spans of a version, from one of them on, or as many as there are
-abbrev pub some_lines : ℕ → ℕ → Snapshot → List ℕ
+-- `most` spans of a version, from the index `first` on, or as many as there are
+abbrev pub some_lines : ℕ → ℕ → Version → List ℕ
 some_lines first most version = flat_map named_line (take most (drop first (views version)))

@@ -192,8 +192,8 @@ pub fn lines_of(alloc: Global, version: &Version) -> Result<String, AllocError>
     Ok(out)
 }
 
-/// So many spans of a version, from one of them on, or as many as there are: a line for each, `span ` and what
-/// [`lines_of`] has.
+/// `most` spans of a version, from the one of index `first` on, or as many as there are: a line for each, `span ` and
+/// what [`lines_of`] has.
 #[derive(Clone, Copy)]
 pub struct SomeSpans<'a> {
     pub version: &'a Version,

@@ -6,23 +6,23 @@ use Rattle.std.proofs.lemmas.Option.{slice_get-get_or, get_or_from_slice_get, sl
 use Rattle.std.proofs.lemmas.List.{drop_more, take_more, length-drop, length-map, get_or-drop, take_all, length-take-le}
 use Rattle.std.proofs.lemmas.List.FromFn.{length-enumerate_from, get_or-enumerate_from}
 use Rattle.span_flatten.specs.declared.version.Row.{Row}
-use Rattle.span_flatten.specs.Version.{Snapshot}
-use Rattle.span_view.specs.Views.{LentSpan, view_of, view_at, views}
+use Rattle.span_flatten.specs.Version.{Version}
+use Rattle.span_view.specs.Views.{SpanView, view_of, view_at, views}
 
-pub length-views : (version : Snapshot) → length (views version) ≡ length version.rows
+pub length-views : (version : Version) → length (views version) ≡ length version.rows
 length-views version =
-    length-map (enumerate_from 0 version.rows) (λ placed. view_of version placed.0 placed.1) ∙ length-enumerate_from 0 version.rows
+    length-map (enumerate_from 0 version.rows) (λ indexed. view_of version indexed.0 indexed.1) ∙ length-enumerate_from 0 version.rows
 
--- what stands at a place
-pub viewed : (version : Snapshot) (i : ℕ) (row : Row) → slice_get version.rows i ≡ Some row → slice_get (views version) i ≡ Some (view_of version i row)
+-- what stands at an index
+pub viewed : (version : Version) (i : ℕ) (row : Row) → slice_get version.rows i ≡ Some row → slice_get (views version) i ≡ Some (view_of version i row)
 viewed version i row g =
     let rows : List Row = version.rows in
     let within : i < length rows = slice_get_within rows i row g in
     let d : ℕ × Row = (i, row) in
-    let see : (ℕ × Row) → LentSpan = λ placed. view_of version placed.0 placed.1 in
-    let place : 0 + i ≡ i = omega arith in
+    let see : (ℕ × Row) → SpanView = λ indexed. view_of version indexed.0 indexed.1 in
+    let same_index : 0 + i ≡ i = omega arith in
     let here : get_or (enumerate_from 0 rows) i d ≡ (i, row) =
-    get_or-enumerate_from 0 rows i d within ∙ ap (λ n. (n, get_or rows i row)) place ∙ ap (λ r. (i, r)) (get_or_from_slice_get rows i row row g) in
+    get_or-enumerate_from 0 rows i d within ∙ ap (λ n. (n, get_or rows i row)) same_index ∙ ap (λ r. (i, r)) (get_or_from_slice_get rows i row row g) in
     slice_get-map see (enumerate_from 0 rows) i
     ∙ ap (option_map see) (slice_get-get_or (enumerate_from 0 rows) i d (omega (arith, length-enumerate_from 0 rows)) ∙ ap Some here)
 
@@ -35,17 +35,17 @@ front_taken xs a b x g less =
 pub back_taken : {X : Type 0} (xs : List X) (a b : ℕ) (x : X) → slice_get xs b ≡ Some x → a ≤ b → slice_range xs a (b + 1) ≡ slice_range xs a b ++ x ∷ []
 back_taken xs a b x g le =
     let size : (b + 1) - a ≡ (b - a) + 1 = omega arith in
-    let place : a + (b - a) ≡ b = omega arith in
+    let same_index : a + (b - a) ≡ b = omega arith in
     let within : b < length xs = slice_get_within xs b x g in
     ap (λ n. take n (drop a xs)) size
     ∙ take_more (drop a xs) (b - a) x (omega (arith, length-drop a xs))
-    ∙ ap (λ y. take (b - a) (drop a xs) ++ y ∷ []) (get_or-drop a xs (b - a) x ∙ ap (λ n. get_or xs n x) place ∙ get_or_from_slice_get xs b x x g)
+    ∙ ap (λ y. take (b - a) (drop a xs) ++ y ∷ []) (get_or-drop a xs (b - a) x ∙ ap (λ n. get_or xs n x) same_index ∙ get_or_from_slice_get xs b x x g)
 
-pub length_left : (version : Snapshot) (a b : ℕ) → b ≤ length version.rows → length (slice_range (views version) a b) ≡ b - a
+pub length_left : (version : Version) (a b : ℕ) → b ≤ length version.rows → length (slice_range (views version) a b) ≡ b - a
 length_left version a b le =
     length-take-le (b - a) (drop a (views version)) (omega (arith, length-drop a (views version), length-views version))
 
-pub all_left : (version : Snapshot) (n : ℕ) → n ≡ length version.rows → slice_range (views version) 0 n ≡ views version
+pub all_left : (version : Version) (n : ℕ) → n ≡ length version.rows → slice_range (views version) 0 n ≡ views version
 all_left version n e =
     let size : n - 0 ≡ n = omega arith in
     ap (λ k. take k (views version)) size ∙ take_all n (views version) (omega (arith, length-views version))
@@ -53,10 +53,10 @@ all_left version n e =
 none_left : {X : Type 0} (xs : List X) (a b : ℕ) → a ≡ b → slice_range xs a b ≡ []
 none_left xs a b e = let size : b - a ≡ 0 = omega arith in ap (λ n. take n (drop a xs)) size
 
-pub nothing_left : (version : Snapshot) (a b : ℕ) (left : List LentSpan) → slice_range (views version) a b ≡ left → a ≡ b → left ≡ []
+pub nothing_left : (version : Version) (a b : ℕ) (left : List SpanView) → slice_range (views version) a b ≡ left → a ≡ b → left ≡ []
 nothing_left version a b left view e = sym view ∙ none_left (views version) a b e
 
-pub row_at : (version : Snapshot) (i : ℕ) → i < length version.rows → (row : Row) × (slice_get version.rows i ≡ Some row)
+pub row_at : (version : Version) (i : ℕ) → i < length version.rows → (row : Row) × (slice_get version.rows i ≡ Some row)
 row_at version i within = first version.rows i within
   where
     first : (rows : List Row) (i : ℕ) → i < length rows → (row : Row) × (slice_get rows i ≡ Some row)
@@ -65,15 +65,15 @@ row_at version i within = first version.rows i within
     first (x ∷ xs) (suc i) h = first xs i (omega arith)
 
 -- a step from the front, and one from the back
-pub front_step : (version : Snapshot) (a b : ℕ) (r : Option LentSpan) (left : List LentSpan) → r ≡ view_at version a → a < b → b ≤ length version.rows → slice_range (views version) a b ≡ left → (x : LentSpan) × (r ≡ Some x) × (left ≡ x ∷ slice_range (views version) (a + 1) b)
+pub front_step : (version : Version) (a b : ℕ) (r : Option SpanView) (left : List SpanView) → r ≡ view_at version a → a < b → b ≤ length version.rows → slice_range (views version) a b ≡ left → (x : SpanView) × (r ≡ Some x) × (left ≡ x ∷ slice_range (views version) (a + 1) b)
 front_step version a b r left given less le view =
     let row = row_at version a (omega arith) in
-    let x : LentSpan = view_of version a row.0 in
+    let x : SpanView = view_of version a row.0 in
     (x, given ∙ ap (option_map (λ w. view_of version a w)) row.1, sym view ∙ front_taken (views version) a b x (viewed version a row.0 row.1) less)
 
-pub back_step : (version : Snapshot) (a b : ℕ) (r : Option LentSpan) (left : List LentSpan) → r ≡ view_at version (b - 1) → a < b → b ≤ length version.rows → slice_range (views version) a b ≡ left → (x : LentSpan) × (r ≡ Some x) × (left ≡ slice_range (views version) a (b - 1) ++ x ∷ [])
+pub back_step : (version : Version) (a b : ℕ) (r : Option SpanView) (left : List SpanView) → r ≡ view_at version (b - 1) → a < b → b ≤ length version.rows → slice_range (views version) a b ≡ left → (x : SpanView) × (r ≡ Some x) × (left ≡ slice_range (views version) a (b - 1) ++ x ∷ [])
 back_step version a b r left given less le view =
     let row = row_at version (b - 1) (omega arith) in
-    let x : LentSpan = view_of version (b - 1) row.0 in
+    let x : SpanView = view_of version (b - 1) row.0 in
     let end : b ≡ (b - 1) + 1 = omega arith in
     (x, given ∙ ap (option_map (λ w. view_of version (b - 1) w)) row.1, sym view ∙ ap (λ n. slice_range (views version) a n) end ∙ back_taken (views version) a (b - 1) x (viewed version (b - 1) row.0 row.1) (omega arith))

@@ -1,26 +1,26 @@
 -- What a span lends to a program: its context, its text and the text of its link.
 use Rattle.std.specs.Prelude.{ℕ, ◌+◌, Bool, List, [], length, chars, is_some, unwrap_or, nat_lt, if◌then◌else◌}
-use Rattle.bpf_words.specs.declared.context.Facts.{Facts}
-use Rattle.bpf_words.specs.Context.{SpanBytes, span_bytes, context_bytes}
-use Rattle.mark_anchors.specs.Formatting.{Formatting}
-use Rattle.span_view.specs.Views.{LentSpan}
+use Rattle.span_context.specs.declared.context.Facts.{Facts}
+use Rattle.span_context.specs.Context.{SpanBytes, span_bytes, context_bytes}
+use Rattle.mark_anchors.specs.Formatting.{Format}
+use Rattle.span_view.specs.Views.{SpanView}
 
 -- a flag is its bit where the fact holds, else 0
 abbrev pub flag : Bool → ℕ → ℕ
 flag holds bit = if holds then bit else 0
 
 -- 1 strong, 2 em, 4 a link, 8 a color, 16 at least one comment, 32 code
-abbrev pub flags_of : Formatting → ℕ
+abbrev pub flags_of : Format → ℕ
 flags_of format =
     flag format.strong 1 + flag format.em 2 + flag (is_some format.link) 4 + flag (is_some format.color) 8
     + flag (nat_lt 0 (length format.comments)) 16 + flag format.code 32
 
 -- the text of the span's link, none where it has no link
-abbrev pub link_of : LentSpan → List ℕ
+abbrev pub link_of : SpanView → List ℕ
 link_of span = unwrap_or span.format.link []
 
 -- lengths are in bytes; a color or a link that is not there counts as 0
-abbrev pub facts_of : LentSpan → Facts
+abbrev pub facts_of : SpanView → Facts
 facts_of span = record {
   text_len = length span.text;
   characters = length (chars span.text);
@@ -33,8 +33,8 @@ facts_of span = record {
   version = span.version;
 }
 
-abbrev pub context_of : LentSpan → List ℕ
+abbrev pub context_of : SpanView → List ℕ
 context_of span = context_bytes (facts_of span)
 
-abbrev pub bytes_of : LentSpan → SpanBytes
+abbrev pub bytes_of : SpanView → SpanBytes
 bytes_of span = span_bytes (context_of span) span.text (link_of span)

@@ -1,10 +1,10 @@
 ghost use Rattle.std.specs.Prelude.{◌≡◌, ◌≤◌, chars, length, unwrap_or};
-ghost use Rattle.bpf_words.specs.Context.{Fits, span_bytes};
+ghost use Rattle.span_context.specs.Context.{Fits, span_bytes};
 ghost use Rattle.span_view.specs.ContextOf.{flag, flags_of, facts_of, context_of, link_of};
 
 use crate::view::SpanView;
-use bpf_words::context::{Context, Facts};
 use mark_anchors::format::Format;
+use span_context::context::{Context, Facts};
 
 /// The flags of a context.
 const STRONG: u32 = 1;

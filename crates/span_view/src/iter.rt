@@ -17,9 +17,9 @@ pub struct Spans<'a> {
 
 impl<'a> Model for Spans<'a> {
     ghost use Rattle.std.specs.Prelude.{List, slice_range, length, ◌≤◌};
-    ghost use Rattle.span_view.specs.Views.{LentSpan, views};
+    ghost use Rattle.span_view.specs.Views.{SpanView, views};
 
-    ghost Value = { List LentSpan };
+    ghost Value = { List SpanView };
 
     ghost view = { λ s. slice_range (views s.version.now) s.front s.back };
 

@@ -24,9 +24,9 @@ pub struct SpanView<'a> {
 
 impl<'a> Model for SpanView<'a> {
     ghost use Rattle.std.specs.Prelude.{◌≡◌, length, chars};
-    ghost use Rattle.span_view.specs.Views.{LentSpan, IsWithinLimits};
+    ghost use Rattle.span_view.specs.Views.{SpanView as SpanViewValue, IsWithinLimits};
 
-    ghost Value = { LentSpan };
+    ghost Value = { SpanViewValue };
 
     ghost view = { λ v. record {
       text = v.text.now;

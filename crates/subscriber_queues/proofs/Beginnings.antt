@@ -2,11 +2,11 @@
 use Rattle.std.proofs.Common.{◌≡◌, ℕ, ◌≤◌, List, [], ◌∷◌, ◌++◌, length, refl, sym, ap, ◌∙◌, subst, arith, append-nil}
 use Rattle.std.specs.Prelude.{Option, Some, None, IfNone, MatchOption}
 use Rattle.crossbeam_queue.specs.Fifo.{Held}
-use Rattle.batches.specs.Batches.{Entry}
-use Rattle.batches.specs.Orderly.{IsOrderly}
+use Rattle.feeds.specs.Batches.{Item}
+use Rattle.feeds.specs.Orderly.{IsOrderly}
 use Rattle.subscriber_queues.specs.Queue.{Begins, AreBeginnings}
 
-shorter : (xs ys more others : List Entry) → xs ++ more ≡ ys ++ others → length xs ≤ length ys → Begins xs ys
+shorter : (xs ys more others : List Item) → xs ++ more ≡ ys ++ others → length xs ≤ length ys → Begins xs ys
 shorter [] ys more others e le = (ys, refl)
 shorter (x ∷ xs) [] more others e le = absurd (omega (arith, le))
 shorter (x ∷ xs) (y ∷ ys) more others e le =
@@ -16,20 +16,20 @@ shorter (x ∷ xs) (y ∷ ys) more others e le =
     (b.0, λ i. heads i ∷ b.1 i)
 
 -- the shorter one is a beginning of the other
-pub shorter_begins : (xs ys : List Entry) → AreBeginnings xs ys → length xs ≤ length ys → Begins xs ys
+pub shorter_begins : (xs ys : List Item) → AreBeginnings xs ys → length xs ≤ length ys → Begins xs ys
 shorter_begins xs ys both le = shorter xs ys both.1.0 both.2.0 (sym both.1.1 ∙ both.2.1) le
 
-nothing : (xs : List Entry) → length xs ≡ 0 → xs ≡ []
+nothing : (xs : List Item) → length xs ≡ 0 → xs ≡ []
 nothing [] h = refl
 nothing (x ∷ xs) h = absurd (omega arith)
 
 -- where none waits, what waits adds nothing
-pub none_waits : (shown taken : List Entry) → Held 0 (λ items. IsOrderly (taken ++ items) × Begins shown (taken ++ items)) → Begins shown taken
+pub none_waits : (shown taken : List Item) → Held 0 (λ items. IsOrderly (taken ++ items) × Begins shown (taken ++ items)) → Begins shown taken
 none_waits shown taken held =
     let none : held.0 ≡ [] = nothing held.0 held.1 in
     subst (Begins shown) (ap (λ l. taken ++ l) none ∙ append-nil taken) held.2.1
 
-pub one_begins : (taken shown : List Entry) → Begins shown taken → AreBeginnings taken shown
+pub one_begins : (taken shown : List Item) → Begins shown taken → AreBeginnings taken shown
 one_begins taken shown b = (taken, ([], sym (append-nil taken)), b)
 
 -- what a pop told, by whether an item came

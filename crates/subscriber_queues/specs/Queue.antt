@@ -1,52 +1,52 @@
 -- What a clause sees of the ends of a subscriber's queue.
 use Rattle.std.specs.Prelude.{◌≡◌, ℕ, ◌≤◌, Option, List, ◌++◌, length}
 use Rattle.atomic_table.specs.Seated.{TableId}
-use Rattle.batches.specs.Batches.{Entry}
-use Rattle.batches.specs.Promise.{Promise}
+use Rattle.feeds.specs.Batches.{Item}
+use Rattle.feeds.specs.Promise.{Promise}
 
 -- which queue an end is of
 abbrev pub Line : Type 0
 Line = TableId
 
 -- the hub's end: of which queue, what was sent, how many items may wait, and what is promised of all that is sent
-pub record Sending : Type 0 where
+pub record QueueSink : Type 0 where
   pub line : Line
-  pub sent : List Entry
+  pub sent : List Item
   pub capacity : ℕ
   pub promise : Option Promise
 
 -- the subscriber's end: of which queue, what it was promised, what was taken, and what it knows to have been sent at
 -- least
-pub record Taking : Type 0 where
+pub record Subscription : Type 0 where
   pub line : Line
   pub promise : Option Promise
-  pub taken : List Entry
-  pub shown : List Entry
+  pub taken : List Item
+  pub shown : List Item
 
 -- what was sent to a queue up to a moment
-pub record Showing : Type 0 where
+pub record Shown : Type 0 where
   pub line : Line
-  pub shown : List Entry
+  pub shown : List Item
 
 -- how many items may wait in a queue
 abbrev pub IsCapacity : ℕ → Type 0
 IsCapacity n = (1 ≤ n) × (n ≤ 1024)
 
-abbrev pub was_sent : Sending → List Entry
+abbrev pub was_sent : QueueSink → List Item
 was_sent end = end.sent
 
 -- no fewer were sent than may wait, so that it may refuse one
-abbrev pub IsFull : Sending → Type 0
+abbrev pub IsFull : QueueSink → Type 0
 IsFull end = end.capacity ≤ length end.sent
 
 -- the first list is a beginning of the second
-abbrev pub Begins : List Entry → List Entry → Type 0
-Begins items all = (rest : List Entry) × (all ≡ items ++ rest)
+abbrev pub Begins : List Item → List Item → Type 0
+Begins items all = (rest : List Item) × (all ≡ items ++ rest)
 
 -- both are beginnings of one list, so that the shorter one is a beginning of the other
-abbrev pub AreBeginnings : List Entry → List Entry → Type 0
-AreBeginnings items others = (all : List Entry) × Begins items all × Begins others all
+abbrev pub AreBeginnings : List Item → List Item → Type 0
+AreBeginnings items others = (all : List Item) × Begins items all × Begins others all
 
 -- what was sent is what was taken and then what waits, no more than may
-abbrev pub AreEnds : Sending → Taking → Type 0
-AreEnds sink end = (waiting : List Entry) × (sink.sent ≡ end.taken ++ waiting) × (length waiting ≤ sink.capacity)
+abbrev pub AreEnds : QueueSink → Subscription → Type 0
+AreEnds sink end = (waiting : List Item) × (sink.sent ≡ end.taken ++ waiting) × (length waiting ≤ sink.capacity)

@@ -1,14 +1,14 @@
 //! The two ends of a subscriber's queue.
 ghost use Rattle.std.specs.Prelude.{◌≡◌, ◌<◌, ◌↔◌, Some, None, [], ◌∷◌, ◌++◌, IfOk, IfErr, OnOk, IfSome, IfNone};
 ghost use Rattle.crossbeam_queue.specs.Passes.{view as view_of};
-ghost use Rattle.batches.specs.Orderly.{IsOrderly};
-ghost use Rattle.batches.specs.Promise.{IsPromised};
+ghost use Rattle.feeds.specs.Orderly.{IsOrderly};
+ghost use Rattle.feeds.specs.Promise.{IsPromised};
 ghost use Rattle.subscriber_queues.specs.Queue.{IsCapacity, Begins, AreBeginnings, AreEnds};
 
 use crate::rule::{Ends, Knows, Line, Room, Sends, Shows, Takes, Whole};
-use batches::item::Item;
-use batches::sink::Sink;
 use crossbeam_queue::Pass;
+use feeds::item::Item;
+use feeds::sink::Sink;
 use std::alloc::{AllocError, Global};
 use std::marker::{Brand, Model};
 use std::sync::{Arc, Wait};
@@ -41,9 +41,9 @@ impl<N: Naming, R: Wait + Copy> Model for QueueSink<N, R> {
     ghost use Rattle.std.specs.Prelude.{◌≡◌, true};
     ghost use Rattle.std.specs.Arc.{arc_value};
     ghost use Rattle.crossbeam_queue.specs.Passes.{view as view_of, IsPassOf, ruled_capacity};
-    ghost use Rattle.subscriber_queues.specs.Queue.{Sending};
+    ghost use Rattle.subscriber_queues.specs.Queue.{QueueSink as QueueSinkValue};
 
-    ghost Value = { Sending };
+    ghost Value = { QueueSinkValue };
 
     ghost view = { λ s. record {
       line = s.pass.table_id;
@@ -78,11 +78,11 @@ impl<N: Naming, R: Wait + Copy> Model for Subscription<N, R> {
     ghost use Rattle.std.specs.Prelude.{◌≡◌, true};
     ghost use Rattle.std.specs.Arc.{arc_value};
     ghost use Rattle.crossbeam_queue.specs.Passes.{view as view_of, IsPassOf};
-    ghost use Rattle.batches.specs.Orderly.{IsOrderly};
-    ghost use Rattle.batches.specs.Promise.{IsPromised};
-    ghost use Rattle.subscriber_queues.specs.Queue.{Taking};
+    ghost use Rattle.feeds.specs.Orderly.{IsOrderly};
+    ghost use Rattle.feeds.specs.Promise.{IsPromised};
+    ghost use Rattle.subscriber_queues.specs.Queue.{Subscription as SubscriptionValue};
 
-    ghost Value = { Taking };
+    ghost Value = { SubscriptionValue };
 
     ghost view = { λ s. record {
       line = s.pass.table_id;
@@ -109,9 +109,9 @@ impl<N: Naming> Drop for Shown<N> {
 impl<N: Naming> Model for Shown<N> {
     ghost use Rattle.std.specs.Prelude.{◌≡◌, []};
     ghost use Rattle.crossbeam_queue.specs.Passes.{view as view_of};
-    ghost use Rattle.subscriber_queues.specs.Queue.{Showing};
+    ghost use Rattle.subscriber_queues.specs.Queue.{Shown as ShownValue};
 
-    ghost Value = { Showing };
+    ghost Value = { ShownValue };
 
     ghost view = { λ s. record { line = s.pass.table_id; shown = (view_of s.pass).shown } };
 
@@ -189,7 +189,7 @@ impl<N: Naming, R: Wait + Copy> Subscription<N, R> {
         let _line = &self.line;
     }
 
-    /// Learns what was shown, in place of what it knew before.
+    /// Learns what was shown, instead of what it knew before.
     pub fn learn(&mut self, shown: Shown<N>)
         requires { shown.line ≡ self.old.line }
         ensures { self.new ≡ record self.old { shown = shown.shown } }
@@ -261,11 +261,11 @@ pub fn queue_for<N: Naming, R: Wait + Copy>(
     ensures range { OnOk result (IsCapacity capacity) }
     ensures bad { IfErr result (λ e. (e ≡ QueueError.BadCapacity) ↔ ¬ IsCapacity capacity) }
 {
-    pledged::<N, R, Brand>(rt, alloc, capacity, program, first)
+    promised::<N, R, Brand>(rt, alloc, capacity, program, first)
 }
 
 /// A queue of this capacity, if it is one, and with the promise of this program's stream; `C` names both.
-fn pledged<N: Naming, R: Wait + Copy, C: Room>(
+fn promised<N: Naming, R: Wait + Copy, C: Room>(
     rt: R,
     alloc: Global,
     capacity: usize,

@@ -1,21 +1,21 @@
-use batches::item::Item;
 use crossbeam_queue::RuledArrayQueue;
 use crossbeam_queue::protocol::{Join, Lesson, Outcome, Protocol, Split};
+use feeds::item::Item;
 use std::collections::LinkedList;
 use std::marker::{Brand, Model, PhantomData};
 use verifier::verify::Verified;
 use version_history::published::Naming;
 
 /// What is promised of all that a queue is sent: the stream of a program, from this version on. No value of it is made.
-pub struct Pledge {
+pub struct Promise {
     program: Verified,
     first: Option<u64>,
 }
 
-impl Model for Pledge {
-    ghost use Rattle.batches.specs.Promise.{Promise};
+impl Model for Promise {
+    ghost use Rattle.feeds.specs.Promise.{Promise as PromiseValue};
 
-    ghost Value = { Promise };
+    ghost Value = { PromiseValue };
 
     ghost view = { λ p. record { program = p.program; first = p.first } };
 }
@@ -25,17 +25,17 @@ pub struct Knows<N: Naming> {
     sends: bool,
     takes: bool,
     capacity: usize,
-    gives: Option<Pledge>,
-    gets: Option<Pledge>,
+    gives: Option<Promise>,
+    gets: Option<Promise>,
     sent: LinkedList<Item<N>>,
     taken: LinkedList<Item<N>>,
     shown: LinkedList<Item<N>>,
 }
 
 impl<N: Naming> Model for Knows<N> {
-    ghost use Rattle.subscriber_queues.specs.Rule.{Seat};
+    ghost use Rattle.subscriber_queues.specs.Rule.{Knows as KnowsValue};
 
-    ghost Value = { Seat };
+    ghost Value = { KnowsValue };
 
     ghost view = { λ k. record {
       sends = k.sends;
@@ -54,17 +54,17 @@ pub struct InOrder;
 
 impl<N: Naming> Protocol<Item<N>, Knows<N>> for InOrder {
     ghost use Rattle.std.specs.Prelude.{true, None, []};
-    ghost use Rattle.subscriber_queues.specs.Rule.{seat, IsKept};
+    ghost use Rattle.subscriber_queues.specs.Rule.{knows, IsKept};
 
     ghost holds = { IsKept };
 
-    ghost first = { seat true true 0 None None [] [] [] };
+    ghost first = { knows true true 0 None None [] [] [] };
 }
 
 /// How many items may wait, and what is promised of all that is sent. Both are picked for each queue.
 pub trait Room {
     ghost use Rattle.std.specs.Prelude.{ℕ, Option};
-    ghost use Rattle.batches.specs.Promise.{Promise};
+    ghost use Rattle.feeds.specs.Promise.{Promise};
 
     ghost room: { ℕ };
 
@@ -86,11 +86,11 @@ pub struct Ends<C: Room> {
 
 impl<N: Naming, C: Room> Split<Knows<N>> for Ends<C> {
     ghost use Rattle.std.specs.Prelude.{true, false, None, []};
-    ghost use Rattle.subscriber_queues.specs.Rule.{seat};
+    ghost use Rattle.subscriber_queues.specs.Rule.{knows};
 
-    ghost left = { λ v. seat true false C.room C.promise None v.sent [] [] };
+    ghost left = { λ v. knows true false C.room C.promise None v.sent [] [] };
 
-    ghost right = { λ v. seat false true C.room None C.promise [] v.taken [] };
+    ghost right = { λ v. knows false true C.room None C.promise [] v.taken [] };
 }
 
 /// The two ends as one, and apart again.
@@ -98,20 +98,20 @@ pub struct Whole;
 
 impl<N: Naming> Join<Knows<N>> for Whole {
     ghost use Rattle.std.specs.Prelude.{true, false, None, []};
-    ghost use Rattle.subscriber_queues.specs.Rule.{seat};
+    ghost use Rattle.subscriber_queues.specs.Rule.{knows};
 
-    ghost both = { λ v w. seat true true v.capacity v.gives w.gets v.sent w.taken w.shown };
+    ghost both = { λ v w. knows true true v.capacity v.gives w.gets v.sent w.taken w.shown };
 
-    ghost spent = { seat false false 0 None None [] [] [] };
+    ghost spent = { knows false false 0 None None [] [] [] };
 }
 
 impl<N: Naming> Split<Knows<N>> for Whole {
     ghost use Rattle.std.specs.Prelude.{true, false, None, []};
-    ghost use Rattle.subscriber_queues.specs.Rule.{seat};
+    ghost use Rattle.subscriber_queues.specs.Rule.{knows};
 
-    ghost left = { λ v. seat true false v.capacity v.gives None v.sent [] [] };
+    ghost left = { λ v. knows true false v.capacity v.gives None v.sent [] [] };
 
-    ghost right = { λ v. seat false true v.capacity None v.gets [] v.taken v.shown };
+    ghost right = { λ v. knows false true v.capacity None v.gets [] v.taken v.shown };
 }
 
 impl<N: Naming> Lesson<Item<N>, Knows<N>> for Whole {
@@ -120,25 +120,25 @@ impl<N: Naming> Lesson<Item<N>, Knows<N>> for Whole {
     ghost fact = { λ v items. (v.sent ≡ v.taken ++ items) × (length items ≤ v.capacity) };
 }
 
-/// A third seat, which shows what was sent so far.
+/// A third end, which shows what was sent so far.
 pub struct Shows;
 
 impl<N: Naming> Split<Knows<N>> for Shows {
     ghost use Rattle.std.specs.Prelude.{false, None, []};
-    ghost use Rattle.subscriber_queues.specs.Rule.{seat};
+    ghost use Rattle.subscriber_queues.specs.Rule.{knows};
 
     ghost left = { λ v. v };
 
-    ghost right = { λ v. seat false false 0 None None [] [] v.sent };
+    ghost right = { λ v. knows false false 0 None None [] [] v.sent };
 }
 
 impl<N: Naming> Join<Knows<N>> for Shows {
     ghost use Rattle.std.specs.Prelude.{false, None, []};
-    ghost use Rattle.subscriber_queues.specs.Rule.{seat};
+    ghost use Rattle.subscriber_queues.specs.Rule.{knows};
 
-    ghost both = { λ v w. seat v.sends v.takes v.capacity v.gives v.gets v.sent v.taken w.shown };
+    ghost both = { λ v w. knows v.sends v.takes v.capacity v.gives v.gets v.sent v.taken w.shown };
 
-    ghost spent = { seat false false 0 None None [] [] [] };
+    ghost spent = { knows false false 0 None None [] [] [] };
 }
 
 /// A push: what was sent grows by the item. Where it is refused, no more can wait than were sent.
@@ -146,9 +146,9 @@ pub struct Sends;
 
 impl<N: Naming> Outcome<Item<N>, Knows<N>> for Sends {
     ghost use Rattle.std.specs.Prelude.{◌≡◌, ◌++◌, ◌∷◌, []};
-    ghost use Rattle.subscriber_queues.specs.Rule.{seat};
+    ghost use Rattle.subscriber_queues.specs.Rule.{knows};
 
-    ghost then = { λ v x w. w ≡ seat v.sends v.takes v.capacity v.gives v.gets (v.sent ++ x ∷ []) v.taken v.shown };
+    ghost then = { λ v x w. w ≡ knows v.sends v.takes v.capacity v.gives v.gets (v.sent ++ x ∷ []) v.taken v.shown };
 }
 
 impl<N: Naming> Lesson<Item<N>, Knows<N>> for Sends {
@@ -163,19 +163,19 @@ pub struct Takes;
 
 impl<N: Naming> Outcome<Item<N>, Knows<N>> for Takes {
     ghost use Rattle.std.specs.Prelude.{◌≡◌, ◌++◌, ◌∷◌, []};
-    ghost use Rattle.batches.specs.Orderly.{IsOrderly};
-    ghost use Rattle.batches.specs.Promise.{IsPromised};
+    ghost use Rattle.feeds.specs.Orderly.{IsOrderly};
+    ghost use Rattle.feeds.specs.Promise.{IsPromised};
     ghost use Rattle.subscriber_queues.specs.Queue.{AreBeginnings};
-    ghost use Rattle.subscriber_queues.specs.Rule.{seat};
+    ghost use Rattle.subscriber_queues.specs.Rule.{knows};
 
-    ghost then = { λ v x w. (w ≡ seat v.sends v.takes v.capacity v.gives v.gets v.sent (v.taken ++ x ∷ []) v.shown)
+    ghost then = { λ v x w. (w ≡ knows v.sends v.takes v.capacity v.gives v.gets v.sent (v.taken ++ x ∷ []) v.shown)
         × IsOrderly (v.taken ++ x ∷ []) × IsPromised v.gets (v.taken ++ x ∷ [])
         × AreBeginnings (v.taken ++ x ∷ []) v.shown };
 }
 
 impl<N: Naming> Lesson<Item<N>, Knows<N>> for Takes {
     ghost use Rattle.std.specs.Prelude.{◌++◌};
-    ghost use Rattle.batches.specs.Orderly.{IsOrderly};
+    ghost use Rattle.feeds.specs.Orderly.{IsOrderly};
     ghost use Rattle.subscriber_queues.specs.Queue.{Begins};
 
     ghost fact = { λ v items. IsOrderly (v.taken ++ items) × Begins v.shown (v.taken ++ items) };

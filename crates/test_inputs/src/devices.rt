@@ -25,10 +25,10 @@ impl io::Read for FailingReader<'_> {
         let Some(byte) = rest.first() else {
             return Ok(0);
         };
-        let Some(place) = buf.first_mut() else {
+        let Some(slot) = buf.first_mut() else {
             return Ok(0);
         };
-        *place = *byte;
+        *slot = *byte;
         let (_, rest) = rest.split_at(1);
         self.rest = rest;
         Ok(1)

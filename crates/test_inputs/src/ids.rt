@@ -16,20 +16,20 @@ impl fmt::Display for Id {
 
 /// Where a mark starts or ends.
 #[derive(Clone, Copy)]
-pub enum Place {
+pub enum Anchor {
     Start,
     Before(Id),
     After(Id),
     End,
 }
 
-impl fmt::Display for Place {
+impl fmt::Display for Anchor {
     fn fmt<W: fmt::Write>(&self, f: &mut fmt::Formatter<W>) -> fmt::Result {
         match *self {
-            Place::Start => write!(f, "^"),
-            Place::Before(id) => write!(f, "<{id}"),
-            Place::After(id) => write!(f, ">{id}"),
-            Place::End => write!(f, "$"),
+            Anchor::Start => write!(f, "^"),
+            Anchor::Before(id) => write!(f, "<{id}"),
+            Anchor::After(id) => write!(f, ">{id}"),
+            Anchor::End => write!(f, "$"),
         }
     }
 }

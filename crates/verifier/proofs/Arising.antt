@@ -12,18 +12,18 @@ use Rattle.abstract_state.specs.declared.refusal.Refusal.{Refusal}
 use Rattle.std.specs.declared.alloc.Global.{Global}
 use Rattle.std.proofs.lemmas.Bool.{cases_eq}
 use Rattle.std.proofs.lemmas.Option.{same_Some, slice_get_within}
-use Rattle.bpf_words.specs.declared.profile.Profile.{Profile}
+use Rattle.span_context.specs.declared.profile.Profile.{Profile}
 use Rattle.bpf_words.specs.declared.instruction.Insn.{Insn}
 use Rattle.bpf_words.specs.declared.instruction.Insn.TheVariants.{Compute, Negate, Extend, Convert, Jump, JumpLong, Branch, Load, LoadSigned, Store, LoadWide, Exit}
 use Rattle.bpf_words.specs.Flow.{StartsAt, IsPaired, jump_of, slots_of, falls_through}
-use Rattle.meaning.specs.Step.{Program}
+use Rattle.semantics.specs.Step.{Program}
 use Rattle.abstract_state.specs.declared.state.AbsReg.TheVariants.{Unset}
 use Rattle.abstract_state.specs.declared.state.AbsState.{AbsState}
 use Rattle.abstract_state.specs.State.{register_at}
 use Rattle.abstract_state.specs.Kinds.{IsContextAt, IsStackAt}
 use Rattle.verifier.specs.Structure.{IsStructured}
 use Rattle.verifier.specs.Arises.{Takes, IsLongBehind, IsTarget, Arises, ArisesAt, AllArise, FallsFrom, FallsAs, MayRefuse, IsCause, RefusesAt, first, fell, jumped}
-use Rattle.verifier.specs.Waiting.{States, unboxed, waiting_at}
+use Rattle.verifier.specs.Waiting.{Waiting, unboxed, waiting_at}
 use Rattle.verifier.specs.Walk.{Between}
 use Rattle.verifier.proofs.Waits.{waiting-set_same, waiting-set_other, set_twice, read_waiting}
 use Rattle.verifier.proofs.Passing.{IsStraight}
@@ -37,7 +37,7 @@ pub at_one : (profile : Profile) (program : Program) (slot : ℕ) (a : AbsState)
 at_one profile program slot a arises b e = subst (λ x. Arises profile program slot x) (same_Some a b e) arises
 
 -- ---- what waits, where one slot's entry is written
-pub arise_added : (profile : Profile) (program : Program) (states : States) (slot : ℕ) (empty : Option (Box AbsState Global)) (boxed : Box AbsState Global) → slot < length states → AllArise profile program states → IsTarget program slot → Arises profile program slot boxed.value → AllArise profile program (set (set states slot empty) slot (Some boxed))
+pub arise_added : (profile : Profile) (program : Program) (states : Waiting) (slot : ℕ) (empty : Option (Box AbsState Global)) (boxed : Box AbsState Global) → slot < length states → AllArise profile program states → IsTarget program slot → Arises profile program slot boxed.value → AllArise profile program (set (set states slot empty) slot (Some boxed))
 arise_added profile program states slot empty boxed within all target arises other a e =
     ⊎_elim
     (λ (here : other ≡ slot).
@@ -49,7 +49,7 @@ arise_added profile program states slot empty boxed within all target arises oth
     all other a (sym stays ∙ e))
     (cases_eq other slot)
 
-pub arise_taken : (profile : Profile) (program : Program) (states : States) (slot : ℕ) (empty : Option (Box AbsState Global)) → slot < length states → empty ≡ None → AllArise profile program states → AllArise profile program (set states slot empty)
+pub arise_taken : (profile : Profile) (program : Program) (states : Waiting) (slot : ℕ) (empty : Option (Box AbsState Global)) → slot < length states → empty ≡ None → AllArise profile program states → AllArise profile program (set states slot empty)
 arise_taken profile program states slot empty within none all other a e =
     ⊎_elim
     (λ (here : other ≡ slot).
@@ -59,7 +59,7 @@ arise_taken profile program states slot empty within none all other a e =
     (λ (apart : other ≡ slot → ⊥). all other a (sym (waiting-set_other states slot other empty apart) ∙ e))
     (cases_eq other slot)
 
-pub read_arises : (profile : Profile) (program : Program) (states : States) (slot : ℕ) (read taken : Option (Box AbsState Global)) (a : AbsState) → slot < length states → read ≡ get_or states slot read → taken ≡ read → AllArise profile program states → unboxed taken ≡ Some a → IsTarget program slot × Arises profile program slot a
+pub read_arises : (profile : Profile) (program : Program) (states : Waiting) (slot : ℕ) (read taken : Option (Box AbsState Global)) (a : AbsState) → slot < length states → read ≡ get_or states slot read → taken ≡ read → AllArise profile program states → unboxed taken ≡ Some a → IsTarget program slot × Arises profile program slot a
 read_arises profile program states slot read taken a within is same all e = all slot a (read_waiting states slot read taken within is same ∙ e)
 
 empty_of : (o : Option AbsState) → ((a : AbsState) → o ≡ Some a → ⊥) → o ≡ None
@@ -67,7 +67,7 @@ empty_of None never = refl
 empty_of (Some a) never = absurd (never a refl)
 
 -- a structured program's jumps don't lead to the second slot of an instruction, so nothing waits there
-pub nothing_waits : (profile : Profile) (program : Program) (slot : ℕ) (waiting : States) → IsStructured program → slice_get program slot ≡ Some None → AllArise profile program waiting → waiting_at waiting slot ≡ None
+pub nothing_waits : (profile : Profile) (program : Program) (slot : ℕ) (waiting : Waiting) → IsStructured program → slice_get program slot ≡ Some None → AllArise profile program waiting → waiting_at waiting slot ≡ None
 nothing_waits profile program slot waiting structured second all =
     empty_of (waiting_at waiting slot)
     (λ a e.
@@ -75,7 +75,7 @@ nothing_waits profile program slot waiting structured second all =
     let there : slice_get program (target.from + 1 + target.distance) ≡ Some None = subst (λ k. slice_get program k ≡ Some None) target.there second in
     structured target.from target.insn (slice_get_within program target.from (Some target.insn) target.starts) target.starts JumpIntoWide (pos target.distance, target.jumps, (target.distance, refl, there)))
 
-pub read_nothing : (states : States) (slot : ℕ) (read taken : Option (Box AbsState Global)) (boxed : Box AbsState Global) → slot < length states → read ≡ get_or states slot read → taken ≡ read → taken ≡ Some boxed → waiting_at states slot ≡ None → ⊥
+pub read_nothing : (states : Waiting) (slot : ℕ) (read taken : Option (Box AbsState Global)) (boxed : Box AbsState Global) → slot < length states → read ≡ get_or states slot read → taken ≡ read → taken ≡ Some boxed → waiting_at states slot ≡ None → ⊥
 read_nothing states slot read taken boxed within is same found none =
     let both : None ≡ Some boxed.value = sym none ∙ read_waiting states slot read taken within is same ∙ ap unboxed found in
     absurd (cc)

@@ -5,21 +5,21 @@ use Rattle.std.specs.List.{slice_get}
 use Rattle.std.proofs.lemmas.Bool.{cases_eq}
 use Rattle.std.proofs.lemmas.List.{get_or-set_same, get_or-set_other}
 use Rattle.std.proofs.lemmas.Option.{slice_get_within}
-use Rattle.bpf_words.specs.Context.{SpanBytes}
+use Rattle.span_context.specs.Context.{SpanBytes}
 use Rattle.bpf_words.specs.declared.instruction.Insn.{Insn}
 use Rattle.bpf_words.specs.declared.instruction.Insn.TheVariants.{Compute, Negate, Extend, Convert, Jump, JumpLong, Branch, Load, LoadSigned, Store, LoadWide, Exit}
 use Rattle.bpf_words.specs.Flow.{StartsAt, jump_of, falls_through, slots_of}
-use Rattle.meaning.specs.declared.FaultKind.{FaultKind}
-use Rattle.meaning.specs.declared.FaultKind.TheVariants.{WriteR10}
-use Rattle.meaning.specs.declared.Outcome.{Outcome}
-use Rattle.meaning.specs.declared.Outcome.TheVariants.{Done}
-use Rattle.meaning.specs.State.{State, start, register_of, operand_in}
-use Rattle.meaning.specs.Value.{cut, value_of, negated, extended, converted, holds_of, with_sign}
-use Rattle.meaning.specs.Memory.{address_of, load, store, bytes_in, bytes_in_signed}
-use Rattle.meaning.specs.Step.{Program, Moved, On, Returns, Stepped, Next, Ends, then_with, write_and_go, first_of, perform, land, step_at, step}
-use Rattle.meaning.specs.Outcomes.{after, outcome_from, outcome}
-use Rattle.meaning.specs.Safe.{IsSpan, Safe}
-use Rattle.meaning.proofs.Runs.{outcome_from-step}
+use Rattle.semantics.specs.declared.FaultKind.{FaultKind}
+use Rattle.semantics.specs.declared.FaultKind.TheVariants.{WriteR10}
+use Rattle.semantics.specs.declared.Outcome.{Outcome}
+use Rattle.semantics.specs.declared.Outcome.TheVariants.{Done}
+use Rattle.semantics.specs.State.{State, start, register_of, operand_in}
+use Rattle.semantics.specs.Value.{cut, value_of, negated, extended, converted, holds_of, with_sign}
+use Rattle.semantics.specs.Memory.{address_of, load, store, bytes_in, bytes_in_signed}
+use Rattle.semantics.specs.Step.{Program, Moved, On, Returns, Stepped, Next, Ends, then_with, write_and_go, first_of, perform, land, step_at, step}
+use Rattle.semantics.specs.Outcomes.{after, outcome_from, outcome}
+use Rattle.semantics.specs.Safe.{IsSpan, Safe}
+use Rattle.semantics.proofs.Runs.{outcome_from-step}
 use Rattle.verifier.specs.declared.refusal.StructureFault.TheVariants.{BackwardJump}
 use Rattle.verifier.specs.Structure.{IsStructured}
 use Rattle.verifier.specs.Plain.{Leads}

@@ -4,15 +4,15 @@ use Rattle.std.specs.List.{Contains}
 use Rattle.std.specs.Int.{cast_unsigned, w64}
 use Rattle.std.proofs.lemmas.List.Elements.{Contains-append_right}
 use Rattle.std.proofs.lemmas.Bool.{cases_lt}
-use Rattle.bpf_words.specs.declared.profile.Profile.{Profile}
+use Rattle.span_context.specs.declared.profile.Profile.{Profile}
 use Rattle.bpf_words.specs.declared.instruction.Operand.{Operand}
-use Rattle.bpf_words.specs.declared.instruction.Size.{Size}
+use Rattle.span_context.specs.declared.size.Size.{Size}
 use Rattle.bpf_words.specs.declared.instruction.Operand.TheVariants.{Immediate, Source}
 use Rattle.bpf_words.specs.declared.instruction.Insn.{Insn}
 use Rattle.bpf_words.specs.declared.instruction.Insn.TheVariants.{Compute, Negate, Extend, Convert, Jump, JumpLong, Branch, Load, LoadSigned, Store, LoadWide, Exit}
 use Rattle.bpf_words.specs.Flow.{StartsAt, read_by, read_operand, written_by}
-use Rattle.meaning.specs.Memory.{bytes_in, bytes_in_signed}
-use Rattle.meaning.specs.Step.{Program}
+use Rattle.semantics.specs.Memory.{bytes_in, bytes_in_signed}
+use Rattle.semantics.specs.Step.{Program}
 use Rattle.abstract_state.specs.declared.known.Known.TheVariants as known
 use Rattle.abstract_state.specs.declared.slot.Slot.{Slot}
 use Rattle.abstract_state.specs.declared.state.AbsReg.{AbsReg}

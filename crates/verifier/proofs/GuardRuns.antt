@@ -3,8 +3,8 @@ use Rattle.std.proofs.Common.{◌≡◌, ℕ, zero, suc, ◌+◌, ◌<◌, ◌�
 use Rattle.std.specs.Prelude.{pos}
 use Rattle.std.specs.List.{slice_get}
 use Rattle.std.proofs.lemmas.Option.{same_Some}
-use Rattle.bpf_words.specs.declared.profile.Profile.{Profile}
-use Rattle.bpf_words.specs.declared.instruction.Size.TheVariants.{Byte, Double}
+use Rattle.span_context.specs.declared.profile.Profile.{Profile}
+use Rattle.span_context.specs.declared.size.Size.TheVariants.{Byte, Double}
 use Rattle.bpf_words.specs.declared.instruction.Width.TheVariants.{Full}
 use Rattle.bpf_words.specs.declared.instruction.Arithmetic.TheVariants.{Mov, Add}
 use Rattle.bpf_words.specs.declared.instruction.Comparison.TheVariants.{Greater}
@@ -12,7 +12,7 @@ use Rattle.bpf_words.specs.declared.instruction.Operand.TheVariants.{Immediate, 
 use Rattle.bpf_words.specs.declared.instruction.Insn.{Insn}
 use Rattle.bpf_words.specs.declared.instruction.Insn.TheVariants.{Compute, Branch, Load, Exit}
 use Rattle.bpf_words.specs.Flow.{StartsAt, jump_of, slots_of, falls_through, written_by}
-use Rattle.meaning.specs.Step.{Program}
+use Rattle.semantics.specs.Step.{Program}
 use Rattle.abstract_state.specs.declared.region.Region.{Region}
 use Rattle.abstract_state.specs.Lent.{begin_field, end_field, limit_of, bound_of, tail_of, Lends}
 use Rattle.abstract_state.specs.declared.state.AbsReg.{AbsReg}
@@ -155,10 +155,10 @@ reads profile region n offset a sized at =
     let inside = sized.within in
     let fits = sized.fits in
     let long = at.1 in
-    let place = lent_set region 0 0 (Some 0) (register_at a.registers 2) at.0 in
-    let high : place.0.offset.range.high ≡ 0 = place.3.1 in
-    let same : bound_of a.bounds place.0.region ≡ bound_of a.bounds region = ap (bound_of a.bounds) place.2 in
-    lent_read Byte 0 2 offset place.0 place.1 (omega arith) (omega arith)
+    let address = lent_set region 0 0 (Some 0) (register_at a.registers 2) at.0 in
+    let high : address.0.offset.range.high ≡ 0 = address.3.1 in
+    let same : bound_of a.bounds address.0.region ≡ bound_of a.bounds region = ap (bound_of a.bounds) address.2 in
+    lent_read Byte 0 2 offset address.0 address.1 (omega arith) (omega arith)
 
 row_granted : (profile : Profile) (region : Region) (n offset slot : ℕ) (insn : Insn) (a : AbsState) → IsSized profile region n offset → Row region n offset slot insn → At region n slot a → IsGranted profile a insn
 row_granted profile region n offset slot insn a sized row_begin at = of_row 2 _ (lent_begin region 2 1 sized.lends at)

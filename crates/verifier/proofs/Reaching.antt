@@ -7,12 +7,12 @@ use Rattle.std.proofs.Math.ListN.{get_or-append}
 use Rattle.std.proofs.Math.Seq.{get_or-append_seam}
 use Rattle.std.proofs.lemmas.Bool.{cases_eq}
 use Rattle.std.proofs.lemmas.Option.{slice_get_within}
-use Rattle.bpf_words.specs.declared.profile.Profile.{Profile}
+use Rattle.span_context.specs.declared.profile.Profile.{Profile}
 use Rattle.bpf_words.specs.declared.instruction.Insn.{Insn}
 use Rattle.bpf_words.specs.Flow.{StartsAt, IsPaired, jump_of, slots_of, falls_through}
-use Rattle.meaning.specs.declared.FaultKind.TheVariants.{OutOfCode}
-use Rattle.meaning.specs.State.{State, start}
-use Rattle.meaning.specs.Step.{Program, Moved, On, Returns, Next, then_with, land, step_at, step}
+use Rattle.semantics.specs.declared.FaultKind.TheVariants.{OutOfCode}
+use Rattle.semantics.specs.State.{State, start}
+use Rattle.semantics.specs.Step.{Program, Moved, On, Returns, Next, then_with, land, step_at, step}
 use Rattle.abstract_state.specs.declared.state.AbsState.{AbsState}
 use Rattle.abstract_state.specs.Lent.{Lengths}
 use Rattle.abstract_state.specs.State.{Span, lengths_of, Contains, WithinState, does}
@@ -23,7 +23,7 @@ use Rattle.verifier.specs.declared.refusal.VerifyError.{VerifyError}
 use Rattle.verifier.specs.declared.refusal.VerifyError.TheVariants.{Structure, State as StateRefused, OutOfMemory}
 use Rattle.verifier.specs.Structure.{IsStructured}
 use Rattle.verifier.specs.Arises.{ArisesAt}
-use Rattle.verifier.specs.Waiting.{States, waiting_at}
+use Rattle.verifier.specs.Waiting.{Waiting, waiting_at}
 use Rattle.verifier.specs.Walk.{Between, IsAwaited, Advances, Keeps}
 use Rattle.program_reads.specs.Runs.{Reaches, at_start, by_step, ContainsRuns}
 use Rattle.verifier.specs.Reaches.{Enters, from_start, from_below, Covers, IsStateBelow, IsBefore}
@@ -66,7 +66,7 @@ enters program span slot s structured at (by_step {s = before} from e) =
     from_below from (subst (λ k. before.slot < k) at less) e
 
 -- ---- from the state before an instruction
-moved_awaited : (program : Program) (span : Span) (slot : ℕ) (insn : Insn) (s next : State) (falling : Option AbsState) (waiting : States) (m : Moved) → IsPaired program → IsStructured program → StartsAt program slot insn → s.slot ≡ slot → does span s insn ≡ m → Advances (lengths_of span) slot insn falling waiting m → then_with m (land program) ≡ Ok (Next next) → IsAwaited program (slot + 1) falling waiting (lengths_of span) next
+moved_awaited : (program : Program) (span : Span) (slot : ℕ) (insn : Insn) (s next : State) (falling : Option AbsState) (waiting : Waiting) (m : Moved) → IsPaired program → IsStructured program → StartsAt program slot insn → s.slot ≡ slot → does span s insn ≡ m → Advances (lengths_of span) slot insn falling waiting m → then_with m (land program) ≡ Ok (Next next) → IsAwaited program (slot + 1) falling waiting (lengths_of span) next
 moved_awaited program span slot insn s next falling waiting (Ok (Returns value)) paired structured starts at e advances to = absurd (cc)
 moved_awaited program span slot insn s next falling waiting (Err kind) paired structured starts at e advances to = absurd advances
 moved_awaited program span slot insn s next falling waiting (Ok (On mid distance)) paired structured starts at e advances to =
@@ -76,22 +76,22 @@ moved_awaited program span slot insn s next falling waiting (Ok (On mid distance
     let n = fell.0 in
     let count : n + 1 ≡ slots_of insn = fell.2 in
     let f = fall_starts program slot (slot + slots_of insn) insn paired structured starts fell.3 refl in
-    let place : mid.slot + 1 + n ≡ slot + slots_of insn = omega arith in
+    let same_slot : mid.slot + 1 + n ≡ slot + slots_of insn = omega arith in
     let is : next ≡ record mid { slot = slot + slots_of insn } =
-    lands_at program mid next n (subst (λ d. land program (On mid d) ≡ Ok (Next next)) fell.1 to) ∙ ap (λ k. record mid { slot = k }) place in
+    lands_at program mid next n (subst (λ d. land program (On mid d) ≡ Ok (Next next)) fell.1 to) ∙ ap (λ k. record mid { slot = k }) same_slot in
     subst (λ (x : State). IsAwaited program (slot + 1) falling waiting (lengths_of span) x) (sym is)
     ((omega arith), inl (f.between, contains_at falling (lengths_of span) mid (slot + slots_of insn) fell.4)))
     (λ (jumped : (n : ℕ) × (distance ≡ pos n) × (jump_of insn ≡ Some (pos n)) × WithinState (waiting_at waiting (slot + 1 + n)) (lengths_of span) mid).
     let n = jumped.0 in
-    let place : mid.slot + 1 + n ≡ slot + 1 + n = omega arith in
+    let same_slot : mid.slot + 1 + n ≡ slot + 1 + n = omega arith in
     let is : next ≡ record mid { slot = slot + 1 + n } =
-    lands_at program mid next n (subst (λ d. land program (On mid d) ≡ Ok (Next next)) jumped.1 to) ∙ ap (λ k. record mid { slot = k }) place in
+    lands_at program mid next n (subst (λ d. land program (On mid d) ≡ Ok (Next next)) jumped.1 to) ∙ ap (λ k. record mid { slot = k }) same_slot in
     subst (λ (x : State). IsAwaited program (slot + 1) falling waiting (lengths_of span) x) (sym is)
     ((omega arith), inr (contains_at (waiting_at waiting (slot + 1 + n)) (lengths_of span) mid (slot + 1 + n) jumped.3)))
     advances
 
 -- ---- all edges into a slot
-pub all_joined : (profile : Profile) (program : Program) (slot : ℕ) (falling joined : Option AbsState) (waiting : States) → IsStructured program → ((lengths : Lengths) (s : State) → WithinState falling lengths s → WithinState joined lengths s) → ((lengths : Lengths) (s : State) → WithinState (waiting_at waiting slot) lengths s → WithinState joined lengths s) → Covers profile program slot falling waiting → ContainsRuns profile program slot joined
+pub all_joined : (profile : Profile) (program : Program) (slot : ℕ) (falling joined : Option AbsState) (waiting : Waiting) → IsStructured program → ((lengths : Lengths) (s : State) → WithinState falling lengths s → WithinState joined lengths s) → ((lengths : Lengths) (s : State) → WithinState (waiting_at waiting slot) lengths s → WithinState joined lengths s) → Covers profile program slot falling waiting → ContainsRuns profile program slot joined
 all_joined profile program slot falling joined waiting structured falls arrives covers span s which reached at =
     let awaited = covers span s which (enters program span slot s structured at reached) (omega arith) in
     ⊎_elim
@@ -101,7 +101,7 @@ all_joined profile program slot falling joined waiting structured falls arrives 
     awaited.1
 
 -- what waited at a slot is joined to what falls into it, and all else still waits
-pub covers_arrived : (profile : Profile) (program : Program) (slot : ℕ) (falling joined : Option AbsState) (old mid : States) → ((lengths : Lengths) (s : State) → WithinState falling lengths s → WithinState joined lengths s) → ((lengths : Lengths) (s : State) → WithinState (waiting_at old slot) lengths s → WithinState joined lengths s) → ((other : ℕ) → other ≢ slot → waiting_at mid other ≡ waiting_at old other) → Covers profile program slot falling old → Covers profile program slot joined mid
+pub covers_arrived : (profile : Profile) (program : Program) (slot : ℕ) (falling joined : Option AbsState) (old mid : Waiting) → ((lengths : Lengths) (s : State) → WithinState falling lengths s → WithinState joined lengths s) → ((lengths : Lengths) (s : State) → WithinState (waiting_at old slot) lengths s → WithinState joined lengths s) → ((other : ℕ) → other ≢ slot → waiting_at mid other ≡ waiting_at old other) → Covers profile program slot falling old → Covers profile program slot joined mid
 covers_arrived profile program slot falling joined old mid falls arrives others covers span s which entered low =
     let awaited = covers span s which entered low in (
       low,
@@ -161,11 +161,11 @@ arise_more profile program slot known states size here below at insn less starts
     (cases_eq at slot)
 
 -- ---- one turn of the walk
-pub covers_begin : (profile : Profile) (program : Program) (entry : AbsState) (waiting : States) → ((span : Span) → Contains entry (lengths_of span) start) → Covers profile program 0 (Some entry) waiting
+pub covers_begin : (profile : Profile) (program : Program) (entry : AbsState) (waiting : Waiting) → ((span : Span) → Contains entry (lengths_of span) start) → Covers profile program 0 (Some entry) waiting
 covers_begin profile program entry waiting contains span s which from_start low = ((omega arith), inl ((λ k least most. absurd (omega arith)), (entry, refl, contains span)))
 covers_begin profile program entry waiting contains span s which (from_below from below e) low = absurd (omega arith)
 
-pub covers_over : (profile : Profile) (program : Program) (slot : ℕ) (falling : Option AbsState) (waiting : States) → slice_get program slot ≡ Some None → Covers profile program slot falling waiting → Covers profile program (slot + 1) falling waiting
+pub covers_over : (profile : Profile) (program : Program) (slot : ℕ) (falling : Option AbsState) (waiting : Waiting) → slice_get program slot ≡ Some None → Covers profile program slot falling waiting → Covers profile program (slot + 1) falling waiting
 covers_over profile program slot falling waiting second covers span s which from_start low = absurd (omega arith)
 covers_over profile program slot falling waiting second covers span s which (from_below {s = before} from below e) low =
     ⊎_elim
@@ -184,7 +184,7 @@ covers_over profile program slot falling waiting second covers span s which (fro
     ))
     (cases_eq before.slot slot)
 
-pub covers_passed : (profile : Profile) (program : Program) (slot : ℕ) (insn : Insn) (falling joined next : Option AbsState) (old mid new : States) → IsPaired program → IsStructured program → StartsAt program slot insn → ((lengths : Lengths) (s : State) → WithinState falling lengths s → WithinState joined lengths s) → ((lengths : Lengths) (s : State) → WithinState (waiting_at old slot) lengths s → WithinState joined lengths s) → ((other : ℕ) → other ≢ slot → waiting_at mid other ≡ waiting_at old other) → Keeps mid new → ((span : Span) (s : State) → span.profile ≡ profile → WithinState joined (lengths_of span) s → Advances (lengths_of span) slot insn next new (does span s insn)) → Covers profile program slot falling old → Covers profile program (slot + 1) next new
+pub covers_passed : (profile : Profile) (program : Program) (slot : ℕ) (insn : Insn) (falling joined next : Option AbsState) (old mid new : Waiting) → IsPaired program → IsStructured program → StartsAt program slot insn → ((lengths : Lengths) (s : State) → WithinState falling lengths s → WithinState joined lengths s) → ((lengths : Lengths) (s : State) → WithinState (waiting_at old slot) lengths s → WithinState joined lengths s) → ((other : ℕ) → other ≢ slot → waiting_at mid other ≡ waiting_at old other) → Keeps mid new → ((span : Span) (s : State) → span.profile ≡ profile → WithinState joined (lengths_of span) s → Advances (lengths_of span) slot insn next new (does span s insn)) → Covers profile program slot falling old → Covers profile program (slot + 1) next new
 covers_passed profile program slot insn falling joined next old mid new paired structured starts falls arrives others keeps sound covers span s which from_start low = absurd (omega arith)
 covers_passed profile program slot insn falling joined next old mid new paired structured starts falls arrives others keeps sound covers span s which (from_below {s = before} from below e) low =
     ⊎_elim

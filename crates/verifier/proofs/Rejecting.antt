@@ -1,8 +1,8 @@
 -- What a refusal by a walk up to some slot says of a structured program.
 use Rattle.std.proofs.Common.{ℕ, ◌≤◌, length, Result, Ok, Err, arith}
 use Rattle.std.specs.Result.{IfErr}
-use Rattle.bpf_words.specs.declared.profile.Profile.{Profile}
-use Rattle.meaning.specs.Step.{Program}
+use Rattle.span_context.specs.declared.profile.Profile.{Profile}
+use Rattle.semantics.specs.Step.{Program}
 use Rattle.verifier.specs.declared.refusal.VerifyError.{VerifyError}
 use Rattle.verifier.specs.declared.refusal.VerifyError.TheVariants.{Structure, State, OutOfMemory}
 use Rattle.verifier.specs.Plain.{IsPlain}

@@ -3,18 +3,18 @@ use Rattle.std.proofs.Common.{◌≡◌, ℕ, ◌+◌, ◌-◌, ◌<◌, ◌⊎�
 use Rattle.std.specs.Prelude.{ℤ, pos}
 use Rattle.std.proofs.lemmas.Bool.{lt-ltb}
 use Rattle.std.proofs.lemmas.Option.{slice_get_within}
-use Rattle.bpf_words.specs.Context.{SpanBytes}
+use Rattle.span_context.specs.Context.{SpanBytes}
 use Rattle.bpf_words.specs.declared.instruction.Insn.{Insn}
 use Rattle.bpf_words.specs.declared.instruction.Insn.TheVariants.{Compute, Negate, Extend, Convert, Jump, JumpLong, Branch, Load, LoadSigned, Store, LoadWide, Exit}
 use Rattle.bpf_words.specs.Flow.{StartsAt, jump_of}
-use Rattle.meaning.specs.declared.FaultKind.{FaultKind}
-use Rattle.meaning.specs.declared.FaultKind.TheVariants.{WriteR10}
-use Rattle.meaning.specs.State.{State, register_of, operand_in}
-use Rattle.meaning.specs.Value.{cut, value_of, negated, extended, converted, holds_of, with_sign}
-use Rattle.meaning.specs.Memory.{address_of, load, store, bytes_in, bytes_in_signed}
-use Rattle.meaning.specs.Step.{Program, Moved, On, Returns, Next, then_with, write_and_go, first_of, perform, land, step}
-use Rattle.meaning.specs.Outcomes.{after, outcome_from}
-use Rattle.meaning.proofs.Runs.{outcome_from-step}
+use Rattle.semantics.specs.declared.FaultKind.{FaultKind}
+use Rattle.semantics.specs.declared.FaultKind.TheVariants.{WriteR10}
+use Rattle.semantics.specs.State.{State, register_of, operand_in}
+use Rattle.semantics.specs.Value.{cut, value_of, negated, extended, converted, holds_of, with_sign}
+use Rattle.semantics.specs.Memory.{address_of, load, store, bytes_in, bytes_in_signed}
+use Rattle.semantics.specs.Step.{Program, Moved, On, Returns, Next, then_with, write_and_go, first_of, perform, land, step}
+use Rattle.semantics.specs.Outcomes.{after, outcome_from}
+use Rattle.semantics.proofs.Runs.{outcome_from-step}
 use Rattle.abstract_state.specs.declared.state.AbsState.{AbsState}
 use Rattle.abstract_state.specs.Lent.{Lengths}
 use Rattle.abstract_state.specs.State.{Span, WithinState, does}

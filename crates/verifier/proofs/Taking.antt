@@ -4,7 +4,7 @@ use Rattle.std.specs.Prelude.{ℤ}
 use Rattle.std.specs.Option.{IfSome}
 use Rattle.std.proofs.lemmas.Bool.{cases_eq}
 use Rattle.std.proofs.lemmas.Option.{same_Some}
-use Rattle.bpf_words.specs.declared.profile.Profile.{Profile}
+use Rattle.span_context.specs.declared.profile.Profile.{Profile}
 use Rattle.bpf_words.specs.declared.instruction.Width.{Width}
 use Rattle.bpf_words.specs.declared.instruction.Width.TheVariants.{Full}
 use Rattle.bpf_words.specs.declared.instruction.Comparison.{Comparison}
@@ -25,7 +25,7 @@ use Rattle.abstract_state.specs.Branch.{LeavesSides}
 use Rattle.abstract_state.specs.Kinds.{HasNumberAt, HasNumberIn, IsNumberReg, KeepsAll, KeepsKind, ReadsNumbers, WritesNumber, Carries}
 use Rattle.abstract_state.specs.Exact.{Fact, Holds}
 use Rattle.abstract_state.specs.Lent.{tail_of}
-use Rattle.abstract_state.specs.declared.place.LentPlace.{LentPlace}
+use Rattle.abstract_state.specs.declared.address.LentAddress.{LentAddress}
 use Rattle.abstract_state.specs.Guard.{Yields, lent_begin, lent_end, lent_moved, lent_added, copied, moved, folded, wide, lent_read, lent_read_signed, stack_read, stack_read_signed, refilled, Stores, stored, Spills, spilled, LeavesOthers, LeavesMemory, LengthensMemory}
 use Rattle.abstract_state.specs.Frame.{StoresSlots, SpillsSlot}
 use Rattle.abstract_state.specs.declared.known.Known.{Known}
@@ -84,7 +84,7 @@ exit_granted profile a insn is (of_spill i known spill) = absurd ((spills_none a
 -- what is promised of a comparison of two addresses in one lent region, of its answer
 abbrev pub IfGuards : AbsState → Width → Comparison → ℕ → Operand → (Region → ℕ → Type 0) → Type 0
 IfGuards a width comparison left right P =
-    (r t : ℕ) (p q : LentPlace) → right ≡ Source r → left ≢ r → width ≡ Full → comparison ≡ Greater
+    (r t : ℕ) (p q : LentAddress) → right ≡ Source r → left ≢ r → width ≡ Full → comparison ≡ Greater
     → register_at a.registers left ≡ Set (Lent p) → register_at a.registers r ≡ Set (Lent q) → p.region ≡ q.region
     → tail_of q.offset.tails p.region ≡ Some t → P p.region p.offset.range.low
 

@@ -6,15 +6,15 @@ use Rattle.std.specs.List.{Contains}
 use Rattle.std.specs.Result.{IfErr}
 use Rattle.std.proofs.lemmas.Option.{same_Some}
 use Rattle.std.proofs.lemmas.List.Elements.{Contains-append_right}
-use Rattle.bpf_words.specs.declared.profile.Profile.{Profile}
+use Rattle.span_context.specs.declared.profile.Profile.{Profile}
 use Rattle.bpf_words.specs.declared.instruction.Operand.{Operand}
 use Rattle.bpf_words.specs.declared.instruction.Operand.TheVariants.{Immediate, Source}
 use Rattle.bpf_words.specs.declared.instruction.Insn.{Insn}
 use Rattle.bpf_words.specs.declared.instruction.Insn.TheVariants.{Compute, Negate, Extend, Convert, Jump, JumpLong}
 use Rattle.bpf_words.specs.declared.instruction.Insn.TheVariants.{Branch, Load, LoadSigned, Store, LoadWide, Exit}
 use Rattle.bpf_words.specs.Flow.{StartsAt, read_by, read_operand, written_by}
-use Rattle.meaning.specs.State.{State}
-use Rattle.meaning.specs.Step.{Program}
+use Rattle.semantics.specs.State.{State}
+use Rattle.semantics.specs.Step.{Program}
 use Rattle.abstract_state.specs.declared.refusal.Refusal.{Refusal}
 use Rattle.abstract_state.specs.declared.refusal.Refusal.TheVariants.{UnsetRegister}
 use Rattle.abstract_state.specs.declared.state.AbsReg.{AbsReg}

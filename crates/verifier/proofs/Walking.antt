@@ -4,19 +4,19 @@ use Rattle.std.specs.Prelude.{pos, negsuc}
 use Rattle.std.specs.List.{slice_get}
 use Rattle.std.proofs.lemmas.Bool.{cases_lt, false≢true}
 use Rattle.std.proofs.lemmas.Option.{slice_get_within, slice_get-get_or, same_Some}
-use Rattle.bpf_words.specs.declared.profile.Profile.{Profile}
+use Rattle.span_context.specs.declared.profile.Profile.{Profile}
 use Rattle.bpf_words.specs.declared.instruction.Insn.{Insn}
 use Rattle.bpf_words.specs.declared.instruction.Insn.TheVariants.{Compute, Negate, Extend, Convert, Jump, JumpLong, Branch, Load, LoadSigned, Store, LoadWide, Exit}
 use Rattle.bpf_words.specs.Flow.{StartsAt, IsPaired, jump_of, slots_of, falls_through}
-use Rattle.meaning.specs.State.{State, start}
-use Rattle.meaning.specs.Step.{Program, Moved, On, Returns}
-use Rattle.meaning.specs.Safe.{SafeIn}
+use Rattle.semantics.specs.State.{State, start}
+use Rattle.semantics.specs.Step.{Program, Moved, On, Returns}
+use Rattle.semantics.specs.Safe.{SafeIn}
 use Rattle.abstract_state.specs.declared.state.AbsState.{AbsState}
 use Rattle.abstract_state.specs.Lent.{Lengths}
 use Rattle.abstract_state.specs.State.{Span, lengths_of, Contains, WithinState, does}
 use Rattle.verifier.specs.declared.refusal.StructureFault.TheVariants.{BackwardJump, JumpOut, JumpIntoWide, FallOff}
 use Rattle.verifier.specs.Structure.{IsStructured}
-use Rattle.verifier.specs.Waiting.{States, waiting_at}
+use Rattle.verifier.specs.Waiting.{Waiting, waiting_at}
 use Rattle.verifier.specs.Walk.{ComesTo, Between, IsAwaited, Ends, Follows, Advances, Keeps, JumpsWithin}
 use Rattle.verifier.proofs.Runs.{contains_at, ends_here, goes_on}
 
@@ -107,7 +107,7 @@ fall_starts program slot to insn paired structured starts falls is =
     (one_or_two insn)
 
 -- ---- what is known once all edges into a slot are joined
-abbrev pub Settled : Profile → Program → ℕ → Option AbsState → States → Type 0
+abbrev pub Settled : Profile → Program → ℕ → Option AbsState → Waiting → Type 0
 Settled profile program slot falling waiting =
     (span : Span) → span.profile ≡ profile
     → Ends program span
@@ -115,7 +115,7 @@ Settled profile program slot falling waiting =
     × (((s.slot ≡ slot) × WithinState falling (lengths_of span) s)
     ⊎ ((slot < s.slot) × WithinState (waiting_at waiting s.slot) (lengths_of span) s)))
 
-pub arrived : (profile : Profile) (program : Program) (slot : ℕ) (insn : Insn) (falling joined : Option AbsState) (old new : States) → StartsAt program slot insn → ((lengths : Lengths) (s : State) → WithinState falling lengths s → WithinState joined lengths s) → ((lengths : Lengths) (s : State) → WithinState (waiting_at old slot) lengths s → WithinState joined lengths s) → ((other : ℕ) → other ≢ slot → waiting_at new other ≡ waiting_at old other) → Follows profile program slot falling old → Settled profile program slot joined new
+pub arrived : (profile : Profile) (program : Program) (slot : ℕ) (insn : Insn) (falling joined : Option AbsState) (old new : Waiting) → StartsAt program slot insn → ((lengths : Lengths) (s : State) → WithinState falling lengths s → WithinState joined lengths s) → ((lengths : Lengths) (s : State) → WithinState (waiting_at old slot) lengths s → WithinState joined lengths s) → ((other : ℕ) → other ≢ slot → waiting_at new other ≡ waiting_at old other) → Follows profile program slot falling old → Settled profile program slot joined new
 arrived profile program slot insn falling joined old new starts falls arrives others follows span which =
     ⊎_elim
     (λ (ended : Ends program span). inl ended)
@@ -144,7 +144,7 @@ arrived profile program slot insn falling joined old new starts falls arrives ot
     (follows span which)
 
 -- ---- an instruction is passed
-moved : (program : Program) (span : Span) (slot : ℕ) (insn : Insn) (s : State) (falling : Option AbsState) (waiting : States) (m : Moved) → IsPaired program → IsStructured program → StartsAt program slot insn → ComesTo program span s → s.slot ≡ slot → does span s insn ≡ m → Advances (lengths_of span) slot insn falling waiting m → Ends program span ⊎ ((s : State) × ComesTo program span s × IsAwaited program (slot + 1) falling waiting (lengths_of span) s)
+moved : (program : Program) (span : Span) (slot : ℕ) (insn : Insn) (s : State) (falling : Option AbsState) (waiting : Waiting) (m : Moved) → IsPaired program → IsStructured program → StartsAt program slot insn → ComesTo program span s → s.slot ≡ slot → does span s insn ≡ m → Advances (lengths_of span) slot insn falling waiting m → Ends program span ⊎ ((s : State) × ComesTo program span s × IsAwaited program (slot + 1) falling waiting (lengths_of span) s)
 moved program span slot insn s falling waiting (Ok (Returns value)) paired structured starts comes at e advances =
     inl (ends_here program span s insn value comes (subst (λ k. StartsAt program k insn) (sym at) starts) e)
 moved program span slot insn s falling waiting (Ok (On next distance)) paired structured starts comes at e advances =
@@ -172,7 +172,7 @@ moved program span slot insn s falling waiting (Ok (On next distance)) paired st
     advances
 moved program span slot insn s falling waiting (Err kind) paired structured starts comes at e advances = absurd advances
 
-pub passed : (profile : Profile) (program : Program) (slot : ℕ) (insn : Insn) (a : AbsState) (falling : Option AbsState) (old new : States) → IsPaired program → IsStructured program → StartsAt program slot insn → Keeps old new → ((span : Span) (s : State) → span.profile ≡ profile → Contains a (lengths_of span) s → Advances (lengths_of span) slot insn falling new (does span s insn)) → Settled profile program slot (Some a) old → Follows profile program (slot + 1) falling new
+pub passed : (profile : Profile) (program : Program) (slot : ℕ) (insn : Insn) (a : AbsState) (falling : Option AbsState) (old new : Waiting) → IsPaired program → IsStructured program → StartsAt program slot insn → Keeps old new → ((span : Span) (s : State) → span.profile ≡ profile → Contains a (lengths_of span) s → Advances (lengths_of span) slot insn falling new (does span s insn)) → Settled profile program slot (Some a) old → Follows profile program (slot + 1) falling new
 passed profile program slot insn a falling old new paired structured starts keeps sound settled span which =
     ⊎_elim
     (λ (ended : Ends program span). inl ended)
@@ -189,7 +189,7 @@ passed profile program slot insn a falling old new paired structured starts keep
     (settled span which)
 
 -- nothing comes to a dead slot
-pub skipped : (profile : Profile) (program : Program) (slot : ℕ) (falling : Option AbsState) (waiting : States) → Settled profile program slot None waiting → Follows profile program (slot + 1) falling waiting
+pub skipped : (profile : Profile) (program : Program) (slot : ℕ) (falling : Option AbsState) (waiting : Waiting) → Settled profile program slot None waiting → Follows profile program (slot + 1) falling waiting
 skipped profile program slot falling waiting settled span which =
     ⊎_elim
     (λ (ended : Ends program span). inl ended)
@@ -204,7 +204,7 @@ skipped profile program slot falling waiting settled span which =
     (settled span which)
 
 -- ---- a slot that is no instruction
-pub stepped_over : (profile : Profile) (program : Program) (slot : ℕ) (falling : Option AbsState) (waiting : States) → slice_get program slot ≡ Some None → Follows profile program slot falling waiting → Follows profile program (slot + 1) falling waiting
+pub stepped_over : (profile : Profile) (program : Program) (slot : ℕ) (falling : Option AbsState) (waiting : Waiting) → slice_get program slot ≡ Some None → Follows profile program slot falling waiting → Follows profile program (slot + 1) falling waiting
 stepped_over profile program slot falling waiting second follows span which =
     ⊎_elim
     (λ (ended : Ends program span). inl ended)
@@ -234,7 +234,7 @@ stepped_over profile program slot falling waiting second follows span which =
     (follows span which)
 
 -- ---- the walk's begin and end
-pub begins : (profile : Profile) (program : Program) (entry : AbsState) (waiting : States) → 0 < length program → IsPaired program → ((span : Span) → Contains entry (lengths_of span) start) → Follows profile program 0 (Some entry) waiting
+pub begins : (profile : Profile) (program : Program) (entry : AbsState) (waiting : Waiting) → 0 < length program → IsPaired program → ((span : Span) → Contains entry (lengths_of span) start) → Follows profile program 0 (Some entry) waiting
 begins profile program entry waiting some paired contains span which =
     let first = starts_at program 0 some paired.begins in
     inr (
@@ -243,7 +243,7 @@ begins profile program entry waiting some paired contains span which =
       (omega arith, inl ((λ k low high. absurd (omega arith)), (entry, refl, contains span))),
     )
 
-pub ends : (profile : Profile) (program : Program) (falling : Option AbsState) (waiting : States) → Follows profile program (length program) falling waiting → SafeIn profile program
+pub ends : (profile : Profile) (program : Program) (falling : Option AbsState) (waiting : Waiting) → Follows profile program (length program) falling waiting → SafeIn profile program
 ends profile program falling waiting follows bytes whole =
     ⊎_elim
     (λ (ended : Ends program (record { profile = profile; bytes = bytes; whole = whole })). ended)

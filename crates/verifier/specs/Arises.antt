@@ -1,16 +1,16 @@
 -- How what is known before a slot came to be, and which instructions may be refused then.
 use Rattle.std.specs.Prelude.{◌≡◌, ◌≢◌, ℕ, ℤ, pos, ◌+◌, ◌<◌, ◌≤◌, ◌⊎◌, ◌↔◌, min, Option, Some, true}
-use Rattle.bpf_words.specs.declared.profile.Profile.{Profile}
+use Rattle.span_context.specs.declared.profile.Profile.{Profile}
 use Rattle.bpf_words.specs.declared.instruction.Width.TheVariants.{Full}
 use Rattle.bpf_words.specs.declared.instruction.Comparison.TheVariants.{Greater}
 use Rattle.bpf_words.specs.declared.instruction.Operand.TheVariants.{Source}
 use Rattle.bpf_words.specs.declared.instruction.Insn.{Insn}
 use Rattle.bpf_words.specs.declared.instruction.Insn.TheVariants.{Branch}
 use Rattle.bpf_words.specs.Flow.{StartsAt, jump_of, read_by, written_by, falls_through, slots_of}
-use Rattle.meaning.specs.Step.{Program}
+use Rattle.semantics.specs.Step.{Program}
 use Rattle.abstract_state.specs.declared.region.Region.{Region}
 use Rattle.abstract_state.specs.Lent.{bound_of, tail_of}
-use Rattle.abstract_state.specs.declared.place.LentPlace.{LentPlace}
+use Rattle.abstract_state.specs.declared.address.LentAddress.{LentAddress}
 use Rattle.abstract_state.specs.declared.state.AbsReg.TheVariants.{Unset, Set}
 use Rattle.abstract_state.specs.declared.state.AbsState.{AbsState}
 use Rattle.abstract_state.specs.State.{register_at, slot_at}
@@ -26,12 +26,13 @@ use Rattle.abstract_state.specs.declared.refusal.Refusal.TheVariants.{UnsetRegis
 use Rattle.verifier.specs.declared.refusal.VerifyError.{VerifyError}
 use Rattle.verifier.specs.declared.refusal.VerifyError.TheVariants.{State as StateRefused, OutOfMemory}
 use Rattle.program_reads.specs.Runs.{ContainsRuns}
-use Rattle.verifier.specs.Waiting.{States, waiting_at}
+use Rattle.verifier.specs.Waiting.{Waiting, waiting_at}
 use Rattle.verifier.specs.Walk.{Between}
 
--- a comparison with an address in a lent region up to its end: where it doesn't hold, so many bytes are there
+-- a comparison with an address in a lent region up to its end: where it doesn't hold, the region has at least
+-- p.offset.range.low bytes
 pub data Guards (a : AbsState) : Insn → Region → ℕ → Type 0 where
-  behind : (left right t : ℕ) (p q : LentPlace) (distance : ℤ) → left ≢ right
+  behind : (left right t : ℕ) (p q : LentAddress) (distance : ℤ) → left ≢ right
       → register_at a.registers left ≡ Set (Lent p) → register_at a.registers right ≡ Set (Lent q)
       → p.region ≡ q.region → tail_of q.offset.tails p.region ≡ Some t
       → Guards a (Branch Full Greater left (Source right) distance) p.region p.offset.range.low
@@ -98,7 +99,7 @@ abbrev pub ArisesAt : Profile → Program → ℕ → Option AbsState → Type 0
 ArisesAt profile program slot o = (a : AbsState) → o ≡ Some a → Arises profile program slot a
 
 -- something waits only where a jump leads, and arises there
-abbrev pub AllArise : Profile → Program → States → Type 0
+abbrev pub AllArise : Profile → Program → Waiting → Type 0
 AllArise profile program waiting =
     (slot : ℕ) (a : AbsState) → waiting_at waiting slot ≡ Some a → IsTarget program slot × Arises profile program slot a
 

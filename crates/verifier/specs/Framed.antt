@@ -5,8 +5,8 @@ use Rattle.bpf_words.specs.declared.instruction.Insn.{Insn}
 use Rattle.bpf_words.specs.declared.instruction.Insn.TheVariants.{Compute, Negate, Extend, Convert, Jump, JumpLong}
 use Rattle.bpf_words.specs.declared.instruction.Insn.TheVariants.{Branch, Load, LoadSigned, Store, LoadWide, Exit}
 use Rattle.bpf_words.specs.Flow.{StartsAt, read_by}
-use Rattle.meaning.specs.Memory.{bytes_in, bytes_in_signed}
-use Rattle.meaning.specs.Step.{Program}
+use Rattle.semantics.specs.Memory.{bytes_in, bytes_in_signed}
+use Rattle.semantics.specs.Step.{Program}
 use Rattle.verifier.specs.Structure.{IsStructured}
 use Rattle.verifier.specs.Plain.{IsFree, IsFreeOperand, IsPlainInsn, Leads, Path}
 
@@ -14,7 +14,7 @@ use Rattle.verifier.specs.Plain.{IsFree, IsFreeOperand, IsPlainInsn, Leads, Path
 abbrev pub byte_at : ℤ → ℕ
 byte_at offset = (512 + cast_unsigned w64 offset) % 2 ^ 64
 
--- so many bytes at an offset from r10 lie in the frame
+-- count bytes at an offset from r10 lie in the frame
 abbrev pub IsInFrame : ℕ → ℤ → ℕ → Type 0
 IsInFrame base offset count = (base ≡ 10) × (byte_at offset + count ≤ 512)
 

@@ -1,8 +1,8 @@
 -- What the verifier's answer says of a program.
 use Rattle.std.specs.Prelude.{◌<◌, ℕ, length, Option, Some, None}
-use Rattle.bpf_words.specs.declared.profile.Profile.{Profile}
-use Rattle.meaning.specs.Step.{Program}
-use Rattle.meaning.specs.Safe.{SafeIn}
+use Rattle.span_context.specs.declared.profile.Profile.{Profile}
+use Rattle.semantics.specs.Step.{Program}
+use Rattle.semantics.specs.Safe.{SafeIn}
 use Rattle.verifier.specs.declared.refusal.StructureFault.{StructureFault}
 use Rattle.verifier.specs.declared.refusal.VerifyError.{VerifyError}
 use Rattle.verifier.specs.declared.refusal.VerifyError.TheVariants.{Structure, State, OutOfMemory}
@@ -12,7 +12,7 @@ use Rattle.verifier.specs.Framed.{IsFramed}
 use Rattle.verifier.specs.Guard.{IsGuard}
 use Rattle.verifier.specs.Arises.{RefusesAt}
 
--- no instruction's place or target is at fault
+-- no instruction's position or target is at fault
 abbrev pub HasNoFault : Program → Type 0
 HasNoFault code = (slot : ℕ) (fault : StructureFault) → ¬ (FirstFault code slot fault)
 

@@ -7,7 +7,7 @@ use Rattle.bpf_words.specs.declared.instruction.Insn.{Insn}
 use Rattle.bpf_words.specs.declared.instruction.Insn.TheVariants.{Compute, Negate, Extend, Convert, Jump, JumpLong}
 use Rattle.bpf_words.specs.declared.instruction.Insn.TheVariants.{Branch, Load, LoadSigned, Store, LoadWide, Exit}
 use Rattle.bpf_words.specs.Flow.{StartsAt, read_by, written_by, jump_of, falls_through, slots_of}
-use Rattle.meaning.specs.Step.{Program}
+use Rattle.semantics.specs.Step.{Program}
 use Rattle.abstract_state.specs.Kinds.{IsNumberField}
 use Rattle.verifier.specs.Structure.{IsStructured}
 
@@ -19,8 +19,8 @@ abbrev pub IsFreeOperand : Operand → Type 0
 IsFreeOperand (Immediate value) = Unit {0}
 IsFreeOperand (Source register) = IsFree register
 
--- arithmetic, jumps, an exit, and loads of a field of the context that is a number, from r1; r1 and r10 are in no other
--- place
+-- arithmetic, jumps, an exit, and loads, from r1, of a field of the context that is a number; r1 and r10 have no other
+-- use
 abbrev pub IsPlainInsn : Insn → Type 0
 IsPlainInsn (Compute width operation destination operand) = IsFree destination × IsFreeOperand operand
 IsPlainInsn (Negate width destination) = IsFree destination

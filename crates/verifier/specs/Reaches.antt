@@ -1,18 +1,18 @@
 -- What the walk over the slots knows of the states that runs come to.
 use Rattle.std.specs.Prelude.{◌≡◌, ℕ, ◌<◌, ◌≤◌, List, Option, None, Ok, slice_index_or}
-use Rattle.bpf_words.specs.declared.profile.Profile.{Profile}
+use Rattle.span_context.specs.declared.profile.Profile.{Profile}
 use Rattle.bpf_words.specs.declared.instruction.Insn.{Insn}
 use Rattle.bpf_words.specs.Flow.{StartsAt}
-use Rattle.meaning.specs.State.{State, start}
+use Rattle.semantics.specs.State.{State, start}
 use Rattle.program_reads.specs.declared.reads.Reads.{Reads}
 use Rattle.program_reads.specs.Runs.{Reaches}
 use Rattle.program_reads.specs.Loads.{CoversLoad}
-use Rattle.meaning.specs.Step.{Program, Next, step}
+use Rattle.semantics.specs.Step.{Program, Next, step}
 use Rattle.abstract_state.specs.declared.state.AbsState.{AbsState}
 use Rattle.abstract_state.specs.State.{Span, lengths_of}
 use Rattle.verifier.specs.declared.refusal.VerifyError.{VerifyError}
 use Rattle.verifier.specs.declared.refusal.VerifyError.TheVariants.{Structure, State as StateRefused, OutOfMemory}
-use Rattle.verifier.specs.Waiting.{States}
+use Rattle.verifier.specs.Waiting.{Waiting}
 use Rattle.verifier.specs.Walk.{IsAwaited}
 use Rattle.verifier.specs.Arises.{ArisesAt}
 
@@ -48,7 +48,7 @@ pub data Enters (program : Program) (span : Span) (slot : ℕ) : State → Type 
       → Enters program span slot next
 
 -- each state from a slot on that a run of the profile enters from below is awaited
-abbrev pub Covers : Profile → Program → ℕ → Option AbsState → States → Type 0
+abbrev pub Covers : Profile → Program → ℕ → Option AbsState → Waiting → Type 0
 Covers profile program slot falling waiting =
     (span : Span) (s : State) → span.profile ≡ profile → Enters program span slot s → slot ≤ s.slot
     → IsAwaited program slot falling waiting (lengths_of span) s

@@ -1,9 +1,9 @@
--- What has to be right of the instructions' places and targets, whatever is known of the machine.
+-- What has to be right of the instructions' positions and targets, whatever is known of the machine.
 use Rattle.std.specs.Prelude.{◌≡◌, ◌≢◌, ℕ, ℤ, pos, negsuc, ◌+◌, ◌<◌, ◌≤◌, length, Some, None, slice_get}
 use Rattle.bpf_words.specs.declared.instruction.Insn.{Insn}
 use Rattle.bpf_words.specs.declared.instruction.Insn.TheVariants.{Exit}
 use Rattle.bpf_words.specs.Flow.{StartsAt, jump_of, slots_of, written_by}
-use Rattle.meaning.specs.Step.{Program}
+use Rattle.semantics.specs.Step.{Program}
 use Rattle.verifier.specs.declared.refusal.StructureFault.{StructureFault}
 use Rattle.verifier.specs.declared.refusal.StructureFault.TheVariants.{BackwardJump, JumpOut, JumpIntoWide, FallOff}
 use Rattle.verifier.specs.declared.refusal.StructureFault.TheVariants.{WriteR10}

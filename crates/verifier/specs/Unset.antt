@@ -1,10 +1,10 @@
 -- Instructions that read a register which is not set.
 use Rattle.std.specs.Prelude.{◌≡◌, ℕ, ◌<◌, List, None, Contains, slice_index_or}
-use Rattle.bpf_words.specs.declared.profile.Profile.{Profile}
+use Rattle.span_context.specs.declared.profile.Profile.{Profile}
 use Rattle.bpf_words.specs.declared.instruction.Insn.{Insn}
 use Rattle.bpf_words.specs.Flow.{StartsAt, read_by}
-use Rattle.meaning.specs.State.{State}
-use Rattle.meaning.specs.Step.{Program}
+use Rattle.semantics.specs.State.{State}
+use Rattle.semantics.specs.Step.{Program}
 use Rattle.abstract_state.specs.State.{Span}
 use Rattle.program_reads.specs.Runs.{Reaches}
 use Rattle.verifier.specs.Plain.{IsFree, Path}

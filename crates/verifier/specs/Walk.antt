@@ -1,18 +1,18 @@
 -- How the runs of a program follow the walk over its slots.
 use Rattle.std.specs.Prelude.{◌≡◌, ℕ, ℤ, pos, ◌+◌, ◌<◌, ◌≤◌, ◌⊎◌, length, Option, Some, None, Ok, Err, true, slice_get}
-use Rattle.bpf_words.specs.declared.profile.Profile.{Profile}
+use Rattle.span_context.specs.declared.profile.Profile.{Profile}
 use Rattle.bpf_words.specs.declared.instruction.Insn.{Insn}
 use Rattle.bpf_words.specs.declared.instruction.Insn.TheVariants.{Compute, Negate, Extend, Convert, Jump, JumpLong}
 use Rattle.bpf_words.specs.declared.instruction.Insn.TheVariants.{Branch, Load, LoadSigned, Store, LoadWide, Exit}
 use Rattle.bpf_words.specs.Flow.{StartsAt, jump_of, slots_of, falls_through}
-use Rattle.meaning.specs.State.{State}
-use Rattle.meaning.specs.Step.{Program, Moved, On, Returns}
-use Rattle.meaning.specs.Outcomes.{outcome, outcome_from}
-use Rattle.meaning.specs.Safe.{Verdict}
+use Rattle.semantics.specs.State.{State}
+use Rattle.semantics.specs.Step.{Program, Moved, On, Returns}
+use Rattle.semantics.specs.Outcomes.{outcome, outcome_from}
+use Rattle.semantics.specs.Safe.{Verdict}
 use Rattle.abstract_state.specs.declared.state.AbsState.{AbsState}
 use Rattle.abstract_state.specs.Lent.{Lengths}
 use Rattle.abstract_state.specs.State.{Span, lengths_of, WithinState}
-use Rattle.verifier.specs.Waiting.{States, waiting_at}
+use Rattle.verifier.specs.Waiting.{Waiting, waiting_at}
 
 -- the run on a span comes to a state, at an instruction, with enough steps left for all slots from there on
 pub record ComesTo (program : Program) (span : Span) (s : State) : Type 0 where
@@ -28,7 +28,7 @@ Between program from to = (slot : ℕ) → from ≤ slot → slot < to → slice
 
 -- a state before a slot or after it is contained in what is known: of the fall into the next instruction, or of the
 -- jumps to its slot
-abbrev pub IsAwaited : Program → ℕ → Option AbsState → States → Lengths → State → Type 0
+abbrev pub IsAwaited : Program → ℕ → Option AbsState → Waiting → Lengths → State → Type 0
 IsAwaited program slot falling waiting lengths s =
     (slot ≤ s.slot) × ((Between program slot s.slot × WithinState falling lengths s)
     ⊎ WithinState (waiting_at waiting s.slot) lengths s)
@@ -37,7 +37,7 @@ abbrev pub Ends : Program → Span → Type 0
 Ends program span = (value : ℕ) × Verdict program span.bytes value
 
 -- every run of the profile ends with a number, or comes to a state that is awaited
-abbrev pub Follows : Profile → Program → ℕ → Option AbsState → States → Type 0
+abbrev pub Follows : Profile → Program → ℕ → Option AbsState → Waiting → Type 0
 Follows profile program slot falling waiting =
     (span : Span) → span.profile ≡ profile
     → Ends program span
@@ -45,7 +45,7 @@ Follows profile program slot falling waiting =
 
 -- where what an instruction did leads: to the end, to the next instruction, or to the target of its jump, and what is
 -- known there contains it
-abbrev pub Advances : Lengths → ℕ → Insn → Option AbsState → States → Moved → Type 0
+abbrev pub Advances : Lengths → ℕ → Insn → Option AbsState → Waiting → Moved → Type 0
 Advances lengths slot insn falling waiting (Ok (Returns value)) = Unit {0}
 Advances lengths slot insn falling waiting (Ok (On next distance)) =
     ((n : ℕ) × (distance ≡ pos n) × (n + 1 ≡ slots_of insn) × (falls_through insn ≡ true)
@@ -55,7 +55,7 @@ Advances lengths slot insn falling waiting (Ok (On next distance)) =
 Advances lengths slot insn falling waiting (Err kind) = ⊥
 
 -- what waits contains still what it contained
-abbrev pub Keeps : States → States → Type 0
+abbrev pub Keeps : Waiting → Waiting → Type 0
 Keeps old new =
     (slot : ℕ) (lengths : Lengths) (s : State) → WithinState (waiting_at old slot) lengths s
     → WithinState (waiting_at new slot) lengths s

@@ -19,8 +19,8 @@ use crate::refusal::VerifyError;
 use crate::structure::check;
 use crate::walk::{walk_before, walk_each};
 use abstract_state::state::AbsState;
-use bpf_words::profile::Profile;
 use bpf_words::words::Words;
+use span_context::profile::Profile;
 use std::alloc::Global;
 
 /// What `verify` knows of the machine before a slot: it contains each state to which a run comes there, on whatever the

@@ -1,5 +1,5 @@
-//! Which programs are accepted: the places and targets of all instructions first, and then one walk over the slots with
-//! what is known of the machine before each.
+//! Which programs are accepted: the positions and targets of all instructions first, and then one walk over the slots
+//! with what is known of the machine before each.
 #![tactic(auto)]
 
 pub mod before;

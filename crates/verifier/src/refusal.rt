@@ -4,7 +4,7 @@ ghost use Rattle.verifier.specs.declared.refusal.VerifyError.TheVariants.{OutOfM
 use abstract_state::refusal::Refusal;
 use std::alloc::{AllocError, AllocFailed};
 
-/// What is wrong with an instruction's place or target, whatever is known of the machine.
+/// What is wrong with an instruction's position or target, whatever is known of the machine.
 #[derive(Clone, Copy)]
 pub enum StructureFault {
     /// A jump back.

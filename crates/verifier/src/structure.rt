@@ -1,4 +1,4 @@
-//! The places and targets of all instructions, before anything is known of the machine.
+//! The positions and targets of all instructions, before anything is known of the machine.
 ghost use Rattle.std.specs.Prelude.{◌≡◌, ◌<◌, Some, length, IsTrue, ◌↔◌, MatchResult};
 ghost use Rattle.bpf_words.specs.Words.{program_of};
 ghost use Rattle.bpf_words.specs.Flow.{StartsAt, written_by};

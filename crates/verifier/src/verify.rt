@@ -1,8 +1,8 @@
 //! The verifier, and the programs that it accepts.
 ghost use Rattle.std.specs.Prelude.{◌≡◌, ◌↔◌, ℕ, length, Err, IfOk, IfErr};
-ghost use Rattle.bpf_words.specs.declared.profile.Profile.TheVariants.{Two};
+ghost use Rattle.span_context.specs.declared.profile.Profile.TheVariants.{Two};
 ghost use Rattle.bpf_words.specs.Words.{program_of};
-ghost use Rattle.meaning.specs.Safe.{Safe, SafeIn, IsBlindToLink};
+ghost use Rattle.semantics.specs.Safe.{Safe, SafeIn, IsBlindToLink};
 ghost use Rattle.program_reads.specs.Reads.{Determines};
 ghost use Rattle.verifier.specs.Plain.{IsPlain};
 ghost use Rattle.verifier.specs.Unset.{ReadsUnset};
@@ -18,52 +18,40 @@ ghost use Rattle.verifier.specs.declared.refusal.StructureFault.{StructureFault}
 use crate::refusal::VerifyError;
 use crate::structure::check;
 use crate::walk::walk;
-use bpf_words::profile::Profile;
 use bpf_words::words::Words;
 use decoded_rows::rows::Rows;
 use program_reads::reads::Reads;
+use span_context::profile::Profile;
 use std::alloc::Global;
 use std::marker::Model;
 
 /// A program of which every run ends with a number: it meets no fault, and takes no more steps than the program has
 /// slots.
 pub struct Verified {
-    profile: Profile,
     reads: Reads,
     rows: Rows,
 }
 
 impl Drop for Verified {
     fn drop(self) {
-        let Verified {
-            profile: _,
-            reads: _,
-            rows: _,
-        } = self;
+        let Verified { reads: _, rows: _ } = self;
     }
 }
 
 impl Model for Verified {
-    ghost use Rattle.bpf_words.specs.declared.profile.Profile.TheVariants.{Two};
-    ghost use Rattle.meaning.specs.Safe.{Safe, SafeIn, IsBlindToLink};
-    ghost use Rattle.meaning.specs.Step.{Program};
+    ghost use Rattle.span_context.specs.declared.profile.Profile.TheVariants.{Two};
+    ghost use Rattle.semantics.specs.Safe.{Safe};
+    ghost use Rattle.semantics.specs.Step.{Program};
     ghost use Rattle.program_reads.specs.Reads.{Determines};
 
     ghost Value = { Program };
 
     ghost view = { λ v. v.rows };
 
-    ghost invariant = { λ v. Safe v.rows × SafeIn v.profile v.rows × Determines v.reads Two v.rows };
+    ghost invariant = { λ v. Safe v.rows × Determines v.reads Two v.rows };
 }
 
 impl Verified {
-    /// What the program was verified to read of a span.
-    pub fn profile(&self) -> Profile
-        ensures { SafeIn result self.now }
-    {
-        self.profile
-    }
-
     /// What its loads can read of a span: spans that agree on that give it one verdict.
     pub fn reads(&self) -> Reads
         ensures { Determines result Two self.now }
@@ -89,9 +77,10 @@ impl Verified {
 }
 
 /// Accepts a program of which every run ends with a number, and that reads of a span no more than the profile lets it.
-/// The places and targets of all instructions are looked at first, and then what is known of the machine before each;
-/// the first slot at fault is named (of the second kind of fault the clauses say that what is known before the slot
-/// doesn't grant its instruction, and that the fault is an unset register exactly where the instruction reads one).
+/// The positions and targets of all instructions are looked at first, and then what is known of the machine before
+/// each; the first slot at fault is named (of the second kind of fault the clauses say that what is known before the
+/// slot doesn't grant its instruction, and that the fault is an unset register exactly where the instruction reads
+/// one).
 pub fn verify(alloc: Global, words: &Words<'_>, profile: Profile) -> Result<Verified, VerifyError>
     ensures same { IfOk result (λ verified. verified ≡ program_of words.now) }
     ensures safe { IfOk result (λ verified. Safe verified) }
@@ -118,7 +107,6 @@ pub fn verify(alloc: Global, words: &Words<'_>, profile: Profile) -> Result<Veri
     }
     let reads = walk(alloc, words, profile)?;
     Ok(Verified {
-        profile,
         reads,
         rows: Rows::of(alloc, words)?,
     })

@@ -1,14 +1,14 @@
 //! What is known before the slots to which jumps lead.
 ghost use Rattle.std.specs.Prelude.{◌≡◌, ◌≢◌, ℕ, ◌<◌, length, None, IfOk};
-ghost use Rattle.bpf_words.specs.declared.profile.Profile.{Profile};
-ghost use Rattle.meaning.specs.State.{State};
+ghost use Rattle.span_context.specs.declared.profile.Profile.{Profile};
+ghost use Rattle.semantics.specs.State.{State};
 ghost use Rattle.abstract_state.specs.Lent.{Lengths};
 ghost use Rattle.abstract_state.specs.State.{Contains, WithinState};
 ghost use Rattle.abstract_state.specs.Steps.{after};
 ghost use Rattle.verifier.specs.Waiting.{unboxed, waiting_at};
 ghost use Rattle.verifier.specs.Walk.{Keeps};
 ghost use Rattle.verifier.specs.Arises.{Arises, ArisesAt, AllArise, IsTarget};
-ghost use Rattle.meaning.specs.Step.{Program};
+ghost use Rattle.semantics.specs.Step.{Program};
 
 use abstract_state::state::AbsState;
 use abstract_state::step::Flow;
@@ -23,9 +23,9 @@ pub struct Waiting {
 }
 
 impl Model for Waiting {
-    ghost use Rattle.verifier.specs.Waiting.{States};
+    ghost use Rattle.verifier.specs.Waiting.{Waiting as WaitingValue};
 
-    ghost Value = { States };
+    ghost Value = { WaitingValue };
 
     ghost view = { λ w. w.states.items };
 }
@@ -52,7 +52,7 @@ fn join(
 }
 
 impl Waiting {
-    /// Nothing waits at any of so many slots.
+    /// Nothing waits at any of the `slots`.
     pub fn new(alloc: Global, slots: usize) -> Result<Waiting, AllocError>
         ensures size { IfOk result (λ waiting. length waiting ≡ slots) }
         ensures nothing { IfOk result (λ waiting. (slot : ℕ) → waiting_at waiting slot ≡ None) }

@@ -1,11 +1,11 @@
 //! One walk over the slots, with what is known of the machine before each.
 ghost use Rattle.std.specs.Prelude.{◌≡◌, ◌≢◌, ℕ, ℤ, pos, ◌+◌, ◌<◌, ◌≤◌, length, Option, Some, Err, IfOk, IfErr, ◌↔◌};
-ghost use Rattle.bpf_words.specs.declared.profile.Profile.{Profile as TheProfile};
+ghost use Rattle.span_context.specs.declared.profile.Profile.{Profile as TheProfile};
 ghost use Rattle.bpf_words.specs.Flow.{IsPaired, StartsAt, jump_of, read_by, written_by};
 ghost use Rattle.bpf_words.specs.Words.{program_of};
-ghost use Rattle.meaning.specs.Safe.{Safe, SafeIn};
-ghost use Rattle.meaning.specs.State.{State};
-ghost use Rattle.meaning.specs.Step.{Program};
+ghost use Rattle.semantics.specs.Safe.{Safe, SafeIn};
+ghost use Rattle.semantics.specs.State.{State};
+ghost use Rattle.semantics.specs.Step.{Program};
 ghost use Rattle.abstract_state.specs.Lent.{Lengths};
 ghost use Rattle.abstract_state.specs.State.{Span, lengths_of, Contains, WithinState, does};
 ghost use Rattle.abstract_state.specs.Steps.{after};
@@ -25,9 +25,9 @@ use abstract_state::refusal::Refusal;
 use abstract_state::state::AbsState;
 use abstract_state::step::Flow;
 use bpf_words::instruction::Insn;
-use bpf_words::profile::Profile;
 use bpf_words::words::Words;
 use program_reads::reads::Reads;
+use span_context::profile::Profile;
 use std::alloc::{AllocError, Global};
 
 /// Why a walk doesn't go past an instruction.

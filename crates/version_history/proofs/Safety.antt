@@ -1,7 +1,7 @@
 -- Programs that are the same.
 use Rattle.std.proofs.Common.{◌≡◌, sym, subst}
-use Rattle.meaning.specs.Safe.{Safe}
-use Rattle.meaning.specs.Step.{Program}
+use Rattle.semantics.specs.Safe.{Safe}
+use Rattle.semantics.specs.Step.{Program}
 
 -- what is safe is so under another name
 pub safe_as : (one other : Program) → one ≡ other → Safe other → Safe one

@@ -1,7 +1,7 @@
 -- What a clause sees of a token.
 use Rattle.std.specs.Prelude.{ℕ}
 
--- a token: the index in the list, and the value that stands there for good
+-- a token: the index in the list, and the value that is there for good
 pub record Token (T : Type 0) : Type 0 where
-  pub place : ℕ
+  pub index : ℕ
   pub value : T

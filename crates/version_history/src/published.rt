@@ -23,7 +23,7 @@ impl Naming for Brand {
     ghost programs = { record { tag = []; buckets = [] } };
 }
 
-/// Shows that a version stands in the list of the hub `N`, at its index, for good.
+/// Shows that a version is in the list of the hub `N`, at its index, for good.
 pub struct VersionToken<N: Naming> {
     at: Pushed<Version>,
     of: PhantomData<N>,
@@ -38,11 +38,11 @@ impl<N: Naming> Drop for VersionToken<N> {
 impl<N: Naming> Model for VersionToken<N> {
     ghost use Rattle.boxcar.specs.Table.{Shows};
     ghost use Rattle.version_history.specs.Tokens.{Token};
-    ghost use Rattle.span_flatten.specs.Version.{Snapshot};
+    ghost use Rattle.span_flatten.specs.Version.{Version};
 
-    ghost Value = { Token Snapshot };
+    ghost Value = { Token Version };
 
-    ghost view = { λ t. record { place = t.at.index; value = t.at.value } };
+    ghost view = { λ t. record { index = t.at.index; value = t.at.value } };
 
     ghost invariant = { λ t. Shows N.versions t.at };
 }
@@ -59,7 +59,7 @@ impl<N: Naming> VersionToken<N> {
     }
 }
 
-/// Shows that a program, of which every run ends with a number, stands in the list of the hub `N`, at its index, for
+/// Shows that a program, of which every run ends with a number, is in the list of the hub `N`, at its index, for
 /// good.
 pub struct ProgramToken<N: Naming> {
     at: Pushed<Verified>,
@@ -75,18 +75,18 @@ impl<N: Naming> Drop for ProgramToken<N> {
 impl<N: Naming> Model for ProgramToken<N> {
     ghost use Rattle.boxcar.specs.Table.{Shows};
     ghost use Rattle.version_history.specs.Tokens.{Token};
-    ghost use Rattle.meaning.specs.Safe.{Safe};
-    ghost use Rattle.meaning.specs.Step.{Program};
+    ghost use Rattle.semantics.specs.Safe.{Safe};
+    ghost use Rattle.semantics.specs.Step.{Program};
 
     ghost Value = { Token Program };
 
-    ghost view = { λ t. record { place = t.at.index; value = t.at.value } };
+    ghost view = { λ t. record { index = t.at.index; value = t.at.value } };
 
     ghost invariant = { λ t. Shows N.programs t.at × Safe t.at.value };
 }
 
 impl<N: Naming> ProgramToken<N> {
-    ghost use Rattle.meaning.specs.Safe.{Safe};
+    ghost use Rattle.semantics.specs.Safe.{Safe};
 
     /// The law that every run of the program ends with a number.
     pub fn every_run_ends(&self)

@@ -1,7 +1,7 @@
 use Rattle.std.proofs.Common.{◌≡◌, ap, ◌∙◌}
 use Rattle.std.proofs.lemmas.Int.{to_z-of_z}
 use Rattle.std.specs.Int.{cast_unsigned, w32, w64}
-use Rattle.meaning.specs.Value.{cut}
+use Rattle.semantics.specs.Value.{cut}
 use Rattle.abstract_state.proofs.Widths.{cut_of_narrow}
 use Rattle.abstract_state.proofs.branch.compared.Goals as goal
 

@@ -9,9 +9,9 @@ use Rattle.abstract_state.proofs.known.from_lent.Goals as goal
 pub returns-in-Full-Add-clause-sound : goal.returns-in-Full-Add-clause-sound
 returns-in-Full-Add-clause-sound c = IfOk-weaker c.lent.result _ _
     (λ o h lengths x y a b.
-    let base = base_of c.args.place.region in
+    let base = base_of c.args.address.region in
     subst (λ (n : ℕ). WithinKnown o lengths n)
-    (lent_sum c.args.place.region a.0 y ∙ ap (λ (n : ℕ). (n + y) % 2 ^ 64) (sym a.1) ∙ sym (adds c.args.operation c.args.width x y c.in-Full-Add.is-1 c.in-Full-Add.is-0))
+    (lent_sum c.args.address.region a.0 y ∙ ap (λ (n : ℕ). (n + y) % 2 ^ 64) (sym a.1) ∙ sym (adds c.args.operation c.args.width x y c.in-Full-Add.is-1 c.in-Full-Add.is-0))
     (h lengths ((a.0 + y) % 2 ^ 64) (c.add.ensures.contains lengths a.0 y a.2 b a.2.bits.fits b.bits.fits)))
     c.lent.ensures.sound
 
@@ -19,7 +19,7 @@ pub returns-in-Full-Sub-clause-sound : goal.returns-in-Full-Sub-clause-sound
 returns-in-Full-Sub-clause-sound c = IfOk-weaker c.lent-in-Full-Sub.result _ _
     (λ o h lengths x y a b.
     subst (λ (n : ℕ). WithinKnown o lengths n)
-    (lent_difference c.args.place.region a.0 y b.bits.fits ∙ ap (λ (n : ℕ). (n + (2 ^ 64 - y % 2 ^ 64)) % 2 ^ 64) (sym a.1) ∙ sym (subtracts c.args.operation c.args.width x y c.in-Full-Sub.is-1 c.in-Full-Sub.is-0))
+    (lent_difference c.args.address.region a.0 y b.bits.fits ∙ ap (λ (n : ℕ). (n + (2 ^ 64 - y % 2 ^ 64)) % 2 ^ 64) (sym a.1) ∙ sym (subtracts c.args.operation c.args.width x y c.in-Full-Sub.is-1 c.in-Full-Sub.is-0))
     (h lengths ((a.0 + (2 ^ 64 - y)) % 2 ^ 64) (c.sub.ensures lengths a.0 y a.2 b a.2.bits.fits b.bits.fits)))
     c.lent-in-Full-Sub.ensures.sound
 

@@ -1,7 +1,7 @@
 use Rattle.std.proofs.Common.{ℕ, sym, subst, ◌∙◌}
 use Rattle.std.proofs.lemmas.Option.{none-some}
 use Rattle.std.proofs.lemmas.Result.{IfOk-weaker}
-use Rattle.bpf_words.specs.ContextField.{offset_of, size_of}
+use Rattle.span_context.specs.ContextField.{offset_of, size_of}
 use Rattle.abstract_state.specs.Known.{WithinKnown}
 use Rattle.abstract_state.specs.State.{lengths_of}
 use Rattle.abstract_state.proofs.Memories.{read_as}
@@ -12,18 +12,18 @@ pub returns-in-Some-clause-sound : goal.returns-in-Some-clause-sound
 returns-in-Some-clause-sound c = IfOk-weaker c.lent_field.result _ _
     (λ o h span same.
     subst (λ (n : ℕ). WithinKnown o (lengths_of span) n)
-    (read_as (size_of c.in-Some.field) c.args.size (offset_of c.in-Some.field) c.args.place span.bytes.context c.in-Some.ensures.begins.1 c.in-Some.ensures.begins.0)
+    (read_as (size_of c.in-Some.field) c.args.size (offset_of c.in-Some.field) c.args.offset span.bytes.context c.in-Some.ensures.begins.1 c.in-Some.ensures.begins.0)
     (h span same))
     c.lent_field.ensures.sound
 
 pub returns-in-None-clause-begin : goal.returns-in-None-clause-begin
-returns-in-None-clause-begin c = λ at lends size place.
-    let some = begin_is_field at in absurd (none-some some.0 (c.in-None.ensures.found some.0 (some.1 ∙ sym place) (some.2 ∙ sym size)))
+returns-in-None-clause-begin c = λ at lends size offset.
+    let some = begin_is_field at in absurd (none-some some.0 (c.in-None.ensures.found some.0 (some.1 ∙ sym offset) (some.2 ∙ sym size)))
 
 pub returns-in-None-clause-end : goal.returns-in-None-clause-end
-returns-in-None-clause-end c = λ at lends size place.
-    let some = end_is_field at in absurd (none-some some.0 (c.in-None.ensures.found some.0 (some.1 ∙ sym place) (some.2 ∙ sym size)))
+returns-in-None-clause-end c = λ at lends size offset.
+    let some = end_is_field at in absurd (none-some some.0 (c.in-None.ensures.found some.0 (some.1 ∙ sym offset) (some.2 ∙ sym size)))
 
 pub returns-in-None-clause-floor : goal.returns-in-None-clause-floor
 returns-in-None-clause-floor c = λ number.
-    let some = number_is_field c.args.size c.args.place number in absurd (none-some some.0 (c.in-None.ensures.found some.0 some.1 some.2))
+    let some = number_is_field c.args.size c.args.offset number in absurd (none-some some.0 (c.in-None.ensures.found some.0 some.1 some.2))

@@ -2,8 +2,8 @@ use Rattle.std.proofs.Common.{◌≡◌, Some, subst, ◌∙◌}
 use Rattle.std.specs.Result.{IsOk, IfOk}
 use Rattle.std.specs.Option.{IfSome}
 use Rattle.std.proofs.lemmas.Result.{IfOk-weaker}
-use Rattle.bpf_words.specs.declared.profile.Profile.{Profile}
-use Rattle.bpf_words.specs.ContextField.{offset_of}
+use Rattle.span_context.specs.declared.profile.Profile.{Profile}
+use Rattle.span_context.specs.ContextField.{offset_of}
 use Rattle.abstract_state.specs.declared.region.Region.{Region}
 use Rattle.abstract_state.specs.declared.region.Region.TheVariants.{Link}
 use Rattle.abstract_state.specs.Lent.{Lends, begin_field, end_field, limit_of}

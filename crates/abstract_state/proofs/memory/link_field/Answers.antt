@@ -1,6 +1,6 @@
 use Rattle.std.proofs.Common.{Some, ℕ, length, refl, ap, subst, arith}
 use Rattle.std.proofs.lemmas.Result.{IfOk-weaker}
-use Rattle.bpf_words.specs.ContextField.{offset_of, size_of}
+use Rattle.span_context.specs.ContextField.{offset_of, size_of}
 use Rattle.abstract_state.specs.declared.region.Region.TheVariants.{Link}
 use Rattle.abstract_state.specs.Known.{WithinKnown}
 use Rattle.abstract_state.specs.State.{lengths_of}

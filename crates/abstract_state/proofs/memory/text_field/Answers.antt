@@ -1,8 +1,8 @@
 use Rattle.std.proofs.Common.{Some, ℕ, ◌^◌, length, refl, ap, subst, arith}
 use Rattle.std.proofs.lemmas.Result.{IfOk-weaker}
-use Rattle.bpf_words.specs.ContextField.{offset_of, size_of}
-use Rattle.bpf_words.specs.declared.instruction.Size.{Size}
-use Rattle.meaning.specs.Memory.{bytes_in}
+use Rattle.span_context.specs.ContextField.{offset_of, size_of}
+use Rattle.span_context.specs.declared.size.Size.{Size}
+use Rattle.semantics.specs.Memory.{bytes_in}
 use Rattle.abstract_state.specs.declared.region.Region.TheVariants.{Text}
 use Rattle.abstract_state.specs.Known.{WithinKnown}
 use Rattle.abstract_state.specs.State.{lengths_of}

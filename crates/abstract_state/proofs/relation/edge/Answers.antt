@@ -1,5 +1,5 @@
 use Rattle.std.proofs.Common.{◌≡◌, ◌≤◌, refl, ℕ, subst, arith}
-use Rattle.meaning.specs.Value.{cut, holds_of}
+use Rattle.semantics.specs.Value.{cut, holds_of}
 use Rattle.abstract_state.proofs.Widths.{cut_same}
 use Rattle.abstract_state.proofs.relation.edge.Goals as goal
 

@@ -11,7 +11,7 @@ loop-j-preserved c = λ lengths bytes k s h.
     (λ (most : c.loop-j.j ≤ k).
     let same : c.loop-j.j ≡ k = omega arith in
     let yes : IsTrue c.is_set.result = search rules in
-    subst (λ (i : ℕ). HasByte bytes (c.args.place + i)) same (c.is_set.ensures.contains yes lengths bytes s))
+    subst (λ (i : ℕ). HasByte bytes (c.args.offset + i)) same (c.is_set.ensures.contains yes lengths bytes s))
     (cases_lt k c.loop-j.j)
 
 pub returns-clause-contains : goal.returns-clause-contains

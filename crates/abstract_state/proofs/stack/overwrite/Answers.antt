@@ -25,8 +25,8 @@ loop-i-preserved c =
           (λ e. c.rewritten.ensures.contains lengths old new k (sym (ap (λ (n : ℕ). 8 * n) e)) (subst (λ (v : Slot). ContainsSlot v lengths old k) (before k e) s) spares fills)
           (λ less. c.loop-i.invariant.done k lengths old new less s spares fills);
       stores = λ k h.
-          written_at c.loop-i.slots c.loop-i.i k c.rewritten.result (Marks []) (λ (v : Slot). StoresSlot c.args.place c.args.count k (slot_at c.args.slots.now k) v) within h
-          (λ e. subst (λ (v : Slot). StoresSlot c.args.place c.args.count k v c.rewritten.result) (sym (before k e)) (c.rewritten.ensures.stores k (sym (ap (λ (n : ℕ). 8 * n) e))))
+          written_at c.loop-i.slots c.loop-i.i k c.rewritten.result (Marks []) (λ (v : Slot). StoresSlot c.args.offset c.args.count k (slot_at c.args.slots.now k) v) within h
+          (λ e. subst (λ (v : Slot). StoresSlot c.args.offset c.args.count k v c.rewritten.result) (sym (before k e)) (c.rewritten.ensures.stores k (sym (ap (λ (n : ℕ). 8 * n) e))))
           (λ less. c.loop-i.invariant.stores k less);
       rest = λ k h. beyond c.loop-i.slots c.loop-i.i k c.rewritten.result (Marks []) h ∙ c.loop-i.invariant.rest k (omega arith);
     }

@@ -7,7 +7,7 @@ use Rattle.abstract_state.proofs.stack.overwrite.Given as goal
 abbrev pub invariant-loop-i : goal.invariant-loop-i
 invariant-loop-i l = record {
   long : length l.slots ≡ 64;
-  done : (k : ℕ) (lengths : Lengths) (old new : Bytes) → k < l.i → ContainsSlot (slot_at l.initial.slots k) lengths old k → Spares l.place l.count old new → Fills l.place l.count new → ContainsSlot (slot_at l.slots k) lengths new k;
-  stores : (k : ℕ) → k < l.i → StoresSlot l.place l.count k (slot_at l.initial.slots k) (slot_at l.slots k);
+  done : (k : ℕ) (lengths : Lengths) (old new : Bytes) → k < l.i → ContainsSlot (slot_at l.initial.slots k) lengths old k → Spares l.offset l.count old new → Fills l.offset l.count new → ContainsSlot (slot_at l.slots k) lengths new k;
+  stores : (k : ℕ) → k < l.i → StoresSlot l.offset l.count k (slot_at l.initial.slots k) (slot_at l.slots k);
   rest : (k : ℕ) → l.i ≤ k → slot_at l.slots k ≡ slot_at l.initial.slots k;
 }

@@ -7,7 +7,7 @@ loop-j-preserved c = record {
   long = search rules;
   marks = λ k h.
       let within : c.loop-j.j < length c.loop-j.result = omega arith in
-      let Means : ℕ → Bool → Type 0 = λ i v. v ≡ (get_or c.args.marks.now i false || (nat_le c.args.place (c.args.first + i) && nat_lt (c.args.first + i) (c.args.place + c.args.count))) in
+      let Means : ℕ → Bool → Type 0 = λ i v. v ≡ (get_or c.args.marks.now i false || (nat_le c.args.offset (c.args.first + i) && nat_lt (c.args.first + i) (c.args.offset + c.args.count))) in
       written_mark c.loop-j.result c.loop-j.j k c.is_marked.result false (λ (v : Bool). Means k v) within h
       (λ e. subst (λ (i : ℕ). Means i c.is_marked.result) (sym e) c.is_marked.ensures)
       (λ less. c.loop-j.invariant.marks k less);

@@ -1,7 +1,7 @@
 use Rattle.std.proofs.Common.{◌≡◌, Option, Some, subst}
 use Rattle.abstract_state.specs.declared.quantity.Quantity.{Quantity}
 use Rattle.abstract_state.specs.Exact.{IsConstant}
-use Rattle.meaning.specs.Value.{cut}
+use Rattle.semantics.specs.Value.{cut}
 use Rattle.abstract_state.specs.Quantity.{Contains}
 use Rattle.abstract_state.proofs.Options.{at_some, at_none}
 use Rattle.abstract_state.proofs.Widths.{cut_fits}

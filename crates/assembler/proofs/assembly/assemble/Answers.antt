@@ -1,21 +1,21 @@
 use Rattle.std.proofs.Common.{◌≡◌, ℕ, List, length, ap, sym, arith, ◌∙◌}
-use Rattle.assembler_lines.specs.Places.{lines_of, place}
+use Rattle.assembler_lines.specs.Slots.{lines_of, first_slot}
 use Rattle.assembler.specs.Lines.{lines_left}
 use Rattle.assembler.specs.Text.{bytes_before}
 use Rattle.assembler.proofs.Reading.{left_within, left_here, left_more, lines_few, none_left}
-use Rattle.assembler.proofs.Slots.{placed_more}
+use Rattle.assembler.proofs.Slots.{at_slot_more}
 use Rattle.assembler.proofs.Assembling.{bytes_more, right_more, right_none, text_whole}
 use Rattle.assembler.proofs.assembly.assemble.Goals as goal
 
 pub loop-rest-init : goal.loop-rest-init
-unfolding place bytes_before
+unfolding first_slot bytes_before
 loop-rest-init c = record {
   same = c.new-labels.ensures.same;
   left = ap lines_of c.as_bytes.ensures.value;
   within = omega arith;
   right = right_none (lines_of c.args.source.now);
   whole = c.new-bytes.ensures.items;
-  placed = ap length c.new-bytes.ensures.items;
+  at_slot = ap length c.new-bytes.ensures.items;
 }
 
 pub append_line-requires-clause-room : goal.append_line-requires-clause-room
@@ -34,8 +34,8 @@ overflow_add-index c =
 
 pub append_line-requires-clause-slot : goal.append_line-requires-clause-slot
 append_line-requires-clause-slot c =
-    let same = ap (λ (source : List ℕ). place (lines_of source) c.loop-rest.index) c.loop-rest.invariant.same in
-    omega (arith, same, c.loop-rest.invariant.placed, c.len-slot.ensures)
+    let same = ap (λ (source : List ℕ). first_slot (lines_of source) c.loop-rest.index) c.loop-rest.invariant.same in
+    omega (arith, same, c.loop-rest.invariant.at_slot, c.len-slot.ensures)
 
 pub loop-rest-preserved : goal.loop-rest-preserved
 loop-rest-preserved c =
@@ -53,7 +53,7 @@ loop-rest-preserved c =
       within = omega (arith, within);
       right = right_more lines index (rw same at c.in_ok-append_line.ensures.right) c.loop-rest.invariant.right;
       whole = bytes_more lines index c.loop-rest.bytes.items c.append_line.new.bytes.items c.loop-rest.invariant.whole (rw same at c.in_ok-append_line.ensures.appended);
-      placed = placed_more lines index c.loop-rest.bytes.items c.append_line.new.bytes.items within c.loop-rest.invariant.placed
+      at_slot = at_slot_more lines index c.loop-rest.bytes.items c.append_line.new.bytes.items within c.loop-rest.invariant.at_slot
           (rw same at c.in_ok-append_line.ensures.right) (rw same at c.in_ok-append_line.ensures.appended);
     }
 

@@ -1,5 +1,5 @@
 use Rattle.std.proofs.Common.{◌≡◌, ◌*◌, ◌≤◌, drop, length}
-use Rattle.assembler_lines.specs.Places.{lines_of, place}
+use Rattle.assembler_lines.specs.Slots.{lines_of, first_slot}
 use Rattle.assembler.specs.Lines.{lines_left}
 use Rattle.assembler.specs.Text.{AreRight, bytes_before}
 use Rattle.assembler.proofs.assembly.assemble.Given as goal
@@ -13,7 +13,7 @@ invariant-loop-rest l =
       within : l.index ≤ length lines;
       right : AreRight lines l.index;
       whole : l.bytes.items ≡ bytes_before lines l.index;
-      placed : length l.bytes.items ≡ 8 * place lines l.index;
+      at_slot : length l.bytes.items ≡ 8 * first_slot lines l.index;
     }
 
 abbrev pub decreases-loop-rest : goal.decreases-loop-rest

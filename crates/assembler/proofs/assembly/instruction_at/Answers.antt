@@ -1,7 +1,7 @@
 use Rattle.std.proofs.Common.{◌≡◌, Ok, Err, Option, refl, subst}
 use Rattle.std.specs.Prelude.{IfOk, IfErr}
 use Rattle.bpf_words.specs.declared.instruction.Insn.{Insn}
-use Rattle.assembler_lines.specs.Places.{lines_of}
+use Rattle.assembler_lines.specs.Slots.{lines_of}
 use Rattle.assembler_lines.specs.Statements.{Judged, Blank, Label, Plain, Onto, reading_of}
 use Rattle.assembler.specs.Text.{IsFault}
 use Rattle.assembler.proofs.Resolving.{line_is}

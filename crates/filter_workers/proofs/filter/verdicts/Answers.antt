@@ -1,14 +1,14 @@
 use Rattle.std.proofs.Common.{◌≡◌, ◌∙◌, ℕ, List, IfOk, length, ap, subst}
-use Rattle.batches.specs.Batches.{Slip}
-use Rattle.batches.specs.Verdicts.{verdicts_of}
-use Rattle.filter_workers.proofs.Places.{whole}
+use Rattle.feeds.specs.Batches.{Job}
+use Rattle.feeds.specs.Verdicts.{verdicts_of}
+use Rattle.filter_workers.proofs.Indexes.{whole}
 use Rattle.filter_workers.proofs.filter.verdicts.Goals as goal
 
 pub returns-in-None : goal.returns-in-None
 returns-in-None g c =
-    let job : Slip = c.args.job.now in
-    let program : c.program-program.result.now ≡ job.program.value = c.program-program.ensures ∙ ap (λ (j : Slip). j.program.value) c.job.view_is in
-    let version : c.look-version.result.now ≡ job.version.value = c.look-version.ensures ∙ ap (λ (j : Slip). j.version.value) c.job.view_is in
+    let job : Job = c.args.job.now in
+    let program : c.program-program.result.now ≡ job.program.value = c.program-program.ensures ∙ ap (λ (j : Job). j.program.value) c.job.view_is in
+    let version : c.look-version.result.now ≡ job.version.value = c.look-version.ensures ∙ ap (λ (j : Job). j.version.value) c.job.view_is in
     let all = whole c.program-program.result.now c.look-version.result.now (length c.rows-count.result.now) (ap length c.rows-count.ensures.value) in
     let named : verdicts_of c.program-program.result.now c.look-version.result.now ≡ verdicts_of job.program.value job.version.value =
     λ i. verdicts_of (program i) (version i) in

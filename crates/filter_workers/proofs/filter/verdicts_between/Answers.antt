@@ -5,8 +5,8 @@ use Rattle.std.proofs.lemmas.Slice.Zip.{AllZip-map}
 use Rattle.rayon.specs.Numbers.{nat_range}
 use Rattle.rayon.proofs.ListFacts.{IfOk-then}
 use Rattle.span_view.specs.Views.{view_of, view_at}
-use Rattle.batches.specs.Verdicts.{verdict_on}
-use Rattle.filter_workers.proofs.Places.{by_place, between}
+use Rattle.feeds.specs.Verdicts.{verdict_on}
+use Rattle.filter_workers.proofs.Indexes.{by_index, between}
 use Rattle.filter_workers.proofs.filter.verdicts_between.Goals as goal
 
 pub returns : goal.returns
@@ -20,7 +20,7 @@ returns g c =
     let verdict = λ (i : ℕ). option_map_or (verdict_on program) (view_at version i) 0 in
     IfOk-then c.collect.result _ _ c.collect.ensures (λ v h.
     let chain = rw (c.map.ensures.base, c.map.ensures.f, c.with_min_len.ensures.base) at h.1 in
-    let places = chain.1 ∙ (λ i. nat_range (ends.0 i) (ends.1 i)) in
-    h.2 ∙ AllZip-map verdict chain.0 h.0 chain.2 ∙ ap (map verdict) places
+    let indexes = chain.1 ∙ (λ i. nat_range (ends.0 i) (ends.1 i)) in
+    h.2 ∙ AllZip-map verdict chain.0 h.0 chain.2 ∙ ap (map verdict) indexes
     ∙ between verdict from to n c.requires.order c.requires.within
-    ∙ ap (λ l. slice_range l from to) (by_place (view_of version) (verdict_on program) 0 version.rows))
+    ∙ ap (λ l. slice_range l from to) (by_index (view_of version) (verdict_on program) 0 version.rows))

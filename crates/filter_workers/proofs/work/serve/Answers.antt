@@ -1,9 +1,9 @@
 use Rattle.std.proofs.Common.{ap, subst}
-use Rattle.batches.specs.Batches.{Slip}
+use Rattle.feeds.specs.Batches.{Job}
 use Rattle.filter_workers.specs.Turns.{IsPumped}
 use Rattle.filter_workers.proofs.work.serve.Goals as goal
 
 pub returns-in-Ok : goal.returns-in-Ok
 returns-in-Ok g c =
-    let pumped : IsPumped c.args.job.now.subscriber = subst IsPumped (ap (λ (j : Slip). j.subscriber) c.job.view_is) (c.pump.result, c.pump.ensures) in
+    let pumped : IsPumped c.args.job.now.subscriber = subst IsPumped (ap (λ (j : Job). j.subscriber) c.job.view_is) (c.pump.result, c.pump.ensures) in
     (c.in-Ok.ensures, pumped)

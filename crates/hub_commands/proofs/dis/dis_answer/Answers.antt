@@ -3,7 +3,7 @@ use Rattle.std.specs.Prelude.{string_bytes}
 use Rattle.bpf_words.specs.Words.{program_of}
 use Rattle.disassembler.specs.Canonical.{canonical}
 use Rattle.refusals.specs.declared.reason.Reason.TheVariants.{BadHex, Words}
-use Rattle.hub_commands.specs.Answers.{Reply, done}
+use Rattle.hub_commands.specs.Answers.{Answer, done}
 use Rattle.hub_commands.specs.Digits.{AreDigits}
 use Rattle.hub_commands.specs.Hexadecimal.{without_blanks}
 use Rattle.hub_commands.specs.Reasons.{refusal}
@@ -11,13 +11,13 @@ use Rattle.hub_commands.specs.Programs.{IsDisReply, no_hex}
 use Rattle.hub_commands.proofs.Replies.{mapped, first_refused, first_answered}
 use Rattle.hub_commands.proofs.dis.dis_answer.Goals as goal
 
-abbrev Text : List ℕ → Reply → Type 0
+abbrev Text : List ℕ → Answer → Type 0
 Text bytes reply = reply ≡ done (canonical (program_of bytes))
 
 pub returns-in_default : goal.returns-in_default
 unfolding IsDisReply
 returns-in_default c =
-    mapped (λ (reply : Reply). reply ≡ refusal BadHex) (λ (reply : Reply). (input : List ℕ) → AreDigits (without_blanks input) c.args.digits.now → IsDisReply input reply)
+    mapped (λ (reply : Answer). reply ≡ refusal BadHex) (λ (reply : Answer). (input : List ℕ) → AreDigits (without_blanks input) c.args.digits.now → IsDisReply input reply)
     c.refused.result c.refused.ensures (λ reply e input are. let none = (rw c.in_default.is at c.in_ok-bytes.ensures) (without_blanks input) are in no_hex none.0 none.1 e)
 
 pub returns-in-Ok : goal.returns-in-Ok
@@ -34,7 +34,7 @@ returns-in-Ok c = λ input are.
 pub returns : goal.returns
 unfolding IsDisReply
 returns c =
-    mapped (λ (reply : Reply). reply ≡ refusal (Words c.in-Err.error)) (λ (reply : Reply). (input : List ℕ) → AreDigits (without_blanks input) c.args.digits.now → IsDisReply input reply)
+    mapped (λ (reply : Answer). reply ≡ refusal (Words c.in-Err.error)) (λ (reply : Answer). (input : List ℕ) → AreDigits (without_blanks input) c.args.digits.now → IsDisReply input reply)
     c.refused-in-Err.result c.refused-in-Err.ensures
     (λ reply e input are. let stand = (rw c.in-Some.is at c.in_ok-bytes.ensures) (without_blanks input) are in
     first_refused Text (without_blanks input) c.in-Some.bytes.items c.deref.result.now c.in-Err.error reply stand c.deref.ensures.value c.in-Err.ensures.value e)

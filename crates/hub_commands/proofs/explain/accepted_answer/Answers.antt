@@ -1,7 +1,7 @@
 use Rattle.std.proofs.Common.{◌≡◌, ℕ, List, ◌++◌, ◌∙◌, ap, codes, length, refl, string_bytes}
 use Rattle.std.specs.Fmt.{decimal}
 use Rattle.bpf_words.specs.Words.{program_of}
-use Rattle.meaning.proofs.More.{seen_safe}
+use Rattle.semantics.proofs.More.{seen_safe}
 use Rattle.program_reads.specs.Lines.{read_lines}
 use Rattle.hub_commands.specs.Answers.{line, done}
 use Rattle.hub_commands.specs.Explained.{accepted}

@@ -1,5 +1,5 @@
 use Rattle.std.proofs.Common.{subst}
-use Rattle.bpf_words.specs.declared.profile.Profile.TheVariants.{Two}
+use Rattle.span_context.specs.declared.profile.Profile.TheVariants.{Two}
 use Rattle.program_reads.specs.Reads.{Determines}
 use Rattle.hub_commands.proofs.explain.explained_answer.Goals as goal
 

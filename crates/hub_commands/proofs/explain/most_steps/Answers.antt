@@ -1,8 +1,8 @@
 use Rattle.std.proofs.Common.{◌≡◌, ℕ, zero, suc, ◌+◌, ◌-◌, ◌<◌, ◌≤◌, List, [], ◌∷◌, length, get_or, set, replicate, ◌∙◌, subst, sym, ap, rules, arith, ⊎_elim}
 use Rattle.std.proofs.lemmas.List.{get_or-set_same, get_or-set_other, length-set}
 use Rattle.std.proofs.lemmas.Bool.{cases_eq}
-use Rattle.meaning.specs.State.{start}
-use Rattle.meaning.specs.Outcomes.{outcome, outcome_from}
+use Rattle.semantics.specs.State.{start}
+use Rattle.semantics.specs.Outcomes.{outcome, outcome_from}
 use Rattle.bpf_words.specs.Words.{program_of}
 use Rattle.verifier.proofs.Enough.{AreEnough, IsMore, enough_none, enough_over, enough_more, enough_first}
 use Rattle.hub_commands.proofs.explain.most_steps.Goals.{in-Some, in_default}
@@ -71,7 +71,7 @@ loop-done-preserved c =
           })
     ]
 
--- a place that is there holds the same whatever stands for one that isn't
+-- an entry that is there is the same whatever is read for one that isn't
 got : (xs : List ℕ) (i x : ℕ) → i < length xs → x ≡ get_or xs i x → x ≡ get_or xs i 0
 got [] i x h e = absurd (omega arith)
 got (y ∷ ys) zero x h e = e

@@ -1,6 +1,6 @@
 use Rattle.std.proofs.Common.{◌≡◌, ◌≤◌, length, arith, ap, ◌∙◌}
 use Rattle.std.specs.Prelude.{string_bytes}
-use Rattle.hub_commands.specs.Answers.{Reply, behind}
+use Rattle.hub_commands.specs.Answers.{Answer, behind}
 use Rattle.hub_commands.specs.Programs.{outcome_reply}
 use Rattle.hub_commands.proofs.Replies.{mapped, span_traced}
 use Rattle.hub_commands.proofs.trace.steps_answer.Goals as goal
@@ -11,7 +11,7 @@ returns c =
     let short : length c.in-Ok.text.now ≤ 131072 = omega arith in
     let steps = string_bytes c.run_observed.new.observer.text in
     let last : c.in_ok-outcome_answer.field-0 ≡ outcome_reply c.in_ok-outcome.outcome = c.in_ok-outcome_answer.ensures in
-    let said = mapped (λ (reply : Reply). reply ≡ behind steps c.in_ok-outcome_answer.field-0) (λ (reply : Reply). reply ≡ behind steps (outcome_reply c.in_ok-outcome.outcome))
+    let said = mapped (λ (reply : Answer). reply ≡ behind steps c.in_ok-outcome_answer.field-0) (λ (reply : Answer). reply ≡ behind steps (outcome_reply c.in_ok-outcome.outcome))
     c.behind.result c.behind.ensures (λ reply e. e ∙ ap (behind steps) last) in
     span_traced c.args.options.now c.args.words.now c.args.input.now c.in-Ok.text.now c.as_bytes.result.now c.link.result.now c.new-context.result c.facts.result c.in_ok-outcome.outcome steps c.behind.result
     utf8.0 utf8.1 short c.facts.ensures.value c.new-context.ensures.value c.as_bytes.ensures.value c.link.ensures.value c.in_ok-outcome.ensures said

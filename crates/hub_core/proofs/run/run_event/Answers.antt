@@ -1,5 +1,5 @@
 use Rattle.std.proofs.Common.{subst, sym}
-use Rattle.meaning.specs.Step.{Program}
+use Rattle.semantics.specs.Step.{Program}
 use Rattle.version_history.specs.Tokens.{Token}
 use Rattle.hub_core.specs.declared.run.Event.{Event}
 use Rattle.hub_core.specs.Runs.{Happens}

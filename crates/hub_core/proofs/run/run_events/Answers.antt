@@ -2,7 +2,7 @@ use Rattle.std.proofs.Common.{◌≡◌, ◌∷◌, [], ◌+◌, ◌≤◌, ◌+
 use Rattle.std.specs.Prelude.{All}
 use Rattle.std.specs.Vec.Iter.{into_iter_items}
 use Rattle.std.proofs.lemmas.List.Elements.{All-head, All-tail}
-use Rattle.meaning.specs.Step.{Program}
+use Rattle.semantics.specs.Step.{Program}
 use Rattle.version_history.specs.Tokens.{Token}
 use Rattle.hub_core.specs.declared.run.Event.{Event}
 use Rattle.hub_core.specs.Runs.{IsFreshEvent}

@@ -1,9 +1,9 @@
 use Rattle.std.proofs.Common.{◌≤◌}
-use Rattle.hub_sessions.specs.Sessions.{stands, Converses}
+use Rattle.hub_sessions.specs.Sessions.{session_state, Converses}
 use Rattle.hub_sessions.proofs.conversation.converse.Given as goal
 
 abbrev pub invariant-loop : goal.invariant-loop
 invariant-loop g l =
     (goal.iterator-loop g).can_next l.iterator' × (goal.iterator-loop g).is_finite l.iterator' × (l.initial.share ≤ l.share)
-    × Converses (stands l.initial.share l.initial.held.items l.initial.left l.hub.options) l.initial.lines.left (g.O.Write.contents l.initial.writer)
-    (stands l.share l.held.items l.left l.hub.options) l.lines.left (g.O.Write.contents l.writer)
+    × Converses (session_state l.initial.share l.initial.held.items l.initial.left l.hub.options) l.initial.lines.left (g.O.Write.contents l.initial.writer)
+    (session_state l.share l.held.items l.left l.hub.options) l.lines.left (g.O.Write.contents l.writer)

@@ -8,16 +8,16 @@ use Rattle.mark_anchors.proofs.Rising.{upto_more}
 use Rattle.mark_anchors.proofs.anchored.rank.Goals as goal
 
 pub returns-then-is_below-clause-below : goal.returns-then-is_below-clause-below
-returns-then-is_below-clause-below c = c.loop-place.invariant
+returns-then-is_below-clause-below c = c.loop-index.invariant
 
 pub returns-then-is_below-clause-above : goal.returns-then-is_below-clause-above
 returns-then-is_below-clause-above c =
     λ x g.
-    let read : slice_get c.args.ids.now c.loop-place.place ≡ Some c.index-ids-place.result = read_at c.args.ids.now c.loop-place.place c.index-ids-place.result c.index-ids-place.is c.loop-place-test.true in
-    subst (λ z. Less c.args.id z) (same_Some c.index-ids-place.result x (sym read ∙ g)) (c.is_below.ensures.0 c.if-is_below.true)
+    let read : slice_get c.args.ids.now c.loop-index.index ≡ Some c.index-ids-index.result = read_at c.args.ids.now c.loop-index.index c.index-ids-index.result c.index-ids-index.is c.loop-index-test.true in
+    subst (λ z. Less c.args.id z) (same_Some c.index-ids-index.result x (sym read ∙ g)) (c.is_below.ensures.0 c.if-is_below.true)
 
-pub loop-place-preserved : goal.loop-place-preserved
-loop-place-preserved c =
-    let read : slice_get c.args.ids.now c.loop-place.place ≡ Some c.index-ids-place.result = read_at c.args.ids.now c.loop-place.place c.index-ids-place.result c.index-ids-place.is c.loop-place-test.true in
-    upto_more c.args.ids.now c.args.id c.index-ids-place.result c.loop-place.place c.loop-place.invariant read
+pub loop-index-preserved : goal.loop-index-preserved
+loop-index-preserved c =
+    let read : slice_get c.args.ids.now c.loop-index.index ≡ Some c.index-ids-index.result = read_at c.args.ids.now c.loop-index.index c.index-ids-index.result c.index-ids-index.is c.loop-index-test.true in
+    upto_more c.args.ids.now c.args.id c.index-ids-index.result c.loop-index.index c.loop-index.invariant read
     (λ l. true≢false (sym (c.is_below.ensures.1 l) ∙ c.if-is_below.false))

@@ -1,5 +1,5 @@
 use Rattle.mark_anchors.proofs.Rising.{AreUpto}
 use Rattle.mark_anchors.proofs.anchored.rank.Given as goal
 
-abbrev pub invariant-loop-place : goal.invariant-loop-place
-invariant-loop-place l = AreUpto l.ids l.id l.place
+abbrev pub invariant-loop-index : goal.invariant-loop-index
+invariant-loop-index l = AreUpto l.ids l.id l.index

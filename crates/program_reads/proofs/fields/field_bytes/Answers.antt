@@ -1,5 +1,5 @@
 use Rattle.std.proofs.Common.{◌∙◌, ap}
-use Rattle.meaning.specs.Memory.{bytes_in}
+use Rattle.semantics.specs.Memory.{bytes_in}
 use Rattle.program_reads.proofs.FieldBytes.{sizes}
 use Rattle.program_reads.proofs.fields.field_bytes.Goals as goal
 

@@ -2,8 +2,8 @@ use Rattle.std.proofs.Common.{◌≡◌, ◌⊎◌, ℕ, zero, suc, [], ◌∷�
 use Rattle.std.proofs.Math.ListN.{set}
 use Rattle.std.specs.List.{slice_get}
 use Rattle.std.proofs.lemmas.Option.{get_or_from_slice_get}
-use Rattle.bpf_words.specs.declared.context_field.ContextField.{ContextField}
-use Rattle.bpf_words.specs.ContextField.{every_field}
+use Rattle.span_context.specs.declared.context_field.ContextField.{ContextField}
+use Rattle.span_context.specs.ContextField.{every_field}
 use Rattle.program_reads.specs.Marks.{Takes}
 use Rattle.program_reads.proofs.FieldBytes.{field_at}
 use Rattle.program_reads.proofs.fields.mark.Goals.{then-is_taken, else-is_taken}

@@ -1,7 +1,7 @@
 use Rattle.std.proofs.Common.{◌≡◌, ℕ, ◌<◌, true, false, Some, length, get_or}
 use Rattle.std.specs.List.{slice_get}
-use Rattle.bpf_words.specs.declared.context_field.ContextField.{ContextField}
-use Rattle.bpf_words.specs.ContextField.{every_field}
+use Rattle.span_context.specs.declared.context_field.ContextField.{ContextField}
+use Rattle.span_context.specs.ContextField.{every_field}
 use Rattle.program_reads.specs.Marks.{Takes}
 use Rattle.program_reads.proofs.fields.mark.Given as goal
 

@@ -1,8 +1,8 @@
 use Rattle.std.proofs.Common.{◌≡◌, ℕ, ◌+◌, ◌++◌, [], ◌∙◌, ap, sym, List, Bool, true, false, drop, string_bytes}
 use Rattle.std.proofs.lemmas.List.{append-nil}
-use Rattle.bpf_words.specs.declared.context_field.ContextField.{ContextField}
-use Rattle.bpf_words.specs.ContextField.{every_field}
-use Rattle.program_reads.specs.Places.{marked}
+use Rattle.span_context.specs.declared.context_field.ContextField.{ContextField}
+use Rattle.span_context.specs.ContextField.{every_field}
+use Rattle.program_reads.specs.Positions.{marked}
 use Rattle.program_reads.proofs.Naming.{names_left, named_more, named_none, named_all}
 use Rattle.program_reads.proofs.lines.push_names.Goals.{then-fields-i+in_ok-push_name, else-fields-i}
 use Rattle.program_reads.proofs.lines.push_names.Goals as goal

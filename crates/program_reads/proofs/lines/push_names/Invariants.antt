@@ -1,6 +1,6 @@
 use Rattle.std.proofs.Common.{◌≡◌, ◌++◌, drop, string_bytes}
-use Rattle.bpf_words.specs.ContextField.{every_field}
-use Rattle.program_reads.specs.Places.{marked}
+use Rattle.span_context.specs.ContextField.{every_field}
+use Rattle.program_reads.specs.Positions.{marked}
 use Rattle.program_reads.specs.Lines.{names_text}
 use Rattle.program_reads.proofs.Naming.{names_left}
 use Rattle.program_reads.proofs.lines.push_names.Given as goal

@@ -1,5 +1,5 @@
 use Rattle.std.proofs.Common.{rules}
-use Rattle.program_reads.proofs.Places.{three_of}
+use Rattle.program_reads.proofs.Positions.{three_of}
 use Rattle.program_reads.proofs.lines.push_runs.Goals as goal
 
 pub returns : goal.returns

@@ -1,5 +1,5 @@
 use Rattle.std.proofs.Common.{refl}
-use Rattle.program_reads.specs.Places.{marked}
+use Rattle.program_reads.specs.Positions.{marked}
 use Rattle.program_reads.proofs.lines.runs_on.Goals as goal
 
 pub returns-in-true-true-true : goal.returns-in-true-true-true

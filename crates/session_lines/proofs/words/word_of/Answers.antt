@@ -3,4 +3,4 @@ use Rattle.session_lines.proofs.Splits.{split_there}
 use Rattle.session_lines.proofs.words.word_of.Goals as goal
 
 pub returns-in-Some : goal.returns-in-Some
-returns-in-Some c = split_there c.args.line.now c.in-Some.end (sym c.in-Some.ensures.place)
+returns-in-Some c = split_there c.args.line.now c.in-Some.end (sym c.in-Some.ensures.index)

@@ -1,5 +1,5 @@
 use Rattle.std.proofs.Common.{◌+◌, refl, ap, arith, ◌∙◌}
-use Rattle.batches.specs.Batches.{Entry}
+use Rattle.feeds.specs.Batches.{Item}
 use Rattle.session_subscribers.specs.Items.{item_reply}
 use Rattle.session_subscribers.proofs.Takings.{taken_both, one_taken, one_unshown, where_err}
 use Rattle.session_subscribers.proofs.pulling.take_waiting.Goals as goal
@@ -7,7 +7,7 @@ use Rattle.session_subscribers.proofs.pulling.take_waiting.Goals as goal
 pub loop-taken-preserved : goal.loop-taken-preserved
 loop-taken-preserved g c =
     taken_both c.loop-taken.taken 1 (c.loop-taken.taken + 1) _ _ _ _ _ _ refl c.loop-taken.invariant
-    (one_taken c.in-Some.item c.reply_of.result _ _ _ _ c.in-Some.ensures.some (c.reply_of.ensures ∙ ap (λ (e : Entry). item_reply e.what) c.item.view_is) c.in_ok-push_line.ensures.ok)
+    (one_taken c.in-Some.item c.reply_of.result _ _ _ _ c.in-Some.ensures.some (c.reply_of.ensures ∙ ap (λ (e : Item). item_reply e.what) c.item.view_is) c.in_ok-push_line.ensures.ok)
 
 pub returns-in_err-push_line-clause-err : goal.returns-in_err-push_line-clause-err
 returns-in_err-push_line-clause-err g c =

@@ -1,6 +1,6 @@
 use Rattle.std.proofs.Common.{rules, ◌≡◌, ◌<◌, ◌+◌, length, sym, ap, ◌∙◌, subst, arith, get_or, ◌-◌, ◌++◌, List, true≢false}
-use Rattle.mark_anchors.specs.Formatting.{Formatting}
-use Rattle.mark_anchors.specs.Resolution.{Resolution}
+use Rattle.mark_anchors.specs.Formatting.{Format}
+use Rattle.mark_anchors.specs.Resolution.{ResolvedMarks}
 use Rattle.mark_anchors.specs.Ranges.{IsFormatAt}
 use Rattle.span_flatten.specs.declared.version.Row.{Row}
 use Rattle.span_flatten.specs.Version.{IsDraft}
@@ -37,9 +37,9 @@ returns-then-alike-clause-formatted c =
 pub returns-clause-draft : goal.returns-clause-draft
 returns-clause-draft c =
     let rows : List Row = c.args.rows.now.items in
-    let format : Formatting = c.in_ok-format.format in
+    let format : Format = c.in_ok-format.format in
     let is_format : IsFormatAt c.args.sweep.now.resolution.elements c.args.sweep.now.resolution.marks c.args.from format =
-    subst (λ (v : Resolution). IsFormatAt v.elements v.marks c.args.from format) c.advance-alike.ensures.resolution
+    subst (λ (v : ResolvedMarks). IsFormatAt v.elements v.marks c.args.from format) c.advance-alike.ensures.resolution
     (subst (λ p. IsFormatAt c.advance-alike.new.self.resolution.elements c.advance-alike.new.self.resolution.marks p format) c.advance-alike.ensures.place c.in_ok-format.ensures.format) in
     let counted : c.len-count.result ≡ length rows = search rules in
     let now : Row = record { start = c.args.extent.start; end = c.args.extent.end; characters = c.args.extent.characters; format = format } in
@@ -63,7 +63,7 @@ returns-clause-formatted c =
     let rows : List Row = c.args.rows.now.items in
     let now : Row = record { start = c.args.extent.start; end = c.args.extent.end; characters = c.args.extent.characters; format = c.in_ok-format.format } in
     let is_format : IsFormatAt c.args.sweep.now.resolution.elements c.args.sweep.now.resolution.marks c.args.from now.format =
-    subst (λ (v : Resolution). IsFormatAt v.elements v.marks c.args.from now.format) c.advance-alike.ensures.resolution
+    subst (λ (v : ResolvedMarks). IsFormatAt v.elements v.marks c.args.from now.format) c.advance-alike.ensures.resolution
     (subst (λ p. IsFormatAt c.advance-alike.new.self.resolution.elements c.advance-alike.new.self.resolution.marks p now.format) c.advance-alike.ensures.place c.in_ok-format.ensures.format) in
     subst (λ (r : List Row). (d : Row) → 0 < length r → IsFormatAt c.args.sweep.now.resolution.elements c.args.sweep.now.resolution.marks c.args.from (get_or r (length r - 1) d).format) (sym c.in_ok-push.ensures.items)
     (last_push (IsFormatAt c.args.sweep.now.resolution.elements c.args.sweep.now.resolution.marks c.args.from) rows now is_format)

@@ -2,7 +2,7 @@ use Rattle.std.proofs.Common.{◌≡◌, ◌≤◌, ℕ, List, inl, length, drop
 use Rattle.change_ops.specs.declared.operation.Op.{Op}
 use Rattle.char_sequence.specs.declared.sequence.Element.{Element}
 use Rattle.mark_anchors.specs.Ranges.{AreCuts, IsUniform}
-use Rattle.mark_anchors.specs.Resolution.{Resolution}
+use Rattle.mark_anchors.specs.Resolution.{ResolvedMarks}
 use Rattle.mark_anchors.proofs.Uniform.{all_reached}
 use Rattle.mark_anchors.proofs.Cuts.{next_read, reached_next}
 use Rattle.span_flatten.specs.declared.version.Row.{Row}
@@ -19,8 +19,8 @@ loop-cut-init c =
     record {
       reached = inl (refl, refl);
       behind = let start : c.sweep-sweep.result.place ≡ 0 = c.sweep-sweep.ensures.start in omega arith;
-      elements = ap (λ (v : Resolution). v.elements) c.sweep-sweep.ensures.resolution ∙ c.in_ok-resolved.ensures.elements;
-      marks = ap (λ (v : Resolution). v.marks) c.sweep-sweep.ensures.resolution ∙ c.in_ok-resolved.ensures.marks;
+      elements = ap (λ (v : ResolvedMarks). v.elements) c.sweep-sweep.ensures.resolution ∙ c.in_ok-resolved.ensures.elements;
+      marks = ap (λ (v : ResolvedMarks). v.marks) c.sweep-sweep.ensures.resolution ∙ c.in_ok-resolved.ensures.marks;
       taken =
           subst (λ (t : List ℕ). IsTaken es marks 0 t c.new-rows.result.items) (sym text)
           (subst (λ (r : List Row). IsTaken es marks 0 [] r) (sym rows) (taken_none es marks));
@@ -75,8 +75,8 @@ loop-cut-preserved c =
     record {
       reached = reached_next c.deref-cut-items.result.now c.loop-cut.cut-index c.loop-cut-test.true;
       behind = c.take_in.ensures.behind;
-      elements = ap (λ (v : Resolution). v.elements) c.take_in.ensures.resolution ∙ inv.elements;
-      marks = ap (λ (v : Resolution). v.marks) c.take_in.ensures.resolution ∙ inv.marks;
+      elements = ap (λ (v : ResolvedMarks). v.elements) c.take_in.ensures.resolution ∙ inv.elements;
+      marks = ap (λ (v : ResolvedMarks). v.marks) c.take_in.ensures.resolution ∙ inv.marks;
       taken = taken_along held.elements es held.marks marks to (string_bytes c.take_in.new.text) c.take_in.new.rows.items (sym inv.elements) (sym inv.marks) (c.in_ok-take_in.ensures.taken was);
       formatted = last_along held.elements es held.marks marks c.take_in.new.sweep.place c.take_in.new.rows.items (sym inv.elements) (sym inv.marks) c.in_ok-take_in.ensures.formatted;
       at = c.in_ok-take_in.ensures.at ∙ ap (λ (l : List Element). drop to l) inv.elements;

@@ -5,7 +5,7 @@ use Rattle.std.proofs.lemmas.Str.{IsUtf8-string_bytes}
 use Rattle.change_ops.specs.declared.operation.Op.{Op}
 use Rattle.char_sequence.specs.declared.sequence.Element.{Element}
 use Rattle.char_sequence.specs.Visible.{visible_text, visible_count}
-use Rattle.mark_anchors.specs.Formatting.{Formatting}
+use Rattle.mark_anchors.specs.Formatting.{Format}
 use Rattle.span_flatten.specs.Spans.{Span}
 use Rattle.span_flatten.specs.Taken.{IsLastFormat}
 use Rattle.span_flatten.proofs.Taking.{FormattedRange, more_of, taken_empty, piece_more, taken_more, count_spelt, count_few, some_between, uniform_range}
@@ -49,7 +49,7 @@ returns-clause-taken c =
     let grew : length text ≡ length text' → ⊥ = λ same. c.if-start-end.false (started ∙ same ∙ sym ended) in
     let some : from < to = some_between c.args.cursor.now from to text text' c.requires.order c.in_ok-characters.ensures.text grew in
     let told = c.in_ok-add_row.ensures.draft in
-    let format : Formatting = told.0 in
+    let format : Format = told.0 in
     let range : FormattedRange = record { from = from; to = to; format = format } in
     let of = uniform_range es marks from to format some c.requires.within c.requires.uniform told.1 in
     let piece : Span = record { text = visible_text (slice_range es from to); format = format } in

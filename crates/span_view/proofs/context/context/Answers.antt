@@ -1,5 +1,5 @@
 use Rattle.std.proofs.Common.{sym, ap}
-use Rattle.bpf_words.specs.declared.context.Facts.{Facts}
+use Rattle.span_context.specs.declared.context.Facts.{Facts}
 use Rattle.span_view.specs.ContextOf.{link_of}
 use Rattle.span_view.proofs.context.context.Goals as goal
 

@@ -1,5 +1,5 @@
 use Rattle.std.proofs.Common.{Some}
 use Rattle.subscriber_queues.proofs.ends.queue_for.Given as goal
 
-abbrev pub ghosts-pledged : goal.ghosts-pledged
-ghosts-pledged g a = record { room = a.capacity; promise = Some (record { program = a.program.now; first = a.first }) }
+abbrev pub ghosts-promised : goal.ghosts-promised
+ghosts-promised g a = record { room = a.capacity; promise = Some (record { program = a.program.now; first = a.first }) }

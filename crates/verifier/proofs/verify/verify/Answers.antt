@@ -1,10 +1,10 @@
 use Rattle.std.proofs.Common.{◌≡◌, length, sym, subst, inl, refl}
 use Rattle.bpf_words.specs.Words.{program_of}
 use Rattle.verifier.specs.declared.refusal.VerifyError.TheVariants.{OutOfMemory}
-use Rattle.meaning.specs.Safe.{Safe, SafeIn, IsBlindToLink}
-use Rattle.meaning.proofs.More.{one_verdict}
-use Rattle.bpf_words.specs.declared.profile.Profile.{Profile}
-use Rattle.bpf_words.specs.declared.profile.Profile.TheVariants.{Two}
+use Rattle.semantics.specs.Safe.{Safe, SafeIn, IsBlindToLink}
+use Rattle.semantics.proofs.More.{one_verdict}
+use Rattle.span_context.specs.declared.profile.Profile.{Profile}
+use Rattle.span_context.specs.declared.profile.Profile.TheVariants.{Two}
 use Rattle.program_reads.specs.Reads.{Determines}
 use Rattle.program_reads.proofs.Narrow.{whole_spans}
 use Rattle.verifier.specs.Judged.{Rejects}
@@ -85,7 +85,6 @@ returns-clause-blind c = λ one.
 pub invariant_of-result : goal.invariant_of-result
 invariant_of-result c = (
   subst Safe (sym c.in_ok-of.ensures) c.in_ok-reads.ensures.safe,
-  subst (SafeIn c.args.profile) (sym c.in_ok-of.ensures) c.in_ok-reads.ensures.seen,
   subst (Determines c.in_ok-reads.reads Two) (sym c.in_ok-of.ensures) (whole_spans c.in_ok-reads.reads c.args.profile (program_of c.args.words.now) c.in_ok-reads.ensures.seen c.in_ok-reads.ensures.reads),
 )
 

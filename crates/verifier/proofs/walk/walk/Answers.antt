@@ -1,7 +1,7 @@
 use Rattle.std.proofs.Common.{subst}
 use Rattle.bpf_words.specs.Words.{program_of}
 use Rattle.abstract_state.specs.Steps.{after}
-use Rattle.meaning.proofs.More.{seen_safe}
+use Rattle.semantics.proofs.More.{seen_safe}
 use Rattle.verifier.specs.Walk.{Follows}
 use Rattle.verifier.proofs.Listing.{lists_all}
 use Rattle.verifier.proofs.Walking.{ends}

@@ -1,6 +1,6 @@
 use Rattle.std.proofs.Common.{◌≡◌, ℕ, None, refl, subst}
 use Rattle.bpf_words.specs.declared.instruction.Width.TheVariants.{Full}
-use Rattle.meaning.specs.Value.{value_of}
+use Rattle.semantics.specs.Value.{value_of}
 use Rattle.std.proofs.lemmas.Result.{IfOk-weaker}
 use Rattle.abstract_state.specs.Known.{ContainsKnown}
 use Rattle.abstract_state.specs.Lent.{Lengths}

@@ -1,4 +1,4 @@
-use Rattle.meaning.specs.Value.{extended}
+use Rattle.semantics.specs.Value.{extended}
 use Rattle.abstract_state.proofs.known.Known.extend.Goals as goal
 
 pub returns-clause-sound : goal.returns-clause-sound

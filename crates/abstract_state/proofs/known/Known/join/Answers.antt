@@ -1,5 +1,5 @@
 use Rattle.std.proofs.Common.{◌≡◌, ◌∙◌, refl, sym, ap, subst}
-use Rattle.abstract_state.specs.declared.place.LentPlace.{LentPlace}
+use Rattle.abstract_state.specs.declared.address.LentAddress.{LentAddress}
 use Rattle.abstract_state.specs.declared.quantity.Quantity.{Quantity}
 use Rattle.abstract_state.specs.Quantity.{JoinsNumber}
 use Rattle.abstract_state.specs.declared.known.Known.TheVariants.{Number, Lent}
@@ -24,17 +24,17 @@ returns-in-Number-Number-clause-values c = λ p q e f.
     let right : c.in-Number-Number.b ≡ q = number_is _ _ _ c.in-Number-Number.is-1 f in
     (_, refl, subst (λ (v : Quantity). JoinsNumber v q c.join.result) left (subst (λ (v : Quantity). JoinsNumber c.in-Number-Number.a v c.join.result) right c.join.ensures.joins))
 
-lent_is : (a p : LentPlace) (k : Known) → k ≡ Lent a → k ≡ Lent p → a ≡ p
+lent_is : (a p : LentAddress) (k : Known) → k ≡ Lent a → k ≡ Lent p → a ≡ p
 lent_is a p k e f = cc
 
 pub returns-in-Lent-Lent-clause-lent : goal.returns-in-Lent-Lent-clause-lent
 returns-in-Lent-Lent-clause-lent c = λ p q e f same.
     let left : c.in-Lent-Lent.a ≡ p = lent_is _ _ _ c.in-Lent-Lent.is-0 e in
     let right : c.in-Lent-Lent.b ≡ q = lent_is _ _ _ c.in-Lent-Lent.is-1 f in
-    let given = c.join_lent.ensures.joins (ap (λ (v : LentPlace). v.region) left ∙ same ∙ sym (ap (λ (v : LentPlace). v.region) right)) in (
+    let given = c.join_lent.ensures.joins (ap (λ (v : LentAddress). v.region) left ∙ same ∙ sym (ap (λ (v : LentAddress). v.region) right)) in (
       given.0,
       given.1,
-      given.2 ∙ ap (λ (v : LentPlace). v.region) left,
-      subst (λ (v : LentPlace). JoinsNumber v.offset q.offset given.0.offset) left
-          (subst (λ (v : LentPlace). JoinsNumber c.in-Lent-Lent.a.offset v.offset given.0.offset) right given.3),
+      given.2 ∙ ap (λ (v : LentAddress). v.region) left,
+      subst (λ (v : LentAddress). JoinsNumber v.offset q.offset given.0.offset) left
+          (subst (λ (v : LentAddress). JoinsNumber c.in-Lent-Lent.a.offset v.offset given.0.offset) right given.3),
     )

@@ -17,9 +17,9 @@ returns-in-Number-default-clause-sound c = λ lengths x a.
 pub returns-in-Lent-Full-clause-sound : goal.returns-in-Lent-Full-clause-sound
 returns-in-Lent-Full-clause-sound c = IfOk-weaker c.lent.result _ _
     (λ o h lengths x a.
-    let place = subst (λ (k : Known). ContainsKnown k lengths x) c.in-Lent-Full.is-0 a in
-    subst (λ (n : ℕ). WithinKnown o lengths n) (lent_moved c.in-Lent-Full.a.region c.args.width x place.0 c.in-Lent-Full.is-1 place.1)
-    (h lengths (place.0 % 2 ^ 64) (c.moved-in-Lent-Full.ensures.contains lengths place.0 place.2)))
+    let address = subst (λ (k : Known). ContainsKnown k lengths x) c.in-Lent-Full.is-0 a in
+    subst (λ (n : ℕ). WithinKnown o lengths n) (lent_moved c.in-Lent-Full.a.region c.args.width x address.0 c.in-Lent-Full.is-1 address.1)
+    (h lengths (address.0 % 2 ^ 64) (c.moved-in-Lent-Full.ensures.contains lengths address.0 address.2)))
     c.lent.ensures.sound
 
 pub returns-in-Context-Full-clause-sound : goal.returns-in-Context-Full-clause-sound

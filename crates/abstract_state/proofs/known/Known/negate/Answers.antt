@@ -1,4 +1,4 @@
-use Rattle.meaning.specs.Value.{cut, negated}
+use Rattle.semantics.specs.Value.{cut, negated}
 use Rattle.abstract_state.proofs.Steps.{negated_fits}
 use Rattle.abstract_state.proofs.known.Known.negate.Goals as goal
 

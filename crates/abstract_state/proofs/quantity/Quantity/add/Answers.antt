@@ -1,5 +1,5 @@
 use Rattle.std.proofs.Common.{◌-◌, ◌^◌, ℕ, subst}
-use Rattle.meaning.specs.Value.{bits_of}
+use Rattle.semantics.specs.Value.{bits_of}
 use Rattle.abstract_state.specs.Quantity.{Within}
 use Rattle.abstract_state.proofs.Widths.{sum_as_difference, complement_fits}
 use Rattle.abstract_state.proofs.quantity.Quantity.add.Goals as goal

@@ -1,6 +1,6 @@
 use Rattle.std.proofs.Common.{None, ℕ, ◌<◌, ◌^◌, bit_and, subst, arith}
 use Rattle.std.proofs.lemmas.Nat.{and_le_l, and_le_r}
-use Rattle.meaning.specs.Value.{bits_of}
+use Rattle.semantics.specs.Value.{bits_of}
 use Rattle.abstract_state.specs.Quantity.{Within}
 use Rattle.abstract_state.proofs.Widths.{cut_same}
 use Rattle.abstract_state.proofs.KnownBits.{made}

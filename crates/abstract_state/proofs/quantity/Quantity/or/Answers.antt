@@ -1,6 +1,6 @@
 use Rattle.std.proofs.Common.{None, ℕ, bit_or, subst}
 use Rattle.std.proofs.lemmas.Nat.{or_lt}
-use Rattle.meaning.specs.Value.{bits_of}
+use Rattle.semantics.specs.Value.{bits_of}
 use Rattle.abstract_state.specs.Quantity.{Within}
 use Rattle.abstract_state.proofs.Widths.{cut_same, fits_word}
 use Rattle.abstract_state.proofs.KnownBits.{made}

@@ -1,6 +1,6 @@
 use Rattle.std.proofs.Common.{ℕ, ◌<◌, ◌^◌, subst, arith}
 use Rattle.intervals.specs.Range.{remainder}
-use Rattle.meaning.specs.Value.{bits_of}
+use Rattle.semantics.specs.Value.{bits_of}
 use Rattle.abstract_state.specs.Quantity.{Within}
 use Rattle.abstract_state.proofs.Widths.{cut_same, fits_word, tails_lower, remainder_le}
 use Rattle.abstract_state.proofs.quantity.Quantity.rem.Goals as goal

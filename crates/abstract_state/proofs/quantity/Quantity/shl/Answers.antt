@@ -1,5 +1,5 @@
 use Rattle.std.proofs.Common.{◌≡◌, ◌*◌, ◌%◌, ◌^◌, ℕ, refl, sym, subst}
-use Rattle.meaning.specs.Value.{bits_of}
+use Rattle.semantics.specs.Value.{bits_of}
 use Rattle.abstract_state.specs.Quantity.{Contains, Within}
 use Rattle.abstract_state.proofs.Options.{at_some, at_none}
 use Rattle.abstract_state.proofs.Widths.{cut_fits}

@@ -1,5 +1,5 @@
 use Rattle.std.proofs.Common.{ℕ, ◌*◌, ◌%◌, ◌^◌, subst}
-use Rattle.meaning.specs.Value.{cut}
+use Rattle.semantics.specs.Value.{cut}
 use Rattle.abstract_state.specs.Quantity.{Within}
 use Rattle.abstract_state.proofs.Widths.{product_cut, count_small}
 use Rattle.abstract_state.proofs.quantity.Quantity.shl_by.Goals as goal

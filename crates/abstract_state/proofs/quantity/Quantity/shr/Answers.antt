@@ -1,6 +1,6 @@
 use Rattle.std.proofs.Common.{◌≡◌, ◌/◌, ◌%◌, ◌^◌, ℕ, sym, subst}
 use Rattle.std.proofs.lemmas.Nat.{shr_le}
-use Rattle.meaning.specs.Value.{bits_of}
+use Rattle.semantics.specs.Value.{bits_of}
 use Rattle.abstract_state.specs.Quantity.{Contains, Within}
 use Rattle.abstract_state.proofs.Options.{at_some, at_none}
 use Rattle.abstract_state.proofs.quantity.Quantity.shr.Goals as goal

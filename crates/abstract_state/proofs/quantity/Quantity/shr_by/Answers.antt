@@ -1,6 +1,6 @@
 use Rattle.std.proofs.Common.{ℕ, ◌/◌, ◌%◌, ◌^◌, ◌<◌, subst, arith}
 use Rattle.std.proofs.lemmas.Nat.{shr_le}
-use Rattle.meaning.specs.Value.{bits_of, cut}
+use Rattle.semantics.specs.Value.{bits_of, cut}
 use Rattle.abstract_state.specs.Quantity.{Within}
 use Rattle.abstract_state.proofs.Widths.{cut_same, count_small, tails_lower}
 use Rattle.abstract_state.proofs.quantity.Quantity.shr_by.Goals as goal

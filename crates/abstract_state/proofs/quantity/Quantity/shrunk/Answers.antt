@@ -1,5 +1,5 @@
 use Rattle.std.proofs.Common.{ℕ, ◌≤◌, ◌<◌, ◌^◌, subst, arith}
-use Rattle.meaning.specs.Value.{bits_of}
+use Rattle.semantics.specs.Value.{bits_of}
 use Rattle.abstract_state.specs.Quantity.{Within}
 use Rattle.abstract_state.proofs.Widths.{cut_same, fits_word, tails_lower}
 use Rattle.abstract_state.proofs.quantity.Quantity.shrunk.Goals as goal

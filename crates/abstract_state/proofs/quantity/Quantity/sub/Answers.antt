@@ -1,5 +1,5 @@
 use Rattle.std.proofs.Common.{◌-◌, ◌^◌}
-use Rattle.meaning.specs.Value.{bits_of}
+use Rattle.semantics.specs.Value.{bits_of}
 use Rattle.abstract_state.proofs.Widths.{complement_fits}
 use Rattle.abstract_state.proofs.quantity.Quantity.sub.Goals as goal
 

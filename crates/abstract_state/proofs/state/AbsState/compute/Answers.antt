@@ -1,7 +1,7 @@
 use Rattle.std.proofs.Common.{◌≡◌, ◌+◌, true, false, None, refl, arith, ◌↔◌, ◌∷◌}
 use Rattle.abstract_state.specs.Exact.{LentIn, NumberIn, tail_after}
 use Rattle.bpf_words.specs.declared.instruction.Width.TheVariants.{Full}
-use Rattle.meaning.specs.Value.{value_of}
+use Rattle.semantics.specs.Value.{value_of}
 use Rattle.abstract_state.specs.State.{lengths_of}
 use Rattle.abstract_state.proofs.Steps.{computes}
 use Rattle.abstract_state.specs.declared.refusal.Refusal.TheVariants.{UnsetRegister}

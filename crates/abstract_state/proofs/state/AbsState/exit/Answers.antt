@@ -1,5 +1,5 @@
 use Rattle.std.proofs.Common.{ℕ, ◌∙◌, sym, ap, subst, ◌≡◌, ◌↔◌, [], ◌∷◌}
-use Rattle.meaning.specs.State.{register_of}
+use Rattle.semantics.specs.State.{register_of}
 use Rattle.abstract_state.specs.State.{lengths_of}
 use Rattle.abstract_state.proofs.Steps.{returns_r0}
 use Rattle.abstract_state.specs.declared.refusal.Refusal.TheVariants.{UnsetRegister}

@@ -1,5 +1,5 @@
 use Rattle.std.proofs.Common.{subst}
-use Rattle.meaning.specs.State.{State}
+use Rattle.semantics.specs.State.{State}
 use Rattle.abstract_state.specs.State.{Contains}
 use Rattle.abstract_state.proofs.Branches.{put_back}
 use Rattle.abstract_state.proofs.KindLaws.{put_keeps}

@@ -4,7 +4,7 @@ use Rattle.abstract_state.specs.declared.known.Known.{Known}
 use Rattle.abstract_state.specs.Known.{ContainsKnown}
 use Rattle.abstract_state.specs.State.{lengths_of, LoadsAs}
 use Rattle.abstract_state.specs.Frame.{AreMarked}
-use Rattle.abstract_state.proofs.Frames.{place_is}
+use Rattle.abstract_state.proofs.Frames.{address_is}
 use Rattle.abstract_state.proofs.state.AbsState.load.Goals as goal
 
 pub returns-in-Context-clause-sound : goal.returns-in-Context-clause-sound
@@ -25,10 +25,10 @@ pub returns-in-Some-clause-lent_numbers : goal.returns-in-Some-clause-lent_numbe
 returns-in-Some-clause-lent_numbers c = λ p e. absurd (c.in-Some.ensures.stack_alone p e)
 
 pub returns-in-Context-clause-spilled : goal.returns-in-Context-clause-spilled
-returns-in-Context-clause-spilled c = λ i known h less z is. let place = place_is (8 * i) c.args.offset c.args.base h in let bad = sym c.in-Context.is ∙ place.1 in absurd (cc)
+returns-in-Context-clause-spilled c = λ i known h less z is. let address = address_is (8 * i) c.args.offset c.args.base h in let bad = sym c.in-Context.is ∙ address.1 in absurd (cc)
 
 pub returns-in-Context-clause-marked : goal.returns-in-Context-clause-marked
-returns-in-Context-clause-marked c = λ p h m. let place = place_is p c.args.offset c.args.base h in let bad = sym c.in-Context.is ∙ place.1 in absurd (cc)
+returns-in-Context-clause-marked c = λ p h m. let address = address_is p c.args.offset c.args.base h in let bad = sym c.in-Context.is ∙ address.1 in absurd (cc)
 
 pub returns-in-Some-clause-spilled : goal.returns-in-Some-clause-spilled
 returns-in-Some-clause-spilled c = λ i known h less z is. ap (λ (o : Option Known). Ok o) (c.in-Some.ensures.spilled i known h less z is)

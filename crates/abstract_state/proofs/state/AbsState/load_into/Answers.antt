@@ -7,7 +7,7 @@ use Rattle.abstract_state.proofs.Exact.{any_number, set_exactly}
 use Rattle.abstract_state.proofs.Regions.{begin_low, end_low}
 use Rattle.std.proofs.lemmas.Int.{to_z-of_z}
 use Rattle.std.specs.Int.{cast_unsigned, w16, w64}
-use Rattle.meaning.specs.Memory.{load, bytes_in}
+use Rattle.semantics.specs.Memory.{load, bytes_in}
 use Rattle.abstract_state.specs.State.{lengths_of}
 use Rattle.abstract_state.proofs.Steps.{loads}
 use Rattle.abstract_state.specs.declared.state.AbsReg.TheVariants.{Set}
@@ -102,26 +102,26 @@ returns-in_err-a-clause-spilled c = λ i known h less z is. let bad : false ≡ 
 pub returns-in_err-known-clause-stack : goal.returns-in_err-known-clause-stack
 returns-in_err-known-clause-stack c = λ p h m.
     let same : c.displacement.result ≡ cast_unsigned w64 c.args.offset = c.displacement.ensures ∙ ap (cast_unsigned w64) (to_z-of_z w16 c.args.offset c.ranges.offset) in
-    let place = subst (λ (n : ℕ). IsStackByte p n (Set c.in_ok-a.a)) (sym same) (c.in_ok-a.ensures.frame p _ h).1 in
-    let bad : false ≡ true = (c.in_err-known.ensures.marked p place m).0 in absurd (cc)
+    let byte = subst (λ (n : ℕ). IsStackByte p n (Set c.in_ok-a.a)) (sym same) (c.in_ok-a.ensures.frame p _ h).1 in
+    let bad : false ≡ true = (c.in_err-known.ensures.marked p byte m).0 in absurd (cc)
 
 pub returns-in_err-known-clause-spilled : goal.returns-in_err-known-clause-spilled
 returns-in_err-known-clause-spilled c = λ i known h less z is.
     let same : c.displacement.result ≡ cast_unsigned w64 c.args.offset = c.displacement.ensures ∙ ap (cast_unsigned w64) (to_z-of_z w16 c.args.offset c.ranges.offset) in
-    let place = subst (λ (n : ℕ). IsStackByte (8 * i) n (Set c.in_ok-a.a)) (sym same) (c.in_ok-a.ensures.frame (8 * i) _ h).1 in
-    let bad = c.in_err-known.ensures.spilled i known place less z is in absurd (cc)
+    let byte = subst (λ (n : ℕ). IsStackByte (8 * i) n (Set c.in_ok-a.a)) (sym same) (c.in_ok-a.ensures.frame (8 * i) _ h).1 in
+    let bad = c.in_err-known.ensures.spilled i known byte less z is in absurd (cc)
 
 pub returns-clause-stack : goal.returns-clause-stack
 returns-clause-stack c = λ p h m.
     let same : c.displacement.result ≡ cast_unsigned w64 c.args.offset = c.displacement.ensures ∙ ap (cast_unsigned w64) (to_z-of_z w16 c.args.offset c.ranges.offset) in
-    let place = subst (λ (n : ℕ). IsStackByte p n (Set c.in_ok-a.a)) (sym same) (c.in_ok-a.ensures.frame p _ h).1 in
-    (refl, c.write.ensures.holds AnyNumber (any_number c.in_ok-known.known (c.in_ok-known.ensures.marked p place m).1))
+    let byte = subst (λ (n : ℕ). IsStackByte p n (Set c.in_ok-a.a)) (sym same) (c.in_ok-a.ensures.frame p _ h).1 in
+    (refl, c.write.ensures.holds AnyNumber (any_number c.in_ok-known.known (c.in_ok-known.ensures.marked p byte m).1))
 
 pub returns-clause-spilled : goal.returns-clause-spilled
 returns-clause-spilled c = λ i known h less z is.
     let same : c.displacement.result ≡ cast_unsigned w64 c.args.offset = c.displacement.ensures ∙ ap (cast_unsigned w64) (to_z-of_z w16 c.args.offset c.ranges.offset) in
-    let place = subst (λ (n : ℕ). IsStackByte (8 * i) n (Set c.in_ok-a.a)) (sym same) (c.in_ok-a.ensures.frame (8 * i) _ h).1 in
-    let back = c.in_ok-known.ensures.spilled i known place less z is in
+    let byte = subst (λ (n : ℕ). IsStackByte (8 * i) n (Set c.in_ok-a.a)) (sym same) (c.in_ok-a.ensures.frame (8 * i) _ h).1 in
+    let back = c.in_ok-known.ensures.spilled i known byte less z is in
     let there : c.in_ok-known.known ≡ Some known = cc in
     (refl, c.write.ensures.holds (Exactly known) (exactly c.in_ok-known.known known there))
 

@@ -1,8 +1,8 @@
 use Rattle.std.proofs.Common.{◌≡◌, ◌+◌, ◌%◌, ◌^◌, true, false, ℕ, Ok, refl, sym, subst, ap, ◌∙◌, arith, ◌↔◌, [], ◌∷◌}
 use Rattle.std.proofs.lemmas.Int.{to_z-of_z}
 use Rattle.std.specs.Int.{cast_unsigned, w16, w64}
-use Rattle.meaning.specs.Memory.{load, bytes_in_signed}
-use Rattle.meaning.specs.Value.{with_sign}
+use Rattle.semantics.specs.Memory.{load, bytes_in_signed}
+use Rattle.semantics.specs.Value.{with_sign}
 use Rattle.abstract_state.specs.State.{lengths_of}
 use Rattle.abstract_state.proofs.Steps.{loads_signed, sign_fits}
 use Rattle.abstract_state.specs.declared.state.AbsReg.TheVariants.{Set}
@@ -44,8 +44,8 @@ returns-in_err-a-clause-stack c = λ p h m. let bad : false ≡ true = (c.in_err
 pub returns-in_err-load_signed-clause-stack : goal.returns-in_err-load_signed-clause-stack
 returns-in_err-load_signed-clause-stack c = λ p h m.
     let same : c.displacement.result ≡ cast_unsigned w64 c.args.offset = c.displacement.ensures ∙ ap (cast_unsigned w64) (to_z-of_z w16 c.args.offset c.ranges.offset) in
-    let place = subst (λ (n : ℕ). IsStackByte p n (Set c.in_ok-a.a)) (sym same) (c.in_ok-a.ensures.frame p _ h).1 in
-    let bad : false ≡ true = c.in_err-load_signed.ensures.marked p place m in absurd (cc)
+    let byte = subst (λ (n : ℕ). IsStackByte p n (Set c.in_ok-a.a)) (sym same) (c.in_ok-a.ensures.frame p _ h).1 in
+    let bad : false ≡ true = c.in_err-load_signed.ensures.marked p byte m in absurd (cc)
 
 pub returns-clause-lent : goal.returns-clause-lent
 returns-clause-lent c = λ o p e short h within. (refl, c.write.ensures.holds AnyNumber tt)

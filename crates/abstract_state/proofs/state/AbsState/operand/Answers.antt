@@ -3,7 +3,7 @@ use Rattle.std.proofs.lemmas.Int.{to_z-of_z}
 use Rattle.std.specs.Int.{w32, w64, cast_unsigned}
 use mir.Val.{SFits}
 use Rattle.std.proofs.lemmas.Result.{IfOk-weaker}
-use Rattle.meaning.specs.State.{operand_in}
+use Rattle.semantics.specs.State.{operand_in}
 use Rattle.abstract_state.specs.Exact.{Holds, IsIn, NumberIn}
 use Rattle.bpf_words.specs.declared.instruction.Operand.{Operand}
 use Rattle.abstract_state.specs.Guard.{IsOperand}

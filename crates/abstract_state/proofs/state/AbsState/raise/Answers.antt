@@ -9,5 +9,5 @@ returns-in-Number-clause-sound c = λ lengths s n held k.
 
 pub returns-in-Lent-clause-sound : goal.returns-in-Lent-clause-sound
 returns-in-Lent-clause-sound c = λ lengths s n held k.
-    let place = subst (λ (v : Known). ContainsKnown v lengths n) c.in-Lent.is k in
-    c.lengthen-in-Lent.ensures.sound lengths s place.0 held place.2
+    let address = subst (λ (v : Known). ContainsKnown v lengths n) c.in-Lent.is k in
+    c.lengthen-in-Lent.ensures.sound lengths s address.0 held address.2

@@ -2,8 +2,8 @@ use Rattle.std.proofs.Common.{rules, ◌≡◌, ℕ, ℤ, refl, sym, ap, ◌∙�
 use Rattle.std.proofs.lemmas.Result.{IfOk-weaker}
 use Rattle.std.proofs.lemmas.Int.{to_z-of_z}
 use Rattle.bpf_words.specs.declared.instruction.Operand.{Operand}
-use Rattle.meaning.specs.State.{operand_in}
-use Rattle.meaning.specs.Value.{cut}
+use Rattle.semantics.specs.State.{operand_in}
+use Rattle.semantics.specs.Value.{cut}
 use Rattle.std.specs.Int.{w32, w64, cast_unsigned}
 use mir.Val.{SFits}
 use Rattle.abstract_state.specs.Branch.{ReadsAs}

@@ -1,23 +1,23 @@
 use Rattle.std.proofs.Common.{◌≡◌, ◌+◌, ◌%◌, ◌/◌, ◌*◌, ◌≤◌, ◌^◌, ℕ, List, Option, Ok, refl, subst, ap, ◌∙◌, sym, rules, arith}
-use Rattle.meaning.specs.Memory.{stack_base, bytes_in, store, stored}
+use Rattle.semantics.specs.Memory.{stack_base, bytes_in, store, stored}
 use Rattle.abstract_state.specs.declared.known.Known.{Known}
 use Rattle.abstract_state.specs.Known.{ContainsKnown}
 use Rattle.abstract_state.specs.State.{lengths_of, bytes_of, Bytes, HasNumber, Contains, Spares, with_stack}
 use Rattle.abstract_state.proofs.Loads.{stores_stack}
 use Rattle.abstract_state.proofs.Memories.{after_store, store_spares, store_fills, store_number}
 use Rattle.std.specs.Bool.{IsTrue}
-use Rattle.bpf_words.specs.declared.instruction.Size.{Size}
+use Rattle.span_context.specs.declared.size.Size.{Size}
 use Rattle.abstract_state.specs.Frame.{StoresSlots, SpillsSlot}
-use Rattle.abstract_state.proofs.Frames.{place_is, place_of, no_number, spill_stores}
+use Rattle.abstract_state.proofs.Frames.{address_is, stack_byte_of, no_number, spill_stores}
 use Rattle.abstract_state.proofs.state.AbsState.store.Goals.{else-count-eq8-via-then-count-eq8+else-p-eq0, else-count-eq8-via-else-count-eq8}
 use Rattle.abstract_state.proofs.state.AbsState.store.Goals as goal
 
 pub returns-then-p-eq0-clause-sound : goal.returns-then-p-eq0-clause-sound
 returns-then-p-eq0-clause-sound c = λ span s n v a kb kv.
-    let place = subst (λ (k : Known). ContainsKnown k (lengths_of span) n) c.in-Stack.is kb in
+    let base_is = subst (λ (k : Known). ContainsKnown k (lengths_of span) n) c.in-Stack.is kb in
     let eight : 8 ≡ bytes_in c.args.size = sym c.if-count-eq8.true ∙ c.count-count.ensures.value in
     let within : c.in_ok-p.p + 8 ≤ 512 = omega (arith, c.in_ok-p.ensures.within, c.if-count-eq8.true) in
-    let address = ap (λ (m : ℕ). (m + c.args.offset) % 2 ^ 64) place ∙ c.in_ok-p.ensures.at stack_base (omega arith) in
+    let address = ap (λ (m : ℕ). (m + c.args.offset) % 2 ^ 64) base_is ∙ c.in_ok-p.ensures.at stack_base (omega arith) in
     let whole : 8 * (c.in_ok-p.p / 8) ≡ c.in_ok-p.p = omega (arith, c.if-p-eq0.true) in
     let new : Bytes = bytes_of (stored s.stack c.in_ok-p.p 8 v) in
     let slots = c.spill.ensures.contains (lengths_of span) (bytes_of s.stack) new v a.stack kv
@@ -31,10 +31,10 @@ returns-then-p-eq0-clause-sound c = λ span s n v a kb kv.
 
 pub returns-clause-sound : goal.returns-clause-sound
 returns-clause-sound c = λ span s n v a kb kv.
-    let place = subst (λ (k : Known). ContainsKnown k (lengths_of span) n) c.in-Stack.is kb in
+    let base_is = subst (λ (k : Known). ContainsKnown k (lengths_of span) n) c.in-Stack.is kb in
     let count = c.count-count.result in
     let within : c.in_ok-p.p + count ≤ 512 = c.in_ok-p.ensures.within in
-    let address = ap (λ (m : ℕ). (m + c.args.offset) % 2 ^ 64) place ∙ c.in_ok-p.ensures.at stack_base (omega arith) in
+    let address = ap (λ (m : ℕ). (m + c.args.offset) % 2 ^ 64) base_is ∙ c.in_ok-p.ensures.at stack_base (omega arith) in
     let new : Bytes = bytes_of (stored s.stack c.in_ok-p.p count v) in
     let slots = c.overwrite.ensures.contains (lengths_of span) (bytes_of s.stack) new a.stack
     (store_spares s.stack c.in_ok-p.p count v a.long within) (store_fills s.stack c.in_ok-p.p count v a.long within) in
@@ -51,23 +51,23 @@ pub returns-then-is_number-clause-spills : goal.returns-then-is_number-clause-sp
 returns-then-is_number-clause-spills c = λ i h less z. let yes : IsTrue c.is_number.result = search rules in absurd (no_number (8 * i) c.args.offset c.args.base (c.is_number.ensures.0 yes) h)
 
 pub returns-in_default-clause-stores : goal.returns-in_default-clause-stores
-returns-in_default-clause-stores c = λ p h within n. let place = place_is p c.args.offset c.args.base h in absurd (c.in_default.not-Stack place.0 place.1)
+returns-in_default-clause-stores c = λ p h within n. let address = address_is p c.args.offset c.args.base h in absurd (c.in_default.not-Stack address.0 address.1)
 
 pub returns-in_default-clause-spills : goal.returns-in_default-clause-spills
-returns-in_default-clause-spills c = λ i h less z. let place = place_is (8 * i) c.args.offset c.args.base h in absurd (c.in_default.not-Stack place.0 place.1)
+returns-in_default-clause-spills c = λ i h less z. let address = address_is (8 * i) c.args.offset c.args.base h in absurd (c.in_default.not-Stack address.0 address.1)
 
 pub returns-in_err-p-clause-stores : goal.returns-in_err-p-clause-stores
 returns-in_err-p-clause-stores c = λ p h within n.
-    let bad = c.in_err-p.ensures.floor p (place_of p c.args.offset c.args.base c.in-Stack.place c.in-Stack.is h) (omega (arith, within, c.count-count.ensures.value)) in absurd (cc)
+    let bad = c.in_err-p.ensures.floor p (stack_byte_of p c.args.offset c.args.base c.in-Stack.address c.in-Stack.is h) (omega (arith, within, c.count-count.ensures.value)) in absurd (cc)
 
 pub returns-in_err-p-clause-spills : goal.returns-in_err-p-clause-spills
 returns-in_err-p-clause-spills c = λ i h less z.
     let eight = c.count-count.ensures.value ∙ ap (λ (k : Size). bytes_in k) z in
-    let bad = c.in_err-p.ensures.floor (8 * i) (place_of (8 * i) c.args.offset c.args.base c.in-Stack.place c.in-Stack.is h) (omega (arith, eight)) in absurd (cc)
+    let bad = c.in_err-p.ensures.floor (8 * i) (stack_byte_of (8 * i) c.args.offset c.args.base c.in-Stack.address c.in-Stack.is h) (omega (arith, eight)) in absurd (cc)
 
 pub returns-then-p-eq0-clause-stores : goal.returns-then-p-eq0-clause-stores
 returns-then-p-eq0-clause-stores c = λ p h within n.
-    let found = c.in_ok-p.ensures.floor p (place_of p c.args.offset c.args.base c.in-Stack.place c.in-Stack.is h) (omega (arith, within, c.count-count.ensures.value)) in
+    let found = c.in_ok-p.ensures.floor p (stack_byte_of p c.args.offset c.args.base c.in-Stack.address c.in-Stack.is h) (omega (arith, within, c.count-count.ensures.value)) in
     let same : c.in_ok-p.p ≡ p = cc in
     let eight : bytes_in c.args.size ≡ 8 = sym c.count-count.ensures.value ∙ c.if-count-eq8.true in
     let whole : p ≡ 8 * (c.in_ok-p.p / 8) = omega (arith, same, c.if-p-eq0.true) in
@@ -76,14 +76,14 @@ returns-then-p-eq0-clause-stores c = λ p h within n.
 pub returns-then-p-eq0-clause-spills : goal.returns-then-p-eq0-clause-spills
 returns-then-p-eq0-clause-spills c = λ i h less z.
     let eight = c.count-count.ensures.value ∙ ap (λ (k : Size). bytes_in k) z in
-    let found = c.in_ok-p.ensures.floor (8 * i) (place_of (8 * i) c.args.offset c.args.base c.in-Stack.place c.in-Stack.is h) (omega (arith, eight)) in
+    let found = c.in_ok-p.ensures.floor (8 * i) (stack_byte_of (8 * i) c.args.offset c.args.base c.in-Stack.address c.in-Stack.is h) (omega (arith, eight)) in
     let same : c.in_ok-p.p ≡ 8 * i = cc in
     let slot : c.in_ok-p.p / 8 ≡ i = omega (arith, same) in
     (refl, subst (λ (k : ℕ). SpillsSlot k c.args.value c.args.self.now.stack c.spill.new.slots) slot c.spill.ensures.spills)
 
 pub returns-clause-stores : goal.returns-clause-stores
 returns-clause-stores c = λ p h within n.
-    let found = c.in_ok-p.ensures.floor p (place_of p c.args.offset c.args.base c.in-Stack.place c.in-Stack.is h) (omega (arith, within, c.count-count.ensures.value)) in
+    let found = c.in_ok-p.ensures.floor p (stack_byte_of p c.args.offset c.args.base c.in-Stack.address c.in-Stack.is h) (omega (arith, within, c.count-count.ensures.value)) in
     let same : c.in_ok-p.p ≡ p = cc in (
       refl,
       subst (λ (k : ℕ). StoresSlots p k c.args.self.now.stack c.overwrite.new.slots) c.count-count.ensures.value
@@ -93,6 +93,6 @@ returns-clause-stores c = λ p h within n.
 pub returns-clause-spills : goal.returns-clause-spills
 returns-clause-spills c = λ i h less z.
     let eight = c.count-count.ensures.value ∙ ap (λ (k : Size). bytes_in k) z in
-    let found = c.in_ok-p.ensures.floor (8 * i) (place_of (8 * i) c.args.offset c.args.base c.in-Stack.place c.in-Stack.is h) (omega (arith, eight)) in
+    let found = c.in_ok-p.ensures.floor (8 * i) (stack_byte_of (8 * i) c.args.offset c.args.base c.in-Stack.address c.in-Stack.is h) (omega (arith, eight)) in
     let same : c.in_ok-p.p ≡ 8 * i = cc in
     absurd (elim c.else-count-eq8.branch [ else-count-eq8-via-then-count-eq8+else-p-eq0 w ↦ omega (arith, same, w.if-p-eq0.false) | else-count-eq8-via-else-count-eq8 w ↦ w.if-count-eq8.false eight ])

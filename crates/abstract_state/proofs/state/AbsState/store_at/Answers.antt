@@ -1,7 +1,7 @@
 use Rattle.std.proofs.Common.{◌≡◌, ◌+◌, ◌*◌, ◌%◌, ◌^◌, true, false, ℕ, Ok, refl, sym, subst, ap, ◌∙◌, ◌↔◌, ◌∷◌}
 use Rattle.std.proofs.lemmas.Int.{to_z-of_z}
 use Rattle.std.specs.Int.{cast_unsigned, w16, w64}
-use Rattle.meaning.specs.Memory.{store, bytes_in}
+use Rattle.semantics.specs.Memory.{store, bytes_in}
 use Rattle.abstract_state.specs.State.{lengths_of}
 use Rattle.abstract_state.proofs.Steps.{stores}
 use Rattle.abstract_state.specs.declared.state.AbsReg.TheVariants.{Set}
@@ -41,27 +41,27 @@ returns-in_err-b-clause-spills c = λ i r known h less z v held. let bad : false
 pub returns-in_err-store-clause-stores : goal.returns-in_err-store-clause-stores
 returns-in_err-store-clause-stores c = λ p h within number.
     let same : c.displacement.result ≡ cast_unsigned w64 c.args.offset = c.displacement.ensures ∙ ap (cast_unsigned w64) (to_z-of_z w16 c.args.offset c.ranges.offset) in
-    let place = subst (λ (n : ℕ). IsStackByte p n (Set c.in_ok-a.a)) (sym same) (c.in_ok-a.ensures.frame p _ h).1 in
-    let bad : false ≡ true = (c.in_err-store.ensures.stores p place within (c.in_ok-b.ensures.numbers number)).0 in absurd (cc)
+    let byte = subst (λ (n : ℕ). IsStackByte p n (Set c.in_ok-a.a)) (sym same) (c.in_ok-a.ensures.frame p _ h).1 in
+    let bad : false ≡ true = (c.in_err-store.ensures.stores p byte within (c.in_ok-b.ensures.numbers number)).0 in absurd (cc)
 
 pub returns-in_err-store-clause-spills : goal.returns-in_err-store-clause-spills
 returns-in_err-store-clause-spills c = λ i r known h less z v held.
     let same : c.displacement.result ≡ cast_unsigned w64 c.args.offset = c.displacement.ensures ∙ ap (cast_unsigned w64) (to_z-of_z w16 c.args.offset c.ranges.offset) in
-    let place = subst (λ (n : ℕ). IsStackByte (8 * i) n (Set c.in_ok-a.a)) (sym same) (c.in_ok-a.ensures.frame (8 * i) _ h).1 in
-    let bad : false ≡ true = (c.in_err-store.ensures.spills i place less z).0 in absurd (cc)
+    let byte = subst (λ (n : ℕ). IsStackByte (8 * i) n (Set c.in_ok-a.a)) (sym same) (c.in_ok-a.ensures.frame (8 * i) _ h).1 in
+    let bad : false ≡ true = (c.in_err-store.ensures.spills i byte less z).0 in absurd (cc)
 
 pub returns-clause-stores : goal.returns-clause-stores
 returns-clause-stores c = λ p h within number.
     let same : c.displacement.result ≡ cast_unsigned w64 c.args.offset = c.displacement.ensures ∙ ap (cast_unsigned w64) (to_z-of_z w16 c.args.offset c.ranges.offset) in
-    let place = subst (λ (n : ℕ). IsStackByte p n (Set c.in_ok-a.a)) (sym same) (c.in_ok-a.ensures.frame p _ h).1 in
-    (refl, (c.in_ok-store.ensures.stores p place within (c.in_ok-b.ensures.numbers number)).1)
+    let byte = subst (λ (n : ℕ). IsStackByte p n (Set c.in_ok-a.a)) (sym same) (c.in_ok-a.ensures.frame p _ h).1 in
+    (refl, (c.in_ok-store.ensures.stores p byte within (c.in_ok-b.ensures.numbers number)).1)
 
 pub returns-clause-spills : goal.returns-clause-spills
 returns-clause-spills c = λ i r known h less z v held.
     let same : c.displacement.result ≡ cast_unsigned w64 c.args.offset = c.displacement.ensures ∙ ap (cast_unsigned w64) (to_z-of_z w16 c.args.offset c.ranges.offset) in
-    let place = subst (λ (n : ℕ). IsStackByte (8 * i) n (Set c.in_ok-a.a)) (sym same) (c.in_ok-a.ensures.frame (8 * i) _ h).1 in
+    let byte = subst (λ (n : ℕ). IsStackByte (8 * i) n (Set c.in_ok-a.a)) (sym same) (c.in_ok-a.ensures.frame (8 * i) _ h).1 in
     let is = (c.in_ok-b.ensures.holds r (Exactly known) v held).1 in
-    (refl, subst (λ (k : Known). SpillsSlot i k c.args.self.now.stack c.store.new.self.stack) is (c.in_ok-store.ensures.spills i place less z).1)
+    (refl, subst (λ (k : Known). SpillsSlot i k c.args.self.now.stack c.store.new.self.stack) is (c.in_ok-store.ensures.spills i byte less z).1)
 
 pub returns-in_err-a-clause-unset : goal.returns-in_err-a-clause-unset
 returns-in_err-a-clause-unset c =

@@ -1,6 +1,6 @@
 use Rattle.std.proofs.Common.{◌≡◌, true, false, ℕ, Option, ◌∙◌, sym, ap, subst, ◌↔◌, ◌∷◌}
 use Rattle.std.specs.Option.{IfSome}
-use Rattle.meaning.specs.Value.{cut, holds_of}
+use Rattle.semantics.specs.Value.{cut, holds_of}
 use Rattle.abstract_state.specs.declared.branch.Pair.{Pair}
 use Rattle.abstract_state.specs.declared.known.Known.TheVariants.{Lent}
 use Rattle.abstract_state.specs.Exact.{Exactly}

@@ -1,6 +1,6 @@
 use Rattle.std.proofs.Common.{◌≡◌, not, ap, sym, ◌∙◌}
 use Rattle.std.specs.Option.{option_map}
-use Rattle.assembler_lines.specs.Places.{definition, lines_of}
+use Rattle.assembler_lines.specs.Slots.{definition, lines_of}
 use Rattle.assembler.specs.Labels.{defined_at}
 use Rattle.assembler.proofs.Reading.{none_left, rest_none, rest_some}
 use Rattle.assembler.proofs.Resolving.{found_early, found_at_end}

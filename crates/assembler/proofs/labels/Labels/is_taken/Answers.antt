@@ -1,6 +1,6 @@
 use Rattle.std.proofs.Common.{◌≤◌, ◌⊎◌, inl, inr, length, take, ap, sym, arith, ◌∙◌}
 use Rattle.std.specs.List.{list_any}
-use Rattle.assembler_lines.specs.Places.{has_label, lines_of}
+use Rattle.assembler_lines.specs.Slots.{has_label, lines_of}
 use Rattle.assembler.specs.Lines.{lines_left}
 use Rattle.assembler.proofs.Reading.{none_left}
 use Rattle.assembler.proofs.Resolving.{before_held}

@@ -1,8 +1,8 @@
 use Rattle.std.proofs.Common.{◌<◌, ◌^◌, length, arith, refl, sym, ◌∙◌}
 use Rattle.std.specs.Prelude.{sum_by}
-use Rattle.assembler_lines.specs.Places.{lines_of}
+use Rattle.assembler_lines.specs.Slots.{lines_of}
 use Rattle.assembler.specs.Lines.{lines_left}
-use Rattle.assembler.proofs.Labelling.{labels_step, place_more, room_for, fits_more}
+use Rattle.assembler.proofs.Labelling.{labels_step, first_slot_more, room_for, fits_more}
 use Rattle.assembler.proofs.Reading.{left_within, left_here, left_more, lines_few}
 use Rattle.assembler.proofs.Assembling.{room_of}
 use Rattle.assembler.proofs.labels.Labels.read_line.Goals as goal
@@ -38,7 +38,7 @@ invariant_of-self-2 c =
     let here = left_here lines count line (lines_left c.first_line.result.1) left in
     record {
       left = left_more lines count line (lines_left c.first_line.result.1) left;
-      held = labels_step lines count c.args.self.now.slot c.args.self.now.known c.define_in.new.known line within here c.args.self.now.placed c.args.self.now.held c.in_ok-is_label.ensures.defined;
-      placed = rw c.slots.ensures.value (sym (place_more lines count within ∙ rw (here, ← c.args.self.now.placed) refl));
+      held = labels_step lines count c.args.self.now.slot c.args.self.now.known c.define_in.new.known line within here c.args.self.now.at_slot c.args.self.now.held c.in_ok-is_label.ensures.defined;
+      at_slot = rw c.slots.ensures.value (sym (first_slot_more lines count within ∙ rw (here, ← c.args.self.now.at_slot) refl));
       fits = fits_more lines count c.args.self.now.slot c.slots.result line within here c.args.self.now.fits c.slots.ensures.bound;
     }

@@ -1,5 +1,5 @@
 use Rattle.std.proofs.Common.{◌<◌, ℕ, List, MatchResult, length, arith, sym, subst}
-use Rattle.change_ops.specs.Changes.{Edit}
+use Rattle.change_ops.specs.Changes.{Change}
 use Rattle.change_ops.specs.Lines.{ops_of_lines}
 use Rattle.change_ops.specs.declared.line.Line.{Line}
 use Rattle.change_history.specs.Accepted.{operations_of, IsAccepted, IsRefused}
@@ -19,5 +19,5 @@ admit_all-requires-clause-own c =
 pub returns : goal.returns
 returns c =
     let few : length c.self.inside.changes < 4096 = omega arith in
-    subst (λ (cs : List Edit). MatchResult c.admit_all.result (λ _. IsAccepted cs c.args.change.now) (IsRefused cs c.args.change.now)) c.self.view_is
+    subst (λ (cs : List Change). MatchResult c.admit_all.result (λ _. IsAccepted cs c.args.change.now) (IsRefused cs c.args.change.now)) c.self.view_is
     (admitted_or_refused c.self.inside.changes c.args.change.now c.lines.result.now c.admit_all.result few c.lines.ensures.value (c.admit_all.ensures (operations_of c.self.inside.changes) c.self.invariant.0.kept))

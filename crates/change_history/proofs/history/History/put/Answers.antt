@@ -1,26 +1,26 @@
 use Rattle.std.proofs.Common.{◌≡◌, ◌<◌, ◌++◌, ◌∷◌, [], List, Some, length, arith, ap, refl, sym, subst}
-use Rattle.change_ops.specs.Changes.{Edit}
+use Rattle.change_ops.specs.Changes.{Change}
 use Rattle.change_history.specs.Kept.{IsDraft, IsSpare}
-use Rattle.change_history.proofs.Chronicle.{put_in_place, history_put, spare_after}
+use Rattle.change_history.proofs.Chronicle.{put_appended, history_put, spare_after}
 use Rattle.change_history.proofs.history.History.put.Goals as goal
 
 pub unwrap-requires : goal.unwrap-requires
 unwrap-requires c =
     let draft = c.requires.1 in
     let room : length c.args.self.now < 4096 = draft.accepted.room in
-    c.append.ensures.succeeds (omega (arith, ap (λ (cs : List Edit). length cs) c.self.view_is, ap (λ (cs : List Edit). length cs) draft.added))
+    c.append.ensures.succeeds (omega (arith, ap (λ (cs : List Change). length cs) c.self.view_is, ap (λ (cs : List Change). length cs) draft.added))
 
 pub invariant_of-self : goal.invariant_of-self
 invariant_of-self c =
     let change = c.requires.0 in
     let before = c.self.inside.changes in
-    let draft : IsDraft before change c.args.draft = subst (λ (cs : List Edit). IsDraft cs change c.args.draft) (sym c.self.view_is) c.requires.1 in
-    let grown : c.append.new.self ≡ before ++ change ∷ [] = put_in_place c.append.result c.unwrap.result before before c.args.draft.added c.append.new.self change refl draft.added c.unwrap.ensures c.append.ensures.items in (
+    let draft : IsDraft before change c.args.draft = subst (λ (cs : List Change). IsDraft cs change c.args.draft) (sym c.self.view_is) c.requires.1 in
+    let grown : c.append.new.self ≡ before ++ change ∷ [] = put_appended c.append.result c.unwrap.result before before c.args.draft.added c.append.new.self change refl draft.added c.unwrap.ensures c.append.ensures.items in (
       history_put before c.append.new.self change c.self.inside.parts c.replace.new.dest c.args.draft c.self.invariant.0 draft grown c.replace.ensures.after,
-      subst (λ (cs : List Edit). IsSpare cs (Some c.replace.result)) (sym grown)
+      subst (λ (cs : List Change). IsSpare cs (Some c.replace.result)) (sym grown)
           (spare_after before change c.self.inside.parts (Some c.replace.result) c.self.invariant.0 (ap Some c.replace.ensures.value)),
     )
 
 pub returns : goal.returns
 returns c = λ change draft.
-    put_in_place c.append.result c.unwrap.result c.self.inside.changes c.args.self.now c.args.draft.added c.append.new.self change c.self.view_is draft.added c.unwrap.ensures c.append.ensures.items
+    put_appended c.append.result c.unwrap.result c.self.inside.changes c.args.self.now c.args.draft.added c.append.new.self change c.self.view_is draft.added c.unwrap.ensures c.append.ensures.items

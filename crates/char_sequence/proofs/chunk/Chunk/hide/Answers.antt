@@ -20,16 +20,16 @@ invariant_of-self c =
     let was = c.index_mut.result.now in
     let same = ap length c.self.view_is in
     let within = c.requires in
-    let at : slice_get items c.args.place ≡ Some was = here_at items c.args.place was (omega (arith, same, within)) c.index_mut.ensures.value in
-    let size = length-set items c.args.place (hidden was) in
+    let at : slice_get items c.args.index ≡ Some was = here_at items c.args.index was (omega (arith, same, within)) c.index_mut.ensures.value in
+    let size = length-set items c.args.index (hidden was) in
     let some = c.self.invariant.0.some in
     let few = c.self.invariant.0.few in
     let grown = c.write_text.ensures.capacity in
     let wide = c.self.invariant.1.room in
-    let chunk : IsChunk (set items c.args.place (hidden was)) c.self.inside.items.cap = record { some = omega (arith, size, some); few = omega (arith, size, few); room = c.self.invariant.0.room } in
-    let text : IsTextOf (set items c.args.place (hidden was)) (string_bytes c.write_text.new.text) (string_capacity c.write_text.new.text) =
+    let chunk : IsChunk (set items c.args.index (hidden was)) c.self.inside.items.cap = record { some = omega (arith, size, some); few = omega (arith, size, few); room = c.self.invariant.0.room } in
+    let text : IsTextOf (set items c.args.index (hidden was)) (string_bytes c.write_text.new.text) (string_capacity c.write_text.new.text) =
     record { shown = c.write_text.ensures.bytes ∙ ap visible_text c.deref.ensures.value; room = omega (arith, grown, wide) } in
-    (chunk, text, floor_changed items c.args.place was (hidden was) c.self.inside.floor at refl c.self.invariant.2, c.count_visible-self-inside.ensures ∙ ap visible_count c.deref-2.ensures.value)
+    (chunk, text, floor_changed items c.args.index was (hidden was) c.self.inside.floor at refl c.self.invariant.2, c.count_visible-self-inside.ensures ∙ ap visible_count c.deref-2.ensures.value)
 
 pub returns : goal.returns
 returns c =
@@ -38,6 +38,6 @@ returns c =
     let was = c.index_mut.result.now in
     let same = ap length c.self.view_is in
     let within = c.requires in
-    let at : slice_get items c.args.place ≡ Some was = here_at items c.args.place was (omega (arith, same, within)) c.index_mut.ensures.value in
-    let one : was ≡ x = same_Some was x (sym at ∙ ap (λ z. slice_get z c.args.place) c.self.view_is ∙ here) in
-    ap (λ e. set items c.args.place (hidden e)) one ∙ ap (λ z. set z c.args.place (hidden x)) c.self.view_is
+    let at : slice_get items c.args.index ≡ Some was = here_at items c.args.index was (omega (arith, same, within)) c.index_mut.ensures.value in
+    let one : was ≡ x = same_Some was x (sym at ∙ ap (λ z. slice_get z c.args.index) c.self.view_is ∙ here) in
+    ap (λ e. set items c.args.index (hidden e)) one ∙ ap (λ z. set z c.args.index (hidden x)) c.self.view_is

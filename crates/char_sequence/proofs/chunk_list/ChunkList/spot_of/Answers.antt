@@ -27,7 +27,7 @@ unwrap-at-requires c =
     let low = position_within _ _ _ c.self.invariant.indexed _ _ at in
     let here : slice_get c.self.inside.chunks.items c.unwrap-position.result ≡ Some c.index.result.now = here_at _ _ _ low c.index.ensures in
     let has = named_chunk _ _ _ c.self.invariant.indexed c.args.id _ _ _ (sym c.in_ok-name.ensures.value) at here in
-    option_some (HasId c.index.result.now c.args.id) (λ k. IsAt c.index.result.now c.args.id k) c.place_of.result c.place_of.ensures.found has
+    option_some (HasId c.index.result.now c.args.id) (λ k. IsAt c.index.result.now c.args.id k) c.index_of.result c.index_of.ensures.found has
 
 pub returns-clause-found : goal.returns-clause-found
 returns-clause-found c =
@@ -37,6 +37,6 @@ returns-clause-found c =
     let spot : IsSpotOf c.self.inside.chunks.items c.args.id c.unwrap-position.result c.unwrap-at.result = record {
       chunk = c.index.result.now;
       here = here;
-      has = option_at _ (λ k. IsAt c.index.result.now c.args.id k) c.place_of.result c.unwrap-at.result c.unwrap-at.ensures c.place_of.ensures.found;
+      has = option_at _ (λ k. IsAt c.index.result.now c.args.id k) c.index_of.result c.unwrap-at.result c.unwrap-at.ensures c.index_of.ensures.found;
     } in
     subst (λ v. IsSpotOf v.chunks c.args.id c.unwrap-position.result c.unwrap-at.result) c.self.view_is spot

@@ -42,14 +42,14 @@ unwrap-at-requires c =
     let d = get_or cs at.position c.index-self-chunk.result in
     let found = start_found _ _ _ _ c.self.invariant c.args.id c.in_ok-name.field-0.now at (sym c.in_ok-name.ensures.value) c.index-chunk.ensures in
     let here = slice_get-get_or cs at.position c.index-self-chunk.result (slice_get_within _ _ found.chunk found.here) in
-    option_some (HasId d c.args.id) (λ k. IsAt d c.args.id k) c.place_of.result c.place_of.ensures.found (start_has cs c.args.id at d found here)
+    option_some (HasId d c.args.id) (λ k. IsAt d c.args.id k) c.index_of.result c.index_of.ensures.found (start_has cs c.args.id at d found here)
 
 pub overflow_add-result : goal.overflow_add-result
 overflow_add-result c =
     let cs = c.self.inside.chunks.now in
     let at = c.index-chunk.result.now in
     let found = start_found _ _ _ _ c.self.invariant c.args.id c.in_ok-name.field-0.now at (sym c.in_ok-name.ensures.value) c.index-chunk.ensures in
-    let low = option_at _ (λ (k : ℕ). k < 64) c.place_of.result c.unwrap-at.result c.unwrap-at.ensures c.place_of.ensures.within in
+    let low = option_at _ (λ (k : ℕ). k < 64) c.index_of.result c.unwrap-at.result c.unwrap-at.ensures c.index_of.ensures.within in
     let start = found.start in
     let within = start_within cs at.position in
     let few = c.self.invariant.few in
@@ -62,7 +62,7 @@ returns-clause-found c =
     let d = get_or cs at.position c.index-self-chunk.result in
     let found = start_found _ _ _ _ c.self.invariant c.args.id c.in_ok-name.field-0.now at (sym c.in_ok-name.ensures.value) c.index-chunk.ensures in
     let here = slice_get-get_or cs at.position c.index-self-chunk.result (slice_get_within _ _ found.chunk found.here) in
-    let is = option_at _ (λ k. IsAt d c.args.id k) c.place_of.result c.unwrap-at.result c.unwrap-at.ensures c.place_of.ensures.found in
+    let is = option_at _ (λ k. IsAt d c.args.id k) c.index_of.result c.unwrap-at.result c.unwrap-at.ensures c.index_of.ensures.found in
     subst (λ v. IsAt v c.args.id (at.start + c.unwrap-at.result)) c.self.view_is (start_place cs c.args.id at d c.unwrap-at.result found here is)
 
 pub returns-clause-present : goal.returns-clause-present
@@ -73,5 +73,5 @@ returns-clause-present c =
     let d = get_or cs at.position c.index-self-chunk.result in
     let found = start_found _ _ _ _ c.self.invariant c.args.id c.in_ok-name.field-0.now at (sym c.in_ok-name.ensures.value) c.index-chunk.ensures in
     let here = slice_get-get_or cs at.position c.index-self-chunk.result (slice_get_within _ _ found.chunk found.here) in
-    let is = option_at _ (λ k. IsAt d c.args.id k) c.place_of.result c.unwrap-at.result c.unwrap-at.ensures c.place_of.ensures.found in
+    let is = option_at _ (λ k. IsAt d c.args.id k) c.index_of.result c.unwrap-at.result c.unwrap-at.ensures c.index_of.ensures.found in
     subst (λ v. IsAt v c.args.id (at.start + c.unwrap-at.result)) c.self.view_is (start_place cs c.args.id at d c.unwrap-at.result found here is)

@@ -1,8 +1,8 @@
 use Rattle.std.proofs.Common.{◌<◌, List, length, arith, subst, sym, ◌∙◌}
-use Rattle.span_flatten.specs.Version.{Snapshot}
+use Rattle.span_flatten.specs.Version.{Version}
 use Rattle.version_history.specs.Tokens.{Token}
-use Rattle.batches.specs.Promise.{AreOfChanges}
-use Rattle.batches.specs.Feed.{IsFed}
+use Rattle.feeds.specs.Promise.{AreOfChanges}
+use Rattle.feeds.specs.Feed.{IsFed}
 use Rattle.hub_core.proofs.Sound.{of_changes, fed_at, sound_set, pumped}
 use Rattle.hub_core.proofs.hub.Core.pump.Goals as goal
 
@@ -12,18 +12,18 @@ pump-requires-clause-published g c =
 
 pub pump-requires-clause-fed : goal.pump-requires-clause-fed
 pump-requires-clause-fed g c =
-    let within : c.args.id < length c.self.inside.subs.items = omega arith in
-    subst (λ (ts : List (Token Snapshot)). IsFed g.S.Sink.sent g.S.Sink.full ts c.index_mut-sub.result.now) (sym c.as_slice.ensures.value)
+    let within : c.args.id < length c.self.inside.subscribers.items = omega arith in
+    subst (λ (ts : List (Token Version)). IsFed g.S.Sink.sent g.S.Sink.full ts c.index_mut-sub.result.now) (sym c.as_slice.ensures.value)
     (fed_at g.S.Sink.sent g.S.Sink.full _ c.args.id c.index_mut-sub.result.now c.self.invariant within c.index_mut-sub.ensures.value)
 
 pub invariant_of-self : goal.invariant_of-self
 invariant_of-self g c =
     sound_set g.S.Sink.sent g.S.Sink.full _ c.args.id c.pump.new.self c.self.invariant
-    (subst (λ (ts : List (Token Snapshot)). IsFed g.S.Sink.sent g.S.Sink.full ts c.pump.new.self) c.as_slice.ensures.value c.pump.ensures.fed)
+    (subst (λ (ts : List (Token Version)). IsFed g.S.Sink.sent g.S.Sink.full ts c.pump.new.self) c.as_slice.ensures.value c.pump.ensures.fed)
 
 pub returns : goal.returns
 returns g c =
-    let within : c.args.id < length c.self.inside.subs.items = omega arith in
+    let within : c.args.id < length c.self.inside.subscribers.items = omega arith in
     pumped g.S.Sink.sent g.S.Sink.full c.args.self.now _ c.args.id c.pump.result c.index.result.now c.index_mut-sub.result.now c.pump.new.self c.self.view_is within
     c.index.ensures (sym c.is_closed.ensures ∙ c.if-is_closed.false) c.index_mut-sub.ensures.value c.pump.ensures.moved c.pump.ensures.stop
-    (subst (λ (ts : List (Token Snapshot)). IsFed g.S.Sink.sent g.S.Sink.full ts c.pump.new.self) c.as_slice.ensures.value c.pump.ensures.fed)
+    (subst (λ (ts : List (Token Version)). IsFed g.S.Sink.sent g.S.Sink.full ts c.pump.new.self) c.as_slice.ensures.value c.pump.ensures.fed)

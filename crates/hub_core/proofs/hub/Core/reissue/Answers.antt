@@ -4,11 +4,11 @@ use Rattle.hub_core.proofs.hub.Core.reissue.Goals as goal
 
 pub invariant_of-self : goal.invariant_of-self
 invariant_of-self g c =
-    let within : c.args.id < length c.self.inside.subs.items = omega arith in
+    let within : c.args.id < length c.self.inside.subscribers.items = omega arith in
     sound_handed g.S.Sink.sent g.S.Sink.full _ c.args.id c.index_mut.result.now.cursor c.index_mut.result.now c.reissue.new.self c.self.invariant within c.index_mut.ensures.value c.reissue.ensures
 
 pub returns : goal.returns
 returns g c =
-    let within : c.args.id < length c.self.inside.subs.items = omega arith in
+    let within : c.args.id < length c.self.inside.subscribers.items = omega arith in
     reissued c.args.self.now _ c.args.id c.index.result.now c.index_mut.result.now c.reissue.new.self c.self.view_is within c.index.ensures
     (sym c.is_closed.ensures ∙ c.if-is_closed.false) c.index_mut.ensures.value c.reissue.ensures

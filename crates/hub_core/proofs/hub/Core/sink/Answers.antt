@@ -11,15 +11,15 @@ returns-clause-stream g c = begins g.S.Sink.sent g.S.Sink.full c.args.self.now _
 
 pub returns-clause-value : goal.returns-clause-value
 returns-clause-value g c =
-    let within : c.args.id < length c.self.inside.subs.items = omega arith in
+    let within : c.args.id < length c.self.inside.subscribers.items = omega arith in
     sink_there c.args.self.now _ c.args.id c.index.result.now c.sink.result.now c.self.view_is within c.index.ensures c.sink.ensures.value
 
 pub returns-then-id-len-clause-safe : goal.returns-then-id-len-clause-safe
 returns-then-id-len-clause-safe g c =
-    let past : length c.self.inside.subs.items ≤ c.args.id = omega arith in
+    let past : length c.self.inside.subscribers.items ≤ c.args.id = omega arith in
     none_there c.args.self.now _ c.args.id c.self.view_is past
 
 pub returns-clause-safe : goal.returns-clause-safe
 returns-clause-safe g c =
-    let within : c.args.id < length c.self.inside.subs.items = omega arith in
+    let within : c.args.id < length c.self.inside.subscribers.items = omega arith in
     safe_there c.args.self.now _ c.args.id c.index.result.now c.self.view_is within c.index.ensures c.sink.ensures.safe

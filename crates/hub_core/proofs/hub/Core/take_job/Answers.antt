@@ -1,6 +1,6 @@
 use Rattle.std.proofs.Common.{◌<◌, length, arith, ap, refl}
 use Rattle.std.proofs.lemmas.Option.{slice_get_within}
-use Rattle.hub_core.specs.Machine.{State}
+use Rattle.hub_core.specs.Machine.{Core}
 use Rattle.hub_core.proofs.Sound.{sound_handed, job_taken}
 use Rattle.hub_core.proofs.hub.Core.take_job.Goals as goal
 
@@ -10,14 +10,14 @@ returns-in_default g c = (refl, c.in_default.ensures)
 pub index_mut-sub-requires : goal.index_mut-sub-requires
 index_mut-sub-requires g c =
     let found = c.in-Some.ensures.0 in
-    let within : c.in-Some.id < length c.args.self.now.subs = slice_get_within c.args.self.now.subs c.in-Some.id found.0 found.1.0 in
-    omega (arith, ap (λ (z : State g.row.S.Denot). length z.subs) c.self.view_is)
+    let within : c.in-Some.id < length c.args.self.now.subscribers = slice_get_within c.args.self.now.subscribers c.in-Some.id found.0 found.1.0 in
+    omega (arith, ap (λ (z : Core g.row.S.Denot). length z.subscribers) c.self.view_is)
 
 pub invariant_of-self : goal.invariant_of-self
 invariant_of-self g c =
     let found = c.in-Some.ensures.0 in
-    let there : c.in-Some.id < length c.args.self.now.subs = slice_get_within c.args.self.now.subs c.in-Some.id found.0 found.1.0 in
-    let within : c.in-Some.id < length c.self.inside.subs.items = omega (arith, ap (λ (z : State g.row.S.Denot). length z.subs) c.self.view_is) in
+    let there : c.in-Some.id < length c.args.self.now.subscribers = slice_get_within c.args.self.now.subscribers c.in-Some.id found.0 found.1.0 in
+    let within : c.in-Some.id < length c.self.inside.subscribers.items = omega (arith, ap (λ (z : Core g.row.S.Denot). length z.subscribers) c.self.view_is) in
     sound_handed g.S.Sink.sent g.S.Sink.full _ c.in-Some.id _ c.index_mut-sub.result.now c.hand_out.new.self c.self.invariant within c.index_mut-sub.ensures.value c.hand_out.ensures.handed
 
 pub returns : goal.returns

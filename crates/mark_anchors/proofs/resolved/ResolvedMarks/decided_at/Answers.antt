@@ -6,7 +6,7 @@ use Rattle.char_sequence.specs.Order.{Shows, IsAt}
 use Rattle.mark_anchors.specs.Format.{Bears}
 use Rattle.mark_anchors.specs.Marks.{AreMarks}
 use Rattle.mark_anchors.specs.CommentRuns.{numbers_at}
-use Rattle.mark_anchors.specs.Resolution.{Resolution}
+use Rattle.mark_anchors.specs.Resolution.{ResolvedMarks}
 use Rattle.mark_anchors.proofs.Borne.{borne_at}
 use Rattle.mark_anchors.proofs.Counting.{increasing_at}
 use Rattle.mark_anchors.proofs.Values.{one_strong, one_em, one_code}
@@ -22,7 +22,7 @@ returns c =
     let h : Shows es ops = subst (λ v. Shows v.elements ops) (sym c.self.view_is) shows in
     let are : AreMarks ops operations = subst (λ v. AreMarks ops v.marks) (sym c.self.view_is) marks in
     let stands : IsAt es e.id place = (e, subst (λ v. slice_get v.elements place ≡ Some e) (sym c.self.view_is) at, refl) in
-    let numbers : numbers_at c.self.inside.comments place ≡ numbers_at c.args.self.now.runs place = ap (λ (v : Resolution). numbers_at v.runs place) c.self.view_is in
+    let numbers : numbers_at c.self.inside.comments place ≡ numbers_at c.args.self.now.runs place = ap (λ (v : ResolvedMarks). numbers_at v.runs place) c.self.view_is in
     let borne = borne_at es operations c.self.inside.comments ops e.id place h are held.comments stands in
     record {
       strong = c.holds_at.ensures es ops Strong e.id one_strong h are held.strong stands;

@@ -3,7 +3,7 @@ use Rattle.std.proofs.lemmas.Int.{to_z-of_z}
 use Rattle.std.specs.Int.{w16}
 use Rattle.std.specs.Prelude.{ℤ}
 use Rattle.std.proofs.lemmas.Option.{same_Some}
-use Rattle.meaning.specs.Memory.{address_of}
+use Rattle.semantics.specs.Memory.{address_of}
 use Rattle.abstract_state.specs.declared.state.AbsReg.{AbsReg}
 use Rattle.abstract_state.specs.declared.state.AbsReg.TheVariants.{Set}
 use Rattle.abstract_state.specs.State.{ContainsRegister}

@@ -2,7 +2,7 @@ use Rattle.std.proofs.Common.{subst}
 use Rattle.std.proofs.lemmas.Int.{to_z-of_z}
 use Rattle.std.specs.Int.{w16}
 use Rattle.std.specs.Prelude.{ℤ}
-use Rattle.meaning.specs.Memory.{address_of}
+use Rattle.semantics.specs.Memory.{address_of}
 use Rattle.abstract_state.specs.declared.known.Known.{Known}
 use Rattle.abstract_state.specs.declared.known.Known.TheVariants.{Lent}
 use Rattle.abstract_state.specs.Known.{ContainsKnown}

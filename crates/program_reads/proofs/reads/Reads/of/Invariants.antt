@@ -2,7 +2,7 @@ use Rattle.std.proofs.Common.{ℕ, ◌<◌, None, get_or}
 use Rattle.bpf_words.specs.Words.{program_of}
 use Rattle.bpf_words.specs.Flow.{StartsAt}
 use Rattle.bpf_words.specs.declared.instruction.Insn.{Insn}
-use Rattle.meaning.specs.State.{State}
+use Rattle.semantics.specs.State.{State}
 use Rattle.abstract_state.specs.Lent.{Lengths}
 use Rattle.abstract_state.specs.State.{WithinState}
 use Rattle.program_reads.specs.Loads.{CoversLoad}

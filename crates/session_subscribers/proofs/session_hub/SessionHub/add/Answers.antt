@@ -1,9 +1,9 @@
 use Rattle.std.proofs.Common.{rules, ◌≡◌, Some, [], ◌∷◌, ◌++◌, Ok, refl, sym, ap, subst, ◌∙◌, inl, inr}
 use Rattle.std.specs.Prelude.{IsTrue, IsFalse}
-use Rattle.meaning.specs.Step.{Program}
+use Rattle.semantics.specs.Step.{Program}
 use Rattle.hub_core.specs.Machine.{Subscribes}
 use Rattle.hub_requests.specs.Limits.{takes_subscriber}
-use Rattle.subscriber_queues.specs.Queue.{Sending}
+use Rattle.subscriber_queues.specs.Queue.{QueueSink}
 use Rattle.ingest_workers.specs.Holdings.{InOneHolding}
 use Rattle.session_subscribers.specs.Holding.{first_of, promise_of, IsNotSubscribed}
 use Rattle.session_subscribers.proofs.Holdings.{safe_bytes, passed_on}
@@ -65,7 +65,7 @@ returns-clause-ok g c =
         safe = safe.1;
         token = c.in_ok-token.token;
         same = c.in_ok-token.ensures.ok ∙ c.in_ok-program.ensures.ok.1;
-        holding = subst (λ (q : Sending). InOneHolding (λ old new. Subscribes old (first_of c.args.first old) c.in_ok-token.token q (Ok c.in_ok-id.id) new))
+        holding = subst (λ (q : QueueSink). InOneHolding (λ old new. Subscribes old (first_of c.args.first old) c.in_ok-token.token q (Ok c.in_ok-id.id) new))
             (λ i. record { line = queue.line; sent = c.in_ok-sink.ensures.sink.0 i; capacity = c.in_ok-sink.ensures.sink.1 i; promise = promise i }) c.in_ok-id.ensures.ok;
       },
       may,

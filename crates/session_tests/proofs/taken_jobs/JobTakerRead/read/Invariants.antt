@@ -1,5 +1,5 @@
 use Rattle.std.proofs.Common.{◌≡◌}
 use Rattle.session_tests.proofs.taken_jobs.JobTakerRead.read.Given as goal
 
-abbrev pub invariant-loop-place : goal.invariant-loop-place
-invariant-loop-place g l = l.given ≡ l.place-index
+abbrev pub invariant-loop-target : goal.invariant-loop-target
+invariant-loop-target g l = l.given ≡ l.target-index

@@ -1,8 +1,0 @@
--- How much of a context each profile lets a program read.
-use Rattle.std.specs.Prelude.{ℕ}
-use Rattle.bpf_words.specs.declared.profile.Profile.{Profile}
-use Rattle.bpf_words.specs.declared.profile.Profile.TheVariants.{One, Two}
-
-abbrev pub context_length : Profile → ℕ
-context_length One = 56
-context_length Two = 72

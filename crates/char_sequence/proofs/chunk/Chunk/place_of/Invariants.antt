@@ -1,8 +1,0 @@
-use Rattle.std.proofs.Common.{◌≡◌, ℕ, ◌<◌, Some}
-use Rattle.std.specs.List.{slice_get}
-use Rattle.char_sequence.specs.declared.sequence.Element.{Element}
-use Rattle.char_sequence.proofs.chunk.Chunk.place_of.Given as goal
-
-abbrev pub invariant-loop-place : goal.invariant-loop-place
-invariant-loop-place l =
-    (i : ℕ) (x : Element) → i < l.place → slice_get l.self-inside.items.items i ≡ Some x → x.id ≡ l.id → ⊥

@@ -1,0 +1,99 @@
+ghost use Rattle.std.specs.Prelude.{◌≡◌, [], IfOk};
+
+use crate::item::Item;
+use std::alloc::{AllocError, Global};
+use std::marker::Model;
+use version_history::published::Naming;
+
+/// What a clause sees of an item, whatever hub it is of.
+pub trait AsItem {
+    ghost use Rattle.feeds.specs.Batches.{Item};
+
+    ghost as_item: { Self → Item };
+}
+
+impl<N: Naming> AsItem for Item<N> {
+    ghost as_item = { λ i. i };
+}
+
+/// Where a subscriber's items go.
+pub trait Sink<I: AsItem>: Drop {
+    ghost use Rattle.std.specs.Prelude.{◌≡◌, ◌++◌, ◌∷◌, [], List, Option, IfErr, OnOk};
+    ghost use Rattle.feeds.specs.Batches.{Item};
+    ghost use Rattle.feeds.specs.Orderly.{IsOrderly};
+    ghost use Rattle.feeds.specs.Promise.{Promise, IsPromised};
+
+    /// What was sent so far.
+    ghost sent: { Self → List Item };
+
+    /// It may refuse an item.
+    ghost full: { Self → Type 0 };
+
+    /// What is promised of all that it is sent, if anything is. It stays the same.
+    ghost promise: { Self → Option Promise };
+
+    /// Sends an item. Where the sink is full it comes back.
+    fn push(&mut self, item: I) -> Result<(), I>
+        requires orderly { IsOrderly (sent self.old ++ I.as_item item ∷ []) }
+        requires promised { IsPromised (promise self.old) (sent self.old ++ I.as_item item ∷ []) }
+        ensures ok { OnOk result (sent self.new ≡ sent self.old ++ I.as_item item ∷ []) }
+        ensures err { IfErr result (λ back. (back ≡ item) × (sent self.new ≡ sent self.old) × full self.new) }
+        ensures kept { promise self.new ≡ promise self.old };
+}
+
+/// A sink that keeps a fixed number of items. Nothing is promised of them.
+#[derive(Drop)]
+pub struct ListSink<N: Naming> {
+    items: Vec<Item<N>>,
+    capacity: usize,
+}
+
+impl<N: Naming> Model for ListSink<N> {
+    ghost use Rattle.std.specs.Prelude.{◌≤◌, vec_len, vec_capacity};
+    ghost use Rattle.feeds.specs.Orderly.{ListSink as ListSinkValue};
+
+    ghost Value = { ListSinkValue };
+
+    ghost view = { λ s. record { sent = s.items.items; capacity = s.capacity } };
+
+    ghost invariant = { λ s. (vec_len s.items ≤ s.capacity) × (s.capacity ≤ vec_capacity s.items) };
+}
+
+impl<N: Naming> ListSink<N> {
+    pub fn new(alloc: Global, capacity: usize) -> Result<ListSink<N>, AllocError>
+        ensures { IfOk result (λ s. s ≡ record { sent = []; capacity = capacity }) }
+    {
+        let items = Vec::with_capacity(alloc, capacity)?;
+        Ok(ListSink { items, capacity })
+    }
+
+    /// What was sent.
+    pub fn sent(&self) -> &[Item<N>]
+        ensures { result.now ≡ self.now.sent }
+    {
+        self.items.as_slice()
+    }
+}
+
+impl<N: Naming> Sink<Item<N>> for ListSink<N> {
+    ghost use Rattle.std.specs.Prelude.{◌≡◌, ◌++◌, ◌∷◌, [], length, None, IfErr, OnOk};
+
+    ghost sent = { λ s. s.sent };
+
+    ghost full = { λ s. length s.sent ≡ s.capacity };
+
+    ghost promise = { λ s. None };
+
+    fn push(&mut self, item: Item<N>) -> Result<(), Item<N>>
+        ensures ok { OnOk result (self.new.sent ≡ self.old.sent ++ item ∷ []) }
+        ensures err { IfErr result (λ back. (back ≡ item) × (self.new.sent ≡ self.old.sent)
+            × (length self.new.sent ≡ self.new.capacity)) }
+        ensures capacity { self.new.capacity ≡ self.old.capacity }
+    {
+        if self.items.len() == self.capacity {
+            return Err(item);
+        }
+        self.items.push_reserved(item);
+        Ok(())
+    }
+}

@@ -1,4 +1,0 @@
-use Rattle.refused_memory.proofs.core_calls.play.Given as goal
-
-abbrev pub ghosts-on_lists : goal.ghosts-on_lists
-ghosts-on_lists g a = record { versions = a.versions.now; programs = a.programs.now }

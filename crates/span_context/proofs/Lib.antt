@@ -1,0 +1,2 @@
+pub mod ContextFits
+pub mod FieldAt

@@ -1,0 +1,4 @@
+use Rattle.test_scripts.proofs.core_case.play_core.Given as goal
+
+abbrev pub ghosts-on_lists : goal.ghosts-on_lists
+ghosts-on_lists g a = record { versions = a.versions.now; programs = a.programs.now }
