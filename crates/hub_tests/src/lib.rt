@@ -1,4 +1,4 @@
-//! Tests of the program's commands of what no clause says and no case of `hub_cases` shows: devices that fail, random
+//! Tests of the program's commands of what no clause says and no case of `test_cases` shows: devices that fail, random
 //! histories, random sessions with refused requests, and that there is help.
 #![tactic(auto)]
 

@@ -1,5 +1,5 @@
 //! Tests of what only a direct call shows: public calls that no command reaches, each once, with values found by hand.
-//! What commands reach is tested by the cases of `hub_cases`.
+//! What commands reach is tested by the cases of `test_cases`.
 #![tactic(auto)]
 
 #[cfg(test)]

@@ -1,5 +1,5 @@
 //! Runs the program's command on each case of the standard input, over readers and writers in memory, and prints each
-//! case's name, its exit status, and what the command printed; plays each script of events (`core_cases`), and prints
+//! case's name, its exit status, and what the command printed; plays each script of events (`test_scripts`), and prints
 //! what the events answered; and then what clients of a server were told.
 //!
 //! Cases and scripts are separated by empty lines. A case is these lines, of which all but the first may be left out or
