@@ -10,3 +10,13 @@ pub mod Frame
 pub mod Exact
 pub mod Guard
 pub mod Unset
+pub mod Performs
+pub mod Estimate
+pub mod Transfer
+pub mod Comparing
+pub mod Addresses
+pub mod Stacks
+pub mod Situation
+pub mod Loading
+pub mod Edges
+pub mod Stepping

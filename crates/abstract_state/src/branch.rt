@@ -19,6 +19,13 @@ ghost use Rattle.abstract_state.specs.Guard.{Writes, SameMemory, LengthensMemory
 ghost use Rattle.abstract_state.specs.Steps.{after};
 ghost use Rattle.abstract_state.specs.Unset.{HasUnset};
 ghost use Rattle.bpf_words.specs.Flow.{read_operand};
+ghost use Rattle.std.specs.Prelude.{option_map};
+ghost use Rattle.abstract_state.specs.Estimate.{estimate_of, constant};
+ghost use Rattle.abstract_state.specs.Comparing.{told_on};
+ghost use Rattle.abstract_state.specs.Addresses.{content_of, answer_of};
+ghost use Rattle.abstract_state.specs.Situation.{registers_of, situation_of, put, Flows, IsSituation, AnswersStep};
+ghost use Rattle.abstract_state.specs.Edges as rules;
+ghost use Rattle.abstract_state.specs.Edges.{both_of};
 
 use crate::address::LentAddress;
 use crate::known::Known;
@@ -46,7 +53,8 @@ pub struct Edges {
 
 /// Whether a test asks for the order of its sides without sign, or whether they are equal.
 fn is_order(comparison: Comparison) -> bool
-    ensures { IsTrue result ↔ IsOrder comparison }
+    ensures order { IsTrue result ↔ IsOrder comparison }
+    ensures rule { result ≡ rules.is_order comparison }
 {
     match comparison {
         Comparison::Equal
@@ -70,6 +78,8 @@ fn numbers_on(
     ensures sound { (lengths : Lengths) (m n : ℕ) → ContainsNumber x lengths m → ContainsNumber y lengths n
         → holds_of comparison width (cut width m) (cut width n) ≡ taken → WithinPair result lengths m n }
     ensures numbers { AreNumbersOn result }
+    ensures rule { option_map both_of result
+        ≡ option_map rules.two_numbers (told_on width comparison taken (estimate_of x) (estimate_of y)) }
 {
     let Some(sides) = edge(width, comparison, taken, x, y) else {
         return None;
@@ -86,6 +96,7 @@ fn narrowed(address: LentAddress, offset: Quantity) -> Known
     ensures sound { (lengths : Lengths) (n x : ℕ) → n ≡ base_of address.region + x → ContainsNumber offset lengths x
         → ContainsKnown result lengths n }
     ensures ends { (region : Region) (n : ℕ) → EndsFrom region n offset → LongFrom region n result }
+    ensures rule { content_of result ≡ rules.InRegion address.region (estimate_of offset) }
 {
     Known::Lent(LentAddress {
         region: address.region,
@@ -102,6 +113,9 @@ fn addresses_on(comparison: Comparison, taken: bool, x: LentAddress, y: LentAddr
         → WithinPair result lengths m n }
     ensures guards { (region : Region) → comparison ≡ Comparison.Greater → taken ≡ false → (t : ℕ)
         → tail_of y.offset.tails region ≡ Some t → IfSome result (λ p. LongFrom region x.offset.range.low p.left) }
+    ensures rule { option_map both_of result
+        ≡ option_map (rules.two_addresses x.region)
+        (told_on Full comparison taken (estimate_of x.offset) (estimate_of y.offset)) }
 {
     let Some(sides) = edge(Width::Full, comparison, taken, x.offset, y.offset) else {
         return None;
@@ -113,6 +127,7 @@ fn addresses_on(comparison: Comparison, taken: bool, x: LentAddress, y: LentAddr
 }
 
 /// Both sides on an edge of a comparison.
+#[tactic(auto, unfolding(crate::specs::Edges::sides_on))]
 fn pair_on(
     width: Width,
     comparison: Comparison,
@@ -131,6 +146,8 @@ fn pair_on(
     ensures floor { IsNumber a → IsNumber b → IsOk result }
     ensures numbers { IsNumber a → IsNumber b → IfOk result (λ o. AreNumbersOn o) }
     ensures not_unset { IfErr result (λ e. e ≢ Refusal.UnsetRegister) }
+    ensures rule { answer_of (option_map both_of) result
+        ≡ rules.sides_on width comparison taken (content_of a) (content_of b) }
 {
     match (a, b, width) {
         (Known::Number(x), Known::Number(y), _) => Ok(numbers_on(width, comparison, taken, x, y)),
@@ -147,7 +164,8 @@ fn pair_on(
 
 /// Whether both sides are one register.
 fn is_one_register(left: Register, right: &Operand) -> bool
-    ensures { (r : ℕ) → right.now ≡ Operand.Source r → left ≢ r → result ≡ false }
+    ensures apart { (r : ℕ) → right.now ≡ Operand.Source r → left ≢ r → result ≡ false }
+    ensures rule { result ≡ rules.is_register left right.now }
 {
     match *right {
         Operand::Source(register) => register.index() == left.index(),
@@ -161,6 +179,8 @@ fn unless(same: bool, pair: Option<Pair>, a: Known, b: Known) -> Option<Pair>
         → WithinPair pair lengths m n → WithinPair result lengths m n }
     ensures apart { same ≡ false → result ≡ pair }
     ensures numbers { IsNumber a → IsNumber b → AreNumbersOn pair → AreNumbersOn result }
+    ensures rule { option_map both_of result
+        ≡ rules.unless same (rules.two (content_of a) (content_of b)) (option_map both_of pair) }
 {
     if same {
         return Some(Pair { left: a, right: b });
@@ -170,8 +190,9 @@ fn unless(same: bool, pair: Option<Pair>, a: Known, b: Known) -> Option<Pair>
 
 /// An immediate as a comparison of the width reads it.
 fn compared(width: Width, value: i32) -> Quantity
-    ensures { (lengths : Lengths) → (n : ℕ) × (cut width n ≡ cut width (cast_unsigned w64 value))
+    ensures contains { (lengths : Lengths) → (n : ℕ) × (cut width n ≡ cut width (cast_unsigned w64 value))
         × ContainsNumber result lengths n }
+    ensures rule { estimate_of result ≡ rules.compared width value }
 {
     let value = extended(value);
     match width {
@@ -203,6 +224,8 @@ impl AbsState {
         ensures numbers { HasNumberIn self.now right.now → IfOk result (λ k. IsNumber k) }
         ensures unset { IfErr result (λ e. (e ≡ Refusal.UnsetRegister) × HasUnset self.now (read_operand right.now)) }
         ensures set { IfOk result (λ _. HasUnset self.now (read_operand right.now) → ⊥) }
+        ensures rule { answer_of content_of result
+            ≡ rules.right_side width (registers_of self.now.registers) right.now }
     {
         match *right {
             Operand::Immediate(value) => Ok(Known::Number(compared(width, value))),
@@ -217,6 +240,7 @@ impl AbsState {
         ensures others { Writes register self.old self.new }
         ensures memory { SameMemory self.old self.new }
         ensures kinds { HasNumberAt self.old register → IsNumber known → KeepsAll self.old self.new }
+        ensures rule { IsSituation self.new (put register (content_of known) (situation_of self.old)) }
     {
         self.put(register, known);
     }
@@ -231,6 +255,7 @@ impl AbsState {
             → register_at self.new.registers i ≢ Unset }
         ensures memory { SameMemory self.old self.new }
         ensures kinds { HasNumberIn self.old right.now → IsNumber known → KeepsAll self.old self.new }
+        ensures rule { IsSituation self.new (rules.put_right right.now (content_of known) (situation_of self.old)) }
     {
         if let Operand::Source(register) = *right {
             self.keep(register, known);
@@ -238,6 +263,7 @@ impl AbsState {
     }
 
     /// Notes that lent regions are as long as a side says.
+    #[tactic(auto, unfolding(crate::specs::Edges::raised))]
     fn raise(&mut self, known: Known) -> Flow
         ensures sound { (lengths : Lengths) (s : State) (n : ℕ) → Contains self.old lengths s
             → ContainsKnown known lengths n → WithinState (after result self.new) lengths s }
@@ -247,6 +273,7 @@ impl AbsState {
             → IfSome (after result self.new) (λ b. n ≤ bound_of b.bounds region) }
         ensures grows { (region : Region) → IfSome (after result self.new)
             (λ b. bound_of self.old.bounds region ≤ bound_of b.bounds region) }
+        ensures rule { Flows (rules.raised (content_of known) (situation_of self.old)) result self.new }
     {
         match known {
             Known::Number(quantity) => self.lengthen(quantity),
@@ -257,6 +284,7 @@ impl AbsState {
     }
 
     /// Notes that lent regions are as long as a quantity says.
+    #[tactic(auto, unfolding(crate::specs::Situation::lengthened))]
     fn lengthen(&mut self, quantity: Quantity) -> Flow
         ensures sound { (lengths : Lengths) (s : State) (x : ℕ) → Contains self.old lengths s
             → ContainsNumber quantity lengths x → WithinState (after result self.new) lengths s }
@@ -266,6 +294,7 @@ impl AbsState {
             → IfSome (after result self.new) (λ b. n ≤ bound_of b.bounds region) }
         ensures grows { (region : Region) → IfSome (after result self.new)
             (λ b. bound_of self.old.bounds region ≤ bound_of b.bounds region) }
+        ensures rule { Flows (rules.lengthened (estimate_of quantity) (situation_of self.old)) result self.new }
     {
         let Some(bounds) = self.bounds.raise(quantity) else {
             return Flow::Dead;
@@ -285,6 +314,8 @@ impl AbsState {
             → IfSome (after result self.new) (λ b. n ≤ bound_of b.bounds region) }
         ensures kinds { HasNumberAt self.old left → HasNumberIn self.old right.now → AreNumbersOn pair
             → IfSome (after result self.new) (λ b. KeepsAll self.old b) }
+        ensures rule { Flows (rules.refined left right.now (option_map both_of pair) (situation_of self.old)) result
+            self.new }
     {
         let Some(pair) = pair else {
             return Flow::Dead;
@@ -327,6 +358,8 @@ impl AbsState {
         ensures unset { IfErr result (λ e. (e ≡ Refusal.UnsetRegister)
             ↔ HasUnset self.old (left ∷ read_operand right.now)) }
         ensures set { IfOk result (λ _. HasUnset self.old (left ∷ read_operand right.now) → ⊥) }
+        ensures rule { AnswersStep (rules.edge width comparison left right.now taken (situation_of self.old)) result
+            self.new }
     {
         let a = self.read(left)?;
         let b = self.right_side(width, right)?;
@@ -367,6 +400,8 @@ impl AbsState {
         ensures unset { IfErr result (λ e. (e ≡ Refusal.UnsetRegister)
             ↔ HasUnset self.now (left ∷ read_operand right.now)) }
         ensures set { IfOk result (λ _. HasUnset self.now (left ∷ read_operand right.now) → ⊥) }
+        ensures rule { rules.AnswersBranch (rules.branched width comparison left right.now (situation_of self.now))
+            result }
     {
         let mut taken = *self;
         let holds = taken.take_edge(width, comparison, left, right, true)?;

@@ -5,6 +5,8 @@ ghost use Rattle.abstract_state.specs.Lent.{Lengths, bound_of};
 ghost use Rattle.abstract_state.specs.declared.region.Region.{Region};
 ghost use Rattle.abstract_state.specs.Kinds.{JoinsReg, JoinsSlot};
 ghost use Rattle.abstract_state.specs.State.{Contains, ContainsRegister, IsLong, register_at, slot_at};
+ghost use Rattle.abstract_state.specs.Situation as rules;
+ghost use Rattle.abstract_state.specs.Situation.{registers_of, situation_of, least_of, register_of};
 
 use crate::bounds::Bounds;
 use crate::stack::join_slots;
@@ -17,6 +19,7 @@ fn join_register(a: AbsReg, b: AbsReg) -> AbsReg
     ensures right { (lengths : Lengths) (o : Option ℕ) → ContainsRegister b lengths o
         → ContainsRegister result lengths o }
     ensures kinds { JoinsReg a b result }
+    ensures rule { register_of result ≡ rules.either_register (register_of a) (register_of b) }
 {
     let (AbsReg::Set(x), AbsReg::Set(y)) = (a, b) else {
         return AbsReg::Unset;
@@ -34,6 +37,8 @@ fn join_registers(a: &mut [AbsReg; 11], b: &[AbsReg; 11])
     ensures right { (i : ℕ) (lengths : Lengths) (o : Option ℕ) → i < 11
         → ContainsRegister (register_at b.now i) lengths o → ContainsRegister (register_at a.new i) lengths o }
     ensures kinds { (i : ℕ) → i < 11 → JoinsReg (register_at a.old i) (register_at b.now i) (register_at a.new i) }
+    ensures rule { (i : ℕ) → i < 11
+        → registers_of a.new i ≡ rules.either_register (registers_of a.old i) (registers_of b.now i) }
 {
     for i in 0..11 {
         a[i] = join_register(a[i], b[i]);
@@ -47,6 +52,7 @@ impl Bounds {
         ensures right { (lengths : Lengths) → IsLong other lengths → IsLong result lengths }
         ensures text { result.text ≡ min self.text other.text }
         ensures link { result.link ≡ min self.link other.link }
+        ensures rule { least_of result ≡ rules.shorter (least_of self) (least_of other) }
     {
         Bounds {
             text: self.text.min(other.text),
@@ -66,6 +72,7 @@ impl AbsState {
             (slot_at self.new.stack i) }
         ensures bounds { (region : Region) → bound_of self.new.bounds region
             ≡ min (bound_of self.old.bounds region) (bound_of other.now.bounds region) }
+        ensures rule { rules.IsSituation self.new (rules.joined (situation_of self.old) (situation_of other.now)) }
     {
         join_registers(&mut self.registers, &other.registers);
         join_slots(&mut self.stack, &other.stack);

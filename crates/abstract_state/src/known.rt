@@ -8,6 +8,10 @@ ghost use Rattle.abstract_state.specs.Kinds.{IsContextAt, IsStackAt};
 ghost use Rattle.abstract_state.specs.Exact.{tail_after, Folds, IsIn, IsNumberIn, IsLentIn, IsNoLess};
 ghost use Rattle.abstract_state.specs.declared.region.Region.{Region as TheRegion};
 ghost use Rattle.semantics.specs.Value.{cut, value_of, negated, extended, converted};
+ghost use Rattle.std.specs.Prelude.{option_map};
+ghost use Rattle.abstract_state.specs.Estimate.{estimate_of};
+ghost use Rattle.abstract_state.specs.Addresses as rules;
+ghost use Rattle.abstract_state.specs.Addresses.{content_of, answer_of};
 
 use crate::address::{ContextAddress, LentAddress, StackAddress};
 use crate::quantity::Quantity;
@@ -37,6 +41,7 @@ pub fn number(quantity: Option<Quantity>) -> Option<Known>
     ensures some { (q : Quantity) → quantity ≡ Some q → result ≡ Some (Known.Number q) }
     ensures same { (at : TheRegion) (low high : ℕ) (t : Option ℕ) → IfSome quantity (λ q. IsIn at q low high t)
         → IfSome result (λ k. IsNumberIn at low high t k) }
+    ensures rule { option_map content_of result ≡ option_map rules.ANumber (option_map estimate_of quantity) }
 {
     let Some(quantity) = quantity else {
         return None;
@@ -45,6 +50,7 @@ pub fn number(quantity: Option<Quantity>) -> Option<Known>
 }
 
 /// An address in a lent region, if it is near enough.
+#[tactic(auto, unfolding(crate::specs::Addresses::near))]
 pub fn lent(region: Region, offset: Option<Quantity>) -> Result<Option<Known>, Refusal>
     ensures sound { IfOk result (λ o. (lengths : Lengths) (x : ℕ) → Within offset lengths x
         → WithinKnown o lengths ((base_of region + x) % 2 ^ 64)) }
@@ -55,6 +61,7 @@ pub fn lent(region: Region, offset: Option<Quantity>) -> Result<Option<Known>, R
         → IfSome offset (λ q. IsIn at q low high t) → high ≤ 2 ^ 20
         → IsOk result × IfOk result (λ o. IfSome o (λ k. IsLentIn at low high t k)) }
     ensures not_unset { IfErr result (λ e. e ≢ Refusal.UnsetRegister) }
+    ensures rule { answer_of (option_map content_of) result ≡ rules.near region (option_map estimate_of offset) }
 {
     let Some(offset) = offset else {
         return Ok(None);
@@ -66,9 +73,11 @@ pub fn lent(region: Region, offset: Option<Quantity>) -> Result<Option<Known>, R
 }
 
 /// An offset moved by a constant, modulo 2^64.
+#[tactic(auto, unfolding(crate::specs::Addresses::displaced))]
 fn displaced(operation: Arithmetic, width: Width, offset: u64, by: Quantity) -> Option<u64>
-    ensures { IfSome result (λ r. (lengths : Lengths) (base y : ℕ) → Contains by lengths y
+    ensures adds { IfSome result (λ r. (lengths : Lengths) (base y : ℕ) → Contains by lengths y
         → value_of operation width (cut width (base + offset)) (cut width y) ≡ (base + r) % 2 ^ 64) }
+    ensures rule { result ≡ rules.displaced operation width offset (estimate_of by) }
 {
     let c = by.only()?;
     match (width, operation) {
@@ -78,6 +87,7 @@ fn displaced(operation: Arithmetic, width: Width, offset: u64, by: Quantity) -> 
     }
 }
 
+#[tactic(auto, unfolding(crate::specs::Addresses::from_context))]
 fn from_context(
     profile: Profile,
     operation: Arithmetic,
@@ -88,6 +98,8 @@ fn from_context(
     ensures sound { IfOk result (λ k. (lengths : Lengths) (x y : ℕ) → ContainsKnown (Known.Context address) lengths x
         → Contains by lengths y → ContainsKnown k lengths (value_of operation width (cut width x) (cut width y))) }
     ensures not_unset { IfErr result (λ e. e ≢ Refusal.UnsetRegister) }
+    ensures rule { answer_of content_of result
+        ≡ rules.from_context profile operation width address.offset (estimate_of by) }
 {
     match displaced(operation, width, address.offset, by) {
         Some(offset) if offset <= profile.context_length() => Ok(Known::Context(ContextAddress {
@@ -97,6 +109,7 @@ fn from_context(
     }
 }
 
+#[tactic(auto, unfolding(crate::specs::Addresses::from_stack))]
 fn from_stack(
     operation: Arithmetic,
     width: Width,
@@ -106,6 +119,7 @@ fn from_stack(
     ensures sound { IfOk result (λ k. (lengths : Lengths) (x y : ℕ) → ContainsKnown (Known.Stack address) lengths x
         → Contains by lengths y → ContainsKnown k lengths (value_of operation width (cut width x) (cut width y))) }
     ensures not_unset { IfErr result (λ e. e ≢ Refusal.UnsetRegister) }
+    ensures rule { answer_of content_of result ≡ rules.from_stack operation width address.offset (estimate_of by) }
 {
     match displaced(operation, width, address.offset, by) {
         Some(offset) if offset <= STACK_BYTES as u64 => Ok(Known::Stack(StackAddress { offset })),
@@ -113,6 +127,7 @@ fn from_stack(
     }
 }
 
+#[tactic(auto, unfolding(crate::specs::Addresses::from_region))]
 fn from_lent(
     operation: Arithmetic,
     width: Width,
@@ -125,6 +140,8 @@ fn from_lent(
         → (m n : ℕ) (t : Option ℕ) → IsIn at address.offset m m t → IsIn at by n n None → m + n ≤ 2 ^ 20
         → IsOk result × IfOk result (λ o. IfSome o (λ k. IsLentIn at (m + n) (m + n) (tail_after t n) k)) }
     ensures not_unset { IfErr result (λ e. e ≢ Refusal.UnsetRegister) }
+    ensures rule { answer_of (option_map content_of) result
+        ≡ rules.from_region operation width address.region (estimate_of address.offset) (estimate_of by) }
 {
     match (width, operation) {
         (Width::Full, Arithmetic::Add) => lent(address.region, address.offset.add(by, Width::Full)),
@@ -133,6 +150,7 @@ fn from_lent(
     }
 }
 
+#[tactic(auto, unfolding(crate::specs::Addresses::onto_region))]
 fn onto_lent(
     operation: Arithmetic,
     width: Width,
@@ -143,6 +161,8 @@ fn onto_lent(
         → ContainsKnown (Known.Lent address) lengths y
         → WithinKnown o lengths (value_of operation width (cut width x) (cut width y))) }
     ensures not_unset { IfErr result (λ e. e ≢ Refusal.UnsetRegister) }
+    ensures rule { answer_of (option_map content_of) result
+        ≡ rules.onto_region operation width address.region (estimate_of by) (estimate_of address.offset) }
 {
     match (width, operation) {
         (Width::Full, Arithmetic::Add) => lent(address.region, by.add(address.offset, Width::Full)),
@@ -162,6 +182,7 @@ impl Known {
     }
 
     /// What an operation other than a move gives.
+    #[tactic(auto, unfolding(crate::specs::Addresses::computed))]
     pub fn compute(
         self,
         profile: Profile,
@@ -184,6 +205,8 @@ impl Known {
         ensures floor { IsNumber self → IsNumber other → IsOk result }
         ensures numbers { IsNumber self → IsNumber other → IfOk result (λ o. AreNumbers o) }
         ensures not_unset { IfErr result (λ e. e ≢ Refusal.UnsetRegister) }
+        ensures rule { answer_of (option_map content_of) result
+            ≡ rules.computed profile operation width (content_of self) (content_of other) }
     {
         match (self, other) {
             (Known::Number(a), Known::Number(b)) => Ok(number(transfer(operation, width, a, b))),
@@ -198,6 +221,7 @@ impl Known {
     }
 
     /// What a move gives: of 32 bits, of a number alone.
+    #[tactic(auto, unfolding(crate::specs::Addresses::moved))]
     pub fn moved(self, width: Width) -> Result<Option<Known>, Refusal>
         ensures sound { IfOk result (λ o. (lengths : Lengths) (x : ℕ) → ContainsKnown self lengths x
             → WithinKnown o lengths (cut width x)) }
@@ -209,6 +233,7 @@ impl Known {
         ensures floor { IsNumber self → IsOk result }
         ensures numbers { IsNumber self → IfOk result (λ o. AreNumbers o) }
         ensures not_unset { IfErr result (λ e. e ≢ Refusal.UnsetRegister) }
+        ensures rule { answer_of (option_map content_of) result ≡ rules.moved width (content_of self) }
     {
         match (self, width) {
             (Known::Number(a), _) => Ok(number(a.moved(width))),
@@ -220,6 +245,7 @@ impl Known {
     }
 
     /// What either is; `None` where they are of different kinds, or different addresses.
+    #[tactic(auto, unfolding(crate::specs::Addresses::either))]
     pub fn join(self, other: Known) -> Option<Known>
         ensures left { IfSome result (λ k. (lengths : Lengths) (x : ℕ) → ContainsKnown self lengths x
             → ContainsKnown k lengths x) }
@@ -235,6 +261,7 @@ impl Known {
             → IsSome result × IfSome result (λ k. IsContextAt n (TheRegs.Set k)) }
         ensures stack { (n : ℕ) → IsStackAt n (TheRegs.Set self) → IsStackAt n (TheRegs.Set other)
             → IsSome result × IfSome result (λ k. IsStackAt n (TheRegs.Set k)) }
+        ensures rule { option_map content_of result ≡ rules.either (content_of self) (content_of other) }
     {
         match (self, other) {
             (Known::Number(a), Known::Number(b)) => Some(Known::Number(a.join(b))),
@@ -247,6 +274,7 @@ impl Known {
 }
 
 /// What either address may be.
+#[tactic(auto, unfolding(crate::specs::Addresses::either))]
 fn join_lent(a: LentAddress, b: LentAddress) -> Option<Known>
     ensures left { IfSome result (λ k. (lengths : Lengths) (x : ℕ) → ContainsKnown (Known.Lent a) lengths x
         → ContainsKnown k lengths x) }
@@ -254,6 +282,7 @@ fn join_lent(a: LentAddress, b: LentAddress) -> Option<Known>
         → ContainsKnown k lengths x) }
     ensures joins { a.region ≡ b.region → (r : LentAddress) × (result ≡ Some (Known.Lent r)) × (r.region ≡ a.region)
         × JoinsNumber a.offset b.offset r.offset }
+    ensures rule { option_map content_of result ≡ rules.either (content_of (Known.Lent a)) (content_of (Known.Lent b)) }
 {
     if a.region != b.region {
         return None;
@@ -266,12 +295,15 @@ fn join_lent(a: LentAddress, b: LentAddress) -> Option<Known>
 }
 
 /// The address, where both are the same.
+#[tactic(auto, unfolding(crate::specs::Addresses::either))]
 fn join_context(a: ContextAddress, b: ContextAddress) -> Option<Known>
     ensures left { IfSome result (λ k. (lengths : Lengths) (x : ℕ) → ContainsKnown (Known.Context a) lengths x
         → ContainsKnown k lengths x) }
     ensures right { IfSome result (λ k. (lengths : Lengths) (x : ℕ) → ContainsKnown (Known.Context b) lengths x
         → ContainsKnown k lengths x) }
     ensures same { a.offset ≡ b.offset → result ≡ Some (Known.Context a) }
+    ensures rule { option_map content_of result
+        ≡ rules.either (content_of (Known.Context a)) (content_of (Known.Context b)) }
 {
     if a.offset != b.offset {
         return None;
@@ -280,12 +312,15 @@ fn join_context(a: ContextAddress, b: ContextAddress) -> Option<Known>
 }
 
 /// The address, where both are the same.
+#[tactic(auto, unfolding(crate::specs::Addresses::either))]
 fn join_stack(a: StackAddress, b: StackAddress) -> Option<Known>
     ensures left { IfSome result (λ k. (lengths : Lengths) (x : ℕ) → ContainsKnown (Known.Stack a) lengths x
         → ContainsKnown k lengths x) }
     ensures right { IfSome result (λ k. (lengths : Lengths) (x : ℕ) → ContainsKnown (Known.Stack b) lengths x
         → ContainsKnown k lengths x) }
     ensures same { a.offset ≡ b.offset → result ≡ Some (Known.Stack a) }
+    ensures rule { option_map content_of result
+        ≡ rules.either (content_of (Known.Stack a)) (content_of (Known.Stack b)) }
 {
     if a.offset != b.offset {
         return None;

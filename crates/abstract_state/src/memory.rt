@@ -19,6 +19,12 @@ ghost use Rattle.span_context.specs.ContextField.{offset_of, size_of};
 ghost use Rattle.span_context.specs.Profile.{context_length};
 ghost use Rattle.span_context.specs.declared.profile.Profile.TheVariants.{Two};
 ghost use Rattle.abstract_state.specs.State.{Span, lengths_of, IsLong, Contains, LoadsAs, LoadsIn, StoresAs, slot_at};
+ghost use Rattle.std.specs.Prelude.{option_map};
+ghost use Rattle.abstract_state.specs.Estimate.{estimate_of};
+ghost use Rattle.abstract_state.specs.Addresses.{content_of, answer_of};
+ghost use Rattle.abstract_state.specs.Stacks.{slots_of};
+ghost use Rattle.abstract_state.specs.Situation.{least_of, least_at};
+ghost use Rattle.abstract_state.specs.Loading as rules;
 
 use crate::address::{ContextAddress, LentAddress, StackAddress};
 use crate::bounds::Bounds;
@@ -36,6 +42,7 @@ use span_context::profile::Profile;
 use span_context::size::Size;
 
 /// The sum of `start` and an offset modulo 2^64, where it isn't below 0.
+#[tactic(auto, unfolding(crate::specs::Loading::place))]
 fn moved(start: u64, offset: u64) -> Option<u64>
     requires { start ≤ 2 ^ 20 }
     ensures small { IfSome result (λ a. a ≤ start + 2 ^ 16) }
@@ -43,6 +50,7 @@ fn moved(start: u64, offset: u64) -> Option<u64>
         → (base + x + offset) % 2 ^ 64 ≡ base + (a + (x - start))) }
     ensures there { offset ≤ 2 ^ 16 → result ≡ Some (start + offset) }
     ensures near { (a : ℕ) → (start + offset) % 2 ^ 64 ≡ a → a ≤ 2 ^ 16 → result ≡ Some a }
+    ensures rule { result ≡ rules.place start offset }
 {
     let sum = start.wrapping_add(offset);
     if sum > start + 65_536 {
@@ -53,7 +61,8 @@ fn moved(start: u64, offset: u64) -> Option<u64>
 
 /// The numbers that the bytes of a size make.
 fn loaded(size: Size) -> Quantity
-    ensures { (lengths : Lengths) (v : ℕ) → v < 256 ^ bytes_in size → ContainsNumber result lengths v }
+    ensures contains { (lengths : Lengths) (v : ℕ) → v < 256 ^ bytes_in size → ContainsNumber result lengths v }
+    ensures rule { estimate_of result ≡ rules.any_of size }
 {
     match size {
         Size::Byte => Quantity::up_to(0xff),
@@ -64,6 +73,7 @@ fn loaded(size: Size) -> Quantity
 }
 
 /// What a field of the first 56 bytes of the context holds, where nothing is known of the link.
+#[tactic(auto, unfolding(crate::specs::Loading::text_field))]
 fn text_field(field: ContextField) -> Result<Option<Known>, Refusal>
     ensures within { IfOk result (λ _. offset_of field + bytes_in (size_of field) ≤ 56) }
     ensures sound { IfOk result (λ o. (span : Span)
@@ -76,6 +86,7 @@ fn text_field(field: ContextField) -> Result<Option<Known>, Refusal>
     ensures floor { IsNumberField (size_of field) (offset_of field) → IsOk result }
     ensures numbers { IsNumberField (size_of field) (offset_of field) → IfOk result (λ o. AreNumbers o) }
     ensures not_unset { IfErr result (λ e. e ≢ Refusal.UnsetRegister) }
+    ensures rule { answer_of (option_map content_of) result ≡ rules.text_field field }
 {
     match field {
         ContextField::Text => Ok(Some(Known::Lent(LentAddress {
@@ -97,6 +108,7 @@ fn text_field(field: ContextField) -> Result<Option<Known>, Refusal>
 }
 
 /// What a field of the whole context holds.
+#[tactic(auto, unfolding(crate::specs::Loading::link_field))]
 fn link_field(field: ContextField) -> Result<Option<Known>, Refusal>
     ensures within { IfOk result (λ _. offset_of field + bytes_in (size_of field) ≤ 72) }
     ensures sound { IfOk result (λ o. (span : Span) → span.profile ≡ Two
@@ -113,6 +125,7 @@ fn link_field(field: ContextField) -> Result<Option<Known>, Refusal>
     ensures floor { IsNumberField (size_of field) (offset_of field) → IsOk result }
     ensures numbers { IsNumberField (size_of field) (offset_of field) → IfOk result (λ o. AreNumbers o) }
     ensures not_unset { IfErr result (λ e. e ≢ Refusal.UnsetRegister) }
+    ensures rule { answer_of (option_map content_of) result ≡ rules.link_field field }
 {
     match field {
         ContextField::Link => Ok(Some(Known::Lent(LentAddress {
@@ -126,6 +139,7 @@ fn link_field(field: ContextField) -> Result<Option<Known>, Refusal>
 }
 
 /// What a field holds that a program of the profile may read.
+#[tactic(auto, unfolding(crate::specs::Loading::lent_field))]
 fn lent_field(profile: Profile, field: ContextField) -> Result<Option<Known>, Refusal>
     ensures within { IfOk result (λ _. offset_of field + bytes_in (size_of field) ≤ context_length profile) }
     ensures sound { IfOk result (λ o. (span : Span) → span.profile ≡ profile
@@ -138,6 +152,7 @@ fn lent_field(profile: Profile, field: ContextField) -> Result<Option<Known>, Re
     ensures floor { IsNumberField (size_of field) (offset_of field) → IsOk result }
     ensures numbers { IsNumberField (size_of field) (offset_of field) → IfOk result (λ o. AreNumbers o) }
     ensures not_unset { IfErr result (λ e. e ≢ Refusal.UnsetRegister) }
+    ensures rule { answer_of (option_map content_of) result ≡ rules.lent_field profile field }
 {
     match profile {
         Profile::One => text_field(field),
@@ -146,6 +161,7 @@ fn lent_field(profile: Profile, field: ContextField) -> Result<Option<Known>, Re
 }
 
 /// What the context holds at an offset, where that is a field of that size that a program of the profile may read.
+#[tactic(auto, unfolding(crate::specs::Loading::context_at))]
 fn field(profile: Profile, offset: u64, size: Size) -> Result<Option<Known>, Refusal>
     ensures within { IfOk result (λ _. offset + bytes_in size ≤ context_length profile) }
     ensures sound { IfOk result (λ o. (span : Span) → span.profile ≡ profile
@@ -157,6 +173,7 @@ fn field(profile: Profile, offset: u64, size: Size) -> Result<Option<Known>, Ref
     ensures floor { IsNumberField size offset → IsOk result }
     ensures numbers { IsNumberField size offset → IfOk result (λ o. AreNumbers o) }
     ensures not_unset { IfErr result (λ e. e ≢ Refusal.UnsetRegister) }
+    ensures rule { answer_of (option_map content_of) result ≡ rules.context_at profile offset size }
 {
     match ContextField::at(offset, size) {
         Some(field) => lent_field(profile, field),
@@ -165,6 +182,7 @@ fn field(profile: Profile, offset: u64, size: Size) -> Result<Option<Known>, Ref
 }
 
 /// Whether `count` bytes at an offset from an address in a lent region lie in it.
+#[tactic(auto, unfolding(crate::specs::Loading::reaches))]
 fn reaches(bounds: Bounds, address: LentAddress, offset: u64, count: usize) -> bool
     requires { count ≤ 8 }
     ensures sound { IsTrue result → (lengths : Lengths) (x : ℕ) → IsLong bounds lengths
@@ -173,6 +191,9 @@ fn reaches(bounds: Bounds, address: LentAddress, offset: u64, count: usize) -> b
         × (a + count ≤ length_of lengths address.region) }
     ensures floor { offset ≤ 2 ^ 15 → (at : TheRegion) (bound : ℕ) → address.region ≡ at → bound_of bounds at ≡ bound
         → address.offset.range.high + offset + count ≤ bound → IsTrue result }
+    ensures rule { result
+        ≡ rules.reaches (least_at (least_of bounds) address.region) address.region (estimate_of address.offset) offset
+        count }
 {
     let range = address.offset.range;
     let Some(least) = moved(range.low, offset) else {
@@ -192,12 +213,14 @@ fn reaches(bounds: Bounds, address: LentAddress, offset: u64, count: usize) -> b
 }
 
 /// The offset in the stack of `count` bytes at an offset from an address.
+#[tactic(auto, unfolding(crate::specs::Loading::stack_place))]
 fn offset_in_stack(address: StackAddress, offset: u64, count: usize) -> Result<usize, Refusal>
     requires { count ≤ 8 }
     ensures within { IfOk result (λ p. p + count ≤ 512) }
     ensures at { IfOk result (λ p. (base : ℕ) → base < 2 ^ 62 → (base + address.offset + offset) % 2 ^ 64 ≡ base + p) }
     ensures floor { (p : ℕ) → (address.offset + offset) % 2 ^ 64 ≡ p → p + count ≤ 512 → result ≡ Ok p }
     ensures not_unset { IfErr result (λ e. e ≢ Refusal.UnsetRegister) }
+    ensures rule { result ≡ rules.stack_place address.offset offset count }
 {
     let Some(p) = moved(address.offset, offset) else {
         return Err(Refusal::StackBounds);
@@ -210,6 +233,7 @@ fn offset_in_stack(address: StackAddress, offset: u64, count: usize) -> Result<u
 
 impl AbsState {
     /// Checks that `count` bytes can be loaded as a number.
+    #[tactic(auto, unfolding(crate::specs::Loading::readable))]
     fn bytes(&self, base: Known, offset: u64, count: usize) -> Result<(), Refusal>
         requires { count ≤ 8 }
         ensures sound { IfOk result (λ _. LoadsAs self.now base offset count (λ lengths v. v < 256 ^ count)) }
@@ -218,6 +242,8 @@ impl AbsState {
         ensures stack { (p : ℕ) → IsStackByte p offset (TheRegs.Set base) → AreMarked self.now.stack p count
             → IsOk result }
         ensures not_unset { IfErr result (λ e. e ≢ Refusal.UnsetRegister) }
+        ensures rule { result
+            ≡ rules.readable (slots_of self.now.stack) (least_of self.now.bounds) (content_of base) offset count }
     {
         match base {
             Known::Number(_) => Err(Refusal::NotAnAddress),
@@ -241,6 +267,7 @@ impl AbsState {
     }
 
     /// What a load of a field gives.
+    #[tactic(auto, unfolding(crate::specs::Loading::context_field))]
     fn field(
         &self,
         profile: Profile,
@@ -258,6 +285,8 @@ impl AbsState {
         ensures floor { address.offset ≡ 0 → IsNumberField size offset → IsOk result }
         ensures numbers { address.offset ≡ 0 → IsNumberField size offset → IfOk result (λ o. AreNumbers o) }
         ensures not_unset { IfErr result (λ e. e ≢ Refusal.UnsetRegister) }
+        ensures rule { answer_of (option_map content_of) result
+            ≡ rules.context_field profile address.offset offset size }
     {
         let Some(p) = moved(address.offset, offset) else {
             return Err(Refusal::ContextField);
@@ -267,6 +296,7 @@ impl AbsState {
     }
 
     /// What was spilled at an address, where a load takes all of it.
+    #[tactic(auto, unfolding(crate::specs::Loading::filled))]
     fn fill(&self, base: Known, offset: u64, size: Size) -> Option<Known>
         ensures sound { IfSome result (λ k. LoadsAs self.now base offset (bytes_in size)
             (λ lengths v. ContainsKnown k lengths v)) }
@@ -275,6 +305,8 @@ impl AbsState {
             → size ≡ Size.Double → slot_at self.now.stack i ≡ Slot.Spilled known → result ≡ Some known }
         ensures marked { (p : ℕ) → IsStackByte p offset (TheRegs.Set base)
             → AreMarked self.now.stack p (bytes_in size) → AreNumbers result }
+        ensures rule { option_map content_of result
+            ≡ rules.filled (slots_of self.now.stack) (content_of base) offset size }
     {
         let (Known::Stack(address), Size::Double) = (base, size) else {
             return None;
@@ -289,6 +321,7 @@ impl AbsState {
     }
 
     /// What a load gives.
+    #[tactic(auto, unfolding(crate::specs::Loading::loaded))]
     pub fn load(
         &self,
         profile: Profile,
@@ -315,6 +348,8 @@ impl AbsState {
         ensures marked { (p : ℕ) → IsStackByte p offset (TheRegs.Set base)
             → AreMarked self.now.stack p (bytes_in size) → IsOk result × IfOk result (λ o. AreNumbers o) }
         ensures not_unset { IfErr result (λ e. e ≢ Refusal.UnsetRegister) }
+        ensures rule { answer_of (option_map content_of) result
+            ≡ rules.loaded profile (slots_of self.now.stack) (least_of self.now.bounds) (content_of base) offset size }
     {
         if let Known::Context(address) = base {
             return self.field(profile, address, offset, size);
@@ -335,11 +370,14 @@ impl AbsState {
         ensures marked { (p : ℕ) → IsStackByte p offset (TheRegs.Set base)
             → AreMarked self.now.stack p (bytes_in_signed size) → IsOk result }
         ensures not_unset { IfErr result (λ e. e ≢ Refusal.UnsetRegister) }
+        ensures rule { result ≡ rules.readable (slots_of self.now.stack) (least_of self.now.bounds) (content_of base)
+            offset (bytes_in_signed size) }
     {
         self.bytes(base, offset, count_signed(size))
     }
 
     /// Stores a number.
+    #[tactic(auto, unfolding(crate::specs::Loading::written))]
     pub fn store(
         &mut self,
         base: Known,
@@ -355,6 +393,9 @@ impl AbsState {
         ensures spills { (i : ℕ) → IsStackByte (8 * i) offset (TheRegs.Set base) → i < 64 → size ≡ Size.Double
             → IsOk result × IfOk result (λ _. SpillsSlot i value self.old.stack self.new.stack) }
         ensures not_unset { IfErr result (λ e. e ≢ Refusal.UnsetRegister) }
+        ensures rule { rules.Leaves
+            (rules.written (slots_of self.old.stack) (content_of base) offset (bytes_in size) (content_of value)) result
+            (slots_of self.new.stack) }
     {
         if base.is_number() {
             return Err(Refusal::NotAnAddress);

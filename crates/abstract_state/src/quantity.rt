@@ -1,5 +1,9 @@
 ghost use Rattle.std.specs.Prelude.{◌≡◌, ℕ, ◌+◌, ◌-◌, ◌*◌, ◌/◌, ◌%◌, ◌^◌, ◌<◌, ◌≤◌, Option, Some, None, IfSome};
-ghost use Rattle.std.specs.Prelude.{bit_and, bit_or, bit_xor};
+ghost use Rattle.std.specs.Prelude.{bit_and, bit_or, bit_xor, option_map, unwrap_or};
+ghost use Rattle.known_bits.specs.KnownBits.{known_of};
+ghost use Rattle.intervals.specs.Interval.{interval_of};
+ghost use Rattle.abstract_state.specs.Estimate.{estimate_of, narrowed, normal, normal_cut, constant, up_to, up_to_end};
+ghost use Rattle.abstract_state.specs.Estimate.{tails_ending, joined};
 ghost use Rattle.abstract_state.specs.Lent.{Lengths, length_of, limit_of, tail_of, HasTails, InRange, InRanges};
 ghost use Rattle.abstract_state.specs.declared.region.Region.{Region as TheRegion};
 ghost use Rattle.abstract_state.specs.Quantity.{InBits, Contains, Within, Fits, Maps, MapsBoth, Narrows, KeepsBits};
@@ -26,6 +30,7 @@ impl Quantity {
     pub fn constant(value: u64) -> Quantity
         ensures contains { (lengths : Lengths) → Contains result lengths value }
         ensures is { (region : TheRegion) → IsIn region result value value None }
+        ensures rule { estimate_of result ≡ constant value }
     {
         Quantity {
             bits: Bits::constant(value),
@@ -39,7 +44,8 @@ impl Quantity {
 
     /// The numbers up to `high`.
     pub fn up_to(high: u64) -> Quantity
-        ensures { (lengths : Lengths) (x : ℕ) → x ≤ high → Contains result lengths x }
+        ensures contains { (lengths : Lengths) (x : ℕ) → x ≤ high → Contains result lengths x }
+        ensures rule { estimate_of result ≡ up_to high }
     {
         Quantity {
             bits: Bits::between(0, high),
@@ -49,6 +55,7 @@ impl Quantity {
     }
 
     /// The normal form, in which bits and interval have narrowed one another; `None` where nothing is left.
+    #[tactic(auto, unfolding(crate::specs::Estimate::normal))]
     pub fn normal(bits: Bits, range: Range, tails: Tails) -> Option<Quantity>
         ensures contains { (lengths : Lengths) (x : ℕ) → InBits bits x → InRange range x → HasTails tails lengths x
             → Within result lengths x }
@@ -59,6 +66,7 @@ impl Quantity {
             → IfSome result (λ q. KnowsHigh q.bits range.low (limit_of region - t)) }
         ensures limits { (region : TheRegion) (t : ℕ) → tail_of tails region ≡ Some t
             → IfSome result (λ q. q.range.high + t ≤ limit_of region) }
+        ensures rule { option_map estimate_of result ≡ normal (known_of bits) (interval_of range) tails }
     {
         let first = narrow(bits, range, tails)?;
         let high_bits = Bits::between(first.low, first.high);
@@ -72,12 +80,15 @@ impl Quantity {
     }
 
     /// The normal form of a result cut to the width.
+    #[tactic(auto, unfolding(crate::specs::Estimate::normal_cut))]
     pub(crate) fn finish(width: Width, bits: Bits, range: Range, tails: Tails) -> Option<Quantity>
         ensures contains { (lengths : Lengths) (x : ℕ) → InBits bits x → InRange range x → HasTails tails lengths x
             → Within result lengths (cut width x) }
         ensures narrows { width ≡ Width.Full → Narrows result range tails }
         ensures bits { width ≡ Width.Full → KeepsBits result bits }
         ensures lies { IfSome result (λ q. LiesInBits q) }
+        ensures below { IfSome result (λ q. q.range.high ≤ range.high) }
+        ensures rule { option_map estimate_of result ≡ normal_cut width (known_of bits) (interval_of range) tails }
     {
         match width {
             Width::Full => Quantity::normal(bits, range, tails),
@@ -87,6 +98,7 @@ impl Quantity {
 }
 
 /// The interval cut to what the bits and the tails allow.
+#[tactic(auto, unfolding(crate::specs::Estimate::narrowed))]
 fn narrow(bits: Bits, range: Range, tails: Tails) -> Option<Range>
     ensures contains { (lengths : Lengths) (x : ℕ) → InBits bits x → InRange range x → HasTails tails lengths x
         → InRanges result x }
@@ -94,6 +106,7 @@ fn narrow(bits: Bits, range: Range, tails: Tails) -> Option<Range>
     ensures bits { IfSome result (λ r. (bits.value ≤ r.low) × (r.high ≤ most bits)) }
     ensures limits { (region : TheRegion) (t : ℕ) → tail_of tails region ≡ Some t
         → IfSome result (λ r. r.high + t ≤ limit_of region) }
+    ensures rule { option_map interval_of result ≡ narrowed (known_of bits) (interval_of range) tails }
 {
     let above = range.at_least(bits.least())?;
     let between = above.at_most(bits.greatest())?;
@@ -102,11 +115,14 @@ fn narrow(bits: Bits, range: Range, tails: Tails) -> Option<Range>
 
 impl Quantity {
     /// What either contains; where that is nothing, one of them.
+    #[tactic(auto, unfolding(crate::specs::Estimate::joined))]
     pub fn join(self, other: Quantity) -> Quantity
         ensures left { (lengths : Lengths) (x : ℕ) → Contains self lengths x → Contains result lengths x }
         ensures right { (lengths : Lengths) (x : ℕ) → Contains other lengths x → Contains result lengths x }
         ensures within { (n : ℕ) → self.range.high ≤ n → other.range.high ≤ n → result.range.high ≤ n }
         ensures joins { JoinsNumber self other result }
+        ensures rule { estimate_of result
+            ≡ unwrap_or (joined (estimate_of self) (estimate_of other)) (estimate_of self) }
     {
         let Some(joined) = Quantity::normal(
             self.bits.join(other.bits),
@@ -124,6 +140,7 @@ impl Quantity {
     pub fn begin(region: Region) -> Quantity
         ensures contains { (lengths : Lengths) → Contains result lengths 0 }
         ensures is { IsIn region result 0 0 (Some 0) }
+        ensures rule { estimate_of result ≡ record (constant 0) { tails = tails_ending region } }
     {
         Quantity {
             bits: Bits::constant(0),
@@ -137,6 +154,7 @@ impl Quantity {
         ensures contains { (lengths : Lengths) (x : ℕ) → x ≤ high → x ≤ length_of lengths region
             → Within result lengths x }
         ensures is { limit_of region ≤ high → IfSome result (λ q. IsIn region q 0 (limit_of region) (Some 0)) }
+        ensures rule { option_map estimate_of result ≡ up_to_end region high }
     {
         Quantity::normal(
             Bits::between(0, high),

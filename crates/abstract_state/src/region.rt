@@ -1,4 +1,8 @@
-ghost use Rattle.std.specs.Prelude.{◌≡◌, ℕ, ◌+◌, ◌≤◌, min, Option, Some, None, IfSome};
+ghost use Rattle.std.specs.Prelude.{◌≡◌, ℕ, ◌+◌, ◌≤◌, min, Option, Some, None, IfSome, option_map};
+ghost use Rattle.intervals.specs.Interval.{interval_of};
+ghost use Rattle.abstract_state.specs.Estimate.{no_tails, tails_ending, each_tail, both_tails, raised_tail};
+ghost use Rattle.abstract_state.specs.Estimate.{under_tails, greater_tail, lesser_tail};
+ghost use Rattle.abstract_state.specs.Transfer.{sum_tail};
 ghost use Rattle.abstract_state.specs.Lent.{Lengths, HasTail, HasTails, base_of, limit_of, length_of, tail_of, InRange};
 ghost use Rattle.abstract_state.specs.Lent.{InRanges};
 ghost use Rattle.abstract_state.specs.declared.region.Region.{Region as TheRegion};
@@ -51,6 +55,7 @@ impl Tails {
     pub fn none() -> Tails
         ensures contains { (lengths : Lengths) (x : ℕ) → HasTails result lengths x }
         ensures none { (region : TheRegion) → tail_of result region ≡ None }
+        ensures rule { result ≡ no_tails }
     {
         Tails {
             text: None,
@@ -62,6 +67,7 @@ impl Tails {
     pub fn ending(region: Region) -> Tails
         ensures contains { (lengths : Lengths) (x : ℕ) → x ≤ length_of lengths region → HasTails result lengths x }
         ensures there { tail_of result region ≡ Some 0 }
+        ensures rule { result ≡ tails_ending region }
     {
         match region {
             Region::Text => Tails {
@@ -77,7 +83,9 @@ impl Tails {
 
     /// The tail for one region.
     pub fn of(self, region: Region) -> Option<u32>
-        ensures { (lengths : Lengths) (x : ℕ) → HasTails self lengths x → HasTail result (length_of lengths region) x }
+        ensures contains { (lengths : Lengths) (x : ℕ) → HasTails self lengths x
+            → HasTail result (length_of lengths region) x }
+        ensures rule { result ≡ tail_of self region }
     {
         match region {
             Region::Text => self.text,
@@ -86,11 +94,13 @@ impl Tails {
     }
 
     /// The interval cut to what the tails allow.
+    #[tactic(auto, unfolding(crate::specs::Estimate::under_tails))]
     pub fn narrow(self, range: Range) -> Option<Range>
         ensures contains { (lengths : Lengths) (x : ℕ) → InRange range x → HasTails self lengths x → InRanges result x }
         ensures within { IfSome result (λ r. (range.low ≤ r.low) × (r.high ≤ range.high)) }
         ensures limits { (region : TheRegion) (t : ℕ) → tail_of self region ≡ Some t
             → IfSome result (λ r. r.high + t ≤ limit_of region) }
+        ensures rule { option_map interval_of result ≡ under_tails self (interval_of range) }
     {
         let by_text = tail::narrow(self.text, Region::Text.limit(), range)?;
         tail::narrow(self.link, Region::Link.limit(), by_text)
@@ -103,6 +113,7 @@ impl Tails {
             → HasTails other lengths y → y ≤ added → HasTails result lengths (x + y) }
         ensures alone { (region : TheRegion) → tail_of other region ≡ None
             → tail_of result region ≡ tail_after (tail_of self region) added }
+        ensures rule { result ≡ both_tails (sum_tail high added) self other }
     {
         Tails {
             text: tail::sum(self.text, high, other.text, added),
@@ -112,8 +123,9 @@ impl Tails {
 
     /// The tails of the difference, where at least `taken` is taken away.
     pub fn difference(self, taken: u64) -> Tails
-        ensures { (lengths : Lengths) (x y : ℕ) → HasTails self lengths (x + y) → taken ≤ y
+        ensures contains { (lengths : Lengths) (x y : ℕ) → HasTails self lengths (x + y) → taken ≤ y
             → HasTails result lengths x }
+        ensures rule { result ≡ each_tail (raised_tail taken) self }
     {
         Tails {
             text: tail::difference(self.text, taken),
@@ -127,6 +139,7 @@ impl Tails {
             → HasTails result lengths x }
         ensures there { (region : TheRegion) (t : ℕ) → tail_of self region ≡ Some t
             → (u : ℕ) × (tail_of result region ≡ Some u) }
+        ensures rule { result ≡ each_tail (raised_tail by) self }
     {
         Tails {
             text: tail::raised(self.text, by),
@@ -142,6 +155,7 @@ impl Tails {
             → (t : ℕ) × (tail_of result region ≡ Some t) }
         ensures none { (region : TheRegion) → tail_of self region ≡ None → tail_of other region ≡ None
             → tail_of result region ≡ None }
+        ensures rule { result ≡ both_tails greater_tail self other }
     {
         Tails {
             text: tail::greater(self.text, other.text),
@@ -155,6 +169,7 @@ impl Tails {
         ensures right { (lengths : Lengths) (x : ℕ) → HasTails other lengths x → HasTails result lengths x }
         ensures lesser { (region : TheRegion) (t u : ℕ) → tail_of self region ≡ Some t → tail_of other region ≡ Some u
             → tail_of result region ≡ Some (min t u) }
+        ensures rule { result ≡ both_tails lesser_tail self other }
     {
         Tails {
             text: tail::lesser(self.text, other.text),

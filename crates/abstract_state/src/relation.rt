@@ -1,6 +1,9 @@
 //! What a comparison that holds, or doesn't, says of two quantities.
 ghost use Rattle.std.specs.Prelude.{◌≡◌, ◌≢◌, ℕ, ◌+◌, ◌-◌, ◌*◌, ◌%◌, ◌^◌, ◌<◌, ◌≤◌, Option, Some, IfSome, IsTrue};
-ghost use Rattle.std.specs.Prelude.{false, ◌↔◌};
+ghost use Rattle.std.specs.Prelude.{false, ◌↔◌, option_map};
+ghost use Rattle.intervals.specs.Interval.{interval_of};
+ghost use Rattle.abstract_state.specs.Estimate.{estimate_of};
+ghost use Rattle.abstract_state.specs.Comparing as rules;
 ghost use Rattle.bpf_words.specs.declared.instruction.Width.{Width as Wide};
 ghost use Rattle.abstract_state.specs.Lent.{Lengths, tail_of, HasTails, InRange, InRanges};
 ghost use Rattle.abstract_state.specs.declared.region.Region.{Region};
@@ -33,10 +36,12 @@ pub struct Sides {
 
 /// The relation of the two sides where the comparison is taken, or where it isn't, `None` where it says nothing of the
 /// kind.
+#[tactic(auto, unfolding(crate::specs::Comparing::relation_of))]
 fn relation_on(comparison: Comparison, taken: bool) -> Option<Relation>
     ensures stands { IfSome result (λ r. (width : Wide) (m n : ℕ) → SignsAgree comparison width m n
         → holds_of comparison width m n ≡ taken → Stands r m n) }
     ensures not_greater { comparison ≡ Comparison.Greater → taken ≡ false → result ≡ Some Relation.AtMost }
+    ensures rule { result ≡ rules.relation_of comparison taken }
 {
     match comparison {
         Comparison::Equal if taken => Some(Relation::Same),
@@ -59,12 +64,14 @@ fn relation_on(comparison: Comparison, taken: bool) -> Option<Relation>
 
 impl Quantity {
     /// The numbers x with x + by <= y for some y of the other.
+    #[tactic(auto, unfolding(crate::specs::Comparing::below))]
     fn below(self, other: Quantity, by: u64) -> Option<Quantity>
         ensures contains { (lengths : Lengths) (m n : ℕ) → Contains self lengths m → Contains other lengths n
             → m + by ≤ n → Within result lengths m }
         ensures within { IfSome result (λ q. (self.range.low ≤ q.range.low) × (q.range.high ≤ self.range.high)) }
         ensures tail { (region : Region) (t : ℕ) → tail_of other.tails region ≡ Some t
             → IfSome result (λ q. (u : ℕ) × (tail_of q.tails region ≡ Some u)) }
+        ensures rule { option_map estimate_of result ≡ rules.below by (estimate_of self) (estimate_of other) }
     {
         if other.range.high < by {
             return None;
@@ -74,10 +81,12 @@ impl Quantity {
     }
 
     /// The numbers y with x + by <= y for some x of the other.
+    #[tactic(auto, unfolding(crate::specs::Comparing::above))]
     fn above(self, other: Quantity, by: u64) -> Option<Quantity>
         ensures contains { (lengths : Lengths) (m n : ℕ) → Contains self lengths n → Contains other lengths m
             → m + by ≤ n → Within result lengths n }
         ensures within { IfSome result (λ q. q.range.high ≤ self.range.high) }
+        ensures rule { option_map estimate_of result ≡ rules.above by (estimate_of self) (estimate_of other) }
     {
         let low = other.range.low.checked_add(by)?;
         let range = self.range.at_least(low)?;
@@ -85,10 +94,12 @@ impl Quantity {
     }
 
     /// What both contain.
+    #[tactic(auto, unfolding(crate::specs::Comparing::same))]
     fn same(self, other: Quantity) -> Option<Quantity>
         ensures contains { (lengths : Lengths) (m : ℕ) → Contains self lengths m → Contains other lengths m
             → Within result lengths m }
         ensures within { IfSome result (λ q. (q.range.high ≤ self.range.high) × (q.range.high ≤ other.range.high)) }
+        ensures rule { option_map estimate_of result ≡ rules.same (estimate_of self) (estimate_of other) }
     {
         let bits = self.bits.meet(other.bits)?;
         let range = self.range.meet(other.range)?;
@@ -96,10 +107,12 @@ impl Quantity {
     }
 
     /// The numbers that differ from the other's.
+    #[tactic(auto, unfolding(crate::specs::Comparing::apart))]
     fn apart(self, other: Quantity) -> Option<Quantity>
         ensures contains { (lengths : Lengths) (m n : ℕ) → Contains self lengths m → Contains other lengths n → m ≢ n
             → Within result lengths m }
         ensures within { IfSome result (λ q. q.range.high ≤ self.range.high) }
+        ensures rule { option_map estimate_of result ≡ rules.apart (estimate_of self) (estimate_of other) }
     {
         let Some(n) = other.only() else {
             return Quantity::normal(self.bits, self.range, self.tails);
@@ -113,6 +126,7 @@ impl Quantity {
 fn without(range: Range, n: u64) -> Option<Range>
     ensures contains { (m : ℕ) → InRange range m → m ≢ n → InRanges result m }
     ensures within { IfSome result (λ r. r.high ≤ range.high) }
+    ensures rule { option_map interval_of result ≡ rules.without_end (interval_of range) n }
 {
     if range.low == n {
         range.above(n)
@@ -124,6 +138,7 @@ fn without(range: Range, n: u64) -> Option<Range>
 }
 
 /// Both sides where the left one, and as much more, is at most the right one.
+#[tactic(auto, unfolding(crate::specs::Comparing::ordered))]
 fn ordered(x: Quantity, y: Quantity, by: u64) -> Option<Sides>
     ensures contains { (lengths : Lengths) (m n : ℕ) → Contains x lengths m → Contains y lengths n → m + by ≤ n
         → WithinBoth result lengths m n }
@@ -131,6 +146,7 @@ fn ordered(x: Quantity, y: Quantity, by: u64) -> Option<Sides>
     ensures low { IfSome result (λ s. x.range.low ≤ s.left.range.low) }
     ensures tail { (region : Region) (t : ℕ) → tail_of y.tails region ≡ Some t
         → IfSome result (λ s. (u : ℕ) × (tail_of s.left.tails region ≡ Some u)) }
+    ensures rule { option_map rules.told_of result ≡ rules.ordered by (estimate_of x) (estimate_of y) }
 {
     let left = x.below(y, by)?;
     let right = y.above(x, by)?;
@@ -141,6 +157,7 @@ fn ordered(x: Quantity, y: Quantity, by: u64) -> Option<Sides>
 fn turned(sides: Option<Sides>) -> Option<Sides>
     ensures contains { (lengths : Lengths) (m n : ℕ) → WithinBoth sides lengths m n → WithinBoth result lengths n m }
     ensures within { (x y : Quantity) → NarrowsBoth sides x y → NarrowsBoth result y x }
+    ensures rule { option_map rules.told_of result ≡ rules.turned (option_map rules.told_of sides) }
 {
     let Some(Sides { left, right }) = sides else {
         return None;
@@ -156,6 +173,8 @@ fn equal(x: Quantity, y: Quantity) -> Option<Sides>
     ensures contains { (lengths : Lengths) (m : ℕ) → Contains x lengths m → Contains y lengths m
         → WithinBoth result lengths m m }
     ensures within { NarrowsBoth result x y }
+    ensures rule { option_map rules.told_of result
+        ≡ option_map (λ both. rules.told both both) (rules.same (estimate_of x) (estimate_of y)) }
 {
     let both = x.same(y)?;
     Some(Sides {
@@ -169,6 +188,8 @@ fn different(x: Quantity, y: Quantity) -> Option<Sides>
     ensures contains { (lengths : Lengths) (m n : ℕ) → Contains x lengths m → Contains y lengths n → m ≢ n
         → WithinBoth result lengths m n }
     ensures within { NarrowsBoth result x y }
+    ensures rule { option_map rules.told_of result
+        ≡ rules.both_told (rules.apart (estimate_of x) (estimate_of y)) (rules.apart (estimate_of y) (estimate_of x)) }
 {
     let left = x.apart(y)?;
     let right = y.apart(x)?;
@@ -176,12 +197,14 @@ fn different(x: Quantity, y: Quantity) -> Option<Sides>
 }
 
 /// Both sides where the relation stands.
+#[tactic(auto, unfolding(crate::specs::Comparing::refined))]
 fn refine(relation: Relation, x: Quantity, y: Quantity) -> Option<Sides>
     ensures contains { (lengths : Lengths) (m n : ℕ) → Contains x lengths m → Contains y lengths n
         → Stands relation m n → WithinBoth result lengths m n }
     ensures within { NarrowsBoth result x y }
     ensures ends { (region : Region) → relation ≡ Relation.AtMost → (t : ℕ) → tail_of y.tails region ≡ Some t
         → IfSome result (λ s. EndsFrom region x.range.low s.left) }
+    ensures rule { option_map rules.told_of result ≡ rules.refined relation (estimate_of x) (estimate_of y) }
 {
     match relation {
         Relation::Less => ordered(x, y, 1),
@@ -207,10 +230,12 @@ fn is_signed(comparison: Comparison) -> bool
 }
 
 /// The greatest number that both sides may have for the comparison to say something of them.
+#[tactic(auto, unfolding(crate::specs::Comparing::reach))]
 fn reach(width: Width, comparison: Comparison) -> u64
     ensures fits { (m : ℕ) → m ≤ result → Fits width m }
     ensures signs { (m : ℕ) → IsSigned comparison → m ≤ result → 2 * m < 2 ^ bits_of width }
     ensures whole { comparison ≡ Comparison.Greater → result + 1 ≡ 2 ^ bits_of width }
+    ensures rule { result + 1 ≡ rules.reach width comparison }
 {
     if is_signed(comparison) {
         return half(width) - 1;
@@ -219,6 +244,7 @@ fn reach(width: Width, comparison: Comparison) -> u64
 }
 
 /// The sides on the edge that is taken where the comparison holds, or on the other.
+#[tactic(auto, unfolding(crate::specs::Comparing::told_on))]
 pub fn edge(
     width: Width,
     comparison: Comparison,
@@ -231,6 +257,8 @@ pub fn edge(
     ensures within { NarrowsBoth result x y }
     ensures ends { (region : Region) → width ≡ Width.Full → comparison ≡ Comparison.Greater → taken ≡ false → (t : ℕ)
         → tail_of y.tails region ≡ Some t → IfSome result (λ s. EndsFrom region x.range.low s.left) }
+    ensures rule { option_map rules.told_of result
+        ≡ rules.told_on width comparison taken (estimate_of x) (estimate_of y) }
 {
     let reach = reach(width, comparison);
     if x.range.high > reach || y.range.high > reach {

@@ -16,6 +16,12 @@ ghost use Rattle.abstract_state.specs.Steps.{after};
 ghost use Rattle.abstract_state.specs.Unset.{HasUnset};
 ghost use Rattle.bpf_words.specs.Flow.{read_operand};
 ghost use Rattle.semantics.specs.State.{State, start, register_of, operand_in};
+ghost use Rattle.std.specs.Prelude.{option_map};
+ghost use Rattle.abstract_state.specs.Estimate.{estimate_of};
+ghost use Rattle.abstract_state.specs.Addresses.{content_of, answer_of};
+ghost use Rattle.abstract_state.specs.Stacks.{slots_of, eight_of, none_set, Marked};
+ghost use Rattle.abstract_state.specs.Situation as rules;
+ghost use Rattle.abstract_state.specs.Situation.{registers_of, situation_of, least_of};
 
 use crate::address::{ContextAddress, StackAddress};
 use crate::bounds::Bounds;
@@ -51,6 +57,7 @@ impl Bounds {
         ensures short { result ≤ 131072 }
         ensures long { (lengths : Lengths) → IsLong self lengths → result ≤ length_of lengths region }
         ensures value { (at : TheRegion) → region ≡ at → result ≡ bound_of self at }
+        ensures rule { result ≡ rules.least_at (least_of self) region }
     {
         match region {
             Region::Text => self.text,
@@ -59,12 +66,14 @@ impl Bounds {
     }
 
     /// The bounds where a number of the quantity stands; `None` where no region is so long.
+    #[tactic(auto, unfolding(crate::specs::Situation::longer))]
     pub fn raise(self, q: Quantity) -> Option<Bounds>
         ensures sound { (lengths : Lengths) (x : ℕ) → IsLong self lengths → ContainsNumber q lengths x
             → WithinLong result lengths }
         ensures text { (t : ℕ) → q.tails.text ≡ Some t → IfSome result (λ b. q.range.low + t ≤ b.text) }
         ensures link { (t : ℕ) → q.tails.link ≡ Some t → IfSome result (λ b. q.range.low + t ≤ b.link) }
         ensures grows { IfSome result (λ b. (self.text ≤ b.text) × (self.link ≤ b.link)) }
+        ensures rule { option_map least_of result ≡ rules.longer (estimate_of q) (least_of self) }
     {
         let text = bound_raised(self.text, q.range.low, q.tails.text, Region::Text.limit())?;
         let link = bound_raised(self.link, q.range.low, q.tails.link, Region::Link.limit())?;
@@ -73,6 +82,7 @@ impl Bounds {
 }
 
 /// One bound where a number from `low` on with a tail stands; `None` where no region is so long.
+#[tactic(auto, unfolding(crate::specs::Situation::raised_bound))]
 fn bound_raised(bound: u64, low: u64, tail: Option<u32>, limit: u64) -> Option<u64>
     requires { bound ≤ limit }
     ensures short { IfSome result (λ b. b ≤ limit) }
@@ -80,6 +90,7 @@ fn bound_raised(bound: u64, low: u64, tail: Option<u32>, limit: u64) -> Option<u
         → (b : ℕ) × (result ≡ Some b) × (b ≤ long) }
     ensures raised { (t : ℕ) → tail ≡ Some t → IfSome result (λ b. low + t ≤ b) }
     ensures grows { IfSome result (λ b. bound ≤ b) }
+    ensures rule { result ≡ rules.raised_bound limit bound low tail }
 {
     let Some(t) = tail else {
         return Some(bound);
@@ -99,6 +110,7 @@ impl AbsState {
         ensures frame { IsStackAt 512 (register_at result.registers 10) }
         ensures unset { (i : ℕ) → i ≢ 1 → i ≢ 10 → register_at result.registers i ≡ AbsReg.Unset }
         ensures bounds { (result.bounds.text ≡ 0) × (result.bounds.link ≡ 0) }
+        ensures rule { rules.IsSituation result rules.entry }
     {
         AbsState {
             registers: first_registers(),
@@ -121,6 +133,7 @@ impl AbsState {
         ensures numbers { HasNumberAt self.now register → IfOk result (λ k. IsNumber k) }
         ensures unset { IfErr result (λ e. (e ≡ Refusal.UnsetRegister) × HasUnset self.now (register ∷ [])) }
         ensures set { IfOk result (λ _. HasUnset self.now (register ∷ []) → ⊥) }
+        ensures rule { answer_of content_of result ≡ rules.read (registers_of self.now.registers register) }
     {
         match self.registers[register.index()] {
             AbsReg::Unset => Err(Refusal::UnsetRegister),
@@ -142,6 +155,7 @@ impl AbsState {
         ensures numbers { HasNumberIn self.now operand → IfOk result (λ k. IsNumber k) }
         ensures unset { IfErr result (λ e. (e ≡ Refusal.UnsetRegister) × HasUnset self.now (read_operand operand)) }
         ensures set { IfOk result (λ _. HasUnset self.now (read_operand operand) → ⊥) }
+        ensures rule { answer_of content_of result ≡ rules.operand_of (registers_of self.now.registers) operand }
     {
         match operand {
             Operand::Immediate(value) => Ok(Known::Number(Quantity::constant(extended(value)))),
@@ -156,6 +170,7 @@ impl AbsState {
         ensures others { SameBut register self.old self.new }
         ensures there { register_at self.new.registers register ≡ AbsReg.Set known }
         ensures memory { SameMemory self.old self.new }
+        ensures rule { rules.IsSituation self.new (rules.put register (content_of known) (situation_of self.old)) }
     {
         self.registers[register.index()] = AbsReg::Set(known);
     }
@@ -169,6 +184,8 @@ impl AbsState {
         ensures holds { (fact : Fact) → IfSome known (λ k. Says fact k)
             → IfSome (after result self.new) (λ b. Holds fact (register_at b.registers register)) }
         ensures numbers { AreNumbers known → IfSome (after result self.new) (λ b. WritesNumber self.old register b) }
+        ensures rule { rules.Flows
+            (option_map (λ k. rules.put register (content_of k) (situation_of self.old)) known) result self.new }
     {
         let Some(known) = known else {
             return Flow::Dead;
@@ -185,6 +202,7 @@ fn first_registers() -> [AbsReg; 11]
     ensures context { IsContextAt 0 (register_at result 1) }
     ensures frame { IsStackAt 512 (register_at result 10) }
     ensures unset { (i : ℕ) → i ≢ 1 → i ≢ 10 → register_at result i ≡ AbsReg.Unset }
+    ensures rule { (i : ℕ) → i < 11 → registers_of result i ≡ rules.entry.registers i }
 {
     let mut registers = [AbsReg::Unset; 11];
     registers[1] = AbsReg::Set(Known::Context(ContextAddress { offset: 0 }));
@@ -196,7 +214,8 @@ fn first_registers() -> [AbsReg; 11]
 
 /// A stack of which nothing is known.
 fn unset_stack() -> [Slot; 64]
-    ensures { (lengths : Lengths) (bytes : Bytes) → ContainsStack result lengths bytes }
+    ensures contains { (lengths : Lengths) (bytes : Bytes) → ContainsStack result lengths bytes }
+    ensures rule { (i : ℕ) → i < 64 → slots_of result i ≡ rules.entry.slots i }
 {
     let slot = unset_slot();
     [slot; 64]
@@ -204,7 +223,8 @@ fn unset_stack() -> [Slot; 64]
 
 /// A slot of which nothing is known.
 fn unset_slot() -> Slot
-    ensures { (lengths : Lengths) (bytes : Bytes) (i : ℕ) → ContainsSlot result lengths bytes i }
+    ensures contains { (lengths : Lengths) (bytes : Bytes) (i : ℕ) → ContainsSlot result lengths bytes i }
+    ensures rule { eight_of result ≡ Marked none_set }
 {
     Slot::Marks([false; 8])
 }

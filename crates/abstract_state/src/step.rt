@@ -1,26 +1,27 @@
 //! Instructions after which a run goes on at one slot of the program.
-ghost use Rattle.std.specs.Prelude.{◌≡◌, ◌≢◌, ◌↔◌, ◌++◌, IfErr, [], ◌∷◌, ℕ, pos, ◌+◌, ◌*◌, ◌%◌, ◌^◌, ◌<◌, ◌≤◌, Option};
+ghost use Rattle.std.specs.Prelude.{◌≡◌, ◌≢◌, ◌↔◌, IfErr, [], ◌∷◌, ℕ, pos, ◌+◌, ◌*◌, ◌^◌, ◌<◌, ◌≤◌, Option};
 ghost use Rattle.std.specs.Prelude.{Some, None, Ok, IfSome, IfOk, IsOk};
 ghost use Rattle.std.specs.Int.{cast_unsigned, w64};
-ghost use Rattle.semantics.specs.State.{State, register_of};
+ghost use Rattle.semantics.specs.State.{State};
 ghost use Rattle.semantics.specs.Step.{Returns};
 ghost use Rattle.abstract_state.specs.State.{Span, lengths_of, Contains, StepsIn, StepsBy, does, register_at, slot_at};
-ghost use Rattle.abstract_state.specs.Kinds.{HasNumberAt, HasNumberIn, ReadsFirst, ReadsNumbers, WritesNumber, Carries};
-ghost use Rattle.abstract_state.specs.Kinds.{IsNumberField, IsContextAt};
+ghost use Rattle.abstract_state.specs.Kinds.{HasNumberAt, HasNumberIn, ReadsNumbers, Carries, IsContextAt};
 ghost use Rattle.abstract_state.specs.Steps.{MayStep, StepsTo, after};
+ghost use Rattle.abstract_state.specs.Performs.{Performs};
 ghost use Rattle.abstract_state.specs.Exact.{Fact, Folds, Holds, tail_after};
 ghost use Rattle.abstract_state.specs.declared.region.Region.{Region};
 ghost use Rattle.abstract_state.specs.Lent.{begin_field, end_field, limit_of, bound_of, Lends};
-ghost use Rattle.abstract_state.specs.Guard.{Yields, Stores, Spills, Keeps, IsOperand, Writes, LeavesOthers};
-ghost use Rattle.abstract_state.specs.Guard.{SameMemory, LeavesMemory};
+ghost use Rattle.abstract_state.specs.Guard.{Yields, Stores, Spills, Keeps, IsOperand, LeavesOthers, LeavesMemory};
 ghost use Rattle.semantics.specs.Value.{value_of};
 ghost use Rattle.abstract_state.specs.Unset.{HasUnset};
-ghost use Rattle.bpf_words.specs.Flow.{read_by, read_first, read_operand};
+ghost use Rattle.bpf_words.specs.Flow.{read_by};
 ghost use Rattle.semantics.specs.Memory.{bytes_in, bytes_in_signed};
 ghost use Rattle.abstract_state.specs.Frame.{IsStackByte, AreMarked, StoresSlots, SpillsSlot};
 ghost use Rattle.abstract_state.specs.declared.slot.Slot.{Slot};
 ghost use Rattle.abstract_state.specs.declared.state.AbsReg.TheVariants.{Set};
 ghost use Rattle.abstract_state.specs.declared.address.LentAddress.{LentAddress};
+ghost use Rattle.abstract_state.specs.Situation.{situation_of, IsSituation, AnswersStep};
+ghost use Rattle.abstract_state.specs.Stepping as rules;
 
 use crate::known::Known;
 use crate::quantity::Quantity;
@@ -55,10 +56,8 @@ impl AbsState {
         operand: Operand,
     ) -> Result<Flow, Refusal>
         requires { destination ≢ 10 }
-        ensures sound { IfOk result (λ flow. StepsBy self.old (Insn.Compute width Arithmetic.Mov destination operand)
-            (pos 0) (after flow self.new)) }
-        ensures others { IfOk result (λ flow. IfSome (after flow self.new) (λ b. Writes destination self.old b)) }
-        ensures memory { IfOk result (λ flow. IfSome (after flow self.new) (λ b. SameMemory self.old b)) }
+        ensures performs { Performs StepsBy self.old (Insn.Compute width Arithmetic.Mov destination operand) result
+            self.new }
         ensures lent { (region : Region) (r n : ℕ) (t : Option ℕ) → width ≡ Width.Full → operand ≡ Operand.Source r
             → Holds (Fact.LentIn region n n t) (register_at self.old.registers r)
             → Keeps result self.new destination (Fact.LentIn region n n t) }
@@ -67,11 +66,7 @@ impl AbsState {
             → Keeps result self.new destination (Fact.NoLess known) }
         ensures copies { (region : Region) (n : ℕ) → width ≡ Width.Full → IsOperand region self.old operand n
             → Keeps result self.new destination (Fact.NumberIn region n n None) }
-        ensures floor { HasNumberIn self.old operand → IsOk result }
-        ensures numbers { HasNumberIn self.old operand
-            → IfOk result (λ flow. IfSome (after flow self.new) (λ b. WritesNumber self.old destination b)) }
-        ensures unset { IfErr result (λ e. (e ≡ Refusal.UnsetRegister) ↔ HasUnset self.old (read_operand operand)) }
-        ensures set { IfOk result (λ _. HasUnset self.old (read_operand operand) → ⊥) }
+        ensures rule { AnswersStep (rules.move width destination operand (situation_of self.old)) result self.new }
     {
         let b = self.operand(operand)?;
         let known = b.moved(width)?;
@@ -88,10 +83,8 @@ impl AbsState {
     ) -> Result<Flow, Refusal>
         requires frame { destination ≢ 10 }
         requires reads { operation ≢ Arithmetic.Mov }
-        ensures sound { IfOk result (λ flow. StepsBy self.old (Insn.Compute width operation destination operand)
-            (pos 0) (after flow self.new)) }
-        ensures others { IfOk result (λ flow. IfSome (after flow self.new) (λ b. Writes destination self.old b)) }
-        ensures memory { IfOk result (λ flow. IfSome (after flow self.new) (λ b. SameMemory self.old b)) }
+        ensures performs { Performs StepsBy self.old (Insn.Compute width operation destination operand) result
+            self.new }
         ensures adds { (region : Region) (k n : ℕ) (t : Option ℕ) → width ≡ Width.Full → operation ≡ Arithmetic.Add
             → operand ≡ Operand.Immediate (pos k)
             → Holds (Fact.LentIn region n n t) (register_at self.old.registers destination) → n + k ≤ 2 ^ 20
@@ -101,12 +94,8 @@ impl AbsState {
             → IsOperand region self.old operand n
             → Keeps result self.new destination
             (Fact.NumberIn region (value_of operation Width.Full m n) (value_of operation Width.Full m n) None) }
-        ensures floor { HasNumberAt self.old destination → HasNumberIn self.old operand → IsOk result }
-        ensures numbers { HasNumberAt self.old destination → HasNumberIn self.old operand
-            → IfOk result (λ flow. IfSome (after flow self.new) (λ b. WritesNumber self.old destination b)) }
-        ensures unset { IfErr result (λ e. (e ≡ Refusal.UnsetRegister)
-            ↔ HasUnset self.old (destination ∷ read_operand operand)) }
-        ensures set { IfOk result (λ _. HasUnset self.old (destination ∷ read_operand operand) → ⊥) }
+        ensures rule { AnswersStep (rules.compute profile width operation destination operand (situation_of self.old))
+            result self.new }
     {
         let a = self.read(destination)?;
         let b = self.operand(operand)?;
@@ -116,15 +105,8 @@ impl AbsState {
 
     fn negate(&mut self, width: Width, destination: Register) -> Result<Flow, Refusal>
         requires { destination ≢ 10 }
-        ensures sound { IfOk result (λ flow. StepsBy self.old (Insn.Negate width destination) (pos 0)
-            (after flow self.new)) }
-        ensures others { IfOk result (λ flow. IfSome (after flow self.new) (λ b. Writes destination self.old b)) }
-        ensures memory { IfOk result (λ flow. IfSome (after flow self.new) (λ b. SameMemory self.old b)) }
-        ensures floor { HasNumberAt self.old destination → IsOk result }
-        ensures numbers { HasNumberAt self.old destination
-            → IfOk result (λ flow. IfSome (after flow self.new) (λ b. WritesNumber self.old destination b)) }
-        ensures unset { IfErr result (λ e. (e ≡ Refusal.UnsetRegister) ↔ HasUnset self.old (destination ∷ [])) }
-        ensures set { IfOk result (λ _. HasUnset self.old (destination ∷ []) → ⊥) }
+        ensures performs { Performs StepsBy self.old (Insn.Negate width destination) result self.new }
+        ensures rule { AnswersStep (rules.negate width destination (situation_of self.old)) result self.new }
     {
         let a = self.read(destination)?;
         let known = a.negate(width)?;
@@ -138,15 +120,8 @@ impl AbsState {
         source: Register,
     ) -> Result<Flow, Refusal>
         requires { destination ≢ 10 }
-        ensures sound { IfOk result (λ flow. StepsBy self.old (Insn.Extend extension destination source) (pos 0)
-            (after flow self.new)) }
-        ensures others { IfOk result (λ flow. IfSome (after flow self.new) (λ b. Writes destination self.old b)) }
-        ensures memory { IfOk result (λ flow. IfSome (after flow self.new) (λ b. SameMemory self.old b)) }
-        ensures floor { HasNumberAt self.old source → IsOk result }
-        ensures numbers { HasNumberAt self.old source
-            → IfOk result (λ flow. IfSome (after flow self.new) (λ b. WritesNumber self.old destination b)) }
-        ensures unset { IfErr result (λ e. (e ≡ Refusal.UnsetRegister) ↔ HasUnset self.old (source ∷ [])) }
-        ensures set { IfOk result (λ _. HasUnset self.old (source ∷ []) → ⊥) }
+        ensures performs { Performs StepsBy self.old (Insn.Extend extension destination source) result self.new }
+        ensures rule { AnswersStep (rules.extend extension destination source (situation_of self.old)) result self.new }
     {
         let a = self.read(source)?;
         let known = a.extend(extension)?;
@@ -160,15 +135,8 @@ impl AbsState {
         destination: Register,
     ) -> Result<Flow, Refusal>
         requires { destination ≢ 10 }
-        ensures sound { IfOk result (λ flow. StepsBy self.old (Insn.Convert conversion bits destination) (pos 0)
-            (after flow self.new)) }
-        ensures others { IfOk result (λ flow. IfSome (after flow self.new) (λ b. Writes destination self.old b)) }
-        ensures memory { IfOk result (λ flow. IfSome (after flow self.new) (λ b. SameMemory self.old b)) }
-        ensures floor { HasNumberAt self.old destination → IsOk result }
-        ensures numbers { HasNumberAt self.old destination
-            → IfOk result (λ flow. IfSome (after flow self.new) (λ b. WritesNumber self.old destination b)) }
-        ensures unset { IfErr result (λ e. (e ≡ Refusal.UnsetRegister) ↔ HasUnset self.old (destination ∷ [])) }
-        ensures set { IfOk result (λ _. HasUnset self.old (destination ∷ []) → ⊥) }
+        ensures performs { Performs StepsBy self.old (Insn.Convert conversion bits destination) result self.new }
+        ensures rule { AnswersStep (rules.convert bits destination (situation_of self.old)) result self.new }
     {
         let a = self.read(destination)?;
         let known = a.convert(conversion, bits)?;
@@ -184,10 +152,8 @@ impl AbsState {
         offset: i16,
     ) -> Result<Flow, Refusal>
         requires { destination ≢ 10 }
-        ensures sound { IfOk result (λ flow. StepsIn profile self.old (Insn.Load size destination base offset) (pos 0)
-            (after flow self.new)) }
-        ensures others { IfOk result (λ flow. IfSome (after flow self.new) (λ b. Writes destination self.old b)) }
-        ensures memory { IfOk result (λ flow. IfSome (after flow self.new) (λ b. SameMemory self.old b)) }
+        ensures performs { Performs (StepsIn profile) self.old (Insn.Load size destination base offset) result
+            self.new }
         ensures begin { (region : Region) → Lends region profile → offset ≡ pos (begin_field region)
             → size ≡ Size.Double → IsContextAt 0 (register_at self.old.registers base)
             → Keeps result self.new destination (Fact.LentIn region 0 0 (Some 0)) }
@@ -204,13 +170,8 @@ impl AbsState {
             → register_at self.old.registers base ≡ Set (Known.Lent p)
             → p.offset.range.high + o + bytes_in size ≤ bound_of self.old.bounds p.region
             → Keeps result self.new destination Fact.AnyNumber }
-        ensures floor { IsContextAt 0 (register_at self.old.registers base)
-            → IsNumberField size (cast_unsigned w64 offset) → IsOk result }
-        ensures numbers { IsContextAt 0 (register_at self.old.registers base)
-            → IsNumberField size (cast_unsigned w64 offset)
-            → IfOk result (λ flow. IfSome (after flow self.new) (λ b. WritesNumber self.old destination b)) }
-        ensures unset { IfErr result (λ e. (e ≡ Refusal.UnsetRegister) ↔ HasUnset self.old (base ∷ [])) }
-        ensures set { IfOk result (λ _. HasUnset self.old (base ∷ []) → ⊥) }
+        ensures rule { AnswersStep (rules.load profile size destination base offset (situation_of self.old)) result
+            self.new }
     {
         let a = self.read(base)?;
         let known = self.load(profile, a, displacement(offset), size)?;
@@ -225,18 +186,15 @@ impl AbsState {
         offset: i16,
     ) -> Result<Flow, Refusal>
         requires { destination ≢ 10 }
-        ensures sound { IfOk result (λ flow. StepsBy self.old (Insn.LoadSigned size destination base offset) (pos 0)
-            (after flow self.new)) }
-        ensures others { IfOk result (λ flow. IfSome (after flow self.new) (λ b. Writes destination self.old b)) }
-        ensures memory { IfOk result (λ flow. IfSome (after flow self.new) (λ b. SameMemory self.old b)) }
+        ensures performs { Performs StepsBy self.old (Insn.LoadSigned size destination base offset) result self.new }
         ensures lent { (o : ℕ) (p : LentAddress) → offset ≡ pos o → o < 2 ^ 15
             → register_at self.old.registers base ≡ Set (Known.Lent p)
             → p.offset.range.high + o + bytes_in_signed size ≤ bound_of self.old.bounds p.region
             → Keeps result self.new destination Fact.AnyNumber }
         ensures stack { (p : ℕ) → IsStackByte p (cast_unsigned w64 offset) (register_at self.old.registers base)
             → AreMarked self.old.stack p (bytes_in_signed size) → Keeps result self.new destination Fact.AnyNumber }
-        ensures unset { IfErr result (λ e. (e ≡ Refusal.UnsetRegister) ↔ HasUnset self.old (base ∷ [])) }
-        ensures set { IfOk result (λ _. HasUnset self.old (base ∷ []) → ⊥) }
+        ensures rule { AnswersStep (rules.load_signed size destination base offset (situation_of self.old)) result
+            self.new }
     {
         let a = self.read(base)?;
         self.load_signed(a, displacement(offset), size)?;
@@ -251,10 +209,8 @@ impl AbsState {
         offset: i16,
         value: Operand,
     ) -> Result<Flow, Refusal>
-        ensures sound { IfOk result (λ flow. StepsBy self.old (Insn.Store size base offset value) (pos 0)
-            (after flow self.new)) }
-        ensures others { IfOk result (λ _. self.new.registers ≡ self.old.registers) }
-        ensures bounds { IfOk result (λ _. self.new.bounds ≡ self.old.bounds) }
+        ensures performs { Performs StepsBy self.old (Insn.Store size base offset value) result self.new }
+        ensures live { IfOk result (λ flow. flow ≡ Flow.Live) }
         ensures stores { (p : ℕ) → IsStackByte p (cast_unsigned w64 offset) (register_at self.old.registers base)
             → p + bytes_in size ≤ 512 → HasNumberIn self.old value
             → IsOk result
@@ -266,9 +222,7 @@ impl AbsState {
             → Holds (Fact.Exactly known) (register_at self.old.registers r)
             → IsOk result
             × IfOk result (λ flow. IfSome (after flow self.new) (λ b. SpillsSlot i known self.old.stack b.stack)) }
-        ensures unset { IfErr result (λ e. (e ≡ Refusal.UnsetRegister)
-            ↔ HasUnset self.old (base ∷ read_operand value)) }
-        ensures set { IfOk result (λ _. HasUnset self.old (base ∷ read_operand value) → ⊥) }
+        ensures rule { AnswersStep (rules.store size base offset value (situation_of self.old)) result self.new }
     {
         let a = self.read(base)?;
         let b = self.operand(value)?;
@@ -278,12 +232,11 @@ impl AbsState {
 
     fn load_wide(&mut self, destination: Register, value: u64) -> Flow
         requires { destination ≢ 10 }
-        ensures sound { StepsBy self.old (Insn.LoadWide destination value) (pos 1) (after result self.new) }
-        ensures others { IfSome (after result self.new) (λ b. Writes destination self.old b) }
-        ensures memory { IfSome (after result self.new) (λ b. SameMemory self.old b) }
+        ensures performs { Performs StepsBy self.old (Insn.LoadWide destination value) (Ok result) self.new }
         ensures yields { (region : Region) → IfSome (after result self.new)
             (λ b. Holds (Fact.NumberIn region value value None) (register_at b.registers destination)) }
-        ensures numbers { IfSome (after result self.new) (λ b. WritesNumber self.old destination b) }
+        ensures rule { (result ≡ Flow.Live)
+            × IsSituation self.new (rules.load_wide destination value (situation_of self.old)) }
     {
         let known = Known::Number(Quantity::constant(value));
         self.write(destination, Some(known))
@@ -298,20 +251,13 @@ impl AbsState {
         operand: Operand,
     ) -> Result<Flow, Refusal>
         requires { destination ≢ 10 }
-        ensures sound { IfOk result (λ flow. StepsBy self.old (Insn.Compute width operation destination operand)
-            (pos 0) (after flow self.new)) }
-        ensures others { IfOk result (λ flow. IfSome (after flow self.new) (λ b. Writes destination self.old b)) }
-        ensures memory { IfOk result (λ flow. IfSome (after flow self.new) (λ b. SameMemory self.old b)) }
+        ensures performs { Performs StepsBy self.old (Insn.Compute width operation destination operand) result
+            self.new }
         ensures yields { (d : ℕ) (fact : Fact)
             → Yields profile self.old (Insn.Compute width operation destination operand) d fact
             → Keeps result self.new d fact }
-        ensures floor { ReadsFirst self.old operation destination → HasNumberIn self.old operand → IsOk result }
-        ensures numbers { ReadsFirst self.old operation destination → HasNumberIn self.old operand
-            → IfOk result (λ flow. IfSome (after flow self.new) (λ b. WritesNumber self.old destination b)) }
-        ensures unset { IfErr result (λ e. (e ≡ Refusal.UnsetRegister)
-            ↔ HasUnset self.old (read_first operation destination ++ read_operand operand)) }
-        ensures set { IfOk result (λ _. HasUnset self.old (read_first operation destination ++ read_operand operand)
-            → ⊥) }
+        ensures rule { AnswersStep
+            (rules.arithmetic profile width operation destination operand (situation_of self.old)) result self.new }
     {
         match operation {
             Arithmetic::Mov => self.move_to(width, destination, operand),
@@ -326,6 +272,7 @@ impl AbsState {
         ensures floor { HasNumberAt self.now 0 → IsOk result }
         ensures unset { IfErr result (λ e. (e ≡ Refusal.UnsetRegister) ↔ HasUnset self.now (0 ∷ [])) }
         ensures set { IfOk result (λ _. HasUnset self.now (0 ∷ []) → ⊥) }
+        ensures rule { result ≡ rules.exit (situation_of self.now) }
     {
         let known = self.read(Register::r0())?;
         if known.is_number() {
@@ -355,6 +302,7 @@ impl AbsState {
             → IfOk result (λ flow. IfSome (after flow self.new) (λ b. Carries self.old insn.now b)) }
         ensures unset { IfErr result (λ e. (e ≡ Refusal.UnsetRegister) ↔ HasUnset self.old (read_by insn.now)) }
         ensures set { IfOk result (λ _. HasUnset self.old (read_by insn.now) → ⊥) }
+        ensures rule { AnswersStep (rules.stepped profile insn.now (situation_of self.old)) result self.new }
     {
         match *insn {
             Insn::Compute {

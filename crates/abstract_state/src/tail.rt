@@ -1,15 +1,20 @@
 //! One tail of a number x: a number t, if it is there, so that x + t is at most a length.
-ghost use Rattle.std.specs.Prelude.{◌≡◌, ℕ, ◌+◌, ◌≤◌, min, Option, Some, None, IfSome};
+ghost use Rattle.std.specs.Prelude.{◌≡◌, ℕ, ◌+◌, ◌-◌, ◌^◌, ◌≤◌, min, Option, Some, None, IfSome, option_map};
+ghost use Rattle.intervals.specs.Interval.{interval_of};
+ghost use Rattle.abstract_state.specs.Estimate.{under_tail, raised_tail, greater_tail, lesser_tail};
+ghost use Rattle.abstract_state.specs.Transfer.{sum_tail};
 ghost use Rattle.abstract_state.specs.Lent.{HasTail, InRange, InRanges};
 ghost use Rattle.abstract_state.specs.Exact.{tail_after};
 
 use intervals::Range;
 
 /// The interval cut to what the tail allows, where lengths are up to `limit`.
+#[tactic(auto, unfolding(crate::specs::Estimate::under_tail))]
 pub fn narrow(tail: Option<u32>, limit: u64, range: Range) -> Option<Range>
     ensures contains { (long x : ℕ) → long ≤ limit → InRange range x → HasTail tail long x → InRanges result x }
     ensures within { IfSome result (λ r. (range.low ≤ r.low) × (r.high ≤ range.high)) }
     ensures limits { (t : ℕ) → tail ≡ Some t → IfSome result (λ r. r.high + t ≤ limit) }
+    ensures rule { option_map interval_of result ≡ under_tail limit tail (interval_of range) }
 {
     let Some(t) = tail else {
         return Some(range);
@@ -33,10 +38,12 @@ pub fn after(tail: Option<u32>, added: u64) -> Option<u32>
 }
 
 /// The tail of the sum of a number up to `high` with this tail and of a number up to `added` with the other.
+#[tactic(auto, unfolding(crate::specs::Transfer::sum_tail))]
 pub fn sum(tail: Option<u32>, high: u64, other: Option<u32>, added: u64) -> Option<u32>
     ensures contains { (long x y : ℕ) → HasTail tail long x → x ≤ high → HasTail other long y → y ≤ added
         → HasTail result long (x + y) }
     ensures alone { other ≡ None → result ≡ tail_after tail added }
+    ensures rule { result ≡ sum_tail high added tail other }
 {
     match after(tail, added) {
         Some(t) => Some(t),
@@ -47,14 +54,16 @@ pub fn sum(tail: Option<u32>, high: u64, other: Option<u32>, added: u64) -> Opti
 /// A tail that is greater by so much, or the greatest of 32 bits. That is past each region's limit, so that no number
 /// has it.
 fn more(tail: u32, by: u64) -> u32
-    ensures { result ≤ tail + by }
+    ensures bound { result ≤ tail + by }
+    ensures rule { result ≡ min (tail + by) (2 ^ 32 - 1) }
 {
     u64::from(tail).saturating_add(by).min(u64::from(u32::MAX)) as u32
 }
 
 /// The tail after at least `taken` is taken away.
 pub fn difference(tail: Option<u32>, taken: u64) -> Option<u32>
-    ensures { (long x y : ℕ) → HasTail tail long (x + y) → taken ≤ y → HasTail result long x }
+    ensures contains { (long x y : ℕ) → HasTail tail long (x + y) → taken ≤ y → HasTail result long x }
+    ensures rule { result ≡ raised_tail taken tail }
 {
     let Some(t) = tail else {
         return None;
@@ -67,6 +76,7 @@ pub fn greater(a: Option<u32>, b: Option<u32>) -> Option<u32>
     ensures contains { (long x y z : ℕ) → HasTail a long x → HasTail b long y → z ≤ x → z ≤ y → HasTail result long z }
     ensures there { (u : ℕ) → b ≡ Some u → (t : ℕ) × (result ≡ Some t) }
     ensures none { a ≡ None → b ≡ None → result ≡ None }
+    ensures rule { result ≡ greater_tail a b }
 {
     match (a, b) {
         (Some(t), Some(u)) => Some(t.max(u)),
@@ -80,6 +90,7 @@ pub fn lesser(a: Option<u32>, b: Option<u32>) -> Option<u32>
     ensures left { (long x : ℕ) → HasTail a long x → HasTail result long x }
     ensures right { (long x : ℕ) → HasTail b long x → HasTail result long x }
     ensures lesser { (t u : ℕ) → a ≡ Some t → b ≡ Some u → result ≡ Some (min t u) }
+    ensures rule { result ≡ lesser_tail a b }
 {
     match (a, b) {
         (Some(t), Some(u)) => Some(t.min(u)),
@@ -91,6 +102,7 @@ pub fn lesser(a: Option<u32>, b: Option<u32>) -> Option<u32>
 pub fn raised(tail: Option<u32>, by: u64) -> Option<u32>
     ensures contains { (long x y : ℕ) → HasTail tail long y → x + by ≤ y → HasTail result long x }
     ensures there { (t : ℕ) → tail ≡ Some t → (u : ℕ) × (result ≡ Some u) }
+    ensures rule { result ≡ raised_tail by tail }
 {
     let Some(t) = tail else {
         return None;

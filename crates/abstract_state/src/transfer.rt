@@ -1,6 +1,10 @@
 //! What an operation makes of quantities.
 ghost use Rattle.std.specs.Prelude.{◌≡◌, ℕ, ◌+◌, ◌-◌, ◌*◌, ◌/◌, ◌%◌, ◌^◌, ◌<◌, ◌≤◌, Option, Some, None, IfSome};
-ghost use Rattle.std.specs.Prelude.{bit_and, bit_or, bit_xor};
+ghost use Rattle.std.specs.Prelude.{bit_and, bit_or, bit_xor, option_map};
+ghost use Rattle.known_bits.specs.KnownBits.{known_of};
+ghost use Rattle.intervals.specs.Interval.{interval_of};
+ghost use Rattle.abstract_state.specs.Estimate.{estimate_of, operand_cut, normal_cut, constant, unknown, only};
+ghost use Rattle.abstract_state.specs.Transfer as rules;
 ghost use Rattle.abstract_state.specs.Lent.{Lengths, HasTails, InRange, InRanges};
 ghost use Rattle.abstract_state.specs.declared.region.Region.{Region};
 ghost use Rattle.abstract_state.specs.Quantity.{InBits, Contains, Within, Fits, Maps, MapsBoth, Narrows, KeepsBits};
@@ -36,16 +40,19 @@ pub fn half(width: Width) -> u64
 impl Quantity {
     /// Every number of the width.
     pub fn unknown(width: Width) -> Quantity
-        ensures { (lengths : Lengths) (x : ℕ) → Fits width x → Contains result lengths x }
+        ensures contains { (lengths : Lengths) (x : ℕ) → Fits width x → Contains result lengths x }
+        ensures rule { estimate_of result ≡ unknown width }
     {
         Quantity::up_to(greatest(width))
     }
 
     /// The one number, where there is one.
+    #[tactic(auto, unfolding(crate::specs::Estimate::only))]
     pub fn only(self) -> Option<u64>
         ensures contains { IfSome result (λ n. (lengths : Lengths) (x : ℕ) → Contains self lengths x → x ≡ n) }
         ensures ends { IfSome result (λ n. (self.range.low ≡ n) × (self.range.high ≡ n)) }
         ensures there { self.range.low ≡ self.range.high → result ≡ Some self.range.low }
+        ensures rule { result ≡ only (estimate_of self) }
     {
         if self.range.low == self.range.high {
             Some(self.range.low)
@@ -55,9 +62,11 @@ impl Quantity {
     }
 
     /// The operand of an operation of the width.
+    #[tactic(auto, unfolding(crate::specs::Estimate::operand_cut))]
     pub fn cut_to(self, width: Width) -> Option<Quantity>
         ensures contains { (lengths : Lengths) (x : ℕ) → Contains self lengths x → Within result lengths (cut width x) }
         ensures whole { width ≡ Width.Full → result ≡ Some self }
+        ensures rule { option_map estimate_of result ≡ operand_cut width (estimate_of self) }
     {
         match width {
             Width::Full => Some(self),
@@ -70,31 +79,38 @@ impl Quantity {
         ensures contains { (lengths : Lengths) (x : ℕ) → Contains self lengths x → Within result lengths (cut width x) }
         ensures narrows { width ≡ Width.Full → Narrows result self.range self.tails }
         ensures bits { width ≡ Width.Full → KeepsBits result self.bits }
+        ensures rule { option_map estimate_of result ≡ normal_cut width (known_of self.bits)
+            (interval_of self.range) self.tails }
     {
         Quantity::finish(width, self.bits, self.range, self.tails)
     }
 
     /// The bits of the sum.
+    #[tactic(auto, unfolding(crate::specs::Transfer::sum_bits))]
     fn sum_bits(self, other: Quantity) -> Bits
         ensures contains { (lengths : Lengths) (x y : ℕ) → Contains self lengths x → Contains other lengths y
             → InBits result ((x + y) % 2 ^ 64) }
         ensures constants { (region : Region) (m n : ℕ) (t u : Option ℕ) → IsIn region self m m t
             → IsIn region other n n u → m + n < 2 ^ 64 → HasBits result (m + n) (m + n) }
+        ensures rule { known_of result ≡ rules.sum_bits (estimate_of self) (estimate_of other) }
     {
-        if self.bits.greatest() & other.bits.greatest() != 0 {
-            if let (Some(a), Some(b)) = (self.only(), other.only()) {
-                return Bits::constant(a.wrapping_add(b));
-            }
+        if self.bits.greatest() & other.bits.greatest() == 0 {
+            return self.bits.add(other.bits);
         }
-        self.bits.add(other.bits)
+        match (self.only(), other.only()) {
+            (Some(a), Some(b)) => Bits::constant(a.wrapping_add(b)),
+            _ => Bits::unknown(),
+        }
     }
 
     /// The sum: bits, interval, tails.
+    #[tactic(auto, unfolding(crate::specs::Transfer::sum))]
     fn plus(self, other: Quantity, width: Width) -> Option<Quantity>
         ensures contains { MapsBoth width self other result (λ x y. value_of Arithmetic.Add width x y) }
         ensures constants { (region : Region) → width ≡ Width.Full → (m n : ℕ) (t : Option ℕ) → IsIn region self m m t
             → IsIn region other n n None → m + n < 2 ^ 64
             → IfSome result (λ q. IsIn region q (m + n) (m + n) (tail_after t n)) }
+        ensures rule { option_map estimate_of result ≡ rules.sum width (estimate_of self) (estimate_of other) }
     {
         Quantity::finish(
             width,
@@ -106,23 +122,28 @@ impl Quantity {
     }
 
     /// The bits of the difference.
+    #[tactic(auto, unfolding(crate::specs::Transfer::difference_bits))]
     fn difference_bits(self, other: Quantity) -> Bits
-        ensures { (lengths : Lengths) (x y : ℕ) → Contains self lengths x → Contains other lengths y
+        ensures contains { (lengths : Lengths) (x y : ℕ) → Contains self lengths x → Contains other lengths y
             → InBits result ((x + (2 ^ 64 - y)) % 2 ^ 64) }
+        ensures rule { known_of result ≡ rules.difference_bits (estimate_of self) (estimate_of other) }
     {
         let most = other.bits.greatest();
-        if most & self.bits.least() != most {
-            if let (Some(a), Some(b)) = (self.only(), other.only()) {
-                return Bits::constant(a.wrapping_sub(b));
-            }
+        if most & self.bits.least() == most {
+            return self.bits.sub(other.bits);
         }
-        self.bits.sub(other.bits)
+        match (self.only(), other.only()) {
+            (Some(a), Some(b)) => Bits::constant(a.wrapping_sub(b)),
+            _ => Bits::unknown(),
+        }
     }
 
     /// The tails of the difference.
+    #[tactic(auto, unfolding(crate::specs::Transfer::difference_tails))]
     fn difference_tails(self, other: Quantity) -> Tails
-        ensures { (lengths : Lengths) (x y : ℕ) → Contains self lengths x → Contains other lengths y
+        ensures contains { (lengths : Lengths) (x y : ℕ) → Contains self lengths x → Contains other lengths y
             → HasTails result lengths ((x + (2 ^ 64 - y)) % 2 ^ 64) }
+        ensures rule { result ≡ rules.difference_tails (estimate_of self) (estimate_of other) }
     {
         if self.range.low < other.range.high {
             return Tails::none();
@@ -131,8 +152,10 @@ impl Quantity {
     }
 
     /// The difference: bits, interval, tails.
+    #[tactic(auto, unfolding(crate::specs::Transfer::difference))]
     fn minus(self, other: Quantity, width: Width) -> Option<Quantity>
-        ensures { MapsBoth width self other result (λ x y. value_of Arithmetic.Sub width x y) }
+        ensures contains { MapsBoth width self other result (λ x y. value_of Arithmetic.Sub width x y) }
+        ensures rule { option_map estimate_of result ≡ rules.difference width (estimate_of self) (estimate_of other) }
     {
         Quantity::finish(
             width,
@@ -143,10 +166,13 @@ impl Quantity {
     }
 
     /// The amount that is taken away where a great constant is added, and the other way round.
+    #[tactic(auto, unfolding(crate::specs::Transfer::complement))]
     fn complement(self, width: Width) -> Option<Quantity>
         ensures contains { IfSome result (λ q. (lengths : Lengths) (x : ℕ) → Contains self lengths x → Fits width x
             → (0 < x) × Contains q lengths (2 ^ bits_of width - x)) }
         ensures great { IfSome result (λ _. 2 ^ bits_of width ≤ 2 * self.range.high) }
+        ensures rule { option_map estimate_of result
+            ≡ option_map constant (rules.complement width (estimate_of self)) }
     {
         match self.only() {
             Some(b) if b >= half(width) && b <= greatest(width) => {
@@ -157,11 +183,13 @@ impl Quantity {
     }
 
     /// The sum; a great constant is taken away as what it lacks to the width, so that the interval stays.
+    #[tactic(auto, unfolding(crate::specs::Transfer::added))]
     pub fn add(self, other: Quantity, width: Width) -> Option<Quantity>
         ensures contains { MapsBoth width self other result (λ x y. value_of Arithmetic.Add width x y) }
         ensures constants { (region : Region) → width ≡ Width.Full → (m n : ℕ) (t : Option ℕ) → IsIn region self m m t
             → IsIn region other n n None → m < 2 ^ 62 → n < 2 ^ 62
             → IfSome result (λ q. IsIn region q (m + n) (m + n) (tail_after t n)) }
+        ensures rule { option_map estimate_of result ≡ rules.added width (estimate_of self) (estimate_of other) }
     {
         match other.complement(width) {
             Some(taken) => self.minus(taken, width),
@@ -170,8 +198,10 @@ impl Quantity {
     }
 
     /// The difference; a great constant is added as what it lacks to the width, so that the interval stays.
+    #[tactic(auto, unfolding(crate::specs::Transfer::taken_away))]
     pub fn sub(self, other: Quantity, width: Width) -> Option<Quantity>
-        ensures { MapsBoth width self other result (λ x y. value_of Arithmetic.Sub width x y) }
+        ensures contains { MapsBoth width self other result (λ x y. value_of Arithmetic.Sub width x y) }
+        ensures rule { option_map estimate_of result ≡ rules.taken_away width (estimate_of self) (estimate_of other) }
     {
         match other.complement(width) {
             Some(added) => self.plus(added, width),
@@ -180,10 +210,13 @@ impl Quantity {
     }
 
     /// The bits that both have.
+    #[tactic(auto, unfolding(crate::specs::Transfer::of_both))]
     pub fn and(self, other: Quantity, width: Width) -> Option<Quantity>
         ensures contains { MapsBoth width self other result (λ x y. value_of Arithmetic.And width x y) }
         ensures constants { (region : Region) → width ≡ Width.Full → (m n : ℕ) → IsConstant region self m
             → IsConstant region other n → IfSome result (λ q. IsConstant region q (bit_and m n)) }
+        ensures below { IfSome result (λ q. q.range.high ≤ other.range.high) }
+        ensures rule { option_map estimate_of result ≡ rules.of_both width (estimate_of self) (estimate_of other) }
     {
         Quantity::finish(
             width,
@@ -194,10 +227,12 @@ impl Quantity {
     }
 
     /// The bits that either has.
+    #[tactic(auto, unfolding(crate::specs::Transfer::of_either))]
     pub fn or(self, other: Quantity, width: Width) -> Option<Quantity>
         ensures contains { MapsBoth width self other result (λ x y. value_of Arithmetic.Or width x y) }
         ensures constants { (region : Region) → width ≡ Width.Full → (m n : ℕ) → IsConstant region self m
             → IsConstant region other n → IfSome result (λ q. IsConstant region q (bit_or m n)) }
+        ensures rule { option_map estimate_of result ≡ rules.of_either width (estimate_of self) (estimate_of other) }
     {
         Quantity::finish(
             width,
@@ -208,10 +243,12 @@ impl Quantity {
     }
 
     /// The bits that one has and the other has not.
+    #[tactic(auto, unfolding(crate::specs::Transfer::of_one))]
     pub fn xor(self, other: Quantity, width: Width) -> Option<Quantity>
         ensures contains { MapsBoth width self other result (λ x y. value_of Arithmetic.Xor width x y) }
         ensures constants { (region : Region) → width ≡ Width.Full → (m n : ℕ) → IsConstant region self m
             → IsConstant region other n → IfSome result (λ q. IsConstant region q (bit_xor m n)) }
+        ensures rule { option_map estimate_of result ≡ rules.of_one width (estimate_of self) (estimate_of other) }
     {
         Quantity::finish(
             width,
@@ -222,8 +259,10 @@ impl Quantity {
     }
 
     /// The product.
+    #[tactic(auto, unfolding(crate::specs::Transfer::product))]
     pub fn mul(self, other: Quantity, width: Width) -> Option<Quantity>
-        ensures { MapsBoth width self other result (λ x y. value_of Arithmetic.Mul width x y) }
+        ensures contains { MapsBoth width self other result (λ x y. value_of Arithmetic.Mul width x y) }
+        ensures rule { option_map estimate_of result ≡ rules.product width (estimate_of self) (estimate_of other) }
     {
         Quantity::finish(
             width,
@@ -234,8 +273,10 @@ impl Quantity {
     }
 
     /// The quotient, which is 0 where the divisor is 0.
+    #[tactic(auto, unfolding(crate::specs::Transfer::divided))]
     pub fn div(self, other: Quantity, width: Width) -> Option<Quantity>
-        ensures { MapsBoth width self other result (λ x y. value_of Arithmetic.Div width x y) }
+        ensures contains { MapsBoth width self other result (λ x y. value_of Arithmetic.Div width x y) }
+        ensures rule { option_map estimate_of result ≡ rules.divided width (estimate_of self) (estimate_of other) }
     {
         Quantity::finish(
             width,
@@ -246,8 +287,10 @@ impl Quantity {
     }
 
     /// The remainder, which is the dividend where the divisor is 0.
+    #[tactic(auto, unfolding(crate::specs::Transfer::remaining))]
     pub fn rem(self, other: Quantity, width: Width) -> Option<Quantity>
-        ensures { MapsBoth width self other result (λ x y. value_of Arithmetic.Mod width x y) }
+        ensures contains { MapsBoth width self other result (λ x y. value_of Arithmetic.Mod width x y) }
+        ensures rule { option_map estimate_of result ≡ rules.remaining width (estimate_of self) (estimate_of other) }
     {
         Quantity::finish(
             width,
@@ -258,16 +301,21 @@ impl Quantity {
     }
 
     /// The count of a shift: its low five or six bits.
+    #[tactic(auto, unfolding(crate::specs::Transfer::count))]
     fn count(self, width: Width) -> Option<Quantity>
-        ensures { Maps width self result (λ y. y % bits_of width) }
+        ensures contains { Maps width self result (λ y. y % bits_of width) }
+        ensures small { IfSome result (λ q. q.range.high < bits_of width) }
+        ensures rule { option_map estimate_of result ≡ rules.count width (estimate_of self) }
     {
         self.and(Quantity::constant(mask(width)), width)
     }
 
     /// A shift to the left by so much.
+    #[tactic(auto, unfolding(crate::specs::Transfer::shifted_left_by))]
     fn shl_by(self, count: u64, width: Width) -> Option<Quantity>
         requires { count < bits_of width }
-        ensures { Maps width self result (λ x. x * 2 ^ count % 2 ^ bits_of width) }
+        ensures contains { Maps width self result (λ x. x * 2 ^ count % 2 ^ bits_of width) }
+        ensures rule { option_map estimate_of result ≡ rules.shifted_left_by width (estimate_of self) count }
     {
         Quantity::finish(
             width,
@@ -278,9 +326,11 @@ impl Quantity {
     }
 
     /// A shift to the right by so much.
+    #[tactic(auto, unfolding(crate::specs::Transfer::shifted_right_by))]
     fn shr_by(self, count: u64, width: Width) -> Option<Quantity>
         requires { count < bits_of width }
-        ensures { Maps width self result (λ x. x / 2 ^ count) }
+        ensures contains { Maps width self result (λ x. x / 2 ^ count) }
+        ensures rule { option_map estimate_of result ≡ rules.shifted_right_by width (estimate_of self) count }
     {
         Quantity::finish(
             width,
@@ -291,9 +341,11 @@ impl Quantity {
     }
 
     /// A shift to the right by some count.
+    #[tactic(auto, unfolding(crate::specs::Transfer::shrunk))]
     fn shrunk(self, width: Width) -> Option<Quantity>
-        ensures { (lengths : Lengths) (x z : ℕ) → Contains self lengths x → Fits width x → z ≤ x
+        ensures contains { (lengths : Lengths) (x z : ℕ) → Contains self lengths x → Fits width x → z ≤ x
             → Within result lengths z }
+        ensures rule { option_map estimate_of result ≡ rules.shrunk width (estimate_of self) }
     {
         let range = Range {
             low: 0,
@@ -303,46 +355,48 @@ impl Quantity {
     }
 
     /// The shift to the left, known where the count is.
+    #[tactic(auto, unfolding(crate::specs::Transfer::shifted_left))]
     pub fn shl(self, other: Quantity, width: Width) -> Option<Quantity>
-        ensures { MapsBoth width self other result (λ x y. value_of Arithmetic.Lsh width x y) }
+        ensures contains { MapsBoth width self other result (λ x y. value_of Arithmetic.Lsh width x y) }
+        ensures rule { option_map estimate_of result ≡ rules.shifted_left width (estimate_of self) (estimate_of other) }
     {
         let count = other.count(width)?;
-        match count.only() {
-            Some(n) if n < bits(width) => self.shl_by(n, width),
-            _ => Some(Quantity::unknown(width)),
-        }
+        let Some(n) = count.only() else {
+            return Some(Quantity::unknown(width));
+        };
+        self.shl_by(n, width)
     }
 
     /// The shift to the right without sign.
+    #[tactic(auto, unfolding(crate::specs::Transfer::shifted_right))]
     pub fn shr(self, other: Quantity, width: Width) -> Option<Quantity>
-        ensures { MapsBoth width self other result (λ x y. value_of Arithmetic.Rsh width x y) }
+        ensures contains { MapsBoth width self other result (λ x y. value_of Arithmetic.Rsh width x y) }
+        ensures rule { option_map estimate_of result
+            ≡ rules.shifted_right width (estimate_of self) (estimate_of other) }
     {
         let count = other.count(width)?;
-        match count.only() {
-            Some(n) if n < bits(width) => self.shr_by(n, width),
-            _ => self.shrunk(width),
-        }
+        let Some(n) = count.only() else {
+            return self.shrunk(width);
+        };
+        self.shr_by(n, width)
     }
 
     /// The shift to the right with the sign, known where the sign bit is 0 and the count is known.
+    #[tactic(auto, unfolding(crate::specs::Transfer::shifted_signed))]
     pub fn arsh(self, other: Quantity, width: Width) -> Option<Quantity>
-        ensures { MapsBoth width self other result (λ x y. value_of Arithmetic.Arsh width x y) }
+        ensures contains { MapsBoth width self other result (λ x y. value_of Arithmetic.Arsh width x y) }
+        ensures rule { option_map estimate_of result
+            ≡ rules.shifted_signed width (estimate_of self) (estimate_of other) }
     {
         let count = other.count(width)?;
-        match count.only() {
-            Some(n) if n < bits(width) && self.range.high < half(width) => self.shr_by(n, width),
-            _ => Some(Quantity::unknown(width)),
+        let Some(n) = count.only() else {
+            return Some(Quantity::unknown(width));
+        };
+        if self.range.high < half(width) {
+            self.shr_by(n, width)
+        } else {
+            Some(Quantity::unknown(width))
         }
-    }
-}
-
-/// How many bits the width has.
-fn bits(width: Width) -> u64
-    ensures { result ≡ bits_of width }
-{
-    match width {
-        Width::Full => 64,
-        Width::Narrow => 32,
     }
 }
 
@@ -357,11 +411,13 @@ fn mask(width: Width) -> u64
 }
 
 /// What an operation gives on operands of the width.
+#[tactic(auto, unfolding(crate::specs::Transfer::applied))]
 fn apply(operation: Arithmetic, width: Width, a: Quantity, b: Quantity) -> Option<Quantity>
     ensures contains { MapsBoth width a b result (λ x y. value_of operation width x y) }
     ensures constants { (region : Region) → width ≡ Width.Full → (m n : ℕ) → Folds operation m n
         → IsConstant region a m → IsConstant region b n
         → IfSome result (λ q. IsConstant region q (value_of operation Width.Full m n)) }
+    ensures rule { option_map estimate_of result ≡ rules.applied operation width (estimate_of a) (estimate_of b) }
 {
     match operation {
         Arithmetic::Add => a.add(b, width),
@@ -382,12 +438,15 @@ fn apply(operation: Arithmetic, width: Width, a: Quantity, b: Quantity) -> Optio
 }
 
 /// What an operation gives of two registers' numbers.
+#[tactic(auto, unfolding(crate::specs::Transfer::transferred))]
 pub fn transfer(operation: Arithmetic, width: Width, a: Quantity, b: Quantity) -> Option<Quantity>
     ensures contains { (lengths : Lengths) (x y : ℕ) → Contains a lengths x → Contains b lengths y
         → Within result lengths (value_of operation width (cut width x) (cut width y)) }
     ensures constants { (region : Region) → width ≡ Width.Full → (m n : ℕ) → Folds operation m n
         → IsConstant region a m → IsConstant region b n
         → IfSome result (λ q. IsConstant region q (value_of operation Width.Full m n)) }
+    ensures rule { option_map estimate_of result
+        ≡ rules.transferred operation width (estimate_of a) (estimate_of b) }
 {
     let a = a.cut_to(width)?;
     let b = b.cut_to(width)?;

@@ -5,6 +5,9 @@ ghost use Rattle.abstract_state.specs.Quantity.{Contains, Fits};
 ghost use Rattle.abstract_state.specs.Known.{ContainsKnown, WithinKnown, IsNumber, AreNumbers};
 ghost use Rattle.bpf_words.specs.declared.instruction.Width.TheVariants.{Narrow, Full};
 ghost use Rattle.semantics.specs.Value.{cut, negated, extended, converted, bytes_kept};
+ghost use Rattle.std.specs.Prelude.{option_map};
+ghost use Rattle.abstract_state.specs.Addresses as rules;
+ghost use Rattle.abstract_state.specs.Addresses.{content_of, answer_of};
 
 use crate::known::Known;
 use crate::quantity::Quantity;
@@ -24,7 +27,8 @@ fn greatest_kept(bits: ConvertedBits) -> u64
 
 /// The width of a sign-extending move.
 fn width_of(extension: Extension) -> Width
-    ensures { (a : ℕ) → Fits result (extended extension a) }
+    ensures fits { (a : ℕ) → Fits result (extended extension a) }
+    ensures rule { result ≡ rules.width_of extension }
 {
     match extension {
         Extension::FromByte | Extension::FromHalf | Extension::FromWord => Width::Full,
@@ -34,12 +38,14 @@ fn width_of(extension: Extension) -> Width
 
 impl Known {
     /// Any number of the width, where this is a number of which something is left when it is cut.
+    #[tactic(auto, unfolding(crate::specs::Addresses::replaced))]
     fn replaced(self, width: Width) -> Result<Option<Known>, Refusal>
         ensures sound { IfOk result (λ o. (lengths : Lengths) (x y : ℕ) → ContainsKnown self lengths x → Fits width y
             → WithinKnown o lengths y) }
         ensures floor { IsNumber self → IsOk result }
         ensures numbers { IfOk result (λ o. AreNumbers o) }
         ensures not_unset { IfErr result (λ e. e ≢ Refusal.UnsetRegister) }
+        ensures rule { answer_of (option_map content_of) result ≡ rules.replaced width (content_of self) }
     {
         let Known::Number(a) = self else {
             return Err(Refusal::PointerArithmetic);
@@ -57,6 +63,7 @@ impl Known {
         ensures floor { IsNumber self → IsOk result }
         ensures numbers { IfOk result (λ o. AreNumbers o) }
         ensures not_unset { IfErr result (λ e. e ≢ Refusal.UnsetRegister) }
+        ensures rule { answer_of (option_map content_of) result ≡ rules.replaced width (content_of self) }
     {
         let known = self.replaced(width)?;
         Ok(known)
@@ -69,18 +76,22 @@ impl Known {
         ensures floor { IsNumber self → IsOk result }
         ensures numbers { IfOk result (λ o. AreNumbers o) }
         ensures not_unset { IfErr result (λ e. e ≢ Refusal.UnsetRegister) }
+        ensures rule { answer_of (option_map content_of) result
+            ≡ rules.replaced (rules.width_of extension) (content_of self) }
     {
         let known = self.replaced(width_of(extension))?;
         Ok(known)
     }
 
     /// The low bytes, in one order or the other.
+    #[tactic(auto, unfolding(crate::specs::Addresses::converted))]
     pub fn convert(self, conversion: Conversion, bits: ConvertedBits) -> Result<Known, Refusal>
         ensures sound { IfOk result (λ k. (lengths : Lengths) (x : ℕ) → ContainsKnown self lengths x
             → ContainsKnown k lengths (converted conversion bits x)) }
         ensures floor { IsNumber self → IsOk result }
         ensures numbers { IfOk result (λ k. IsNumber k) }
         ensures not_unset { IfErr result (λ e. e ≢ Refusal.UnsetRegister) }
+        ensures rule { answer_of content_of result ≡ rules.converted bits (content_of self) }
     {
         let Known::Number(_) = self else {
             return Err(Refusal::PointerArithmetic);

@@ -2,6 +2,7 @@ ghost use Rattle.std.specs.Prelude.{◌≡◌};
 ghost use Rattle.assembler.specs.declared.fault.AsmError.TheVariants.{OutOfMemory};
 
 use assembler_lines::fault::LineFault;
+use refusal_titles::ASSEMBLER_OUT_OF_MEMORY;
 use std::alloc::AllocError;
 use thiserror::Error;
 
@@ -14,7 +15,7 @@ pub enum AsmError {
     #[error("{fault} line {line}")]
     Line { line: usize, fault: LineFault },
     /// An allocation was refused.
-    #[error("36 OutOfMemory")]
+    #[error("{ASSEMBLER_OUT_OF_MEMORY}")]
     OutOfMemory,
 }
 

@@ -1,3 +1,6 @@
+use refusal_titles::{
+    DOCUMENT_FULL, HISTORY_FULL, MARKS_FULL, OUT_OF_MEMORY, STALE_COUNTER, UNKNOWN_REF,
+};
 use std::alloc::AllocError;
 use thiserror::Error;
 
@@ -5,16 +8,16 @@ use thiserror::Error;
 #[derive(Clone, Copy, Debug, PartialEq, Eq, Error)]
 pub enum Refusal {
     /// The counter isn't above its peer's last one, or not above one that the operation names.
-    #[error("46 StaleCounter")]
+    #[error("{STALE_COUNTER}")]
     StaleCounter,
     /// A character that the operation names isn't there.
-    #[error("47 UnknownRef")]
+    #[error("{UNKNOWN_REF}")]
     UnknownRef,
     /// 32,768 characters were inserted.
-    #[error("48 DocumentFull")]
+    #[error("{DOCUMENT_FULL}")]
     DocumentFull,
     /// 4,096 mark operations were accepted.
-    #[error("49 MarksFull")]
+    #[error("{MARKS_FULL}")]
     MarksFull,
 }
 
@@ -29,13 +32,13 @@ pub enum ApplyError {
 #[derive(Clone, Copy, Debug, PartialEq, Eq, Error)]
 pub enum SubmitError {
     /// 4,096 changes were accepted.
-    #[error("50 HistoryFull")]
+    #[error("{HISTORY_FULL}")]
     HistoryFull,
     /// The first operation that is refused is of the line at this index, from 0.
     #[error("{refusal}")]
     Refused { index: usize, refusal: Refusal },
     /// No memory was found.
-    #[error("45 OutOfMemory")]
+    #[error("{OUT_OF_MEMORY}")]
     OutOfMemory,
 }
 

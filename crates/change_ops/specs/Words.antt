@@ -1,8 +1,10 @@
 -- Words of a line, and the numbers that they spell.
 use Rattle.std.specs.Prelude.{ℕ, ◌+◌, ◌*◌, ◌-◌, ◌^◌, nat_lt, ◌==◌, min, if◌then◌else◌, Bool, true, false, List, [], ◌∷◌}
-use Rattle.std.specs.Prelude.{length, Option, Some, None}
+use Rattle.std.specs.Prelude.{length, Option, Some, None, option_and_then}
 use Rattle.std.specs.List.{position_or_len, before_first, after_first}
 use Rattle.std.specs.Borrow.{Bor}
+use Rattle.change_ops.specs.Ids.{checked}
+use Rattle.change_ops.specs.declared.numeral.Numeral.{Numeral}
 
 -- what stands before the first of a byte, and what stands after it
 unfoldable pub split : ℕ → List ℕ → Option (List ℕ × List ℕ)
@@ -44,3 +46,14 @@ number_in base word = if is_no_front word then None else digits_after base 0 wor
 -- a number, or the greatest of 64 bits where it is greater
 abbrev pub saturated : ℕ → ℕ
 saturated n = min n (2 ^ 64 - 1)
+
+-- a number, where it has 64 bits
+abbrev pub small_number : ℕ → Option ℕ
+small_number n = checked (λ m. nat_lt m (2 ^ 64)) n
+
+abbrev pub small : Option ℕ → Option ℕ
+small number = option_and_then small_number number
+
+-- what is kept of a number of any size
+abbrev pub numeral_of : ℕ → Numeral
+numeral_of n = record { value = small_number n }

@@ -12,7 +12,7 @@ ghost use Rattle.change_ops.specs.Changes.{Gives, OwnLines, at_line as fault_at,
 ghost use Rattle.change_ops.specs.Changes.{lines_at, change_at};
 
 use crate::line::{Form, Line};
-use crate::lines::line_of_change;
+use crate::line_reading::line_of_change;
 use crate::numbers::{line_of, number, word_of};
 use crate::refusal::{ChangeError, LineFault};
 use smallvec::SmallVec;

@@ -2,25 +2,11 @@
 ghost use Rattle.std.specs.Prelude.{IfSome, MatchOption, Some, None, ◌≡◌, ◌<◌, ◌≤◌};
 ghost use Rattle.std.specs.Str.{IsUtf8};
 ghost use Rattle.std.specs.Option.{option_map};
-ghost use Rattle.change_ops.specs.Words.{digit_of as digit_value, digits_after, number_in, saturated, split, behind};
-ghost use Rattle.change_ops.specs.Words.{seen};
+ghost use Rattle.change_ops.specs.Words.{digits_after, number_in, saturated, split, behind, seen};
 ghost use Rattle.change_ops.specs.Reading.{formed, Found};
 
+use crate::numeral::numeral_in;
 use crate::refusal::LineFault;
-
-/// The value of a digit of a base, in lower case.
-fn digit_of(base: u64, byte: u8) -> Option<u64>
-    requires { base ≤ 16 }
-    ensures { MatchOption result (base ≤ digit_value byte) (λ digit. (digit ≡ digit_value byte) × (digit < base)) }
-{
-    let digit = match byte {
-        b'0'..=b'9' => byte - b'0',
-        b'a'..=b'f' => byte - b'a' + 10,
-        _ => return None,
-    };
-    let digit = u64::from(digit);
-    if digit < base { Some(digit) } else { None }
-}
 
 /// The number that digits spell in a base, leading zeros or not; the greatest `u64` for one that is
 /// greater still.
@@ -29,14 +15,8 @@ pub fn digits(base: u64, word: &[u8]) -> Result<u64, LineFault>
     requires high { base ≤ 16 }
     ensures { result ≡ formed (option_map saturated (digits_after base 0 word.now)) }
 {
-    let mut value: u64 = 0;
-    for &byte in word {
-        let Some(digit) = digit_of(base, byte) else {
-            return Err(LineFault::BadLine);
-        };
-        value = value.saturating_mul(base).saturating_add(digit);
-    }
-    Ok(value)
+    let numeral = numeral_in(base, word).ok_or(LineFault::BadLine)?;
+    Ok(numeral.value.unwrap_or(u64::MAX))
 }
 
 /// The number that a whole word spells in a base, without leading zeros; the greatest `u64` for one

@@ -2,6 +2,7 @@ ghost use Rattle.std.specs.Prelude.{◌≡◌};
 ghost use Rattle.change_ops.specs.declared.refusal.ChangeError.TheVariants.{OutOfMemory};
 ghost use Rattle.change_ops.specs.declared.refusal.LineFault.TheVariants as fault;
 
+use refusal_titles::{BAD_LINE, CHAR_REFUSED, LIMIT, OUT_OF_MEMORY, TRUNCATED, WRONG_PEER};
 use std::alloc::{AllocError, AllocFailed};
 use thiserror::Error;
 
@@ -34,17 +35,17 @@ impl<T: Drop> From<AllocFailed<T>> for LineFault {
 /// Why a text isn't a change's.
 #[derive(Clone, Copy, Debug, PartialEq, Eq, Error)]
 pub enum ChangeError {
-    #[error("40 BadLine line {0}")]
+    #[error("{BAD_LINE} line {0}")]
     BadLine(usize),
-    #[error("41 Truncated")]
+    #[error("{TRUNCATED}")]
     Truncated,
-    #[error("42 Limit line {0}")]
+    #[error("{LIMIT} line {0}")]
     Limit(usize),
-    #[error("43 CharRefused line {0}")]
+    #[error("{CHAR_REFUSED} line {0}")]
     CharRefused(usize),
-    #[error("44 WrongPeer line {0}")]
+    #[error("{WRONG_PEER} line {0}")]
     WrongPeer(usize),
-    #[error("45 OutOfMemory")]
+    #[error("{OUT_OF_MEMORY}")]
     OutOfMemory,
 }
 

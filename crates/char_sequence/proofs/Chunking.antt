@@ -2,7 +2,6 @@
 use Rattle.std.proofs.Common.{◌≡◌, ◌≢◌, ℕ, zero, suc, ◌+◌, ◌-◌, ◌<◌, ◌≤◌, true, false, List, [], ◌∷◌, ◌++◌, Option, Some, None, get_or, is_some, IsSome, inl, inr, ◌⊎◌, length, set, take, drop, sym, ap, refl, ◌∙◌, subst, arith, ⊎_elim}
 use Rattle.std.proofs.Math.ListN.{length-set}
 use Rattle.std.specs.List.{slice_get, insert}
-use Rattle.std.specs.Map.{lookup}
 use Rattle.std.specs.Option.{MatchOption}
 use Rattle.std.proofs.lemmas.Option.{same_Some, none-some, slice_get_within, slice_get-get_or}
 use Rattle.std.proofs.lemmas.Bool.{cases_eq, cases_lt, false≢true}
@@ -17,6 +16,7 @@ use Rattle.char_sequence.specs.declared.chunk_list.Room.{Room}
 use Rattle.char_sequence.specs.declared.chunk_list.Room.TheVariants.{First, In}
 use Rattle.char_sequence.specs.Rooms.{IsRoom}
 use Rattle.char_sequence.specs.Chunks.{joined, start_of, ChunkList, IsIndexed, IsKept, IsSpot, IsSpotOf}
+use Rattle.char_sequence.specs.Named.{IsAboveAll}
 use Rattle.char_sequence.proofs.Ids.{id_found, same_id_cases}
 use Rattle.char_sequence.proofs.Lists.{inserted_cases, inserted_here, inserted_still, slice_get_set_same, slice_get_set_other, set_cases}
 use Rattle.char_sequence.proofs.Joined.{get_left, joined_get, joined_found, joined_insert, joined_set, joined_split, split_left, split_right, split_start, split_start_right, start_after_chunk, start_within}
@@ -25,15 +25,15 @@ use Rattle.char_sequence.proofs.Joined.{get_left, joined_get, joined_found, join
 pub has_joined : (cs : List (List Element)) (i : ℕ) (c : List Element) (id : OpId) → slice_get cs i ≡ Some c → HasId c id → HasId (joined cs) id
 has_joined cs i c id here (k, (e, g, is)) = (start_of cs i + k, (e, joined_get cs i c k here (slice_get_within c k e g) ∙ g, is))
 
-pub indexed_id : (cs : List (List Element)) (names : List ℕ) (index : List (OpId × ℕ)) → IsIndexed cs names index → (id : OpId) (n : ℕ) → lookup (same_id id) index ≡ Some n → HasId (joined cs) id
+pub indexed_id : (cs : List (List Element)) (names : List ℕ) (index : OpId → Option ℕ) → IsIndexed cs names index → (id : OpId) (n : ℕ) → index id ≡ Some n → HasId (joined cs) id
 indexed_id cs names index ok id n e =
     let r = ok.behind id n e in
     has_joined cs r.0 r.1.0 id r.1.2 r.1.3
 
-pub not_indexed_id : (cs : List (List Element)) (names : List ℕ) (index : List (OpId × ℕ)) → IsIndexed cs names index → (id : OpId) → lookup (same_id id) index ≡ None → HasId (joined cs) id → ⊥
+pub not_indexed_id : (cs : List (List Element)) (names : List ℕ) (index : OpId → Option ℕ) → IsIndexed cs names index → (id : OpId) → index id ≡ None → HasId (joined cs) id → ⊥
 not_indexed_id cs names index ok id e (p, (x, g, is)) =
     let r = joined_found cs p x g in
-    ok.listed r.0 r.1.0 r.1.1.1 r.1.1.0 x r.1.1.2 (ap (λ z. lookup (same_id z) index) is ∙ e)
+    ok.listed r.0 r.1.0 r.1.1.1 r.1.1.0 x r.1.1.2 (ap (λ z. index z) is ∙ e)
 
 -- what stands behind an index stands among all
 pub dropped : {X : Type 0} (xs : List X) (n k : ℕ) (x : X) → slice_get (drop n xs) k ≡ Some x → (i : ℕ) × (slice_get xs i ≡ Some x)
@@ -42,7 +42,7 @@ dropped [] (suc n) k x g = absurd (none-some x g)
 dropped (y ∷ ys) (suc n) k x g = let r = dropped ys n k x g in (suc r.0, r.1)
 
 -- ---- an element put into a chunk
-pub indexed_put : (cs : List (List Element)) (names : List ℕ) (index more : List (OpId × ℕ)) (i : ℕ) (c : List Element) (n k : ℕ) (e : Element) → IsIndexed cs names index → slice_get cs i ≡ Some c → slice_get names i ≡ Some n → k ≤ length c → lookup (same_id e.id) more ≡ Some n → ((q : OpId) → same_id e.id q ≡ false → lookup (same_id q) more ≡ lookup (same_id q) index) → IsIndexed (set cs i (insert c k e)) names more
+pub indexed_put : (cs : List (List Element)) (names : List ℕ) (index more : OpId → Option ℕ) (i : ℕ) (c : List Element) (n k : ℕ) (e : Element) → IsIndexed cs names index → slice_get cs i ≡ Some c → slice_get names i ≡ Some n → k ≤ length c → more e.id ≡ Some n → ((q : OpId) → same_id e.id q ≡ false → more q ≡ index q) → IsIndexed (set cs i (insert c k e)) names more
 indexed_put cs names index more i c n k e ok here name h new other =
     let d = insert c k e in
     let within : i < length cs = slice_get_within cs i c here in
@@ -54,7 +54,7 @@ indexed_put cs names index more i c n k e ok here name h new other =
           λ id m found.
           ⊎_elim
           (λ (same : e.id ≡ id).
-          let is : n ≡ m = same_Some n m (sym new ∙ ap (λ z. lookup (same_id z) more) same ∙ found) in
+          let is : n ≡ m = same_Some n m (sym new ∙ ap (λ z. more z) same ∙ found) in
           (i, (d, name ∙ ap Some is, slice_get_set_same cs i d within, (k, (e, inserted_here c k e h, same)))))
           (λ (apart : same_id e.id id ≡ false).
           let r = ok.behind id m (sym (other id apart) ∙ found) in
@@ -70,9 +70,9 @@ indexed_put cs names index more i c n k e ok here name h new other =
       listed =
           λ j b g p x gx none.
           ⊎_elim
-          (λ (same : e.id ≡ x.id). none-some n (sym none ∙ ap (λ z. lookup (same_id z) more) (sym same) ∙ new))
+          (λ (same : e.id ≡ x.id). none-some n (sym none ∙ ap (λ z. more z) (sym same) ∙ new))
           (λ (apart : same_id e.id x.id ≡ false).
-          let gone : lookup (same_id x.id) index ≡ None = sym (other x.id apart) ∙ none in
+          let gone : index x.id ≡ None = sym (other x.id apart) ∙ none in
           ⊎_elim
           (λ (u : (j ≡ i) × (d ≡ b)).
           let at : slice_get d p ≡ Some x = ap (λ z. slice_get z p) u.1 ∙ gx in
@@ -90,7 +90,7 @@ indexed_put cs names index more i c n k e ok here name h new other =
     }
 
 -- ---- an element changed, of the same id
-pub indexed_changed : (cs : List (List Element)) (names : List ℕ) (index : List (OpId × ℕ)) (i : ℕ) (c : List Element) (k : ℕ) (o e : Element) → IsIndexed cs names index → slice_get cs i ≡ Some c → slice_get c k ≡ Some o → e.id ≡ o.id → IsIndexed (set cs i (set c k e)) names index
+pub indexed_changed : (cs : List (List Element)) (names : List ℕ) (index : OpId → Option ℕ) (i : ℕ) (c : List Element) (k : ℕ) (o e : Element) → IsIndexed cs names index → slice_get cs i ≡ Some c → slice_get c k ≡ Some o → e.id ≡ o.id → IsIndexed (set cs i (set c k e)) names index
 indexed_changed cs names index i c k o e ok here old is_id =
     let d = set c k e in
     let within : i < length cs = slice_get_within cs i c here in
@@ -123,7 +123,7 @@ indexed_changed cs names index i c k o e ok here old is_id =
           (λ (u : (j ≡ i) × (d ≡ b)).
           let at : slice_get d p ≡ Some x = ap (λ z. slice_get z p) u.1 ∙ gx in
           ⊎_elim
-          (λ (v : (p ≡ k) × (e ≡ x)). ok.listed i c here k o old (ap (λ z. lookup (same_id z) index) (sym is_id ∙ ap (λ w. w.id) v.1) ∙ none))
+          (λ (v : (p ≡ k) × (e ≡ x)). ok.listed i c here k o old (ap (λ z. index z) (sym is_id ∙ ap (λ w. w.id) v.1) ∙ none))
           (λ (v : (p ≢ k) × (slice_get c p ≡ Some x)). ok.listed i c here p x v.1 none)
           (set_cases c k e p x low at))
           (λ (u : (j ≢ i) × (slice_get cs j ≡ Some b)). ok.listed j b u.1 p x gx none)
@@ -222,17 +222,17 @@ split_names_apart names k m h is below apart i j n gi gj =
     u)
     (cases i gi)
 
-pub indexed_split : (cs : List (List Element)) (names : List ℕ) (index more : List (OpId × ℕ)) (i m : ℕ) (c a b : List Element) → IsIndexed cs names index → slice_get cs i ≡ Some c → c ≡ a ++ b → m ≡ length names → ((k : ℕ) (e : Element) → slice_get b k ≡ Some e → lookup (same_id e.id) more ≡ Some m) → ((q : OpId) → (HasId b q → ⊥) → lookup (same_id q) more ≡ lookup (same_id q) index) → IsIndexed (insert (set cs i a) (suc i) b) (insert names (suc i) m) more
+pub indexed_split : (cs : List (List Element)) (names : List ℕ) (index more : OpId → Option ℕ) (i m : ℕ) (c a b : List Element) → IsIndexed cs names index → slice_get cs i ≡ Some c → c ≡ a ++ b → m ≡ length names → ((k : ℕ) (e : Element) → slice_get b k ≡ Some e → more e.id ≡ Some m) → ((q : OpId) → (HasId b q → ⊥) → more q ≡ index q) → IsIndexed (insert (set cs i a) (suc i) b) (insert names (suc i) m) more
 indexed_split cs names index more i m c a b ok here is fresh renamed kept =
     let within : i < length cs = slice_get_within cs i c here in
     let size = length-set cs i a in
     let counted = ok.counted in
     let low : suc i ≤ length (set cs i a) = omega (arith, size) in
     let low' : suc i ≤ length names = omega arith in
-    let gone : (x : Element) → lookup (same_id x.id) more ≡ None → lookup (same_id x.id) index ≡ None =
+    let gone : (x : Element) → more x.id ≡ None → index x.id ≡ None =
     λ x none.
     ⊎_elim
-    (λ (h : HasId b x.id). absurd (none-some m (sym none ∙ ap (λ z. lookup (same_id z) more) (sym h.1.2) ∙ renamed h.0 h.1.0 h.1.1)))
+    (λ (h : HasId b x.id). absurd (none-some m (sym none ∙ ap (λ z. more z) (sym h.1.2) ∙ renamed h.0 h.1.0 h.1.1)))
     (λ (off : HasId b x.id → ⊥). sym (kept x.id off) ∙ none)
     (has_or_not b x.id)
     in
@@ -255,7 +255,7 @@ indexed_split cs names index more i m c a b ok here is fresh renamed kept =
           λ id n found.
           ⊎_elim
           (λ (h : HasId b id).
-          let same : m ≡ n = same_Some m n (sym (renamed h.0 h.1.0 h.1.1) ∙ ap (λ z. lookup (same_id z) more) h.1.2 ∙ found) in
+          let same : m ≡ n = same_Some m n (sym (renamed h.0 h.1.0 h.1.1) ∙ ap (λ z. more z) h.1.2 ∙ found) in
           (suc i, (b, inserted_here names (suc i) m low' ∙ ap Some same, split_right cs i c a b here, h)))
           (λ (off : HasId b id → ⊥).
           let r = ok.behind id n (sym (kept id off) ∙ found) in
@@ -307,12 +307,12 @@ only : (e : Element) (k : ℕ) (x : Element) → slice_get (e ∷ []) k ≡ Some
 only e zero x g = ap (λ w. w.id) (same_Some e x g)
 only e (suc k) x g = absurd (none-some x g)
 
-first_listed : (e : Element) (more : List (OpId × ℕ)) → lookup (same_id e.id) more ≡ Some 0 → (i : ℕ) (c : List Element) → slice_get ((e ∷ []) ∷ []) i ≡ Some c → (k : ℕ) (x : Element) → slice_get c k ≡ Some x → lookup (same_id x.id) more ≡ None → ⊥
+first_listed : (e : Element) (more : OpId → Option ℕ) → more e.id ≡ Some 0 → (i : ℕ) (c : List Element) → slice_get ((e ∷ []) ∷ []) i ≡ Some c → (k : ℕ) (x : Element) → slice_get c k ≡ Some x → more x.id ≡ None → ⊥
 first_listed e more new zero c g k x gx none =
-    none-some 0 (sym none ∙ ap (λ z. lookup (same_id z) more) (sym (only e k x (ap (λ z. slice_get z k) (same_Some (e ∷ []) c g) ∙ gx))) ∙ new)
+    none-some 0 (sym none ∙ ap (λ z. more z) (sym (only e k x (ap (λ z. slice_get z k) (same_Some (e ∷ []) c g) ∙ gx))) ∙ new)
 first_listed e more new (suc i) c g k x gx none = absurd (none-some c g)
 
-pub indexed_first : (names : List ℕ) (index more : List (OpId × ℕ)) (e : Element) → IsIndexed [] names index → lookup (same_id e.id) more ≡ Some 0 → ((q : OpId) → same_id e.id q ≡ false → lookup (same_id q) more ≡ lookup (same_id q) index) → IsIndexed ((e ∷ []) ∷ []) (0 ∷ []) more
+pub indexed_first : (names : List ℕ) (index more : OpId → Option ℕ) (e : Element) → IsIndexed [] names index → more e.id ≡ Some 0 → ((q : OpId) → same_id e.id q ≡ false → more q ≡ index q) → IsIndexed ((e ∷ []) ∷ []) (0 ∷ []) more
 indexed_first names index more e ok new other = record {
   counted = refl;
   below = first_below;
@@ -321,7 +321,7 @@ indexed_first names index more e ok new other = record {
       λ id n found.
       ⊎_elim
       (λ (same : e.id ≡ id).
-      let is : 0 ≡ n = same_Some 0 n (sym new ∙ ap (λ z. lookup (same_id z) more) same ∙ found) in
+      let is : 0 ≡ n = same_Some 0 n (sym new ∙ ap (λ z. more z) same ∙ found) in
       (zero, (e ∷ [], ap Some is, refl, (zero, (e, refl, same)))))
       (λ (apart : same_id e.id id ≡ false).
       let r = ok.behind id n (sym (other id apart) ∙ found) in
@@ -341,15 +341,15 @@ option_at P Q r x is found = subst (λ o. MatchOption o P Q) is found
 pub here_at : {X : Type 0} (xs : List X) (i : ℕ) (x : X) → i < length xs → x ≡ get_or xs i x → slice_get xs i ≡ Some x
 here_at xs i x h is = slice_get-get_or xs i x h ∙ ap Some (sym is)
 
-pub indexed_yes : (cs : List (List Element)) (names : List ℕ) (index : List (OpId × ℕ)) → IsIndexed cs names index → (id : OpId) (found : Option ℕ) → lookup (same_id id) index ≡ found → is_some found ≡ true → HasId (joined cs) id
+pub indexed_yes : (cs : List (List Element)) (names : List ℕ) (index : OpId → Option ℕ) → IsIndexed cs names index → (id : OpId) (found : Option ℕ) → index id ≡ found → is_some found ≡ true → HasId (joined cs) id
 indexed_yes cs names index ok id None e t = absurd (false≢true t)
 indexed_yes cs names index ok id (Some n) e t = indexed_id cs names index ok id n e
 
-pub indexed_no : (cs : List (List Element)) (names : List ℕ) (index : List (OpId × ℕ)) → IsIndexed cs names index → (id : OpId) (found : Option ℕ) → lookup (same_id id) index ≡ found → is_some found ≡ false → HasId (joined cs) id → ⊥
+pub indexed_no : (cs : List (List Element)) (names : List ℕ) (index : OpId → Option ℕ) → IsIndexed cs names index → (id : OpId) (found : Option ℕ) → index id ≡ found → is_some found ≡ false → HasId (joined cs) id → ⊥
 indexed_no cs names index ok id None e f h = not_indexed_id cs names index ok id e h
 indexed_no cs names index ok id (Some n) e f h = false≢true (sym f)
 
-pub name_found : (cs : List (List Element)) (names ns : List ℕ) (index : List (OpId × ℕ)) → IsIndexed cs names index → (id : OpId) (n : ℕ) → lookup (same_id id) index ≡ Some n → ns ≡ names → (r : Option ℕ) → MatchOption r ((i : ℕ) → slice_get ns i ≡ Some n → ⊥) (λ i. slice_get ns i ≡ Some n) → IsSome r
+pub name_found : (cs : List (List Element)) (names ns : List ℕ) (index : OpId → Option ℕ) → IsIndexed cs names index → (id : OpId) (n : ℕ) → index id ≡ Some n → ns ≡ names → (r : Option ℕ) → MatchOption r ((i : ℕ) → slice_get ns i ≡ Some n → ⊥) (λ i. slice_get ns i ≡ Some n) → IsSome r
 name_found cs names ns index ok id n e same None none =
     let r = ok.behind id n e in
     absurd (none r.0 (ap (λ z. slice_get z r.0) same ∙ r.1.1))
@@ -360,13 +360,13 @@ name_at names ns n p r same is found =
     sym (ap (λ z. slice_get z p) same) ∙ option_at ((i : ℕ) → slice_get ns i ≡ Some n → ⊥) (λ i. slice_get ns i ≡ Some n) r p is found
 
 -- the chunk of that name has the id
-pub named_chunk : (cs : List (List Element)) (names : List ℕ) (index : List (OpId × ℕ)) → IsIndexed cs names index → (id : OpId) (n p : ℕ) (c : List Element) → lookup (same_id id) index ≡ Some n → slice_get names p ≡ Some n → slice_get cs p ≡ Some c → HasId c id
+pub named_chunk : (cs : List (List Element)) (names : List ℕ) (index : OpId → Option ℕ) → IsIndexed cs names index → (id : OpId) (n p : ℕ) (c : List Element) → index id ≡ Some n → slice_get names p ≡ Some n → slice_get cs p ≡ Some c → HasId c id
 named_chunk cs names index ok id n p c e at here =
     let r = ok.behind id n e in
     let same : r.0 ≡ p = ok.apart r.0 p n r.1.1 at in
     subst (λ z. HasId z id) (same_Some r.1.0 c (sym r.1.2 ∙ ap (slice_get cs) same ∙ here)) r.1.3
 
-pub position_within : (cs : List (List Element)) (names : List ℕ) (index : List (OpId × ℕ)) → IsIndexed cs names index → (n p : ℕ) → slice_get names p ≡ Some n → p < length cs
+pub position_within : (cs : List (List Element)) (names : List ℕ) (index : OpId → Option ℕ) → IsIndexed cs names index → (n p : ℕ) → slice_get names p ≡ Some n → p < length cs
 position_within cs names index ok n p at =
     let low = slice_get_within names p n at in
     let counted = ok.counted in
@@ -400,7 +400,7 @@ no_length (n ∷ names) e = absurd (omega (arith, e))
 take_drop_is : (c : List Element) (at : ℕ) → c ≡ take at c ++ drop at c
 take_drop_is c at = grind (arith, common_steps)
 
-pub kept_put : (cs : List (List Element)) (names : List ℕ) (index more : List (OpId × ℕ)) (p at n count : ℕ) (c d : List Element) (e : Element) → IsKept cs names index count → slice_get cs p ≡ Some c → slice_get names p ≡ Some n → at ≤ length c → d ≡ insert c at e → length (joined cs) < 32768 → lookup (same_id e.id) more ≡ Some n → ((q : OpId) → same_id e.id q ≡ false → lookup (same_id q) more ≡ lookup (same_id q) index) → IsKept (set cs p d) names more (count + 1)
+pub kept_put : (cs : List (List Element)) (names : List ℕ) (index more : OpId → Option ℕ) (p at n count : ℕ) (c d : List Element) (e : Element) → IsKept cs names index count → slice_get cs p ≡ Some c → slice_get names p ≡ Some n → at ≤ length c → d ≡ insert c at e → length (joined cs) < 32768 → more e.id ≡ Some n → ((q : OpId) → same_id e.id q ≡ false → more q ≡ index q) → IsKept (set cs p d) names more (count + 1)
 kept_put cs names index more p at n count c d e ok here name h is few new other =
     let whole = joined_insert cs p c d at e here h is in
     let spot = start_within cs p in
@@ -421,7 +421,7 @@ put_joined cs ds p at place e c here h is new =
 abbrev pub hidden : Element → Element
 hidden x = record { id = x.id; character = x.character; visible = false }
 
-pub kept_hidden : (cs : List (List Element)) (names : List ℕ) (index : List (OpId × ℕ)) (p at count : ℕ) (id : OpId) (d d' : List Element) → IsKept cs names index count → IsSpotOf cs id p at → slice_get cs p ≡ Some d → ((x : Element) → slice_get d at ≡ Some x → d' ≡ set d at (hidden x)) → IsKept (set cs p d') names index count
+pub kept_hidden : (cs : List (List Element)) (names : List ℕ) (index : OpId → Option ℕ) (p at count : ℕ) (id : OpId) (d d' : List Element) → IsKept cs names index count → IsSpotOf cs id p at → slice_get cs p ≡ Some d → ((x : Element) → slice_get d at ≡ Some x → d' ≡ set d at (hidden x)) → IsKept (set cs p d') names index count
 kept_hidden cs names index p at count id d d' ok spot here new =
     let same : spot.chunk ≡ d = same_Some spot.chunk d (sym spot.here ∙ here) in
     let x = spot.has.0 in
@@ -448,7 +448,7 @@ hidden_joined cs p at id d d' spot here new =
           joined_set cs p d d' at (hidden x) here low (new x (g ∙ ap Some one)),
     )
 
-pub kept_first : (cs ds : List (List Element)) (names names' : List ℕ) (index more : List (OpId × ℕ)) (count : ℕ) (d : List Element) (e : Element) → IsKept cs names index count → cs ≡ [] → names' ≡ names ++ 0 ∷ [] → ds ≡ cs ++ d ∷ [] → d ≡ e ∷ [] → lookup (same_id e.id) more ≡ Some 0 → ((q : OpId) → same_id e.id q ≡ false → lookup (same_id q) more ≡ lookup (same_id q) index) → IsKept ds names' more 1
+pub kept_first : (cs ds : List (List Element)) (names names' : List ℕ) (index more : OpId → Option ℕ) (count : ℕ) (d : List Element) (e : Element) → IsKept cs names index count → cs ≡ [] → names' ≡ names ++ 0 ∷ [] → ds ≡ cs ++ d ∷ [] → d ≡ e ∷ [] → more e.id ≡ Some 0 → ((q : OpId) → same_id e.id q ≡ false → more q ≡ index q) → IsKept ds names' more 1
 kept_first cs ds names names' index more count d e ok none named pushed one new other =
     let empty : names ≡ [] = no_length names (ok.indexed.counted ∙ ap length none) in
     let names_is : names' ≡ 0 ∷ [] = named ∙ ap (λ z. z ++ 0 ∷ []) empty in
@@ -461,7 +461,7 @@ kept_first cs ds names names' index more count d e ok none named pushed one new 
       few = omega (arith, size);
     }
 
-pub kept_split : (cs ds : List (List Element)) (names names' : List ℕ) (index more : List (OpId × ℕ)) (p at m count : ℕ) (c a b : List Element) → IsKept cs names index count → slice_get cs p ≡ Some c → a ≡ take at c → b ≡ drop at c → m ≡ length names → ds ≡ insert (set cs p a) (p + 1) b → names' ≡ insert names (p + 1) m → ((k : ℕ) (e : Element) → slice_get b k ≡ Some e → lookup (same_id e.id) more ≡ Some m) → ((q : OpId) → (HasId b q → ⊥) → lookup (same_id q) more ≡ lookup (same_id q) index) → IsKept ds names' more count
+pub kept_split : (cs ds : List (List Element)) (names names' : List ℕ) (index more : OpId → Option ℕ) (p at m count : ℕ) (c a b : List Element) → IsKept cs names index count → slice_get cs p ≡ Some c → a ≡ take at c → b ≡ drop at c → m ≡ length names → ds ≡ insert (set cs p a) (p + 1) b → names' ≡ insert names (p + 1) m → ((k : ℕ) (e : Element) → slice_get b k ≡ Some e → more e.id ≡ Some m) → ((q : OpId) → (HasId b q → ⊥) → more q ≡ index q) → IsKept ds names' more count
 kept_split cs ds names names' index more p at m count c a b ok here left right fresh new named renamed kept =
     let next : p + 1 ≡ suc p = omega arith in
     let is : c ≡ a ++ b = take_drop_is c at ∙ ap (λ z. z ++ drop at c) (sym left) ∙ ap (λ z. a ++ z) (sym right) in
@@ -519,3 +519,29 @@ room_within list es (In spot) place same r =
     let low = r.3 in
     let is = r.4 in
     omega (arith, next, end, whole, low, is)
+
+-- ---- an index that answers the same
+pub kept_same : (cs : List (List Element)) (names : List ℕ) (index more : OpId → Option ℕ) (count : ℕ) → IsKept cs names index count → ((q : OpId) → more q ≡ index q) → IsKept cs names more count
+kept_same cs names index more count ok same = record {
+  indexed = record {
+    counted = ok.indexed.counted;
+    below = ok.indexed.below;
+    apart = ok.indexed.apart;
+    behind = λ id n e. ok.indexed.behind id n (sym (same id) ∙ e);
+    listed = λ i c here k e g none. ok.indexed.listed i c here k e g (sym (same e.id) ∙ none);
+  };
+  counted = ok.counted;
+  few = ok.few;
+}
+
+-- an id above those of its node's elements is above those that the index has
+pub above_indexed : (cs : List (List Element)) (names : List ℕ) (index : OpId → Option ℕ) → IsIndexed cs names index → (id : OpId) → IsAboveAll (joined cs) id → (q : OpId) → q.node ≡ id.node → (index q ≡ None → ⊥) → q.counter < id.counter
+above_indexed cs names index ok id above q node some =
+    elim (index q) as (λ (r : Option ℕ). index q ≡ r → q.counter < id.counter) [
+      | None ↦ λ e. absurd (some e)
+      | Some n ↦
+          λ e.
+          let at = indexed_id cs names index ok q n e in
+          let same : at.1.0.id ≡ q = at.1.2 in
+          subst (λ (z : OpId). z.counter < id.counter) same (above at.0 at.1.0 at.1.1 (ap (λ z. z.node) same ∙ node))
+    ] refl

@@ -10,6 +10,7 @@ pub mod OneOrder
 pub mod Parts
 pub mod VisibleText
 pub mod Joined
+pub mod Naming
 pub mod Chunking
 pub mod Walking
 pub mod Renaming

@@ -1,15 +1,14 @@
 -- Tables of places, as they are made and looked up in.
-use Rattle.std.proofs.Common.{◌≡◌, ℕ, ◌+◌, ◌<◌, ◌≤◌, List, Some, get_or, length, min, set, sym, ap, refl, ◌∙◌, subst, arith, ⊎_elim}
+use Rattle.std.proofs.Common.{◌≡◌, ℕ, ◌+◌, ◌<◌, ◌≤◌, List, Option, Some, get_or, length, min, set, sym, ap, refl, ◌∙◌, subst, arith, ⊎_elim}
 use Rattle.std.proofs.Math.ListN.{length-set}
 use Rattle.std.specs.List.{slice_get}
-use Rattle.std.specs.Map.{lookup}
 use Rattle.std.proofs.lemmas.Option.{same_Some, slice_get_within}
 use Rattle.std.proofs.lemmas.Bool.{cases_lt}
 use Rattle.change_ops.specs.declared.id.OpId.{OpId}
 use Rattle.char_sequence.specs.declared.sequence.Element.{Element}
 use Rattle.char_sequence.specs.declared.place_table.ChunkStart.{ChunkStart}
 use Rattle.char_sequence.specs.Order.{IsAt}
-use Rattle.char_sequence.specs.Index.{same_id, HasId}
+use Rattle.char_sequence.specs.Index.{HasId}
 use Rattle.char_sequence.specs.Chunks.{joined, start_of, IsKept, IsSpotOf}
 use Rattle.char_sequence.specs.PlaceTables.{AreStarts, IsStartOf, IsPlaceTable, IsChunkAt}
 use Rattle.char_sequence.proofs.Lists.{slice_get_set_same, slice_get_set_other}
@@ -29,7 +28,7 @@ laid_none cs names starts size = record {
   laid = λ i n less g. absurd (omega arith);
 }
 
-pub laid_more : (cs : List (List Element)) (names : List ℕ) (index : List (OpId × ℕ)) (count position name start len : ℕ) (c : List Element) (starts starts' : List ChunkStart) → IsKept cs names index count → slice_get names position ≡ Some name → slice_get cs position ≡ Some c → len ≡ length c → starts' ≡ set starts name (record { position = position; start = start }) → AreLaid cs names starts position start → AreLaid cs names starts' (position + 1) (start + len)
+pub laid_more : (cs : List (List Element)) (names : List ℕ) (index : OpId → Option ℕ) (count position name start len : ℕ) (c : List Element) (starts starts' : List ChunkStart) → IsKept cs names index count → slice_get names position ≡ Some name → slice_get cs position ≡ Some c → len ≡ length c → starts' ≡ set starts name (record { position = position; start = start }) → AreLaid cs names starts position start → AreLaid cs names starts' (position + 1) (start + len)
 laid_more cs names index count position name start len c starts starts' ok named here size new was =
     let it : ChunkStart = record { position = position; start = start } in
     let low = ok.indexed.below position name named in
@@ -63,7 +62,7 @@ laid_all cs names starts position start end was =
     let low = slice_get_within names i n g in
     was.laid i n (omega (arith, low, end)) g
 
-pub table_made : (cs : List (List Element)) (names : List ℕ) (index : List (OpId × ℕ)) (count : ℕ) (starts : List ChunkStart) → IsKept cs names index count → AreStarts cs names starts → IsPlaceTable cs index starts count
+pub table_made : (cs : List (List Element)) (names : List ℕ) (index : OpId → Option ℕ) (count : ℕ) (starts : List ChunkStart) → IsKept cs names index count → AreStarts cs names starts → IsPlaceTable cs index starts count
 table_made cs names index count starts ok laid = record {
   found =
       λ id n e.
@@ -75,10 +74,10 @@ table_made cs names index count starts ok laid = record {
 }
 
 -- ---- a look-up
-pub name_within : (cs : List (List Element)) (index : List (OpId × ℕ)) (starts : List ChunkStart) (count : ℕ) → IsPlaceTable cs index starts count → (id : OpId) (n : ℕ) → lookup (same_id id) index ≡ Some n → n < length starts
+pub name_within : (cs : List (List Element)) (index : OpId → Option ℕ) (starts : List ChunkStart) (count : ℕ) → IsPlaceTable cs index starts count → (id : OpId) (n : ℕ) → index id ≡ Some n → n < length starts
 name_within cs index starts count ok id n e = let r = ok.found id n e in slice_get_within starts n r.0 r.1
 
-pub start_found : (cs : List (List Element)) (index : List (OpId × ℕ)) (starts : List ChunkStart) (count : ℕ) → IsPlaceTable cs index starts count → (id : OpId) (n : ℕ) (at : ChunkStart) → lookup (same_id id) index ≡ Some n → at ≡ get_or starts n at → IsStartOf cs id at
+pub start_found : (cs : List (List Element)) (index : OpId → Option ℕ) (starts : List ChunkStart) (count : ℕ) → IsPlaceTable cs index starts count → (id : OpId) (n : ℕ) (at : ChunkStart) → index id ≡ Some n → at ≡ get_or starts n at → IsStartOf cs id at
 start_found cs index starts count ok id n at e is =
     let r = ok.found id n e in
     subst (IsStartOf cs id) (same_Some r.0 at (sym r.1 ∙ here_at starts n at (name_within cs index starts count ok id n e) is)) r.2

@@ -20,6 +20,7 @@ use Rattle.char_sequence.specs.Newest.{IsNewest}
 use Rattle.char_sequence.specs.Held.{Sequence, Holds}
 use Rattle.char_sequence.specs.Places.{IsStart, IsPast, IsAfter}
 use Rattle.char_sequence.specs.Index.{HasId}
+use Rattle.char_sequence.specs.Named.{IsAboveAll}
 use Rattle.char_sequence.proofs.Counters.{used_other}
 use Rattle.char_sequence.proofs.Inserting.{start_root, start_after}
 use Rattle.char_sequence.proofs.Holding.{present_at, listed_ids, text_insert, text_remove, tree_push, distinct_push, named_push, count_push}
@@ -164,3 +165,13 @@ all_known ops op es first second text names there there' x n =
 pub not_true : (b : Bool) → not b ≡ true → b ≡ false
 not_true true e = sym e
 not_true false e = refl
+
+-- the id of an accepted operation is above those of its node's elements
+pub above_all : (ops : List Op) (op : Op) (es ds : List Element) (id : OpId) → id_of op ≡ id → ds ≡ es → IsText ops es → Accepts ops op → IsAboveAll ds id
+above_all ops op es ds id is same text a k e g node =
+    let there : slice_get es k ≡ Some e = ap (λ z. slice_get z k) (sym same) ∙ g in
+    let from = text.inserted k e there in
+    ⊎_elim
+    (λ (less : e.id.counter < id.counter). less)
+    (λ (more : id.counter ≤ e.id.counter). absurd (not_used ops op id is a (Insert e.id from.0 e.character, from.1, node, more)))
+    (cases_lt e.id.counter id.counter)

@@ -1,11 +1,11 @@
 -- Elements in chunks, and the index from ids to the chunks' names.
-use Rattle.std.specs.Prelude.{◌≡◌, ◌⊎◌, ℕ, ◌+◌, ◌<◌, ◌≤◌, List, [], ◌∷◌, ◌++◌, Some, None, length, take, slice_get}
-use Rattle.std.specs.Map.{lookup}
+use Rattle.std.specs.Prelude.{◌≡◌, ◌⊎◌, ℕ, ◌+◌, ◌<◌, ◌≤◌, List, [], ◌∷◌, ◌++◌, Option, Some, None, length, take}
+use Rattle.std.specs.Prelude.{slice_get}
 use Rattle.change_ops.specs.Ids.{Less}
 use Rattle.change_ops.specs.declared.id.OpId.{OpId}
 use Rattle.char_sequence.specs.declared.sequence.Element.{Element}
 use Rattle.char_sequence.specs.Order.{IsAt}
-use Rattle.char_sequence.specs.Index.{same_id, HasId}
+use Rattle.char_sequence.specs.Index.{HasId}
 use Rattle.char_sequence.specs.Visible.{visible_text}
 
 -- the chunks' elements, chunk after chunk
@@ -50,14 +50,14 @@ pub record IsSpot (chunks : List (List Element)) (position at place : ℕ) : Typ
   pub is : place ≡ start_of chunks position + at
 
 -- each chunk has a name of its own, and the index has each element's id with the name of a chunk that has it
-pub record IsIndexed (chunks : List (List Element)) (names : List ℕ) (index : List (OpId × ℕ)) : Type 0 where
+pub record IsIndexed (chunks : List (List Element)) (names : List ℕ) (index : OpId → Option ℕ) : Type 0 where
   pub counted : length names ≡ length chunks
   pub below : (i n : ℕ) → slice_get names i ≡ Some n → n < length names
   pub apart : (i j n : ℕ) → slice_get names i ≡ Some n → slice_get names j ≡ Some n → i ≡ j
-  pub behind : (id : OpId) (n : ℕ) → lookup (same_id id) index ≡ Some n
+  pub behind : (id : OpId) (n : ℕ) → index id ≡ Some n
       → (i : ℕ) × ((c : List Element) × (slice_get names i ≡ Some n) × (slice_get chunks i ≡ Some c) × HasId c id)
   pub listed : (i : ℕ) (c : List Element) → slice_get chunks i ≡ Some c → (k : ℕ) (e : Element) → slice_get c k ≡ Some e
-      → lookup (same_id e.id) index ≡ None → ⊥
+      → index e.id ≡ None → ⊥
 
 -- chunks, and for how many more of them there is room
 pub record ChunkList : Type 0 where
@@ -71,7 +71,7 @@ pub record IsSpotOf (chunks : List (List Element)) (id : OpId) (position at : �
   pub has : IsAt chunk id at
 
 -- what the type of a list of chunks keeps
-pub record IsKept (chunks : List (List Element)) (names : List ℕ) (index : List (OpId × ℕ)) (count : ℕ) : Type 0 where
+pub record IsKept (chunks : List (List Element)) (names : List ℕ) (index : OpId → Option ℕ) (count : ℕ) : Type 0 where
   pub indexed : IsIndexed chunks names index
   pub counted : count ≡ length (joined chunks)
   pub few : length (joined chunks) ≤ 32768

@@ -5,6 +5,7 @@ pub mod Newest
 pub mod Held
 pub mod Places
 pub mod Index
+pub mod Named
 pub mod Visible
 pub mod Chunks
 pub mod Rooms

@@ -1,10 +1,9 @@
 -- The places of elements by their ids, from where the chunk of each name stands.
-use Rattle.std.specs.Prelude.{◌≡◌, ℕ, ◌+◌, ◌<◌, ◌≤◌, List, Some, None, length, slice_get}
-use Rattle.std.specs.Map.{lookup}
+use Rattle.std.specs.Prelude.{◌≡◌, ℕ, ◌+◌, ◌<◌, ◌≤◌, List, Option, Some, None, length, slice_get}
 use Rattle.change_ops.specs.declared.id.OpId.{OpId}
 use Rattle.char_sequence.specs.declared.sequence.Element.{Element}
 use Rattle.char_sequence.specs.declared.place_table.ChunkStart.{ChunkStart}
-use Rattle.char_sequence.specs.Index.{same_id, HasId}
+use Rattle.char_sequence.specs.Index.{HasId}
 use Rattle.char_sequence.specs.Chunks.{joined, start_of}
 
 -- by each chunk's name its position, and how many elements stand before it
@@ -21,11 +20,11 @@ pub record IsStartOf (chunks : List (List Element)) (id : OpId) (at : ChunkStart
   pub start : at.start ≡ start_of chunks at.position
 
 -- what the type of a table keeps
-pub record IsPlaceTable (chunks : List (List Element)) (index : List (OpId × ℕ)) (starts : List ChunkStart)
+pub record IsPlaceTable (chunks : List (List Element)) (index : OpId → Option ℕ) (starts : List ChunkStart)
     (count : ℕ) : Type 0 where
-  pub found : (id : OpId) (name : ℕ) → lookup (same_id id) index ≡ Some name
+  pub found : (id : OpId) (name : ℕ) → index id ≡ Some name
       → (at : ChunkStart) × (slice_get starts name ≡ Some at) × IsStartOf chunks id at
-  pub missing : (id : OpId) → lookup (same_id id) index ≡ None → HasId (joined chunks) id → ⊥
+  pub missing : (id : OpId) → index id ≡ None → HasId (joined chunks) id → ⊥
   pub counted : count ≡ length (joined chunks)
   pub few : length (joined chunks) ≤ 32768
 

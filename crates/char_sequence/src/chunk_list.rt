@@ -1,11 +1,8 @@
 ghost use Rattle.std.specs.Prelude.{◌≡◌, ℕ, ◌<◌, ◌≤◌, ◌+◌, ◌-◌, ◌^◌, ◌⊎◌, ◌∷◌, ◌++◌, List, [], true, false, length};
 ghost use Rattle.std.specs.Prelude.{take, drop, slice_get, set, insert, OnErr, MatchOption, IfSome, OnOk, IfOk, Some};
 ghost use Rattle.std.specs.Prelude.{None};
-ghost use Rattle.std.specs.Map.{lookup};
 ghost use Rattle.char_sequence.specs.declared.sequence.Element.{Element};
 ghost use Rattle.char_sequence.specs.Order.{IsAt};
-ghost use Rattle.std.specs.BTreeMap.{Updates, IsUnchanged};
-ghost use Rattle.change_ops.specs.Ids.{id_cmp};
 ghost use Rattle.change_ops.specs.declared.id.OpId.{OpId};
 ghost use Rattle.change_ops.specs.declared.operation.Op.{Op};
 ghost use Rattle.change_ops.specs.Operations.{id_of};
@@ -14,15 +11,15 @@ ghost use Rattle.char_sequence.specs.Newest.{IsNewest};
 ghost use Rattle.char_sequence.specs.Index.{same_id, HasId};
 ghost use Rattle.char_sequence.specs.Places.{IsPast, IsAfter};
 ghost use Rattle.char_sequence.specs.Chunks.{joined, start_of};
+ghost use Rattle.char_sequence.specs.Named.{name_of, IsAboveAll};
 
 use crate::chunk::{Blank, CHUNK_LIMIT, Chunk};
+use crate::index::Index;
 use crate::newest::Newest;
 use crate::place_table::PlaceTable;
 use crate::sequence::Element;
 use change_ops::id::OpId;
 use std::alloc::{AllocError, Global};
-use std::collections::BTreeMap;
-use std::collections::btree_map::Entry;
 use std::marker::Model;
 
 /// A chunk by its position, and how many of its elements stand before.
@@ -77,14 +74,17 @@ pub(crate) struct ChunkList {
     chunks: Vec<Chunk>,
     // The chunks' numbers, given once, in the same order. A number stays as chunks before it are split.
     names: Vec<usize>,
-    // The name of each element's chunk. A tree, and no hash map, since whoever writes the changes chooses the ids.
-    index: BTreeMap<OpId, usize>,
+    // The name of each element's chunk.
+    index: Index,
     count: usize,
+    // Where the last element was put, so that who types on finds it at once. Splits move elements, so it is only tried.
+    last: Spot,
 }
 
 impl Model for ChunkList {
     ghost use Rattle.std.specs.Prelude.{◌-◌, min, vec_len, vec_capacity};
     ghost use Rattle.char_sequence.specs.Chunks.{ChunkList as ChunkListValue, IsKept};
+    ghost use Rattle.char_sequence.specs.Named.{name_of};
 
     ghost Value = { ChunkListValue };
 
@@ -93,7 +93,7 @@ impl Model for ChunkList {
       room = min (vec_capacity l.chunks - vec_len l.chunks) (vec_capacity l.names - vec_len l.names);
     } };
 
-    ghost invariant = { λ l. IsKept l.chunks.items l.names.items l.index.entries l.count };
+    ghost invariant = { λ l. IsKept l.chunks.items l.names.items (name_of l.index) l.count };
 }
 
 ghost use Rattle.char_sequence.specs.Chunks.{IsSpot, IsSpotOf};
@@ -113,6 +113,18 @@ fn position_of(names: &[usize], name: usize) -> Option<usize>
         }
     }
     None
+}
+
+/// Whether the element at a spot, if there is one, has this id.
+fn has_at(chunks: &[Chunk], spot: Spot, id: OpId) -> bool
+    ensures within { result ≡ true → spot.at < 64 }
+    ensures found { result ≡ true → IsSpotOf chunks.now id spot.position spot.at }
+{
+    if spot.position >= chunks.len() {
+        return false;
+    }
+    let elements = chunks[spot.position].as_slice();
+    spot.at < elements.len() && elements[spot.at].id == id
 }
 
 /// How many elements stand before the chunk at a position.
@@ -150,46 +162,34 @@ fn past_greater(chunks: &[Chunk], from: Spot, id: OpId) -> Spot
 }
 
 /// Gives the elements, which have names, a new one.
-fn rename(index: &mut BTreeMap<OpId, usize>, elements: &[Element], name: usize)
+fn rename(index: &mut Index, elements: &[Element], name: usize)
     requires { (k : ℕ) (e : Element) → slice_get elements.now k ≡ Some e
-        → lookup (same_id e.id) index.old.entries ≡ None → ⊥ }
+        → name_of index.old e.id ≡ None → ⊥ }
     ensures renamed { (k : ℕ) (e : Element) → slice_get elements.now k ≡ Some e
-        → lookup (same_id e.id) index.new.entries ≡ Some name }
+        → name_of index.new e.id ≡ Some name }
     ensures kept { (q : OpId) → (HasId elements.now q → ⊥)
-        → lookup (same_id q) index.new.entries ≡ lookup (same_id q) index.old.entries }
+        → name_of index.new q ≡ name_of index.old q }
 {
     for element in elements {
-        // Only an id that is not there wants memory.
-        let renamed: Result<_, _> = index.insert(element.id, name);
-        renamed.unwrap();
+        index.rename(element.id, name);
     }
 }
 
 /// Notes an id, and gives it a name; the error is want of memory, and changes nothing.
-fn enter(
-    index: &mut BTreeMap<OpId, usize>,
-    newest: &mut Newest,
-    id: OpId,
-    name: usize,
-) -> Result<(), AllocError>
-    requires { (ops : List Op) × IsNewest ops newest.old × (Used ops id → ⊥) }
-    ensures updates { OnOk result (Updates id_cmp index.old index.new id (Some name)) }
+fn enter(index: &mut Index, newest: &mut Newest, id: OpId, name: usize) -> Result<(), AllocError>
+    requires fresh { (ops : List Op) × IsNewest ops newest.old × (Used ops id → ⊥) }
+    requires above { (q : OpId) → q.node ≡ id.node → (name_of index.old q ≡ None → ⊥) → q.counter < id.counter }
+    ensures named { OnOk result (name_of index.new id ≡ Some name) }
+    ensures kept { OnOk result ((q : OpId) → same_id id q ≡ false → name_of index.new q ≡ name_of index.old q) }
     ensures noted { (ops : List Op) (op : Op) → id_of op ≡ id → IsNewest ops newest.old
         → IfOk result (λ _. IsNewest (ops ++ op ∷ []) newest.new) }
-    ensures unchanged { OnErr result (IsUnchanged index.old index.new) }
+    ensures unchanged { OnErr result ((q : OpId) → name_of index.new q ≡ name_of index.old q) }
     ensures same { OnErr result (newest.new ≡ newest.old) }
 {
-    // An entry has its memory before the id is noted.
-    match index.entry(id)? {
-        Entry::Vacant(entry) => {
-            newest.note(id)?;
-            entry.insert(name);
-        }
-        Entry::Occupied(mut entry) => {
-            newest.note(id)?;
-            entry.insert(name);
-        }
-    }
+    // The element has its memory before the id is noted.
+    let place = index.reserve(id.node())?;
+    newest.note(id)?;
+    index.push(place, id, name);
     Ok(())
 }
 
@@ -201,8 +201,9 @@ impl ChunkList {
         ChunkList {
             chunks: Vec::new(alloc),
             names: Vec::new(alloc),
-            index: BTreeMap::new(alloc),
+            index: Index::new(alloc),
             count: 0,
+            last: Spot { position: 0, at: 0 },
         }
     }
 
@@ -220,12 +221,32 @@ impl ChunkList {
         self.count
     }
 
+    /// Whether the index has an element of this id.
+    fn is_indexed(&self, id: OpId) -> bool
+        ensures yes { result ≡ true → HasId (joined self.now.chunks) id }
+        ensures no { result ≡ false → HasId (joined self.now.chunks) id → ⊥ }
+    {
+        self.index.name_of(id).is_some()
+    }
+
     /// Whether there is an element of this id.
     pub(crate) fn has(&self, id: OpId) -> bool
         ensures yes { result ≡ true → HasId (joined self.now.chunks) id }
         ensures no { result ≡ false → HasId (joined self.now.chunks) id → ⊥ }
     {
-        self.index.contains_key(&id)
+        has_at(&self.chunks, self.last, id) || self.is_indexed(id)
+    }
+
+    /// The spot of an element of this id, by the index.
+    fn indexed_spot(&self, id: OpId) -> Option<Spot>
+        ensures within { IfSome result (λ s. s.at < 64) }
+        ensures found { MatchOption result (HasId (joined self.now.chunks) id
+            → ⊥) (λ s. IsSpotOf self.now.chunks id s.position s.at) }
+    {
+        let name = self.index.name_of(id)?;
+        let position = position_of(&self.names, name).unwrap();
+        let at = self.chunks[position].index_of(id).unwrap();
+        Some(Spot { position, at })
     }
 
     /// The spot of an element of this id.
@@ -234,10 +255,10 @@ impl ChunkList {
         ensures found { MatchOption result (HasId (joined self.now.chunks) id
             → ⊥) (λ s. IsSpotOf self.now.chunks id s.position s.at) }
     {
-        let name = *self.index.get(&id)?;
-        let position = position_of(&self.names, name).unwrap();
-        let at = self.chunks[position].index_of(id).unwrap();
-        Some(Spot { position, at })
+        if has_at(&self.chunks, self.last, id) {
+            return Some(self.last);
+        }
+        self.indexed_spot(id)
     }
 
     /// The element of this id.
@@ -360,6 +381,7 @@ impl ChunkList {
         requires none { self.old.chunks ≡ [] }
         requires room { 1 ≤ self.old.room }
         requires fresh { (ops : List Op) × IsNewest ops newest.old × (Used ops element.id → ⊥) }
+        requires above { IsAboveAll (joined self.old.chunks) element.id }
         ensures ok { OnOk result (self.new.chunks ≡ (element ∷ []) ∷ []) }
         ensures noted { (ops : List Op) (op : Op) → id_of op ≡ element.id → IsNewest ops newest.old
             → IfOk result (λ _. IsNewest (ops ++ op ∷ []) newest.new) }
@@ -369,6 +391,7 @@ impl ChunkList {
         self.names.push_reserved(0);
         self.chunks.push_reserved(Chunk::one(blank, element));
         self.count = 1;
+        self.last = Spot { position: 0, at: 0 };
         Ok(())
     }
 
@@ -382,6 +405,7 @@ impl ChunkList {
             × (length chunk < 64) × (spot.at ≤ length chunk) }
         requires few { length (joined self.old.chunks) < 32768 }
         requires fresh { (ops : List Op) × IsNewest ops newest.old × (Used ops element.id → ⊥) }
+        requires above { IsAboveAll (joined self.old.chunks) element.id }
         ensures ok { (chunk : List Element) → slice_get self.old.chunks spot.position ≡ Some chunk
             → OnOk result (self.new.chunks ≡ set self.old.chunks spot.position (insert chunk spot.at element)) }
         ensures noted { (ops : List Op) (op : Op) → id_of op ≡ element.id → IsNewest ops newest.old
@@ -392,6 +416,7 @@ impl ChunkList {
         enter(&mut self.index, newest, element.id, name)?;
         self.chunks[spot.position].insert(spot.at, element);
         self.count += 1;
+        self.last = spot;
         Ok(())
     }
 
@@ -406,6 +431,7 @@ impl ChunkList {
         requires room { (place : ℕ) × IsRoom self.old room place }
         requires few { length (joined self.old.chunks) < 32768 }
         requires fresh { (ops : List Op) × IsNewest ops newest.old × (Used ops element.id → ⊥) }
+        requires above { IsAboveAll (joined self.old.chunks) element.id }
         ensures ok { (place : ℕ) → IsRoom self.old room place
             → OnOk result (joined self.new.chunks ≡ insert (joined self.old.chunks) place element) }
         ensures noted { (ops : List Op) (op : Op) → id_of op ≡ element.id → IsNewest ops newest.old
@@ -463,6 +489,7 @@ impl Clone for ChunkList {
             names,
             index,
             count: self.count,
+            last: self.last,
         })
     }
 }

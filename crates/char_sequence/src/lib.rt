@@ -5,6 +5,7 @@ mod chunk;
 mod chunk_list;
 mod counting;
 pub mod elements;
+mod index;
 pub mod newest;
 pub mod place_table;
 pub mod sequence;

@@ -1,5 +1,5 @@
 //! The places of a text's characters by their ids, as they stand at one time.
-ghost use Rattle.std.specs.Prelude.{◌≡◌, ◌≤◌, ℕ, List, length, MatchOption, IfOk};
+ghost use Rattle.std.specs.Prelude.{◌≡◌, ◌≤◌, ℕ, List, length, Option, MatchOption, IfOk};
 ghost use Rattle.change_ops.specs.declared.id.OpId.{OpId};
 ghost use Rattle.change_ops.specs.declared.operation.Op.{Op};
 ghost use Rattle.char_sequence.specs.Tree.{Present};
@@ -7,12 +7,13 @@ ghost use Rattle.char_sequence.specs.Order.{Shows, IsAt};
 ghost use Rattle.char_sequence.specs.Index.{HasId};
 ghost use Rattle.char_sequence.specs.Chunks.{joined, IsKept};
 ghost use Rattle.char_sequence.specs.PlaceTables.{AreStarts};
+ghost use Rattle.char_sequence.specs.Named.{name_of};
 
 use crate::chunk::Chunk;
+use crate::index::Index;
 use crate::sequence::CHARACTER_LIMIT;
 use change_ops::id::OpId;
 use std::alloc::{AllocError, Global};
-use std::collections::BTreeMap;
 use std::marker::Model;
 
 /// The position of a chunk, and how many elements stand before it.
@@ -27,7 +28,7 @@ pub(crate) struct ChunkStart {
 pub struct PlaceTable<'a> {
     chunks: &'a [Chunk],
     // The name of each element's chunk.
-    index: &'a BTreeMap<OpId, usize>,
+    index: &'a Index,
     // Where the chunk of each name stands.
     starts: Vec<ChunkStart>,
     count: usize,
@@ -38,12 +39,13 @@ impl<'a> Model for PlaceTable<'a> {
     ghost use Rattle.char_sequence.specs.declared.sequence.Element.{Element};
     ghost use Rattle.char_sequence.specs.Chunks.{joined};
     ghost use Rattle.char_sequence.specs.PlaceTables.{IsPlaceTable};
+    ghost use Rattle.char_sequence.specs.Named.{name_of};
 
     ghost Value = { List Element };
 
     ghost view = { λ t. joined t.chunks.now };
 
-    ghost invariant = { λ t. IsPlaceTable t.chunks.now t.index.now.entries t.starts.items t.count };
+    ghost invariant = { λ t. IsPlaceTable t.chunks.now (name_of t.index.now) t.starts.items t.count };
 }
 
 /// Where the chunk of each name stands.
@@ -52,7 +54,7 @@ fn starts_by_name(
     chunks: &[Chunk],
     names: &[usize],
 ) -> Result<Vec<ChunkStart>, AllocError>
-    requires { (index : List (OpId × ℕ)) × ((count : ℕ) × IsKept chunks.now names.now index count) }
+    requires { (find : OpId → Option ℕ) × ((count : ℕ) × IsKept chunks.now names.now find count) }
     ensures { IfOk result (λ starts. AreStarts chunks.now names.now starts.items) }
 {
     let first = ChunkStart {
@@ -74,10 +76,10 @@ impl<'a> PlaceTable<'a> {
         alloc: Global,
         chunks: &'a [Chunk],
         names: &[usize],
-        index: &'a BTreeMap<OpId, usize>,
+        index: &'a Index,
         count: usize,
     ) -> Result<PlaceTable<'a>, AllocError>
-        requires { IsKept chunks.now names.now index.now.entries count }
+        requires { IsKept chunks.now names.now (name_of index.now) count }
         ensures { IfOk result (λ table. table ≡ joined chunks.now) }
     {
         let starts = starts_by_name(alloc, chunks, names)?;
@@ -105,7 +107,7 @@ impl PlaceTable<'_> {
         ensures present { (ops : List Op) → Shows self.now ops
             → MatchOption result (Present ops id → ⊥) (λ k. IsAt self.now id k) }
     {
-        let name = *self.index.get(&id)?;
+        let name = self.index.name_of(id)?;
         let chunk = self.starts[name];
         let at = self.chunks[chunk.position].index_of(id).unwrap();
         Some(chunk.start + at)

@@ -10,6 +10,7 @@ use crate::visible_cursor::VisibleCursor;
 use change_ops::character::Character;
 use change_ops::id::OpId;
 use change_ops::operation::{Named, Op};
+use refusal_titles::{DOCUMENT_FULL, STALE_COUNTER, UNKNOWN_REF};
 use std::alloc::{AllocError, Global};
 use std::marker::Model;
 use thiserror::Error;
@@ -27,13 +28,13 @@ pub struct Element {
 #[derive(Clone, Copy, Debug, PartialEq, Eq, Error)]
 pub enum SequenceError {
     /// Its counter is not above its peer's last one, or that of a character that it names.
-    #[error("46 StaleCounter")]
+    #[error("{STALE_COUNTER}")]
     StaleCounter,
     /// A character that it names is not there.
-    #[error("47 UnknownRef")]
+    #[error("{UNKNOWN_REF}")]
     UnknownRef,
     /// It inserts one character too many.
-    #[error("48 DocumentFull")]
+    #[error("{DOCUMENT_FULL}")]
     DocumentFull,
 }
 

@@ -1,16 +1,17 @@
+use refusal_titles::{NO_SUBSCRIBER, NO_VERSION, OUT_OF_MEMORY, STALE, SUBSCRIBERS_FULL};
 use thiserror::Error;
 
 /// Why a subscriber was not added.
 #[derive(Clone, Copy, Debug, PartialEq, Eq, Error)]
 pub enum SubscribeError {
     /// 64 subscribers were added, closed ones counted.
-    #[error("51 SubscribersFull")]
+    #[error("{SUBSCRIBERS_FULL}")]
     SubscribersFull,
     /// The first version is above the latest one.
-    #[error("55 NoVersion")]
+    #[error("{NO_VERSION}")]
     NoVersion,
     /// No memory was found.
-    #[error("45 OutOfMemory")]
+    #[error("{OUT_OF_MEMORY}")]
     OutOfMemory,
 }
 
@@ -18,18 +19,18 @@ pub enum SubscribeError {
 #[derive(Clone, Copy, Debug, PartialEq, Eq, Error)]
 pub enum CommitError {
     /// No subscriber has this id, or it is closed.
-    #[error("52 NoSubscriber")]
+    #[error("{NO_SUBSCRIBER}")]
     NoSubscriber,
     /// The subscriber doesn't wait for this batch: it is held, was sent, is too far ahead, or is of another program or
     /// version.
-    #[error("53 Stale")]
+    #[error("{STALE}")]
     Stale,
     /// No memory was found.
-    #[error("45 OutOfMemory")]
+    #[error("{OUT_OF_MEMORY}")]
     OutOfMemory,
 }
 
 /// No subscriber has this id, or it is closed.
 #[derive(Clone, Copy, Debug, PartialEq, Eq, Error)]
-#[error("52 NoSubscriber")]
+#[error("{NO_SUBSCRIBER}")]
 pub struct NoSubscriber;

@@ -3,12 +3,13 @@ use Rattle.std.proofs.Common.{◌≡◌, ℕ, suc, ◌+◌, ◌-◌, ◌/◌, �
 use lib.Count.{count_leading_zeros}
 use Rattle.std.specs.Int.Bits.{xor_self}
 use Rattle.std.proofs.Math.Nat.{div-eq_of_lt, pow-le-pow_right}
-use Rattle.std.proofs.lemmas.Nat.{leading_top, xor_shr, xor_lt, pow_pos, shr_le}
+use Rattle.std.proofs.lemmas.Nat.{leading_top, xor_shr, xor_lt, pow_pos, shr_le, and_mask}
 use Rattle.std.proofs.lemmas.Nat.Bits.{ones_shr, bit_at_ones, bit_at_ones_above}
 use Rattle.std.proofs.lemmas.Bool.{cases_lt}
 use Rattle.std.proofs.lemmas.Grind.{common_steps}
 use Rattle.known_bits.specs.declared.Bits.{Bits}
-use Rattle.known_bits.specs.Bits.{bit, Contains}
+use Rattle.known_bits.specs.Bits.{bit, Contains, IsConstant}
+use Rattle.known_bits.specs.KnownBits.{KnownBits, known_of, all_known, common_bits}
 use Rattle.known_bits.proofs.BitLaws.{bit-lt, bit-zero, bit-xor, same, bit-and_not, bit-shr}
 
 equal_bit : (a b : ℕ) → a < 2 → b < 2 → (a + b) % 2 ≡ 0 → a ≡ b
@@ -107,3 +108,18 @@ between_knows low high m l k e =
     let none : bit_xor low high / 2 ^ k ≡ 0 = xor_shr low high k ∙ ap (λ n. bit_xor n (high / 2 ^ k)) e ∙ xor_self (high / 2 ^ k) in
     let below : suc l.top ≤ k = agree_below _ _ _ l.least (quotient_zero _ _ (pow_pos k) none) in
     ap (λ n. bit n k) l.mask ∙ low_ones_above (suc l.top) k below
+
+-- one number has all its bits in common with itself
+pub common_one : (n m : ℕ) → n < 2 ^ 64 → n ≡ m → common_bits n m ≡ all_known n
+unfolding common_bits count_leading_zeros
+common_one n m fits e =
+    let same_word : bit_xor n m ≡ 0 = ap (bit_xor n) (sym e) ∙ xor_self n in
+    let none : 18446744073709551615 / 2 ^ count_leading_zeros 64 (bit_xor n m) ≡ 0 = ap (λ d. 18446744073709551615 / 2 ^ count_leading_zeros 64 d) same_word in
+    let all : bit_and n (18446744073709551615 - 0) ≡ n = and_mask n 64 ∙ omega arith in
+    ap (λ (u : ℕ). known (bit_and n (18446744073709551615 - u)) u) none ∙ ap (λ (o : ℕ). known o 0) all
+  where
+    known : ℕ → ℕ → KnownBits
+    known o u = record { ones = o; unknown = u }
+
+pub known_is : (b : Bits) (n : ℕ) → IsConstant b n → known_of b ≡ all_known n
+known_is b n is = cc

@@ -5,7 +5,7 @@
 #![tactic(auto)]
 
 ghost use Rattle.std.specs.Prelude.{◌≡◌, ℕ, ◌+◌, ◌-◌, ◌*◌, ◌/◌, ◌%◌, ◌^◌, ◌<◌, ◌≤◌, ◌↔◌, IsTrue, IsNone, IfSome};
-ghost use Rattle.std.specs.Prelude.{bit_and, bit_or, bit_xor};
+ghost use Rattle.std.specs.Prelude.{bit_and, bit_or, bit_xor, option_map};
 
 /// What is known of a number: bit k is that of `value` where bit k of `unknown` is 0. An unknown bit of `value` is 0.
 #[derive(Clone, Copy)]
@@ -18,6 +18,9 @@ pub struct Bits {
 impl Bits {
     ghost use Rattle.known_bits.specs.Bits.{bit, Contains, Within, Maps, MapsBoth, Knows, KnowsBoth, most, IsConstant};
     ghost use Rattle.known_bits.specs.Bits.{IsApart, Covers};
+    ghost use Rattle.known_bits.specs.KnownBits.{known_of, none_known, common_bits, bits_of_both, bits_of_either};
+    ghost use Rattle.known_bits.specs.KnownBits.{bits_of_one, bits_shifted_left, bits_shifted_right, low_bits};
+    ghost use Rattle.known_bits.specs.KnownBits.{agreed_bits, merged_bits};
 
     /// The one number.
     pub fn constant(value: u64) -> Bits
@@ -30,6 +33,7 @@ impl Bits {
     /// Every number.
     pub fn unknown() -> Bits
         ensures all { result.unknown ≡ 2 ^ 64 - 1 }
+        ensures rule { known_of result ≡ none_known }
         ensures contains { (x : ℕ) → x < 2 ^ 64 → Contains result x }
     {
         Bits {
@@ -39,10 +43,12 @@ impl Bits {
     }
 
     /// The high bits that all numbers from `low` to `high` have in common.
+    #[tactic(auto, unfolding(crate::specs::KnownBits::common_bits))]
     pub fn between(low: u64, high: u64) -> Bits
         requires { low ≤ high }
         ensures contains { (x : ℕ) → low ≤ x → x ≤ high → Contains result x }
         ensures knows { (k : ℕ) → low / 2 ^ k ≡ high / 2 ^ k → bit result.unknown k ≡ 0 }
+        ensures rule { known_of result ≡ common_bits low high }
     {
         if low == high {
             return Bits::constant(low);
@@ -80,9 +86,11 @@ impl Bits {
     }
 
     /// A bit is known where it is known in both, or a known 0 in one.
+    #[tactic(auto, unfolding(crate::specs::KnownBits::bits_of_both))]
     pub fn and(self, other: Bits) -> Bits
         ensures contains { MapsBoth self other result (λ x y. bit_and x y) }
         ensures knows { KnowsBoth self other result (λ x y. bit_and x y) }
+        ensures rule { known_of result ≡ bits_of_both (known_of self) (known_of other) }
     {
         let value = self.value & other.value;
         let most = self.greatest() & other.greatest();
@@ -93,9 +101,11 @@ impl Bits {
     }
 
     /// A bit is known where it is known in both, or a known 1 in one.
+    #[tactic(auto, unfolding(crate::specs::KnownBits::bits_of_either))]
     pub fn or(self, other: Bits) -> Bits
         ensures contains { MapsBoth self other result (λ x y. bit_or x y) }
         ensures knows { KnowsBoth self other result (λ x y. bit_or x y) }
+        ensures rule { known_of result ≡ bits_of_either (known_of self) (known_of other) }
     {
         let value = self.value | other.value;
         let unknown = self.unknown | other.unknown;
@@ -106,9 +116,11 @@ impl Bits {
     }
 
     /// A bit is known where it is known in both.
+    #[tactic(auto, unfolding(crate::specs::KnownBits::bits_of_one))]
     pub fn xor(self, other: Bits) -> Bits
         ensures contains { MapsBoth self other result (λ x y. bit_xor x y) }
         ensures knows { KnowsBoth self other result (λ x y. bit_xor x y) }
+        ensures rule { known_of result ≡ bits_of_one (known_of self) (known_of other) }
     {
         let unknown = self.unknown | other.unknown;
         Bits {
@@ -128,6 +140,7 @@ impl Bits {
     pub fn add(self, other: Bits) -> Bits
         ensures contains { MapsBoth self other result (λ x y. (x + y) % 2 ^ 64) }
         ensures apart { IsApart self other → KnowsBoth self other result (λ x y. bit_or x y) }
+        ensures rule { IsApart self other → known_of result ≡ bits_of_either (known_of self) (known_of other) }
         ensures constants { self.unknown ≡ 0 → other.unknown ≡ 0
             → IsConstant result ((self.value + other.value) % 2 ^ 64) }
         ensures otherwise { ¬ IsApart self other → ¬ ((self.unknown ≡ 0) × (other.unknown ≡ 0))
@@ -155,6 +168,7 @@ impl Bits {
     pub fn sub(self, other: Bits) -> Bits
         ensures contains { MapsBoth self other result (λ x y. (x + (2 ^ 64 - y)) % 2 ^ 64) }
         ensures covered { Covers self other → KnowsBoth self other result (λ x y. bit_xor x y) }
+        ensures rule { Covers self other → known_of result ≡ bits_of_one (known_of self) (known_of other) }
         ensures constants { self.unknown ≡ 0 → other.unknown ≡ 0
             → IsConstant result ((self.value + (2 ^ 64 - other.value)) % 2 ^ 64) }
         ensures otherwise { ¬ Covers self other → ¬ ((self.unknown ≡ 0) × (other.unknown ≡ 0))
@@ -170,9 +184,11 @@ impl Bits {
     }
 
     /// The shift to the left by `count` modulo 64: both words shift, and the bits that come in are known 0s.
+    #[tactic(auto, unfolding(crate::specs::KnownBits::bits_shifted_left))]
     pub fn shl(self, count: u64) -> Bits
         ensures contains { Maps self result (λ x. x * 2 ^ (count % 64) % 2 ^ 64) }
         ensures knows { Knows self result (λ x. x * 2 ^ (count % 64) % 2 ^ 64) }
+        ensures rule { known_of result ≡ bits_shifted_left (count % 64) (known_of self) }
         ensures constants { self.unknown ≡ 0 → result.unknown ≡ 0 }
     {
         Bits {
@@ -183,9 +199,11 @@ impl Bits {
 
     /// The shift to the right by `count` modulo 64, without sign: both words shift, and the bits that come in are known
     /// 0s.
+    #[tactic(auto, unfolding(crate::specs::KnownBits::bits_shifted_right))]
     pub fn shr(self, count: u64) -> Bits
         ensures contains { Maps self result (λ x. x / 2 ^ (count % 64)) }
         ensures knows { Knows self result (λ x. x / 2 ^ (count % 64)) }
+        ensures rule { known_of result ≡ bits_shifted_right (count % 64) (known_of self) }
         ensures constants { self.unknown ≡ 0 → result.unknown ≡ 0 }
     {
         Bits {
@@ -195,9 +213,11 @@ impl Bits {
     }
 
     /// The low 32 bits, the others being known 0s.
+    #[tactic(auto, unfolding(crate::specs::KnownBits::low_bits))]
     pub fn low32(self) -> Bits
         ensures contains { Maps self result (λ x. x % 2 ^ 32) }
         ensures knows { Knows self result (λ x. x % 2 ^ 32) }
+        ensures rule { known_of result ≡ low_bits (known_of self) }
     {
         Bits {
             value: self.value & 0xffff_ffff,
@@ -206,11 +226,13 @@ impl Bits {
     }
 
     /// What either contains: a bit is known where both know it and agree.
+    #[tactic(auto, unfolding(crate::specs::KnownBits::agreed_bits))]
     pub fn join(self, other: Bits) -> Bits
         ensures left { Maps self result (λ x. x) }
         ensures right { Maps other result (λ x. x) }
         ensures agreed { (k : ℕ) → bit self.unknown k ≡ 0 → bit other.unknown k ≡ 0
             → bit self.value k ≡ bit other.value k → bit result.unknown k ≡ 0 }
+        ensures rule { known_of result ≡ agreed_bits (known_of self) (known_of other) }
     {
         let unknown = self.unknown | other.unknown | (self.value ^ other.value);
         Bits {
@@ -220,10 +242,12 @@ impl Bits {
     }
 
     /// What both contain, `None` where that is nothing: a bit that both know differs there.
+    #[tactic(auto, unfolding(crate::specs::KnownBits::merged_bits))]
     pub fn meet(self, other: Bits) -> Option<Bits>
         ensures none { IsNone result ↔ ((x : ℕ) → Contains self x → Contains other x → ⊥) }
         ensures contains { (x : ℕ) → Contains self x → Contains other x → Within result x }
         ensures only { IfSome result (λ r. (x : ℕ) → Contains r x → Contains self x × Contains other x) }
+        ensures rule { option_map known_of result ≡ merged_bits (known_of self) (known_of other) }
     {
         let known = !(self.unknown | other.unknown);
         let clash = (self.value ^ other.value) & known;

@@ -6,18 +6,26 @@ use abstract_state::refusal::Refusal as StateFault;
 use assembler_lines::fault::LineFault;
 use bpf_words::refusal::SlotFault;
 use change_history::refusal::Refusal;
+use refusal_titles::{
+    BACKWARD_JUMP, BAD_REGISTER, BAD_WIDTH, CONTEXT_FIELD, DOCUMENT_FULL, FALL_OFF, JUMP_INTO_WIDE,
+    JUMP_OUT, JUMP_RANGE, LABEL_TWICE, MARKS_FULL, NOT_AN_ADDRESS, NUMBER_RANGE, OUT_OF_PROFILE,
+    POINTER_ARITHMETIC, POINTER_COMPARE, POINTER_STORE, READ_ONLY_STORE, RETURN_POINTER,
+    STACK_BOUNDS, STACK_UNSET, STALE_COUNTER, SYNTAX, TEXT_BOUNDS, TEXT_OFFSET, TRUNCATED_WIDE,
+    UNKNOWN_LABEL, UNKNOWN_NAME, UNKNOWN_OPCODE, UNKNOWN_REF, UNSET_REGISTER, UNUSED_FIELD,
+    WRITE_R10,
+};
 use verifier::refusal::StructureFault;
 
 pub fn slot_fault(fault: SlotFault) -> &'static str
     ensures { result.now ≡ slot_fault fault }
 {
     match fault {
-        SlotFault::UnknownOpcode => "4 UnknownOpcode",
-        SlotFault::OutOfProfile => "5 OutOfProfile",
-        SlotFault::UnusedField => "6 UnusedField",
-        SlotFault::BadRegister => "7 BadRegister",
-        SlotFault::BadWidth => "8 BadWidth",
-        SlotFault::TruncatedWide => "9 TruncatedWide",
+        SlotFault::UnknownOpcode => UNKNOWN_OPCODE,
+        SlotFault::OutOfProfile => OUT_OF_PROFILE,
+        SlotFault::UnusedField => UNUSED_FIELD,
+        SlotFault::BadRegister => BAD_REGISTER,
+        SlotFault::BadWidth => BAD_WIDTH,
+        SlotFault::TruncatedWide => TRUNCATED_WIDE,
     }
 }
 
@@ -25,11 +33,11 @@ pub fn structure_fault(fault: StructureFault) -> &'static str
     ensures { result.now ≡ structure_fault fault }
 {
     match fault {
-        StructureFault::BackwardJump => "10 BackwardJump",
-        StructureFault::JumpOut => "11 JumpOut",
-        StructureFault::JumpIntoWide => "12 JumpIntoWide",
-        StructureFault::FallOff => "13 FallOff",
-        StructureFault::WriteR10 => "14 WriteR10",
+        StructureFault::BackwardJump => BACKWARD_JUMP,
+        StructureFault::JumpOut => JUMP_OUT,
+        StructureFault::JumpIntoWide => JUMP_INTO_WIDE,
+        StructureFault::FallOff => FALL_OFF,
+        StructureFault::WriteR10 => WRITE_R10,
     }
 }
 
@@ -37,18 +45,18 @@ pub fn state_fault(fault: StateFault) -> &'static str
     ensures { result.now ≡ state_fault fault }
 {
     match fault {
-        StateFault::UnsetRegister => "15 UnsetRegister",
-        StateFault::PointerArithmetic => "16 PointerArithmetic",
-        StateFault::PointerCompare => "17 PointerCompare",
-        StateFault::ContextField => "18 ContextField",
-        StateFault::StackBounds => "19 StackBounds",
-        StateFault::StackUnset => "20 StackUnset",
-        StateFault::TextBounds => "21 TextBounds",
-        StateFault::TextOffset => "22 TextOffset",
-        StateFault::ReadOnlyStore => "23 ReadOnlyStore",
-        StateFault::NotAnAddress => "24 NotAnAddress",
-        StateFault::PointerStore => "25 PointerStore",
-        StateFault::ReturnPointer => "26 ReturnPointer",
+        StateFault::UnsetRegister => UNSET_REGISTER,
+        StateFault::PointerArithmetic => POINTER_ARITHMETIC,
+        StateFault::PointerCompare => POINTER_COMPARE,
+        StateFault::ContextField => CONTEXT_FIELD,
+        StateFault::StackBounds => STACK_BOUNDS,
+        StateFault::StackUnset => STACK_UNSET,
+        StateFault::TextBounds => TEXT_BOUNDS,
+        StateFault::TextOffset => TEXT_OFFSET,
+        StateFault::ReadOnlyStore => READ_ONLY_STORE,
+        StateFault::NotAnAddress => NOT_AN_ADDRESS,
+        StateFault::PointerStore => POINTER_STORE,
+        StateFault::ReturnPointer => RETURN_POINTER,
     }
 }
 
@@ -56,12 +64,12 @@ pub fn line_fault(fault: LineFault) -> &'static str
     ensures { result.now ≡ line_fault fault }
 {
     match fault {
-        LineFault::Syntax => "30 Syntax",
-        LineFault::UnknownName => "31 UnknownName",
-        LineFault::NumberRange => "32 NumberRange",
-        LineFault::UnknownLabel => "33 UnknownLabel",
-        LineFault::LabelTwice => "34 LabelTwice",
-        LineFault::JumpRange => "35 JumpRange",
+        LineFault::Syntax => SYNTAX,
+        LineFault::UnknownName => UNKNOWN_NAME,
+        LineFault::NumberRange => NUMBER_RANGE,
+        LineFault::UnknownLabel => UNKNOWN_LABEL,
+        LineFault::LabelTwice => LABEL_TWICE,
+        LineFault::JumpRange => JUMP_RANGE,
     }
 }
 
@@ -69,9 +77,9 @@ pub fn refusal_name(refusal: Refusal) -> &'static str
     ensures { result.now ≡ refusal_name refusal }
 {
     match refusal {
-        Refusal::StaleCounter => "46 StaleCounter",
-        Refusal::UnknownRef => "47 UnknownRef",
-        Refusal::DocumentFull => "48 DocumentFull",
-        Refusal::MarksFull => "49 MarksFull",
+        Refusal::StaleCounter => STALE_COUNTER,
+        Refusal::UnknownRef => UNKNOWN_REF,
+        Refusal::DocumentFull => DOCUMENT_FULL,
+        Refusal::MarksFull => MARKS_FULL,
     }
 }

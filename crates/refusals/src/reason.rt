@@ -10,6 +10,11 @@ use assembler::fault::AsmError;
 use bpf_words::refusal::WordError;
 use change_history::refusal::SubmitError;
 use change_ops::refusal::ChangeError;
+use refusal_titles::{
+    ASSEMBLER_OUT_OF_MEMORY, BAD_CAPACITY, BAD_COMMAND, BAD_HEX, BAD_LINE, CHAR_REFUSED, EMPTY,
+    HISTORY_FULL, LENGTH_NOT_EIGHT, LIMIT, LINE_TOO_LONG, NO_SUBSCRIBER, NO_VERSION, OUT_OF_MEMORY,
+    SUBSCRIBERS_FULL, TEXT_REFUSED, TOO_LONG, TRUNCATED, VERIFIER_OUT_OF_MEMORY, WRONG_PEER,
+};
 use std::fmt;
 use verifier::refusal::VerifyError;
 
@@ -73,9 +78,9 @@ fn word_title(error: WordError) -> &'static str
     ensures { result.now ≡ word_title error }
 {
     match error {
-        WordError::Empty => "1 Empty",
-        WordError::TooLong => "2 TooLong",
-        WordError::LengthNotEight => "3 LengthNotEight",
+        WordError::Empty => EMPTY,
+        WordError::TooLong => TOO_LONG,
+        WordError::LengthNotEight => LENGTH_NOT_EIGHT,
         WordError::Slot { fault, .. } => slot_fault(fault),
     }
 }
@@ -95,7 +100,7 @@ fn verdict_title(error: VerifyError) -> &'static str
     match error {
         VerifyError::Structure { fault, .. } => structure_fault(fault),
         VerifyError::State { fault, .. } => state_fault(fault),
-        VerifyError::OutOfMemory => "27 OutOfMemory",
+        VerifyError::OutOfMemory => VERIFIER_OUT_OF_MEMORY,
     }
 }
 
@@ -114,7 +119,7 @@ fn source_title(error: AsmError) -> &'static str
 {
     match error {
         AsmError::Line { fault, .. } => line_fault(fault),
-        AsmError::OutOfMemory => "36 OutOfMemory",
+        AsmError::OutOfMemory => ASSEMBLER_OUT_OF_MEMORY,
     }
 }
 
@@ -131,12 +136,12 @@ fn unread_title(error: ChangeError) -> &'static str
     ensures { result.now ≡ unread_title error }
 {
     match error {
-        ChangeError::BadLine(_) => "40 BadLine",
-        ChangeError::Truncated => "41 Truncated",
-        ChangeError::Limit(_) => "42 Limit",
-        ChangeError::CharRefused(_) => "43 CharRefused",
-        ChangeError::WrongPeer(_) => "44 WrongPeer",
-        ChangeError::OutOfMemory => "45 OutOfMemory",
+        ChangeError::BadLine(_) => BAD_LINE,
+        ChangeError::Truncated => TRUNCATED,
+        ChangeError::Limit(_) => LIMIT,
+        ChangeError::CharRefused(_) => CHAR_REFUSED,
+        ChangeError::WrongPeer(_) => WRONG_PEER,
+        ChangeError::OutOfMemory => OUT_OF_MEMORY,
     }
 }
 
@@ -157,9 +162,9 @@ fn unaccepted_title(error: SubmitError) -> &'static str
     ensures { result.now ≡ unaccepted_title error }
 {
     match error {
-        SubmitError::HistoryFull => "50 HistoryFull",
+        SubmitError::HistoryFull => HISTORY_FULL,
         SubmitError::Refused { refusal, .. } => refusal_name(refusal),
-        SubmitError::OutOfMemory => "45 OutOfMemory",
+        SubmitError::OutOfMemory => OUT_OF_MEMORY,
     }
 }
 
@@ -186,15 +191,15 @@ impl Reason {
             Reason::Source(error) => source_title(error),
             Reason::Unread(error) => unread_title(error),
             Reason::Unaccepted(error) => unaccepted_title(error),
-            Reason::OutOfMemory => "45 OutOfMemory",
-            Reason::SubscribersFull => "51 SubscribersFull",
-            Reason::NoSubscriber => "52 NoSubscriber",
-            Reason::BadCapacity => "54 BadCapacity",
-            Reason::NoVersion => "55 NoVersion",
-            Reason::BadCommand => "60 BadCommand",
-            Reason::LineTooLong => "61 LineTooLong",
-            Reason::TextRefused => "62 TextRefused",
-            Reason::BadHex => "63 BadHex",
+            Reason::OutOfMemory => OUT_OF_MEMORY,
+            Reason::SubscribersFull => SUBSCRIBERS_FULL,
+            Reason::NoSubscriber => NO_SUBSCRIBER,
+            Reason::BadCapacity => BAD_CAPACITY,
+            Reason::NoVersion => NO_VERSION,
+            Reason::BadCommand => BAD_COMMAND,
+            Reason::LineTooLong => LINE_TOO_LONG,
+            Reason::TextRefused => TEXT_REFUSED,
+            Reason::BadHex => BAD_HEX,
         }
     }
 

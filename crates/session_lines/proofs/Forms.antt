@@ -4,7 +4,7 @@ use Rattle.std.specs.Prelude.{not, codes, if◌then◌else◌, ◌&&◌}
 use Rattle.std.specs.Str.{bytes_eq}
 use Rattle.std.specs.List.{list_all, AllByRecursion}
 use Rattle.std.proofs.lemmas.Bool.{and_parts, and_from, leb-true, le-leb, ltb-true, lt-ltb, eq-eqb, ne_eqb}
-use Rattle.change_ops.specs.Words.{split, number_in}
+use Rattle.change_ops.specs.Words.{split, number_in, small, small_number}
 use Rattle.change_ops.specs.Reading.{◌>>=◌}
 use Rattle.change_ops.specs.Spelling.{◌␣◌}
 use Rattle.change_ops.specs.Forms.{Joined, Word}
@@ -15,7 +15,7 @@ use Rattle.change_ops.proofs.NumeralForms.{number_takes, number_again}
 use Rattle.span_context.specs.declared.profile.Profile.{Profile}
 use Rattle.span_context.specs.declared.profile.Profile.TheVariants.{One, Two}
 use Rattle.session_lines.specs.Commands.{Command, name_of, subscribe, pull, close, read, Number, IsCount, Count, IsFewChanges, FewChanges, OneWord, CommandForm, Grants, IsAsked}
-use Rattle.session_lines.specs.Reading.{small, small_number, is_count, is_few_changes, is_one_word, from_at, program_at, subscribe_at, pull_at, close_at, show_at, changes_at, newest_at, query_at, words_at, command_at}
+use Rattle.session_lines.specs.Reading.{is_count, is_few_changes, is_one_word, from_at, program_at, subscribe_at, pull_at, close_at, show_at, changes_at, newest_at, query_at, words_at, command_at}
 use Rattle.session_lines.specs.declared.query.Query.TheVariants.{Latest, Show, Changes, Newest}
 use Rattle.session_lines.specs.declared.request.SessionRequest.{SessionRequest}
 use Rattle.session_lines.specs.declared.fault.LineRefusal.{LineRefusal}

@@ -1,6 +1,5 @@
 pub mod Splits
 pub mod Unended
-pub mod Digits
 pub mod Forms
 pub mod Legible
 pub mod Lining

@@ -1,28 +1,16 @@
 -- Reading a line from left to right.
-use Rattle.std.specs.Prelude.{ℕ, ◌+◌, ◌*◌, ◌^◌, nat_lt, nat_le, ◌==◌, ◌&&◌, not, Bool, if◌then◌else◌, List, length}
+use Rattle.std.specs.Prelude.{ℕ, nat_le, ◌==◌, ◌&&◌, not, Bool, if◌then◌else◌, List, length}
 use Rattle.std.specs.Prelude.{codes, Option, Some, None}
 use Rattle.std.specs.List.{list_all}
 use Rattle.std.specs.Str.{bytes_eq}
 use Rattle.span_context.specs.declared.profile.Profile.{Profile}
 use Rattle.span_context.specs.declared.profile.Profile.TheVariants.{One, Two}
-use Rattle.change_ops.specs.Ids.{checked}
-use Rattle.change_ops.specs.Words.{split, digit_of, number_in}
+use Rattle.change_ops.specs.Words.{split, number_in, small}
 use Rattle.change_ops.specs.Reading.{◌>>=◌}
 use Rattle.session_lines.specs.Commands.{Command, subscribe, pull, close, read}
 use Rattle.session_lines.specs.declared.commands.LentCommand.{LentCommand}
 use Rattle.session_lines.specs.declared.commands.LentCommand.TheVariants.{Subscribe, Pull, Close, Read}
 use Rattle.session_lines.specs.declared.query.Query.TheVariants.{Latest, Show, Changes, Newest}
-
--- a number, where it has 64 bits
-abbrev pub small_number : ℕ → Option ℕ
-small_number n = checked (λ m. nat_lt m (2 ^ 64)) n
-
-abbrev pub small : Option ℕ → Option ℕ
-small number = number >>= small_number
-
--- a number with one more decimal digit
-abbrev pub with_digit : ℕ → ℕ → Option ℕ
-with_digit n byte = if nat_lt (digit_of byte) 10 then small_number (n * 10 + digit_of byte) else None
 
 abbrev pub is_count : ℕ → Bool
 is_count n = nat_le 1 n && nat_le n 1024

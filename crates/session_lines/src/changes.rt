@@ -4,7 +4,8 @@ ghost use Rattle.std.specs.String.{string_bytes};
 ghost use Rattle.std.specs.Option.{option_map};
 ghost use Rattle.session_lines.specs.Changes.{is_header, right_header, followers, legible};
 
-use crate::words::{first_word, number, word_of};
+use crate::words::{first_word, word_of};
+use change_ops::numeral::decimal_number;
 use std::alloc::AllocError;
 use std::fmt::Write;
 
@@ -32,8 +33,8 @@ fn count_of(line: &[u8]) -> Option<usize>
     if name != CHANGE && name != CHANGE2 {
         return None;
     }
-    let node = number(node)?;
-    let count = number(count)?;
+    let node = decimal_number(node)?;
+    let count = decimal_number(count)?;
     if node < 1 || node > 65535 || count < 1 || count > 256 {
         return None;
     }

@@ -12,7 +12,8 @@ ghost use Rattle.session_lines.specs.declared.fault.LineRefusal.TheVariants as w
 use crate::fault::LineRefusal;
 use crate::query::Query;
 use crate::request::SessionRequest;
-use crate::words::{is_one_word, number, word_of};
+use crate::words::{is_one_word, word_of};
+use change_ops::numeral::decimal_number;
 use span_context::profile::Profile;
 use std::alloc::Global;
 
@@ -74,7 +75,7 @@ fn from_in(profile: Profile, capacity: u64, text: &[u8]) -> Option<LentCommand<'
 {
     let (digits, rest) = word_of(text)?;
     let (name, first) = word_of(rest)?;
-    let first = number(first)?;
+    let first = decimal_number(first)?;
     if !is_one_word(digits) || name != FROM {
         return None;
     }
@@ -107,7 +108,7 @@ fn subscribe_in(profile: Profile, fields: &[u8]) -> Option<LentCommand<'_>>
     ensures { option_map said result ≡ subscribe_at profile fields.now }
 {
     let (capacity, text) = word_of(fields)?;
-    let capacity = number(capacity)?;
+    let capacity = decimal_number(capacity)?;
     program_in(profile, capacity, text)
 }
 
@@ -117,8 +118,8 @@ fn pull_in(fields: &[u8]) -> Option<LentCommand<'_>>
     ensures { option_map said result ≡ pull_at fields.now }
 {
     let (subscriber, count) = word_of(fields)?;
-    let subscriber = number(subscriber)?;
-    let count = number(count)?;
+    let subscriber = decimal_number(subscriber)?;
+    let count = decimal_number(count)?;
     if !is_count(count) {
         return None;
     }
@@ -130,7 +131,7 @@ fn pull_in(fields: &[u8]) -> Option<LentCommand<'_>>
 fn close_in(fields: &[u8]) -> Option<LentCommand<'_>>
     ensures { option_map said result ≡ close_at fields.now }
 {
-    let subscriber = number(fields)?;
+    let subscriber = decimal_number(fields)?;
     Some(LentCommand::Close { subscriber })
 }
 
@@ -141,9 +142,9 @@ fn show_in(fields: &[u8]) -> Option<LentCommand<'_>>
 {
     let (version, rest) = word_of(fields)?;
     let (first, count) = word_of(rest)?;
-    let version = number(version)?;
-    let first = number(first)?;
-    let count = number(count)?;
+    let version = decimal_number(version)?;
+    let first = decimal_number(first)?;
+    let count = decimal_number(count)?;
     if !is_count(count) {
         return None;
     }
@@ -160,8 +161,8 @@ fn changes_in(fields: &[u8]) -> Option<LentCommand<'_>>
     ensures { option_map said result ≡ changes_at fields.now }
 {
     let (from, count) = word_of(fields)?;
-    let from = number(from)?;
-    let count = number(count)?;
+    let from = decimal_number(from)?;
+    let count = decimal_number(count)?;
     if !is_few_changes(count) {
         return None;
     }
@@ -173,7 +174,7 @@ fn changes_in(fields: &[u8]) -> Option<LentCommand<'_>>
 fn newest_in(fields: &[u8]) -> Option<LentCommand<'_>>
     ensures { option_map said result ≡ newest_at fields.now }
 {
-    let node = number(fields)?;
+    let node = decimal_number(fields)?;
     Some(LentCommand::Read(Query::Newest { node }))
 }
 

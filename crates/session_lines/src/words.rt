@@ -1,8 +1,8 @@
-//! The words of a line, and the numbers that they spell.
+//! The words of a line.
 ghost use Rattle.std.specs.Prelude.{◌≡◌, ◌<◌, ◌==◌, IfSome, length, not, position};
 ghost use Rattle.std.specs.List.{before_first, list_all};
-ghost use Rattle.change_ops.specs.Words.{digits_after, number_in, split, seen};
-ghost use Rattle.session_lines.specs.Reading.{small, with_digit, is_one_word};
+ghost use Rattle.change_ops.specs.Words.{split, seen};
+ghost use Rattle.session_lines.specs.Reading.{is_one_word};
 
 /// Where a line's first space is.
 fn space_in(line: &[u8]) -> Option<usize>
@@ -54,39 +54,4 @@ pub fn is_one_word(word: &[u8]) -> bool
         return false;
     }
     has_no_space(word)
-}
-
-/// A number with one more decimal digit, where that is one and the number still has 64 bits.
-fn with_digit(value: u64, byte: u8) -> Option<u64>
-    ensures { result ≡ with_digit value byte }
-{
-    if !byte.is_ascii_digit() {
-        return None;
-    }
-    value.checked_mul(10)?.checked_add(u64::from(byte - b'0'))
-}
-
-/// The number of 64 bits that decimal digits spell.
-fn digits(word: &[u8]) -> Option<u64>
-    ensures { result ≡ small (digits_after 10 0 word.now) }
-{
-    let mut value: u64 = 0;
-    for &byte in word {
-        match with_digit(value, byte) {
-            Some(next) => value = next,
-            None => return None,
-        }
-    }
-    Some(value)
-}
-
-/// The number of 64 bits that a word spells in decimal, without leading zeros.
-#[tactic(auto, unfolding(change_ops::specs::Words::number_in))]
-pub fn number(word: &[u8]) -> Option<u64>
-    ensures { result ≡ small (number_in 10 word.now) }
-{
-    match word {
-        [] | [b'0', _, ..] => None,
-        _ => digits(word),
-    }
 }

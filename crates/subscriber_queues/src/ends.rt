@@ -9,6 +9,7 @@ use crate::rule::{Ends, Knows, Line, Room, Sends, Shows, Takes, Whole};
 use crossbeam_queue::Pass;
 use feeds::item::Item;
 use feeds::sink::Sink;
+use refusal_titles::{BAD_CAPACITY, OUT_OF_MEMORY};
 use std::alloc::{AllocError, Global};
 use std::marker::{Brand, Model};
 use std::sync::{Arc, Wait};
@@ -218,10 +219,10 @@ impl<N: Naming, R: Wait + Copy> Subscription<N, R> {
 #[derive(Clone, Copy, Debug, PartialEq, Eq, Error)]
 pub enum QueueError {
     /// The capacity is not 1 to 1,024.
-    #[error("54 BadCapacity")]
+    #[error("{BAD_CAPACITY}")]
     BadCapacity,
     /// No memory was found.
-    #[error("45 OutOfMemory")]
+    #[error("{OUT_OF_MEMORY}")]
     OutOfMemory,
 }
 

@@ -3,6 +3,7 @@ use Rattle.abstract_state.specs.declared.state.AbsReg.{AbsReg}
 use Rattle.abstract_state.specs.declared.state.AbsReg.TheVariants.{Unset}
 use Rattle.abstract_state.specs.Kinds.{JoinsReg}
 use Rattle.abstract_state.specs.State.{ContainsRegister, register_at}
+use Rattle.abstract_state.specs.Situation.{registers_of, register_of, either_register}
 use Rattle.abstract_state.proofs.Lists.{written_at, read_again, beyond}
 use Rattle.abstract_state.proofs.join.join_registers.Goals as goal
 
@@ -20,6 +21,11 @@ loop-i-preserved c =
           (λ e. subst (λ (v : AbsReg). JoinsReg v (register_at c.args.b.now k) c.join_register.result) (sym (before k e))
           (subst (λ (v : AbsReg). JoinsReg (get_or c.loop-i.a c.loop-i.i c.index-a-i.result) v c.join_register.result) (sym (read_again c.args.b.now c.loop-i.i k Unset c.index-b-i.result second e)) c.join_register.ensures.kinds))
           (λ less. c.loop-i.invariant.kinds k less);
+      rule = λ k h.
+          written_at c.loop-i.a c.loop-i.i k c.join_register.result Unset (λ (v : AbsReg). register_of v ≡ either_register (registers_of c.args.a.now k) (registers_of c.args.b.now k)) within h
+          (λ e. subst (λ (v : AbsReg). register_of c.join_register.result ≡ either_register (register_of v) (registers_of c.args.b.now k)) (sym (before k e))
+          (subst (λ (v : AbsReg). register_of c.join_register.result ≡ either_register (register_of (get_or c.loop-i.a c.loop-i.i c.index-a-i.result)) (register_of v)) (sym (read_again c.args.b.now c.loop-i.i k Unset c.index-b-i.result second e)) c.join_register.ensures.rule))
+          (λ less. c.loop-i.invariant.rule k less);
       left = λ k lengths o h s.
           written_at c.loop-i.a c.loop-i.i k c.join_register.result Unset (λ (v : AbsReg). ContainsRegister v lengths o) within h
           (λ e. c.join_register.ensures.left lengths o (subst (λ (v : AbsReg). ContainsRegister v lengths o) (before k e) s))
@@ -30,3 +36,6 @@ loop-i-preserved c =
           (λ less. c.loop-i.invariant.right k lengths o less s);
       rest = λ k h. beyond c.loop-i.a c.loop-i.i k c.join_register.result Unset h ∙ c.loop-i.invariant.rest k (omega arith);
     }
+
+pub returns-clause-rule : goal.returns-clause-rule
+returns-clause-rule c = λ i h. c.loop-i.invariant.rule i (omega (arith, c.loop-i-test.false))

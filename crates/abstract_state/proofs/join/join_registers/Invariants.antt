@@ -1,4 +1,5 @@
 use Rattle.std.proofs.Common.{◌≡◌, ℕ, ◌<◌, ◌≤◌, length, Option}
+use Rattle.abstract_state.specs.Situation.{registers_of, either_register}
 use Rattle.abstract_state.specs.Lent.{Lengths}
 use Rattle.abstract_state.specs.Kinds.{JoinsReg}
 use Rattle.abstract_state.specs.State.{ContainsRegister, register_at}
@@ -10,5 +11,6 @@ invariant-loop-i l = record {
   kinds : (k : ℕ) → k < l.i → JoinsReg (register_at l.initial.a k) (register_at l.b k) (register_at l.a k);
   left : (k : ℕ) (lengths : Lengths) (o : Option ℕ) → k < l.i → ContainsRegister (register_at l.initial.a k) lengths o → ContainsRegister (register_at l.a k) lengths o;
   right : (k : ℕ) (lengths : Lengths) (o : Option ℕ) → k < l.i → ContainsRegister (register_at l.b k) lengths o → ContainsRegister (register_at l.a k) lengths o;
+  rule : (k : ℕ) → k < l.i → registers_of l.a k ≡ either_register (registers_of l.initial.a k) (registers_of l.b k);
   rest : (k : ℕ) → l.i ≤ k → register_at l.a k ≡ register_at l.initial.a k;
 }

@@ -20,7 +20,7 @@ returns-in-Full-Sub-clause-sound c = IfOk-weaker c.lent-in-Full-Sub.result _ _
     (λ o h lengths x y a b.
     subst (λ (n : ℕ). WithinKnown o lengths n)
     (lent_difference c.args.address.region a.0 y b.bits.fits ∙ ap (λ (n : ℕ). (n + (2 ^ 64 - y % 2 ^ 64)) % 2 ^ 64) (sym a.1) ∙ sym (subtracts c.args.operation c.args.width x y c.in-Full-Sub.is-1 c.in-Full-Sub.is-0))
-    (h lengths ((a.0 + (2 ^ 64 - y)) % 2 ^ 64) (c.sub.ensures lengths a.0 y a.2 b a.2.bits.fits b.bits.fits)))
+    (h lengths ((a.0 + (2 ^ 64 - y)) % 2 ^ 64) (c.sub.ensures.contains lengths a.0 y a.2 b a.2.bits.fits b.bits.fits)))
     c.lent-in-Full-Sub.ensures.sound
 
 pub returns-in-Full-Add-clause-adds : goal.returns-in-Full-Add-clause-adds

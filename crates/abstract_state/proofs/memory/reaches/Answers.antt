@@ -19,7 +19,7 @@ returns-then-end-saturating_add-clause-sound c = λ _ lengths x long q.
     let low : c.args.address.offset.range.low ≤ x = q.range.low in
     let high : x ≤ c.args.address.offset.range.high = q.range.high in
     let near : c.args.address.offset.range.high ≤ 2 ^ 20 = c.args.address.near in
-    let tail = c.of-2.ensures lengths x q.tails c.in-Some-of.tail c.in-Some-of.is in (
+    let tail = c.of-2.ensures.contains lengths x q.tails c.in-Some-of.tail c.in-Some-of.is in (
       c.in-Some.least + (x - c.args.address.offset.range.low),
       c.in-Some.ensures.at (base_of c.args.address.region) x low (near_small c.args.address.region x (omega arith)),
       omega (arith, tail, c.if-end-saturating_add.true, c.saturating_add.ensures),

@@ -38,7 +38,7 @@ pub returns-in-Characters-clause-sound : goal.returns-in-Characters-clause-sound
 returns-in-Characters-clause-sound c = λ span.
     let sized = ap (λ (z : Size). 256 ^ bytes_in z) c.size.ensures in
     let fits = number_fits (bytes_in (size_of c.args.field)) (offset_of c.args.field) span.bytes.context span.whole.context_bytes in
-    (_, refl, c.loaded.ensures (lengths_of span) _ (omega (arith, sized, fits)))
+    (_, refl, c.loaded.ensures.contains (lengths_of span) _ (omega (arith, sized, fits)))
 
 pub returns-in-Characters-clause-begin : goal.returns-in-Characters-clause-begin
 returns-in-Characters-clause-begin c = λ at.

@@ -1,5 +1,7 @@
-use Rattle.std.proofs.Common.{◌≡◌, ℕ, ◌<◌, Bool, true, false, get_or, length, sym, ap, ◌∙◌, rules, arith}
+use Rattle.std.proofs.Common.{◌≡◌, ℕ, ◌<◌, ◌&&◌, Bool, true, false, get_or, length, subst, sym, ap, ◌∙◌, rules, arith}
+use Rattle.abstract_state.specs.Stacks.{both_set}
 use Rattle.abstract_state.proofs.Slots.{written_mark}
+use Rattle.abstract_state.proofs.Stored.{marks_are}
 use Rattle.abstract_state.proofs.stack.both.Goals.{then-a-j, else-a-j}
 use Rattle.abstract_state.proofs.stack.both.Goals as goal
 
@@ -9,6 +11,7 @@ loop-j-preserved c =
     let first : c.if-a-j.marks ≡ true → get_or c.args.a.now c.loop-j.j false ≡ true = λ m. elim c.if-a-j.branch [ then-a-j w ↦ search rules | else-a-j w ↦ search rules ] in
     let second : c.if-a-j.marks ≡ true → get_or c.args.b.now c.loop-j.j false ≡ true = λ m. elim c.if-a-j.branch [ then-a-j w ↦ search rules | else-a-j w ↦ search rules ] in
     let all : get_or c.args.a.now c.loop-j.j false ≡ true → get_or c.args.b.now c.loop-j.j false ≡ true → c.if-a-j.marks ≡ true = λ p q. elim c.if-a-j.branch [ then-a-j w ↦ search rules | else-a-j w ↦ search rules ] in
+    let here : c.if-a-j.marks ≡ (get_or c.args.a.now c.loop-j.j false && get_or c.args.b.now c.loop-j.j false) = elim c.if-a-j.branch [ then-a-j w ↦ search rules | else-a-j w ↦ search rules ] in
     record {
       long = search rules;
       left = λ k h.
@@ -23,4 +26,12 @@ loop-j-preserved c =
           written_mark c.loop-j.marks c.loop-j.j k c.if-a-j.marks false (λ (v : Bool). v ≡ true) within h
           (λ e. all (sym (ap (λ (i : ℕ). get_or c.args.a.now i false) e) ∙ p) (sym (ap (λ (i : ℕ). get_or c.args.b.now i false) e) ∙ q))
           (λ less. c.loop-j.invariant.all k less p q);
+      is = λ k h.
+          written_mark c.loop-j.marks c.loop-j.j k c.if-a-j.marks false (λ (v : Bool). v ≡ (get_or c.args.a.now k false && get_or c.args.b.now k false)) within h
+          (λ e. subst (λ (i : ℕ). c.if-a-j.marks ≡ (get_or c.args.a.now i false && get_or c.args.b.now i false)) (sym e) here)
+          (λ less. c.loop-j.invariant.is k less);
     }
+
+pub returns-clause-rule : goal.returns-clause-rule
+unfolding both_set
+returns-clause-rule c = marks_are c.loop-j.marks _ c.loop-j.invariant.long (λ j h. c.loop-j.invariant.is j (omega (arith, c.loop-j-test.false)))

@@ -3,6 +3,7 @@ use Rattle.abstract_state.specs.declared.slot.Slot.{Slot}
 use Rattle.abstract_state.specs.declared.slot.Slot.TheVariants.{Marks}
 use Rattle.abstract_state.specs.Kinds.{JoinsSlot}
 use Rattle.abstract_state.specs.State.{ContainsSlot, slot_at}
+use Rattle.abstract_state.specs.Stacks.{eight_of, slots_of, either_eight}
 use Rattle.abstract_state.proofs.Lists.{written_at, read_again, beyond}
 use Rattle.abstract_state.proofs.stack.join_slots.Goals as goal
 
@@ -28,5 +29,13 @@ loop-i-preserved c =
           (λ e. subst (λ (v : Slot). JoinsSlot v (slot_at c.args.b.now k) c.join.result) (sym (before k e))
           (subst (λ (v : Slot). JoinsSlot (get_or c.loop-i.a c.loop-i.i c.index-a-i.result) v c.join.result) (sym (read_again c.args.b.now c.loop-i.i k (Marks []) c.index-b-i.result second e)) c.join.ensures.joins))
           (λ less. c.loop-i.invariant.joins k less);
+      rule = λ k h.
+          written_at c.loop-i.a c.loop-i.i k c.join.result (Marks []) (λ (v : Slot). eight_of v ≡ either_eight (slots_of c.args.a.now k) (slots_of c.args.b.now k)) within h
+          (λ e. subst (λ (v : Slot). eight_of c.join.result ≡ either_eight (eight_of v) (slots_of c.args.b.now k)) (sym (before k e))
+          (subst (λ (v : Slot). eight_of c.join.result ≡ either_eight (eight_of (get_or c.loop-i.a c.loop-i.i c.index-a-i.result)) (eight_of v)) (sym (read_again c.args.b.now c.loop-i.i k (Marks []) c.index-b-i.result second e)) c.join.ensures.rule))
+          (λ less. c.loop-i.invariant.rule k less);
       rest = λ k h. beyond c.loop-i.a c.loop-i.i k c.join.result (Marks []) h ∙ c.loop-i.invariant.rest k (omega arith);
     }
+
+pub returns-clause-rule : goal.returns-clause-rule
+returns-clause-rule c = λ i h. c.loop-i.invariant.rule i (omega (arith, c.loop-i-test.false))

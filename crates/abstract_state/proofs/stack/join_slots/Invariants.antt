@@ -1,4 +1,5 @@
 use Rattle.std.proofs.Common.{ℕ, ◌<◌, ◌≤◌, ◌≡◌, length}
+use Rattle.abstract_state.specs.Stacks.{slots_of, either_eight}
 use Rattle.abstract_state.specs.Lent.{Lengths}
 use Rattle.abstract_state.specs.Kinds.{JoinsSlot}
 use Rattle.abstract_state.specs.State.{Bytes, ContainsSlot, slot_at}
@@ -10,5 +11,6 @@ invariant-loop-i l = record {
   left : (k : ℕ) (lengths : Lengths) (bytes : Bytes) → k < l.i → ContainsSlot (slot_at l.initial.a k) lengths bytes k → ContainsSlot (slot_at l.a k) lengths bytes k;
   right : (k : ℕ) (lengths : Lengths) (bytes : Bytes) → k < l.i → ContainsSlot (slot_at l.b k) lengths bytes k → ContainsSlot (slot_at l.a k) lengths bytes k;
   joins : (k : ℕ) → k < l.i → JoinsSlot (slot_at l.initial.a k) (slot_at l.b k) (slot_at l.a k);
+  rule : (k : ℕ) → k < l.i → slots_of l.a k ≡ either_eight (slots_of l.initial.a k) (slots_of l.b k);
   rest : (k : ℕ) → l.i ≤ k → slot_at l.a k ≡ slot_at l.initial.a k;
 }

@@ -13,7 +13,7 @@ returns-then-offset-count-clause-contains c = λ lengths old new i at s spares f
 
 pub returns-clause-contains : goal.returns-clause-contains
 returns-clause-contains c = λ lengths old new i at s spares fills j h m.
-    stored_byte old new (get_or c.marks-marks.result j false) c.args.first c.args.offset c.args.count i j at (c.marks-marks.ensures.contains lengths old i s j h) spares fills (sym (c.with_store.ensures j h) ∙ m)
+    stored_byte old new (get_or c.marks-marks.result j false) c.args.first c.args.offset c.args.count i j at (c.marks-marks.ensures.contains lengths old i s j h) spares fills (sym (c.with_store.ensures.each j h) ∙ m)
 
 pub returns-then-first-offset-clause-stores : goal.returns-then-first-offset-clause-stores
 returns-then-first-offset-clause-stores c = λ i at. record {
@@ -35,6 +35,6 @@ pub returns-clause-stores : goal.returns-clause-stores
 returns-clause-stores c = λ i at. record {
   before = λ h. absurd (omega (arith, c.if-first-offset.false));
   behind = λ h. absurd (omega (arith, c.if-offset-count.false));
-  kept = λ j h m. c.with_store.ensures j h ∙ mark_kept (get_or c.marks-marks.result j false) _ (c.marks-marks.ensures.marked j h m);
-  set = λ j h a b. c.with_store.ensures j h ∙ mark_set (get_or c.marks-marks.result j false) c.args.offset c.args.first j c.args.count (omega arith) (omega arith);
+  kept = λ j h m. c.with_store.ensures.each j h ∙ mark_kept (get_or c.marks-marks.result j false) _ (c.marks-marks.ensures.marked j h m);
+  set = λ j h a b. c.with_store.ensures.each j h ∙ mark_set (get_or c.marks-marks.result j false) c.args.offset c.args.first j c.args.count (omega arith) (omega arith);
 }

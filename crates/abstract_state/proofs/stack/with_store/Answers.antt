@@ -1,5 +1,7 @@
 use Rattle.std.proofs.Common.{◌≡◌, ◌<◌, ◌+◌, ℕ, Bool, false, get_or, length, nat_le, nat_lt, ◌&&◌, ◌||◌, subst, sym, rules, arith}
+use Rattle.abstract_state.specs.Stacks.{marks_stored}
 use Rattle.abstract_state.proofs.Slots.{written_mark}
+use Rattle.abstract_state.proofs.Stored.{marks_are}
 use Rattle.abstract_state.proofs.stack.with_store.Goals as goal
 
 pub loop-j-preserved : goal.loop-j-preserved
@@ -12,3 +14,7 @@ loop-j-preserved c = record {
       (λ e. subst (λ (i : ℕ). Means i c.is_marked.result) (sym e) c.is_marked.ensures)
       (λ less. c.loop-j.invariant.marks k less);
 }
+
+pub returns-clause-rule : goal.returns-clause-rule
+unfolding marks_stored
+returns-clause-rule c = marks_are c.loop-j.result _ c.loop-j.invariant.long (λ j h. c.loop-j.invariant.marks j (omega (arith, c.loop-j-test.false)))

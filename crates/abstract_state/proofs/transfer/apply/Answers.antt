@@ -10,13 +10,13 @@ pub returns-in-Add-clause-contains : goal.returns-in-Add-clause-contains
 returns-in-Add-clause-contains c = λ lengths x y a b fa fb. rw c.in-Add.is (c.add.ensures.contains lengths x y a b fa fb)
 
 pub returns-in-Sub-clause-contains : goal.returns-in-Sub-clause-contains
-returns-in-Sub-clause-contains c = λ lengths x y a b fa fb. rw c.in-Sub.is (c.sub.ensures lengths x y a b fa fb)
+returns-in-Sub-clause-contains c = λ lengths x y a b fa fb. rw c.in-Sub.is (c.sub.ensures.contains lengths x y a b fa fb)
 
 pub returns-in-Mul-clause-contains : goal.returns-in-Mul-clause-contains
-returns-in-Mul-clause-contains c = λ lengths x y a b fa fb. rw c.in-Mul.is (c.mul.ensures lengths x y a b fa fb)
+returns-in-Mul-clause-contains c = λ lengths x y a b fa fb. rw c.in-Mul.is (c.mul.ensures.contains lengths x y a b fa fb)
 
 pub returns-in-Div-clause-contains : goal.returns-in-Div-clause-contains
-returns-in-Div-clause-contains c = λ lengths x y a b fa fb. rw c.in-Div.is (c.div.ensures lengths x y a b fa fb)
+returns-in-Div-clause-contains c = λ lengths x y a b fa fb. rw c.in-Div.is (c.div.ensures.contains lengths x y a b fa fb)
 
 pub returns-in-Or-clause-contains : goal.returns-in-Or-clause-contains
 returns-in-Or-clause-contains c = λ lengths x y a b fa fb. rw c.in-Or.is (c.or.ensures.contains lengths x y a b fa fb)
@@ -25,13 +25,13 @@ pub returns-in-And-clause-contains : goal.returns-in-And-clause-contains
 returns-in-And-clause-contains c = λ lengths x y a b fa fb. rw c.in-And.is (c.and.ensures.contains lengths x y a b fa fb)
 
 pub returns-in-Lsh-clause-contains : goal.returns-in-Lsh-clause-contains
-returns-in-Lsh-clause-contains c = λ lengths x y a b fa fb. rw c.in-Lsh.is (c.shl.ensures lengths x y a b fa fb)
+returns-in-Lsh-clause-contains c = λ lengths x y a b fa fb. rw c.in-Lsh.is (c.shl.ensures.contains lengths x y a b fa fb)
 
 pub returns-in-Rsh-clause-contains : goal.returns-in-Rsh-clause-contains
-returns-in-Rsh-clause-contains c = λ lengths x y a b fa fb. rw c.in-Rsh.is (c.shr.ensures lengths x y a b fa fb)
+returns-in-Rsh-clause-contains c = λ lengths x y a b fa fb. rw c.in-Rsh.is (c.shr.ensures.contains lengths x y a b fa fb)
 
 pub returns-in-Mod-clause-contains : goal.returns-in-Mod-clause-contains
-returns-in-Mod-clause-contains c = λ lengths x y a b fa fb. rw c.in-Mod.is (c.rem.ensures lengths x y a b fa fb)
+returns-in-Mod-clause-contains c = λ lengths x y a b fa fb. rw c.in-Mod.is (c.rem.ensures.contains lengths x y a b fa fb)
 
 pub returns-in-Xor-clause-contains : goal.returns-in-Xor-clause-contains
 returns-in-Xor-clause-contains c = λ lengths x y a b fa fb. rw c.in-Xor.is (c.xor.ensures.contains lengths x y a b fa fb)
@@ -40,13 +40,13 @@ pub returns-in-Mov-clause-contains : goal.returns-in-Mov-clause-contains
 returns-in-Mov-clause-contains c = λ lengths x y a b fa fb. rw c.in-Mov.is (subst (λ (n : ℕ). Within c.moved.result lengths n) (cut_same c.args.width y fb) (c.moved.ensures.contains lengths y b))
 
 pub returns-in-Arsh-clause-contains : goal.returns-in-Arsh-clause-contains
-returns-in-Arsh-clause-contains c = λ lengths x y a b fa fb. rw c.in-Arsh.is (c.arsh.ensures lengths x y a b fa fb)
+returns-in-Arsh-clause-contains c = λ lengths x y a b fa fb. rw c.in-Arsh.is (c.arsh.ensures.contains lengths x y a b fa fb)
 
 pub returns-in-SignedDiv-clause-contains : goal.returns-in-SignedDiv-clause-contains
-returns-in-SignedDiv-clause-contains c = λ lengths x y a b fa fb. rw c.in-SignedDiv.is ((_, refl, c.unknown.ensures lengths _ (signed_div_fits c.args.width x y fa fb)))
+returns-in-SignedDiv-clause-contains c = λ lengths x y a b fa fb. rw c.in-SignedDiv.is ((_, refl, c.unknown.ensures.contains lengths _ (signed_div_fits c.args.width x y fa fb)))
 
 pub returns-in-SignedMod-clause-contains : goal.returns-in-SignedMod-clause-contains
-returns-in-SignedMod-clause-contains c = λ lengths x y a b fa fb. rw c.in-SignedMod.is ((_, refl, c.unknown-in-SignedMod.ensures lengths _ (signed_mod_fits c.args.width x y fa fb)))
+returns-in-SignedMod-clause-contains c = λ lengths x y a b fa fb. rw c.in-SignedMod.is ((_, refl, c.unknown-in-SignedMod.ensures.contains lengths _ (signed_mod_fits c.args.width x y fa fb)))
 
 pub returns-in-Add-clause-constants : goal.returns-in-Add-clause-constants
 returns-in-Add-clause-constants c = λ region wide m n folds a b.

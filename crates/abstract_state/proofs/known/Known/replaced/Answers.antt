@@ -12,4 +12,4 @@ returns-in_default-cut_to-clause-sound c = λ lengths x y k f.
     absurd (at_none (λ q. Contains q lengths (cut c.args.width x)) _ c.in_default-cut_to.is (c.cut_to.ensures.contains lengths x a))
 
 pub returns-clause-sound : goal.returns-clause-sound
-returns-clause-sound c = λ lengths x y k f. (_, refl, c.unknown.ensures lengths y f)
+returns-clause-sound c = λ lengths x y k f. (_, refl, c.unknown.ensures.contains lengths y f)

@@ -8,4 +8,4 @@ pub returns-in-Some-clause-contains : goal.returns-in-Some-clause-contains
 returns-in-Some-clause-contains c = λ lengths x y a b fa fb.
     let taken = c.in-Some.ensures.contains lengths y b fb in
     subst (λ (n : ℕ). Within c.minus.result lengths n) (sum_as_difference c.args.width x y fb)
-    (c.minus.ensures lengths x (2 ^ bits_of c.args.width - y) a taken.1 fa (complement_fits c.args.width y taken.0))
+    (c.minus.ensures.contains lengths x (2 ^ bits_of c.args.width - y) a taken.1 fa (complement_fits c.args.width y taken.0))

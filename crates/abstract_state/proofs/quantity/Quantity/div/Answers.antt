@@ -5,8 +5,8 @@ use Rattle.abstract_state.specs.Quantity.{Within}
 use Rattle.abstract_state.proofs.Widths.{cut_same, fits_word, tails_lower, quotient_le}
 use Rattle.abstract_state.proofs.quantity.Quantity.div.Goals as goal
 
-pub returns : goal.returns
-returns c = λ lengths x y a b fa fb.
+pub returns-clause-contains : goal.returns-clause-contains
+returns-clause-contains c = λ lengths x y a b fa fb.
     let below = quotient_le x y in
     let small : quotient x y < 2 ^ bits_of c.args.width = omega arith in
     subst (λ (n : ℕ). Within c.finish.result lengths n) (cut_same c.args.width (quotient x y) small)

@@ -5,16 +5,16 @@ use Rattle.abstract_state.specs.Quantity.{Contains, Within}
 use Rattle.abstract_state.proofs.Options.{at_some, at_none}
 use Rattle.abstract_state.proofs.quantity.Quantity.shr.Goals as goal
 
-pub returns-in_err-count : goal.returns-in_err-count
-returns-in_err-count c = λ lengths x y a b fa fb.
-    absurd (at_none (λ q. Contains q lengths (y % bits_of c.args.width)) _ c.in_err-count.was (c.count.ensures lengths y b fb))
+pub returns-in_err-count-clause-contains : goal.returns-in_err-count-clause-contains
+returns-in_err-count-clause-contains c = λ lengths x y a b fa fb.
+    absurd (at_none (λ q. Contains q lengths (y % bits_of c.args.width)) _ c.in_err-count.was (c.count.ensures.contains lengths y b fb))
 
-pub returns-in-Some : goal.returns-in-Some
-returns-in-Some c = λ lengths x y a b fa fb.
-    let count = at_some (λ q. Contains q lengths (y % bits_of c.args.width)) _ _ c.in_ok-count.was (c.count.ensures lengths y b fb) in
+pub returns-clause-contains : goal.returns-clause-contains
+returns-clause-contains c = λ lengths x y a b fa fb.
+    let count = at_some (λ q. Contains q lengths (y % bits_of c.args.width)) _ _ c.in_ok-count.was (c.count.ensures.contains lengths y b fb) in
     let is : y % bits_of c.args.width ≡ c.in-Some.n = c.in-Some.ensures.contains lengths _ count in
-    subst (λ (n : ℕ). Within c.shr_by.result lengths (x / 2 ^ n)) (sym is) (c.shr_by.ensures lengths x a fa)
+    subst (λ (n : ℕ). Within c.shr_by.result lengths (x / 2 ^ n)) (sym is) (c.shr_by.ensures.contains lengths x a fa)
 
-pub returns-in_default : goal.returns-in_default
-returns-in_default c = λ lengths x y a b fa fb.
-    c.shrunk.ensures lengths x _ a fa (shr_le x (y % bits_of c.args.width))
+pub returns-in_default-clause-contains : goal.returns-in_default-clause-contains
+returns-in_default-clause-contains c = λ lengths x y a b fa fb.
+    c.shrunk.ensures.contains lengths x _ a fa (shr_le x (y % bits_of c.args.width))

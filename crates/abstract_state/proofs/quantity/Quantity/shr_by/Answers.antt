@@ -5,8 +5,8 @@ use Rattle.abstract_state.specs.Quantity.{Within}
 use Rattle.abstract_state.proofs.Widths.{cut_same, count_small, tails_lower}
 use Rattle.abstract_state.proofs.quantity.Quantity.shr_by.Goals as goal
 
-pub returns : goal.returns
-returns c = λ lengths x a f.
+pub returns-clause-contains : goal.returns-clause-contains
+returns-clause-contains c = λ lengths x a f.
     let small : x / 2 ^ c.args.count < 2 ^ bits_of c.args.width = omega (arith, shr_le x c.args.count) in
     let whole = c.finish.ensures.contains lengths (x / 2 ^ (c.args.count % 64)) (c.shr.ensures.contains x a.bits) (c.shr-2.ensures.contains x a.range) (tails_lower _ lengths x _ a.tails (shr_le x (c.args.count % 64))) in
     subst (λ (n : ℕ). Within c.finish.result lengths n) (cut_same c.args.width (x / 2 ^ c.args.count) small)

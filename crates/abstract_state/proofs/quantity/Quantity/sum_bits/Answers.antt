@@ -15,9 +15,12 @@ returns-in-Some-Some-clause-constants c = λ region m n t u a b small.
     let value : (c.in-Some-Some.a + c.in-Some-Some.b) % 2 ^ 64 ≡ m + n = omega (arith, left.0, right.0, a.0, b.0) in
     one_constant c.constant.result (m + n) small (c.constant.ensures.is.0 ∙ value, c.constant.ensures.is.1)
 
-pub returns-clause-constants : goal.returns-clause-constants
-returns-clause-constants c = λ region m n t u a b small.
+pub returns-then-greatest-eq0-clause-constants : goal.returns-then-greatest-eq0-clause-constants
+returns-then-greatest-eq0-clause-constants c = λ region m n t u a b small.
     let is = c.add.ensures.constants (bits_one c.args.self.bits m a.3) (bits_one c.args.other.bits n b.3) in
     let left = bits_value c.args.self.bits m a.3 in
     let right = bits_value c.args.other.bits n b.3 in
     one_constant c.add.result (m + n) small (is.0 ∙ omega (arith, left, right), is.1)
+
+pub returns-in_default-clause-contains : goal.returns-in_default-clause-contains
+returns-in_default-clause-contains c = λ lengths x y a b. c.unknown.ensures.contains _ (omega arith)

@@ -1,9 +1,15 @@
-use Rattle.std.proofs.Common.{◌≡◌, ◌*◌, true, false, ℕ, Option, Ok, subst, sym, ap, ◌∙◌, refl, ◌<◌, ◌^◌}
+use Rattle.std.proofs.Common.{◌≡◌, ◌*◌, true, false, ℕ, Option, None, Err, Ok, option_map, rules, subst, sym, ap, ◌∙◌, refl, ◌<◌, ◌^◌}
 use Rattle.std.proofs.lemmas.Result.{IfOk-weaker}
 use Rattle.abstract_state.specs.declared.known.Known.{Known}
 use Rattle.abstract_state.specs.Known.{ContainsKnown}
 use Rattle.abstract_state.specs.State.{lengths_of, LoadsAs}
+use Rattle.semantics.specs.Memory.{bytes_in}
 use Rattle.abstract_state.specs.Frame.{AreMarked}
+use Rattle.abstract_state.specs.Stacks.{slots_of}
+use Rattle.abstract_state.specs.Situation.{least_of}
+use Rattle.abstract_state.specs.Addresses.{content_of, answer_of}
+use Rattle.abstract_state.specs.Loading.{filled, readable, a_number, any_of}
+use Rattle.abstract_state.proofs.Loading.{loaded_else}
 use Rattle.abstract_state.proofs.Frames.{address_is}
 use Rattle.abstract_state.proofs.state.AbsState.load.Goals as goal
 
@@ -19,7 +25,7 @@ pub returns-clause-sound : goal.returns-clause-sound
 returns-clause-sound c = λ span s n same a b.
     let bytes = subst (λ (k : ℕ). LoadsAs c.args.self.now c.args.base c.args.offset k (λ lengths v. v < 256 ^ k)) c.count.ensures.value c.in_ok-bytes.ensures.sound in
     let given = bytes span s n a b in
-    (given.0, given.1, (_, refl, c.loaded.ensures (lengths_of span) given.0 given.2))
+    (given.0, given.1, (_, refl, c.loaded.ensures.contains (lengths_of span) given.0 given.2))
 
 pub returns-in-Some-clause-lent_numbers : goal.returns-in-Some-clause-lent_numbers
 returns-in-Some-clause-lent_numbers c = λ p e. absurd (c.in-Some.ensures.stack_alone p e)
@@ -45,3 +51,12 @@ returns-in_err-bytes-clause-marked c = λ p h m.
 
 pub returns-clause-spilled : goal.returns-clause-spilled
 returns-clause-spilled c = λ i known h less z is. absurd (c.in_default-fill.not-Some known (c.fill.ensures.spilled i known h less z is))
+
+pub returns-in_err-bytes-clause-rule : goal.returns-in_err-bytes-clause-rule
+returns-in_err-bytes-clause-rule c =
+    let slots = slots_of c.args.self.now.stack in
+    let bounds = least_of c.args.self.now.bounds in
+    let none : filled slots (content_of c.args.base) c.args.offset c.args.size ≡ None = sym c.fill.ensures.rule ∙ ap (option_map content_of) c.in_default-fill.is in
+    let out : c.from_residual.result ≡ Err c.in_err-bytes.field-0.0 = search rules in
+    let bytes : readable slots bounds (content_of c.args.base) c.args.offset (bytes_in c.args.size) ≡ Err c.in_err-bytes.field-0.0 = subst (λ (n : ℕ). readable slots bounds (content_of c.args.base) c.args.offset n ≡ Err c.in_err-bytes.field-0.0) c.count.ensures.value (sym c.bytes.ensures.rule ∙ c.in_err-bytes.was) in
+    ap (answer_of (option_map content_of)) out ∙ sym (loaded_else c.args.profile slots bounds c.args.base c.args.offset c.args.size c.in_default.not-Context none ∙ ap (answer_of (a_number (any_of c.args.size))) bytes)

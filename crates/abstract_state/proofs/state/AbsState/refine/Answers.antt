@@ -6,6 +6,11 @@ use Rattle.abstract_state.specs.declared.bounds.Bounds.{Bounds}
 use Rattle.abstract_state.specs.Guard.{LengthensMemory}
 use Rattle.abstract_state.specs.Lent.{bound_of}
 use Rattle.abstract_state.specs.Branch.{LongFrom, LeavesSides}
+use Rattle.std.proofs.Common.{sym, option_map}
+use Rattle.abstract_state.specs.Addresses.{content_of}
+use Rattle.abstract_state.specs.Situation.{Flows, situation_of, put}
+use Rattle.abstract_state.specs.Edges.{both_of, put_right, raised, refined}
+use Rattle.abstract_state.proofs.Edges.{shows_put_right, raised_flows, flows_live, flows_dead}
 use Rattle.abstract_state.proofs.Options.{where_some, some_is}
 use Rattle.abstract_state.proofs.Registers.{state_at, state_none}
 use Rattle.abstract_state.specs.declared.step.Flow.{Flow}
@@ -71,3 +76,32 @@ returns-in-Live-clause-others c =
     (leaves_sides c.args.left right old c.keep.new.self c.keep_right.new.self c.raise-in-Live.new.self
     c.keep.ensures.others c.keep_right.ensures.others c.keep_right.ensures.set
     (c.raise-in-Live.ensures.same ∙ c.raise.ensures.same))
+
+pub returns-in_default-clause-rule : goal.returns-in_default-clause-rule
+unfolding refined
+returns-in_default-clause-rule c =
+    subst (λ (o : Option Pair). Flows (refined c.args.left c.args.right.now (option_map both_of o) (situation_of c.args.self.now)) Dead c.args.self.now) (sym c.in_default.is) refl
+
+pub returns-in-Live-clause-rule : goal.returns-in-Live-clause-rule
+unfolding refined
+returns-in-Live-clause-rule c =
+    let left = content_of c.in-Some.pair.left in
+    let right = content_of c.in-Some.pair.right in
+    let first = put c.args.left left (situation_of c.args.self.now) in
+    let both = shows_put_right c.keep.new.self c.keep_right.new.self first c.args.right.now right c.keep.ensures.rule c.keep_right.ensures.rule in
+    let second = put_right c.args.right.now right first in
+    let once = raised_flows left c.keep_right.new.self c.raise.new.self second c.raise.result both c.raise.ensures.rule in
+    subst (λ (o : Option Pair). Flows (refined c.args.left c.args.right.now (option_map both_of o) (situation_of c.args.self.now)) c.raise-in-Live.result c.raise-in-Live.new.self) (sym c.in-Some.is)
+    (flows_live (raised left second) right c.raise.new.self c.raise-in-Live.new.self c.raise.result c.raise-in-Live.result once c.in-Live.is c.raise-in-Live.ensures.rule)
+
+pub returns-in-Dead-clause-rule : goal.returns-in-Dead-clause-rule
+unfolding refined
+returns-in-Dead-clause-rule c =
+    let left = content_of c.in-Some.pair.left in
+    let right = content_of c.in-Some.pair.right in
+    let first = put c.args.left left (situation_of c.args.self.now) in
+    let both = shows_put_right c.keep.new.self c.keep_right.new.self first c.args.right.now right c.keep.ensures.rule c.keep_right.ensures.rule in
+    let second = put_right c.args.right.now right first in
+    let once = raised_flows left c.keep_right.new.self c.raise.new.self second c.raise.result both c.raise.ensures.rule in
+    subst (λ (o : Option Pair). Flows (refined c.args.left c.args.right.now (option_map both_of o) (situation_of c.args.self.now)) Dead c.raise.new.self) (sym c.in-Some.is)
+    (flows_dead (raised left second) right c.raise.new.self c.raise.new.self c.raise.result once c.in-Dead.is)

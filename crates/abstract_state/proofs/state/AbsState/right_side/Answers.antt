@@ -17,7 +17,7 @@ use Rattle.abstract_state.proofs.state.AbsState.right_side.Goals as goal
 
 pub returns-in-Immediate-clause-sound : goal.returns-in-Immediate-clause-sound
 returns-in-Immediate-clause-sound c = λ lengths s held.
-    let there = c.compared.ensures lengths in
+    let there = c.compared.ensures.contains lengths in
     let fits : SFits w32 c.in-Immediate.value = search rules in
     let same = to_z-of_z w32 c.in-Immediate.value fits in (
       cast_unsigned w64 c.in-Immediate.value,

@@ -1,8 +1,14 @@
-use Rattle.std.proofs.Common.{◌≡◌, ◌+◌, ◌%◌, ◌/◌, ◌*◌, ◌≤◌, ◌^◌, ℕ, List, Option, Ok, refl, subst, ap, ◌∙◌, sym, rules, arith}
+use Rattle.std.proofs.Common.{◌≡◌, ◌+◌, ◌%◌, ◌/◌, ◌*◌, ◌≤◌, ◌^◌, ℕ, List, Option, Ok, false, refl, subst, ap, ◌∙◌, sym, rules, arith}
 use Rattle.semantics.specs.Memory.{stack_base, bytes_in, store, stored}
 use Rattle.abstract_state.specs.declared.known.Known.{Known}
 use Rattle.abstract_state.specs.Known.{ContainsKnown}
 use Rattle.abstract_state.specs.State.{lengths_of, bytes_of, Bytes, HasNumber, Contains, Spares, with_stack}
+use Rattle.abstract_state.specs.declared.refusal.Refusal.TheVariants as refusal
+use Rattle.abstract_state.specs.Known.{IsNumber}
+use Rattle.abstract_state.specs.Stacks.{slots_of}
+use Rattle.abstract_state.specs.Addresses.{content_of}
+use Rattle.abstract_state.specs.Loading.{is_whole}
+use Rattle.abstract_state.proofs.Loading.{number_written, elsewhere_written, is_whole_true, whole_stored, part_stored, address_stored, not_whole_place, not_whole_count, leaves_ok, leaves_err, leaves_same}
 use Rattle.abstract_state.proofs.Loads.{stores_stack}
 use Rattle.abstract_state.proofs.Memories.{after_store, store_spares, store_fills, store_number}
 use Rattle.std.specs.Bool.{IsTrue}
@@ -96,3 +102,44 @@ returns-clause-spills c = λ i h less z.
     let found = c.in_ok-p.ensures.floor (8 * i) (stack_byte_of (8 * i) c.args.offset c.args.base c.in-Stack.address c.in-Stack.is h) (omega (arith, eight)) in
     let same : c.in_ok-p.p ≡ 8 * i = cc in
     absurd (elim c.else-count-eq8.branch [ else-count-eq8-via-then-count-eq8+else-p-eq0 w ↦ omega (arith, same, w.if-p-eq0.false) | else-count-eq8-via-else-count-eq8 w ↦ w.if-count-eq8.false eight ])
+
+pub returns-then-is_number-clause-rule : goal.returns-then-is_number-clause-rule
+returns-then-is_number-clause-rule c =
+    let yes : IsTrue c.is_number.result = search rules in
+    let slots = slots_of c.args.self.now.stack in
+    leaves_same slots slots _ refusal.NotAnAddress (number_written slots c.args.base c.args.offset (bytes_in c.args.size) (content_of c.args.value) (c.is_number.ensures.0 yes))
+
+pub returns-in_default-clause-rule : goal.returns-in_default-clause-rule
+returns-in_default-clause-rule c =
+    let slots = slots_of c.args.self.now.stack in
+    let no : IsNumber c.args.base → ⊥ = λ n. let yes : IsTrue c.is_number.result = c.is_number.ensures.1 n in absurd (cc) in
+    leaves_same slots slots _ refusal.ReadOnlyStore (elsewhere_written slots c.args.base c.args.offset (bytes_in c.args.size) (content_of c.args.value) no c.in_default.not-Stack)
+
+pub returns-in_err-p-clause-rule : goal.returns-in_err-p-clause-rule
+returns-in_err-p-clause-rule c =
+    let slots = slots_of c.args.self.now.stack in
+    leaves_err slots slots c.args.base c.in-Stack.address c.args.offset c.count-count.result (bytes_in c.args.size) (content_of c.args.value) _ _ c.in-Stack.is c.count-count.ensures.value (sym c.offset_in_stack.ensures.rule ∙ c.in_err-p.was) (search rules)
+
+pub returns-then-p-eq0-clause-rule : goal.returns-then-p-eq0-clause-rule
+returns-then-p-eq0-clause-rule c =
+    let slots = slots_of c.args.self.now.stack in
+    leaves_ok slots _ c.args.base c.in-Stack.address c.args.offset c.count-count.result (bytes_in c.args.size) c.in_ok-p.p (content_of c.args.value) _ _ c.in-Stack.is c.count-count.ensures.value (sym c.offset_in_stack.ensures.rule ∙ c.in_ok-p.was)
+    (whole_stored slots c.in_ok-p.p c.count-count.result (content_of c.args.value) (is_whole_true c.in_ok-p.p c.count-count.result c.if-count-eq8.true c.if-p-eq0.true))
+    (refl, λ i h. c.spill.ensures.rule i)
+
+pub returns-then-not-is_number-clause-rule : goal.returns-then-not-is_number-clause-rule
+returns-then-not-is_number-clause-rule c =
+    let slots = slots_of c.args.self.now.stack in
+    let no : IsNumber c.args.value → ⊥ = λ n. let yes : IsTrue c.is_number-2.result = c.is_number-2.ensures.1 n in absurd (cc) in
+    let part : is_whole c.in_ok-p.p c.count-count.result ≡ false = elim c.else-count-eq8.branch [ else-count-eq8-via-then-count-eq8+else-p-eq0 w ↦ not_whole_place _ _ w.if-p-eq0.false | else-count-eq8-via-else-count-eq8 w ↦ not_whole_count _ _ w.if-count-eq8.false ] in
+    leaves_ok slots slots c.args.base c.in-Stack.address c.args.offset c.count-count.result (bytes_in c.args.size) c.in_ok-p.p (content_of c.args.value) _ _ c.in-Stack.is c.count-count.ensures.value (sym c.offset_in_stack.ensures.rule ∙ c.in_ok-p.was)
+    (address_stored slots c.in_ok-p.p c.count-count.result c.args.value part no) refl
+
+pub returns-clause-rule : goal.returns-clause-rule
+returns-clause-rule c =
+    let slots = slots_of c.args.self.now.stack in
+    let yes : IsTrue c.is_number-2.result = search rules in
+    let part : is_whole c.in_ok-p.p c.count-count.result ≡ false = elim c.else-count-eq8.branch [ else-count-eq8-via-then-count-eq8+else-p-eq0 w ↦ not_whole_place _ _ w.if-p-eq0.false | else-count-eq8-via-else-count-eq8 w ↦ not_whole_count _ _ w.if-count-eq8.false ] in
+    leaves_ok slots _ c.args.base c.in-Stack.address c.args.offset c.count-count.result (bytes_in c.args.size) c.in_ok-p.p (content_of c.args.value) _ _ c.in-Stack.is c.count-count.ensures.value (sym c.offset_in_stack.ensures.rule ∙ c.in_ok-p.was)
+    (part_stored slots c.in_ok-p.p c.count-count.result c.args.value part (c.is_number-2.ensures.0 yes))
+    (refl, c.overwrite.ensures.rule)

@@ -1,13 +1,11 @@
-use Rattle.std.proofs.Common.{refl, sym, ◌∙◌, subst}
+use Rattle.std.proofs.Common.{◌≡◌, ap, ◌∙◌, subst}
 use Rattle.char_sequence.specs.Index.{HasId}
 use Rattle.char_sequence.specs.Chunks.{joined}
-use Rattle.char_sequence.proofs.Chunking.{indexed_yes, indexed_no}
+use Rattle.char_sequence.proofs.Chunking.{spot_place}
 use Rattle.char_sequence.proofs.chunk_list.ChunkList.has.Goals as goal
 
-pub returns-clause-yes : goal.returns-clause-yes
-returns-clause-yes c =
-    λ t. subst (λ v. HasId (joined v.chunks) c.args.id) c.self.view_is (indexed_yes _ _ _ c.self.invariant.indexed c.args.id _ refl (sym c.contains_key.ensures ∙ t))
-
-pub returns-clause-no : goal.returns-clause-no
-returns-clause-no c =
-    λ f has. indexed_no _ _ _ c.self.invariant.indexed c.args.id _ refl (sym c.contains_key.ensures ∙ f) (subst (λ v. HasId (joined v.chunks) c.args.id) (sym c.self.view_is) has)
+pub returns-then-has_at-clause-yes : goal.returns-then-has_at-clause-yes
+returns-then-has_at-clause-yes c =
+    λ t.
+    let same : c.deref.result.now ≡ c.args.self.now.chunks = c.deref.ensures.value ∙ ap (λ v. v.chunks) c.self.view_is in
+    subst (λ z. HasId (joined z) c.args.id) same (_, spot_place _ _ _ _ (c.has_at.ensures.found t))

@@ -1,12 +1,17 @@
 use Rattle.std.proofs.Common.{◌≡◌, ◌<◌, ◌≤◌, Some, length, set, sym, ap, ◌∙◌, arith, subst}
 use Rattle.std.specs.List.{slice_get, insert}
 use Rattle.std.proofs.lemmas.Option.{same_Some, slice_get_within}
-use Rattle.char_sequence.specs.Chunks.{joined, IsKept}
-use Rattle.char_sequence.proofs.Chunking.{kept_put, here_at}
+use Rattle.char_sequence.specs.Chunks.{joined}
+use Rattle.char_sequence.specs.Named.{IsAboveAll}
+use Rattle.char_sequence.proofs.Chunking.{kept_put, kept_same, above_indexed, here_at}
 use Rattle.char_sequence.proofs.chunk_list.ChunkList.put_in.Goals as goal
 
+pub enter-requires-clause-above : goal.enter-requires-clause-above
+enter-requires-clause-above c =
+    above_indexed _ _ _ c.self.invariant.indexed c.args.element.id (subst (λ v. IsAboveAll (joined v.chunks) c.args.element.id) (sym c.self.view_is) c.requires.above)
+
 pub invariant_of-self : goal.invariant_of-self
-invariant_of-self c = subst (λ z. IsKept c.self.inside.chunks.items c.self.inside.names.items z c.self.inside.count) (sym c.in_err-enter.ensures.unchanged) c.self.invariant
+invariant_of-self c = kept_same _ _ _ _ _ c.self.invariant c.in_err-enter.ensures.unchanged
 
 pub invariant_of-self-2 : goal.invariant_of-self-2
 invariant_of-self-2 c =
@@ -20,7 +25,7 @@ invariant_of-self-2 c =
     let one = same_Some c.index_mut.result.now _ (sym here ∙ old) in
     let within : c.args.spot.at ≤ length c.index_mut.result.now = subst (λ z. c.args.spot.at ≤ length z) (sym one) there.3 in
     let few : length (joined c.self.inside.chunks.items) < 32768 = subst (λ z. length (joined z) < 32768) (sym same) c.requires.few in
-    kept_put _ _ _ _ _ c.args.spot.at c.index-name.result.now _ _ _ c.args.element c.self.invariant here name within c.insert.ensures few c.in_ok-enter.ensures.updates.1 c.in_ok-enter.ensures.updates.2
+    kept_put _ _ _ _ _ c.args.spot.at c.index-name.result.now _ _ _ c.args.element c.self.invariant here name within c.insert.ensures few c.in_ok-enter.ensures.named c.in_ok-enter.ensures.kept
 
 pub returns-clause-ok : goal.returns-clause-ok
 returns-clause-ok c =

@@ -3,7 +3,7 @@ use Rattle.change_ops.specs.Operations.{id_of, Names}
 use Rattle.char_sequence.specs.Order.{Shows}
 use Rattle.char_sequence.specs.Held.{Holds}
 use Rattle.char_sequence.proofs.Chunking.{room_within}
-use Rattle.char_sequence.proofs.Steps.{stands, not_used, has_room, inserted_held, inserted_shows, placed_text, put_size}
+use Rattle.char_sequence.proofs.Steps.{stands, not_used, above_all, has_room, inserted_held, inserted_shows, placed_text, put_size}
 use Rattle.char_sequence.proofs.sequence.Sequence.insert.Goals as goal
 
 pub reserve-requires : goal.reserve-requires
@@ -19,6 +19,13 @@ put-requires-clause-fresh c =
     let held = c.self.invariant.1.1 in
     let accepted = c.requires.accepted ops (subst (λ v. Holds v ops) c.self.view_is held) in
     (ops, held.newest, not_used ops _ c.in-Insert.id (ap id_of c.in-Insert.is) accepted)
+
+pub put-requires-clause-above : goal.put-requires-clause-above
+put-requires-clause-above c =
+    let ops = c.self.invariant.1.0 in
+    let held = c.self.invariant.1.1 in
+    let accepted = c.requires.accepted ops (subst (λ v. Holds v ops) c.self.view_is held) in
+    above_all ops _ _ _ c.in-Insert.id (ap id_of c.in-Insert.is) c.reserve.ensures.same held.shows.text accepted
 
 pub put-requires-clause-few : goal.put-requires-clause-few
 put-requires-clause-few c =

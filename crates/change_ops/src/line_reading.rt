@@ -1,0 +1,197 @@
+//! The lines of a change.
+ghost use Rattle.std.specs.Prelude.{◌≡◌, ◌≤◌};
+ghost use Rattle.change_ops.specs.Reading.{insert_at, remove_at, mark_at, unmark_at, op_at, owned as owned_verdict};
+ghost use Rattle.change_ops.specs.Reading.{op_verdict, op_verdict_in, unless_formless, is_of_code as is_of_code_line};
+ghost use Rattle.change_ops.specs.Reading.{lacks_line as is_lacking, run_at, run_verdict_in, line_in, line_verdict};
+ghost use Rattle.change_ops.specs.Reading.{Reads};
+
+use crate::fields::{anchors_of, attribute_of, both, character_of, id_of, key_of, parent_of};
+use crate::line::{Form, Line};
+use crate::numbers::word_of;
+use crate::operation::Op;
+use crate::refusal::LineFault;
+use crate::run::Run;
+use crate::run_reading::run_of;
+use std::alloc::Global;
+
+/// An operation that is the peer's own.
+fn owned(peer: u16, op: Op) -> Result<Op, LineFault>
+    ensures { result ≡ owned_verdict peer op }
+{
+    if op.id().node() == peer {
+        Ok(op)
+    } else {
+        Err(LineFault::WrongPeer)
+    }
+}
+
+#[tactic(auto, unfolding(crate::specs::Reading::insert_at))]
+fn insert_of(peer: u16, fields: &str) -> Result<Op, LineFault>
+    ensures { result ≡ op_verdict peer (insert_at fields.now) }
+{
+    let (id, fields) = word_of(fields)?;
+    let (parent, code) = word_of(fields)?;
+    let named = both(id_of(id), parent_of(parent));
+    let ((id, parent), character) = both(named, character_of(code))?;
+    owned(
+        peer,
+        Op::Insert {
+            id,
+            parent,
+            character,
+        },
+    )
+}
+
+#[tactic(auto, unfolding(crate::specs::Reading::remove_at))]
+fn remove_of(peer: u16, fields: &str) -> Result<Op, LineFault>
+    ensures { result ≡ op_verdict peer (remove_at fields.now) }
+{
+    let (id, target) = word_of(fields)?;
+    let (id, target) = both(id_of(id), id_of(target))?;
+    owned(peer, Op::Remove { id, target })
+}
+
+#[tactic(auto, unfolding(crate::specs::Reading::mark_at, crate::specs::Reading::marked_at))]
+fn mark_of(alloc: Global, peer: u16, fields: &str) -> Result<Op, LineFault>
+    ensures { Reads result (op_verdict peer (mark_at fields.now)) }
+{
+    let (id, fields) = word_of(fields)?;
+    let (name, fields) = word_of(fields)?;
+    let (value, fields) = word_of(fields)?;
+    let marked = both(attribute_of(alloc, name, value), anchors_of(fields));
+    let ((attribute, (start, end)), id) = both(marked, id_of(id))?;
+    owned(
+        peer,
+        Op::AddMark {
+            id,
+            attribute,
+            start,
+            end,
+        },
+    )
+}
+
+#[tactic(auto, unfolding(crate::specs::Reading::unmark_at, crate::specs::Reading::unmarked_at))]
+fn unmark_of(peer: u16, fields: &str) -> Result<Op, LineFault>
+    ensures { result ≡ op_verdict peer (unmark_at fields.now) }
+{
+    let (id, fields) = word_of(fields)?;
+    let (name, fields) = word_of(fields)?;
+    let unmarked = both(key_of(name), anchors_of(fields));
+    let ((key, (start, end)), id) = both(unmarked, id_of(id))?;
+    owned(
+        peer,
+        Op::RemoveMark {
+            id,
+            key,
+            start,
+            end,
+        },
+    )
+}
+
+/// The operation of a line of a peer's change, or the line's first fault.
+#[tactic(auto, unfolding(crate::specs::Reading::op_at))]
+fn op_of(alloc: Global, peer: u16, line: &str) -> Result<Op, LineFault>
+    ensures { Reads result (op_verdict peer (op_at line.now)) }
+{
+    let (kind, fields) = word_of(line)?;
+    if kind == "i" {
+        insert_of(peer, fields)
+    } else if kind == "d" {
+        remove_of(peer, fields)
+    } else if kind == "m" {
+        mark_of(alloc, peer, fields)
+    } else if kind == "u" {
+        unmark_of(peer, fields)
+    } else {
+        Err(LineFault::BadLine)
+    }
+}
+
+/// What was read of an operation, where there is no room for it: a fault of its form comes before this one, others
+/// behind it.
+fn without_room(read: Result<Op, LineFault>) -> LineFault
+    ensures { result ≡ unless_formless read }
+{
+    match read {
+        Err(LineFault::BadLine) => LineFault::BadLine,
+        Err(LineFault::OutOfMemory) => LineFault::OutOfMemory,
+        _ => LineFault::Limit,
+    }
+}
+
+/// Whether a mark's line, or the line of a removal of one, names the key code.
+#[tactic(auto, unfolding(crate::specs::Reading::is_of_code))]
+fn is_of_code(line: &str) -> bool
+    ensures { result ≡ is_of_code_line line.now }
+{
+    let Ok((kind, fields)) = word_of(line) else {
+        return false;
+    };
+    let Ok((_, fields)) = word_of(fields) else {
+        return false;
+    };
+    let Ok((key, _)) = word_of(fields) else {
+        return false;
+    };
+    (kind == "m" || kind == "u") && key == "code"
+}
+
+/// Whether a change of this form has no such line, though it may be one of an operation.
+fn lacks_line(form: Form, line: &str) -> bool
+    ensures { result ≡ is_lacking form line.now }
+{
+    match form {
+        Form::First => is_of_code(line),
+        Form::Second => false,
+    }
+}
+
+/// The operation of a line of a peer's change of this form, with room for `room` operations, or the line's first fault.
+#[tactic(auto, using(crate::proofs::CodeLines::lacked, crate::proofs::CodeLines::no_room, crate::proofs::CodeLines::some_room))]
+fn op_in(alloc: Global, form: Form, peer: u16, room: usize, line: &str) -> Result<Op, LineFault>
+    ensures { Reads result (op_verdict_in form peer room (op_at line.now)) }
+{
+    if lacks_line(form, line) {
+        return Err(LineFault::BadLine);
+    }
+    let read = op_of(alloc, peer, line);
+    if room == 0 {
+        return Err(without_room(read));
+    }
+    read
+}
+
+/// The run of a line of a peer's change of this form, with room for `room` operations, or the line's first fault.
+fn run_in(alloc: Global, form: Form, peer: u16, room: usize, fields: &str) -> Result<Run, LineFault>
+    requires { room ≤ 256 }
+    ensures { Reads result (run_verdict_in form peer room (run_at fields.now)) }
+{
+    match form {
+        Form::First => Err(LineFault::BadLine),
+        Form::Second => run_of(alloc, peer, room, fields),
+    }
+}
+
+/// The line of a peer's change of this form, with room for `room` operations, or the line's first fault.
+#[tactic(auto, unfolding(crate::specs::Reading::line_at))]
+pub fn line_of_change(
+    alloc: Global,
+    form: Form,
+    peer: u16,
+    room: usize,
+    line: &str,
+) -> Result<Line, LineFault>
+    requires { room ≤ 256 }
+    ensures { Reads result (line_verdict peer room (line_in form line.now)) }
+{
+    let (kind, fields) = word_of(line)?;
+    if kind == "r" {
+        let run = run_in(alloc, form, peer, room, fields)?;
+        return Ok(Line::Run(run));
+    }
+    let op = op_in(alloc, form, peer, room, line)?;
+    Ok(Line::Operation(op))
+}
