@@ -1,0 +1,5 @@
+mod InsertedLemmas
+mod MakingLemmas
+mod ReadingLemmas
+mod SchemaLemmas
+mod StoreLemmas

@@ -1,0 +1,63 @@
+use change_log::log::LogError;
+use sqlite::{Error, ErrorCode};
+use std::alloc::AllocError;
+
+/// What is wrong with a file that is opened as a store.
+#[derive(Clone, Copy)]
+pub enum Damage {
+    /// It is no database that SQLite would read whole: a page's sum or form is wrong.
+    Pages,
+    /// It has other tables, or not one row that says of which hub it is.
+    Tables,
+    /// It is a store of another format.
+    Format,
+    /// It is a store of a hub of another size.
+    Size,
+    /// No change has this number, and one has a greater.
+    MissingNumber(u32),
+    /// A number isn't within 32 bits, or a text isn't UTF-8.
+    Value,
+}
+
+/// Why a store was not opened, or not closed.
+#[derive(Clone, Copy)]
+pub enum StoreError {
+    /// The file holds something else, and was left as it was. An empty log may be left beside it.
+    StoreDamaged(Damage),
+    /// Another process has the file open.
+    StoreBusy,
+    /// A read, a write or a sync failed.
+    StoreFailed,
+    /// No memory was found.
+    OutOfMemory,
+}
+
+impl From<Error> for StoreError {
+    fn from(error: Error) -> StoreError {
+        match error {
+            Error::SqliteFailure(ErrorCode::OutOfMemory) => StoreError::OutOfMemory,
+            Error::SqliteFailure(ErrorCode::DatabaseBusy) => StoreError::StoreBusy,
+            Error::SqliteFailure(ErrorCode::NotADatabase | ErrorCode::DatabaseCorrupt) => {
+                StoreError::StoreDamaged(Damage::Pages)
+            }
+            Error::InvalidColumnType(..)
+            | Error::IntegralValueOutOfRange(_)
+            | Error::Utf8Error(_) => { StoreError::StoreDamaged(Damage::Value) }
+            _ => StoreError::StoreFailed,
+        }
+    }
+}
+
+impl From<AllocError> for StoreError {
+    fn from(_: AllocError) -> StoreError {
+        StoreError::OutOfMemory
+    }
+}
+
+/// Why a log that is a store fails. But for want of memory it isn't known what is kept then.
+pub(crate) fn log_error(error: StoreError) -> LogError {
+    match error {
+        StoreError::OutOfMemory => LogError::OutOfMemory,
+        _ => LogError::Failed,
+    }
+}

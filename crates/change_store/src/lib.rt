@@ -1,0 +1,9 @@
+//! The texts of a hub's accepted changes in a file that SQLite reads.
+#![tactic(auto)]
+
+pub mod error;
+mod file;
+mod rows;
+mod schema;
+pub mod store;
+mod tables;
