@@ -2,20 +2,14 @@
 """Tries peers of a hub that has an operation with the greatest counter, which no later one is above: try_greatest.py [HUB] [SEED]
 
 HUB is the executable, by default $HUB or `hub`. A hostile session sends such operations, first and between others; peers that were there
-before and new ones, and the page's bridge, go on with all that can still be done, and say of each edit that can't be done that it can't."""
-import http.client
-import json
-import pathlib
+before and new ones go on with all that can still be done, and say of each edit that can't be done that it can't."""
 import random
-import subprocess
-import sys
 import threading
 from concurrent.futures import ThreadPoolExecutor
 
 from peer import GREATEST, NoCounter, Peer, Session, word_of
-from try_peer import HUB, SEED, Hub, shown
+from try_peer import SEED, Hub, shown
 
-BRIDGE = pathlib.Path(__file__).resolve().parent.parent / "page" / "bridge.py"
 FIRST = ["change 9 1", f"i {GREATEST}@9 - 51"]
 EDITS = 150
 KEYS = ["strong", "code", "color", "comment:1"]
@@ -180,76 +174,12 @@ def try_at_once():
             one.close()
 
 
-class Page:
-    """What a page says to the bridge, without a browser."""
-
-    def __init__(self, port):
-        self.port = port
-        self.events = http.client.HTTPConnection("127.0.0.1", port, timeout=30)
-        self.events.request("GET", "/events", headers={"Sec-Fetch-Site": "same-origin"})
-        self.lines = self.events.getresponse()
-        self.state = {"spans": [], "ids": []}
-
-    def until(self, holds):
-        """The first state of which something holds, as the ids of its characters."""
-        while True:
-            line = self.lines.readline()
-            if line.startswith(b"data: "):
-                self.state = json.loads(line[6:])
-                text = "".join(span["text"] for span in self.state["spans"])
-                if holds(text):
-                    return [f"{first + at}@{node}" for first, node, length in self.state["ids"] for at in range(length)]
-
-    def say(self, **said):
-        """The status and the text of the answer."""
-        connection = http.client.HTTPConnection("127.0.0.1", self.port, timeout=30)
-        body = json.dumps({"client": self.state["client"], **said})
-        connection.request("POST", "/say", body, {"Origin": f"http://127.0.0.1:{self.port}"})
-        reply = connection.getresponse()
-        answer = reply.status, reply.read().decode()
-        connection.close()
-        return answer
-
-
-def type_on(page, key, before):
-    """A page with this text types at its end, marks that, and is told what can't be done."""
-    ids = page.until(lambda text: text == before)
-    assert page.say(kind="edit", behind=ids[-1], text="abc", removed=[])[0] == 200
-    ids = page.until(lambda text: text == before + "abc")
-    assert page.say(kind="mark", first=ids[1], last=ids[-1], key=key, value="-")[0] == 200
-    status, why = page.say(kind="edit", behind="-", text="x", removed=[])
-    assert status == 400 and why == f"no counter is above that of {GREATEST}@9\n", why
-    assert page.say(kind="edit", behind=ids[-1], text="y", removed=[ids[0], ids[-1]])[0] == 400
-    page.until(lambda text: text == before + "aby")
-
-
-def try_page():
-    """A page that is open types on; so does one that is opened later."""
-    words = [HUB, "serve", "--read", "--port", "0", "--sessions", "4"]
-    with subprocess.Popen(words, stdout=subprocess.PIPE, text=True) as hub:
-        hub_port = hub.stdout.readline().split(" ")[1].strip()
-        words = [sys.executable, BRIDGE, hub_port, "--port", "0"]
-        with subprocess.Popen(words, stdout=subprocess.PIPE, text=True) as bridge:
-            port = int(bridge.stdout.readline().strip("/\n").rpartition(":")[2])
-            session, page = Session(int(hub_port)), Page(port)
-            try:
-                page.until(lambda text: text == "")
-                session.ask(*FIRST)
-                type_on(page, "em", "Q")
-                type_on(Page(port), "strong", "Qaby")
-                assert shown(session, session.ask("latest")[1], 1024) == ["0 plain Q", "1 strong,em abyaby"]
-            finally:
-                bridge.terminate()
-                hub.terminate()
-
-
 def main():
     print(f"seed {SEED}")
     try_first()
     try_marks_and_nodes()
     try_alone()
     try_at_once()
-    try_page()
 
 
 if __name__ == "__main__":

@@ -6,12 +6,12 @@ of peer.py type into one text; what the pages show is compared with what the hub
 import argparse
 import base64
 import contextlib
-import http.client
 import json
 import os
 import pathlib
 import random
 import re
+import socket
 import subprocess
 import sys
 import tempfile
@@ -22,7 +22,7 @@ from concurrent.futures import ThreadPoolExecutor
 
 HERE = pathlib.Path(__file__).resolve().parent
 sys.path.insert(0, str(HERE.parent / "clients"))
-from peer import Peer, Session  # noqa: E402
+from peer import GREATEST, Peer, Session  # noqa: E402
 
 QUESTION = HERE.parent / "filters" / "question.hex"
 UNGUARDED = "791100000000000071100100000000009500000000000000"
@@ -52,7 +52,7 @@ class Browser:
         data = None if body is None else json.dumps(body).encode()
         request = urllib.request.Request(at, data, {"Content-Type": "application/json"}, method=method)
         try:
-            with urllib.request.urlopen(request, timeout=60) as reply:
+            with urllib.request.urlopen(request, timeout=300) as reply:
                 return json.loads(reply.read())["value"]
         except urllib.error.HTTPError as why:
             raise AssertionError(why.read().decode()[:400]) from why
@@ -139,7 +139,7 @@ def format_of(one):
 
 def compare(page, session, subscriber):
     """Compares what a page shows with the hub's latest version, and its outlines with the filter's hits."""
-    until(lambda: page.run("return waiting ? -1 : state.version") == session.ask("latest")[1], "the page isn't at the latest version")
+    until(lambda: page.run("return hub.waiting ? -1 : hub.replica.version") == session.ask("latest")[1], "the page isn't at the latest version")
     _, latest = session.ask("latest")
     assert page.says("state").startswith(f"version {latest},")
     lines, count = session.ask(f"show {latest} 0 1024")
@@ -240,8 +240,8 @@ def try_toggle(ann, session, subscriber):
     until(lambda: "a link has 1 to 1024 bytes" in ann.says("error"), "a wrong link isn't told")
     ann.mark("code", 3, 3)
     until(lambda: "choose a part of the text" in ann.says("error"), "an empty selection isn't told")
-    ann.run(PASTE, 3, 3, "y" * 10001)
-    until(lambda: "at most 10000" in ann.says("error"), "a text that is too long isn't told")
+    ann.run(PASTE, 3, 3, "y" * 32768)
+    until(lambda: "The text is full" in ann.says("error"), "a text that is too long isn't told")
     compare(ann, session, subscriber)
     assert [format_of(one) for one in ann.run(SHOWN)] == before
 
@@ -290,7 +290,7 @@ def try_composition(ann, peer, session, subscriber):
         compose("Input.imeSetComposition", text=text, selectionStart=len(text), selectionEnd=len(text))
         peer.follow()
         peer.insert(0, "x")
-        until(lambda: session.ask("latest")[1] == ann.run("return state.version"), "the page doesn't show what others type")
+        until(lambda: session.ask("latest")[1] == ann.run("return hub.replica.version"), "the page doesn't show what others type")
         assert f"W{text}ho" in ann.box() and f"W{text}ho" not in ann.says("text")
     compose("Input.insertText", text="\u65e5\u672c")
     until(lambda: "W\u65e5\u672cho" in ann.says("text"), "what was composed isn't typed")
@@ -336,32 +336,45 @@ def try_at_once(pages, peer, session, subscriber, rng):
     all_at_once(edit_at_random, [(page, rng.random()) for page in pages])
 
 
+def try_greatest(page, peer, session, subscriber):
+    """The greatest counter, which no later one is above: all goes on, but for what would have to be above it."""
+    session.ask("change 9 1", f"i {GREATEST}@9 - 51")
+    until(lambda: page.box().startswith("Q"), "the page doesn't show what others type")
+    page.select(1, 1)
+    page.keys("#box", "ab")
+    page.select(0, 0)
+    page.keys("#box", "c")
+    until(lambda: "no counter is left" in page.says("error") and page.box().startswith("Qab"), page.says("error"))
+    page.mark("em", 0, 3)
+    compare(page, session, subscriber)
+    assert [one["text"] for one in page.run(SHOWN)][0] in ("Q", "Qab"), page.run(SHOWN)[0]
+    peer.follow()
+    peer.insert(1, "xy")
+    compare(page, session, subscriber)
+    assert page.box().startswith("Qxyab")
+
+
 def try_requests(port):
-    """Which requests the bridge doesn't answer."""
-    ours, evil = f"http://127.0.0.1:{port}", "http://evil.example"
-    own = f"127.0.0.1:{port}"
-    rows = [("GET", "/", {}, b"", 200), ("GET", "/", {"Host": "evil.example"}, b"", 403), ("GET", "/x", {}, b"", 404),
-            ("GET", "/page.html", {}, b"", 404), ("GET", "/", {"Host": f"evil.example:{port}"}, b"", 403),
-            ("GET", "/events", {"Host": "evil.example"}, b"", 403), ("GET", "/events", {"Origin": evil}, b"", 403),
-            ("GET", "/events", {"Sec-Fetch-Site": "cross-site"}, b"", 403), ("GET", "/events?node=0", {}, b"", 400),
-            ("GET", "/events?node=65536", {}, b"", 400), ("GET", "/events?x", {}, b"", 400),
-            ("POST", "/say", {}, b"{}", 403), ("POST", "/say", {"Origin": evil}, b"{}", 403), ("POST", "/say", {"Origin": "null"}, b"{}", 403),
-            ("POST", "/say", {"Origin": ours, "Host": "evil.example"}, b"{}", 403), ("POST", "/", {"Origin": ours}, b"{}", 403),
-            ("POST", "/say", {"Origin": ours, "Content-Length": "1048577"}, None, 413), ("POST", "/say", {"Origin": ours}, None, 413),
-            ("POST", "/say", {"Origin": ours, "Content-Length": "-1"}, None, 413), ("PUT", "/say", {"Origin": ours}, b"{}", 501)]
-    bodies = [b"", b"{}", b"[]", b"1", b"\xff", b"[" * 100000, b'{"client": 1}', b'{"client": "x", "kind": "edit"}', b"9" * 9999]
-    rows += [("POST", "/say", {"Origin": ours}, body, 400) for body in bodies]
-    for method, path, headers, body, want in rows:
-        connection = http.client.HTTPConnection("127.0.0.1", port, timeout=20)
-        connection.putrequest(method, path, skip_host=True)
-        for name, value in {"Host": own, **({} if body is None else {"Content-Length": str(len(body))}), **headers}.items():
-            connection.putheader(name, value)
-        connection.endheaders(body)
-        reply = connection.getresponse()
-        assert reply.status == want, (method, path, headers, (body or b"")[:40], reply.status)
-        connection.close()
+    """Which requests the bridge doesn't answer, and that what is no WebSocket's ends its session alone."""
+    evil, own = "http://evil.example", f"127.0.0.1:{port}"
+    asks = {"Upgrade": "websocket", "Connection": "Upgrade", "Sec-WebSocket-Version": "13", "Sec-WebSocket-Key": "x3JJHMbDL1EzLkh9GBhXDw=="}
+    rows = [("/", {}, 200), ("/?node=2", {"Sec-Fetch-Site": "cross-site"}, 200), ("/", {"Host": "evil.example"}, 403), ("/x", {}, 404),
+            ("/hub.js", {}, 200), ("/hub.js", {"Sec-Fetch-Site": "cross-site"}, 403), ("/", {"Host": f"evil.example:{port}"}, 403),
+            ("/../page/page.html", {}, 404), ("/%2e%2e/page.html", {}, 404), ("/bridge.py", {}, 404), ("//etc/passwd", {}, 404),
+            ("/session", asks, 101), ("/session", {**asks, "Origin": f"http://{own}"}, 101), ("/session", {**asks, "Origin": evil}, 403),
+            ("/session", {**asks, "Origin": "null"}, 403), ("/session", {**asks, "Host": "evil.example"}, 403), ("/session", {}, 400),
+            ("/session", {**asks, "Sec-Fetch-Site": "cross-site"}, 403), ("/session", {**asks, "Sec-WebSocket-Key": "x"}, 400)]
+    for path, headers, want in rows:
+        with socket.create_connection(("127.0.0.1", port), timeout=20) as connection:
+            lines = [f"GET {path} HTTP/1.1", *(f"{name}: {value}" for name, value in {"Host": own, **headers}.items())]
+            connection.sendall("\r\n".join([*lines, "", ""]).encode())
+            reply = connection.recv(4096)
+            assert reply.startswith(f"HTTP/1.1 {want} ".encode()), (path, headers, reply[:40])
+            if want == 101:
+                connection.sendall(b"\x81\x06latest")
+                assert b"ok" not in connection.makefile("rb").read(), "a message without a mask is taken"
     with contextlib.suppress(ConnectionRefusedError):
-        http.client.HTTPConnection("127.0.0.2", port, timeout=5).connect()
+        socket.create_connection(("127.0.0.2", port), timeout=5)
         raise AssertionError("the bridge listens on 127.0.0.2")
 
 
@@ -382,6 +395,7 @@ def try_all(driver, hub_port, arguments):
             try_characters(*pages, peer, session, subscriber)
             try_composition(pages[0], peer, session, subscriber)
             try_at_once(pages, peer, session, subscriber, rng)
+            try_greatest(pages[0], peer, session, subscriber)
             try_requests(port)
             print(f"{pages[0].version()}: {session.ask('latest')[1]} versions, all alike")
         finally:
@@ -398,7 +412,7 @@ def main():
     parser.add_argument("--seed", type=int, default=random.randrange(1 << 32))
     arguments = parser.parse_args()
     print(f"seed {arguments.seed}")
-    with program(arguments.hub, "serve", "--read", "--port", 0, "--sessions", 4) as lines, \
+    with program(arguments.hub, "serve", "--read", "--port", 0, "--sessions", 8) as lines, \
             program("chromedriver", "--port=0") as driver:
         try_all(f"http://127.0.0.1:{number_in(driver, 'successfully on port ([0-9]+)')}", number_in(lines, "port ([0-9]+)"), arguments)
 

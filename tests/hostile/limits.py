@@ -1,17 +1,15 @@
 #!/usr/bin/env python3
 """Tries what a hostile client does to others where a hub limits its sessions: limits.py HUB [SEED]
 
-HUB is the built program. With `--counter-jump` the change with the greatest counter is refused, and peers of examples/clients and the
-page's bridge type on as if it hadn't been sent. With `--per-session` a session that has nothing left hinders no other."""
+HUB is the built program. With `--counter-jump` the change with the greatest counter is refused, and peers of examples/clients type on as
+if it hadn't been sent. With `--per-session` a session that has nothing left hinders no other."""
 import pathlib
-import subprocess
 import sys
 
 ROOT = pathlib.Path(__file__).resolve().parent.parent.parent
 sys.path[:0] = [str(ROOT / "examples" / "clients")]
 from peer import GREATEST, Peer, Refused, Session  # noqa: E402
-from try_greatest import BRIDGE, Page  # noqa: E402
-from try_peer import HUB, Hub, shown  # noqa: E402
+from try_peer import Hub, shown  # noqa: E402
 
 CHANGES, SUBSCRIBERS, BYTES = 4096, 64, 1 << 20
 PROGRAM = "b7000000010000009500000000000000"
@@ -49,24 +47,6 @@ def try_counter():
             one.close()
 
 
-def try_page():
-    """The page's bridge types on behind such a change."""
-    words = [HUB, "serve", "--read", "--counter-jump", "1000", "--port", "0", "--sessions", "3"]
-    with subprocess.Popen(words, stdout=subprocess.PIPE, text=True) as hub:
-        hub_port = hub.stdout.readline().split(" ")[1].strip()
-        words = [sys.executable, BRIDGE, hub_port, "--port", "0"]
-        with subprocess.Popen(words, stdout=subprocess.PIPE, text=True) as bridge:
-            hostile, page = Session(int(hub_port)), Page(int(bridge.stdout.readline().strip("/\n").rpartition(":")[2]))
-            try:
-                assert refused(hostile, "no 42 Limit line 2", "change 9 1", f"i {GREATEST}@9 - 51")
-                page.until(lambda text: text == "")
-                assert page.say(kind="edit", behind="-", text="abc", removed=[])[0] == 200
-                page.until(lambda text: text == "abc")
-            finally:
-                bridge.terminate()
-                hub.terminate()
-
-
 def try_share():
     """One session sends all changes and subscriptions that a hub takes in all; others have theirs."""
     limits = f"changes={CHANGES // 16},subscribers={SUBSCRIBERS // 16},bytes={BYTES // 16}"
@@ -95,7 +75,6 @@ def try_share():
 
 def main():
     try_counter()
-    try_page()
     try_share()
     print("as expected")
 

@@ -305,9 +305,9 @@ def computed(profile, name, bits, offset, first, second):
 
 
 def moved(bits, offset, known):
-    """What a move makes of what is known; one of all 64 bits leaves it as it is."""
+    """What a move makes of what is known; one of all 64 bits leaves it as it is, in its normal form."""
     if bits == 64 and not offset:
-        return known
+        return known if known[0] in ("context", "stack") else (known[0], normal(known[1]))
     if not is_number(known):
         raise Refused(16)
     return number(transfer("mov", bits, offset, constant(0), known[1]))

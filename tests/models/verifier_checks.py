@@ -3,10 +3,13 @@
 
     verifier_checks.py                      compares with what the cases `check-..` and `explain-..` of crates/test_cases must print
     verifier_checks.py random COUNT SEED    tests that random programs which the first profile accepts are accepted by the second
+    verifier_checks.py hub HUB COUNT SEED   compares what HUB, a built program, prints of random programs, of which half are spoiled, in both
+                                            profiles: accepted, or which refusal at which slot, and what is known before each slot
 """
 
 import random
 import re
+import subprocess
 import sys
 from pathlib import Path
 
@@ -295,12 +298,49 @@ def search(count, seed):
     return not found
 
 
+# Comparison with a built program.
+
+def spoiled(rng, data):
+    """The program with another byte somewhere behind its front."""
+    at = rng.randrange(len(FRONT), len(data))
+    return data[:at] + bytes([rng.choice([data[at] ^ 1 << rng.randrange(8), rng.randrange(256)])]) + data[at + 1:]
+
+
+def printed_by(hub, data, profile):
+    """What the program prints of what is known before each slot, and its exit status."""
+    words = [hub, "check", "--explain=all", "--context", str(profile)]
+    ran = subprocess.run(words, input=data.hex().encode(), stdout=subprocess.PIPE, stderr=subprocess.DEVNULL, check=False)
+    return ran.returncode, modelled(ran.stdout.decode().splitlines())
+
+
+def against(hub, count, seed):
+    """Compares random programs, every second one spoiled, by both profiles."""
+    rng, refused, differing = random.Random(seed), {}, 0
+    for number in range(count):
+        data = random_program(rng)
+        if number % 2:
+            data = spoiled(rng, data)
+        for profile in (1, 2):
+            status, lines = answer(data, profile, "all")
+            if (status, lines) != printed_by(hub, data, profile):
+                differing += 1
+                print(f"by profile {profile} not as the model says: {data.hex()}")
+            word = lines[0].split(" ")
+            reason = word[1] if word[0] == "refused" else "accepted"
+            refused[reason] = refused.get(reason, 0) + 1
+    print(f"{count} programs, {2 * count - differing} of {2 * count} answers alike;",
+          ", ".join(f"{reason}: {times}" for reason, times in sorted(refused.items())))
+    return not differing
+
+
 def main():
     words = sys.argv[1:]
     if not words:
         is_right = compare()
     elif len(words) == 3 and words[0] == "random":
         is_right = search(int(words[1]), int(words[2]))
+    elif len(words) == 4 and words[0] == "hub":
+        is_right = against(words[1], int(words[2]), int(words[3]))
     else:
         sys.exit(__doc__)
     sys.exit(0 if is_right else 1)

@@ -3,3 +3,4 @@ pub mod Edits
 pub mod Keeping
 pub mod AlikeLaws
 pub mod Counting
+pub mod Running

@@ -1,12 +1,14 @@
 -- What is kept of accepted operations, beside the operations themselves.
-use Rattle.std.specs.Prelude.{◌≡◌, ℕ, ◌+◌, ◌-◌, List, ◌++◌, ◌∷◌, [], length, take, slice_get, Option, Some, Result}
-use Rattle.std.specs.Prelude.{IfOk}
+use Rattle.std.specs.Prelude.{◌≡◌, ℕ, zero, suc, ◌+◌, ◌-◌, List, ◌++◌, ◌∷◌, [], length, take, slice_get}
+use Rattle.std.specs.Prelude.{Option, Some, Result, IfOk}
 use Rattle.std.specs.List.{filter}
+use Rattle.change_ops.specs.declared.id.OpId.{OpId}
 use Rattle.change_ops.specs.declared.operation.Op.{Op}
 use Rattle.change_ops.specs.Operations.{is_edit, is_mark}
 use Rattle.char_sequence.specs.Order.{Shows}
 use Rattle.char_sequence.specs.Held.{Holds}
 use Rattle.char_sequence.specs.Newest.{IsNewest}
+use Rattle.char_sequence.specs.RunElements.{later_id}
 use Rattle.change_ops.specs.Changes.{Change}
 use Rattle.change_ops.specs.Lines.{ops_of_lines}
 use Rattle.change_ops.specs.declared.line.Line.{Line}
@@ -29,6 +31,11 @@ pub record Keeps (ops : List Op) (parts : Parts) : Type 0 where
 -- the operations stand among others, from this index on
 abbrev pub StandAt : List Op → ℕ → List Op → Type 0
 StandAt all from ops = (i : ℕ) (op : Op) → slice_get ops i ≡ Some op → slice_get all (from + i) ≡ Some op
+
+-- what the character of a run at an index stands after
+abbrev pub parent_at : OpId → Option OpId → ℕ → Option OpId
+parent_at id parent zero = parent
+parent_at id parent (suc index) = Some (later_id id index)
 
 -- the error of a line as one of its change
 abbrev pub error_at : ℕ → ApplyError → SubmitError

@@ -34,6 +34,13 @@ pub record IsAdmitted (ops added : List Op) (count node : ℕ) (parts : Parts) (
   pub follow : AllFollow ops added count
   pub counted : IsTally ops (take count added) node tally
 
+-- the operations are the next ones of a peer's, and are accepted, where the tally is of those before them
+pub record AreFollowing (ops added : List Op) (from node : ℕ) (tally : Tally) (next : List Op) : Type 0 where
+  pub counted : IsTally ops (take from added) node tally
+  pub own : AreOf node added
+  pub stand : StandAt added from next
+  pub follow : AllFollow ops added (from + length next)
+
 -- the operations are the next ones of a peer
 abbrev pub AreNext : List Op → Parts → Tally → Type 0
 AreNext next parts tally =

@@ -1,5 +1,5 @@
-ghost use Rattle.std.specs.Prelude.{◌≡◌, ◌≤◌, ◌+◌, ◌-◌, List, [], ◌++◌, ◌∷◌, length, take, MatchResult, MatchOption};
-ghost use Rattle.std.specs.Prelude.{IfOk};
+ghost use Rattle.std.specs.Prelude.{◌≡◌, ◌<◌, ◌≤◌, ◌+◌, ◌-◌, ◌^◌, ℕ, List, [], ◌++◌, ◌∷◌};
+ghost use Rattle.std.specs.Prelude.{IfOk, MatchResult, MatchOption, length, take};
 ghost use Rattle.change_ops.specs.Changes.{Change, operations};
 ghost use Rattle.change_ops.specs.Runs.{inserts_of};
 ghost use Rattle.change_ops.specs.Lines.{ops_of, ops_of_lines};
@@ -13,6 +13,7 @@ ghost use Rattle.span_flatten.specs.Version.{IsVersion};
 ghost use Rattle.change_history.specs.Accepted.{IsAccepted, IsRefused, AreAccepted, operations_of};
 ghost use Rattle.change_history.specs.Alike.{FormsAreAlike};
 ghost use Rattle.change_history.specs.Kept.{Keeps, AreAllAccepted, AreAcceptedNext, Applies, IsDraft};
+ghost use Rattle.change_history.specs.Kept.{IsApplied, StandAt, parent_at};
 
 use crate::admission::admit_all;
 use crate::parts::Parts;
@@ -21,6 +22,7 @@ use change_ops::change::Change;
 use change_ops::id::OpId;
 use change_ops::line::Line;
 use change_ops::run::Run;
+use char_sequence::runs::later;
 use mark_anchors::format::Format;
 use span_flatten::version::Version;
 use std::alloc::{AllocError, Global};
@@ -64,13 +66,43 @@ impl Model for History {
     ghost invariant = { λ h. IsHistory h.changes h.parts × IsSpare h.changes h.spare };
 }
 
+/// What the character of a run at an index stands after.
+fn parent_at(id: OpId, parent: Option<OpId>, index: usize) -> Option<OpId>
+    requires { id.counter + index < 2 ^ 48 }
+    ensures { result ≡ parent_at id parent index }
+{
+    match index {
+        0 => parent,
+        _ => Some(later(id, index - 1)),
+    }
+}
+
+/// Applies inserts of a run from the one at an index on, and answers how many; after an error the parts are of no use.
+fn apply_some(parts: &mut Parts, run: &Run, index: usize) -> Result<usize, AllocError>
+    requires next { (ops : List Op) × ((added : List Op) × ((from : ℕ)
+        × IsApplied ops added (from + index) parts.old × StandAt added from (inserts_of run.now))) }
+    requires within { index < length run.now.characters }
+    ensures count { IfOk result (λ n. (0 < n) × (index + n ≤ length run.now.characters)) }
+    ensures applied { (ops added : List Op) (from : ℕ) → IsApplied ops added (from + index) parts.old
+        → StandAt added from (inserts_of run.now)
+        → IfOk result (λ n. IsApplied ops added (from + (index + n)) parts.new) }
+{
+    let (_, rest) = run.characters().split_at(index);
+    let id = run.id();
+    let parent = parent_at(id, run.parent(), index);
+    let count = parts.add_some(later(id, index), parent, rest)?;
+    Ok(count)
+}
+
 /// Applies the inserts of a run, which are accepted; after an error the parts are of no use.
 fn apply_run(parts: &mut Parts, run: &Run) -> Result<(), AllocError>
     requires { AreAcceptedNext (inserts_of run.now) parts.old }
     ensures { Applies (inserts_of run.now) parts.old parts.new result }
 {
-    for index in 0..run.characters().len() {
-        parts.add(&run.insert(index))?;
+    let end = run.characters().len();
+    let mut applied = 0;
+    while applied < end {
+        applied += apply_some(parts, run, applied)?;
     }
     Ok(())
 }

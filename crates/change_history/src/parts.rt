@@ -1,10 +1,12 @@
 ghost use Rattle.std.specs.Prelude.{◌≡◌, ◌↔◌, ◌<◌, ℕ, List, [], ◌++◌, ◌∷◌, true, false, length, Contains, Some, IsTrue};
-ghost use Rattle.std.specs.Prelude.{MatchResult, MatchOption, IfOk};
+ghost use Rattle.std.specs.Prelude.{MatchResult, MatchOption, IfOk, ◌≤◌, ◌+◌, ◌^◌, take};
 ghost use Rattle.change_ops.specs.Operations.{id_of, is_mark, Names};
+ghost use Rattle.change_ops.specs.Runs.{inserts_from};
 ghost use Rattle.change_ops.specs.declared.operation.Op.{Op};
 ghost use Rattle.char_sequence.specs.Order.{SameSet};
 ghost use Rattle.char_sequence.specs.Tree.{Present};
 ghost use Rattle.char_sequence.specs.Newest.{IsLastCounter};
+ghost use Rattle.char_sequence.specs.RunElements.{AcceptsRun};
 ghost use Rattle.mark_anchors.specs.Format.{IsFormat};
 ghost use Rattle.span_flatten.specs.Spans.{Span, AreSpans};
 ghost use Rattle.span_flatten.specs.Version.{IsVersion};
@@ -15,9 +17,11 @@ ghost use Rattle.change_history.specs.Tally.{IsTally, AreNext, Admits};
 
 use crate::refusal::{ApplyError, Refusal};
 use crate::tally::Tally;
+use change_ops::character::Character;
 use change_ops::id::OpId;
 use change_ops::operation::{Named, Op};
 use char_sequence::newest::Newest;
+use char_sequence::runs::later;
 use char_sequence::sequence::Sequence;
 use mark_anchors::format::Format;
 use mark_anchors::marks::{Marks, MarksError};
@@ -115,7 +119,7 @@ impl Parts {
     }
 
     /// Whether a peer's operation is accepted after those applied and those counted since.
-    fn check(&self, tally: &Tally, op: &Op) -> Result<(), Refusal>
+    pub fn check(&self, tally: &Tally, op: &Op) -> Result<(), Refusal>
         ensures { (ops own : List Op) (node : ℕ) → Keeps ops self.now → IsTally ops own node tally.now
             → (id_of op.now).node ≡ node
             → MatchResult result (λ _. MayFollow (ops ++ own) op.now) (MayNotFollow (ops ++ own) op.now) }
@@ -162,6 +166,25 @@ impl Parts {
             Op::AddMark { .. } => add_mark(&mut self.marks, op),
             Op::RemoveMark { .. } => add_mark(&mut self.marks, op),
         }
+    }
+
+    /// Adds inserts of an accepted run from the first on, and answers how many; after an error the parts are of no use.
+    pub fn add_some(
+        &mut self,
+        id: OpId,
+        parent: Option<OpId>,
+        characters: &[Character],
+    ) -> Result<usize, AllocError>
+        requires some { 0 < length characters.now }
+        requires counters { id.counter + length characters.now ≤ 2 ^ 48 }
+        requires accepted { (ops : List Op) × Keeps ops self.old × AcceptsRun ops id parent characters.now }
+        ensures count { IfOk result (λ n. (0 < n) × (n ≤ length characters.now)) }
+        ensures kept { (ops : List Op) → Keeps ops self.old → AcceptsRun ops id parent characters.now
+            → IfOk result (λ n. Keeps (ops ++ inserts_from id parent (take n characters.now)) self.new) }
+    {
+        let count = self.sequence.insert_some(id, parent, characters)?;
+        self.newest.note(later(id, count - 1))?;
+        Ok(count)
     }
 
     /// The version of the operations that were applied, with this number.

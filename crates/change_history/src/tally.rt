@@ -1,6 +1,6 @@
 //! What acceptance asks of the operations before a peer's next one.
 ghost use Rattle.std.specs.Prelude.{◌≡◌, ◌↔◌, ◌++◌, ◌∷◌, [], ◌&&◌, ℕ, List, Contains, true, false, IsTrue, IfOk};
-ghost use Rattle.std.specs.Prelude.{nat_le};
+ghost use Rattle.std.specs.Prelude.{◌+◌, nat_le};
 ghost use Rattle.std.specs.List.Sorted.{IsStrictlyIncreasing};
 ghost use Rattle.change_ops.specs.Operations.{id_of, is_insert, is_mark};
 ghost use Rattle.change_ops.specs.declared.operation.Op.{Op};
@@ -60,6 +60,13 @@ impl Tally {
         ensures { result ≡ (is_insert op.now && nat_le 32768 self.now.characters) }
     {
         op.is_insert() && self.characters >= CHARACTER_LIMIT
+    }
+
+    /// Whether so many characters more are not too many.
+    pub fn has_room(&self, count: usize) -> bool
+        ensures { result ≡ nat_le (self.now.characters + count) 32768 }
+    {
+        count <= CHARACTER_LIMIT && self.characters <= CHARACTER_LIMIT - count
     }
 
     /// Whether the operation is one mark operation too many.

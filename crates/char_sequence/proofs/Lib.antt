@@ -6,6 +6,8 @@ pub mod Counters
 pub mod Inserting
 pub mod Holding
 pub mod Steps
+pub mod RunKept
+pub mod RunHeld
 pub mod OneOrder
 pub mod Parts
 pub mod VisibleText
@@ -13,6 +15,8 @@ pub mod Joined
 pub mod Naming
 pub mod Chunking
 pub mod Walking
+pub mod RunSteps
+pub mod RunPlaced
 pub mod Renaming
 pub mod PlaceTables
 pub mod Ranges

@@ -1,5 +1,5 @@
 -- Elements of a list by their indices.
-use Rattle.std.proofs.Common.{◌≡◌, ◌≢◌, ℕ, zero, suc, ◌<◌, ◌≤◌, List, [], ◌∷◌, Some, inl, inr, ◌⊎◌, length, set, sym, ap, refl, ◌∙◌, subst, arith, ⊎_elim}
+use Rattle.std.proofs.Common.{◌≡◌, ◌≢◌, ℕ, zero, suc, ◌<◌, ◌≤◌, List, [], ◌∷◌, ◌++◌, Some, inl, inr, ◌⊎◌, length, set, sym, ap, refl, ◌∙◌, subst, arith, ⊎_elim}
 use Rattle.std.specs.List.{slice_get, insert}
 use Rattle.std.proofs.lemmas.Option.{same_Some, none-some, gets}
 use Rattle.std.proofs.lemmas.Bool.{cases_eq}
@@ -103,3 +103,8 @@ same_in_order R asym (x ∷ xs) (y ∷ ys) o p m n =
     (members_tail R asym y x ys xs (sym same) p n)
     in
     cc
+
+-- one more where one list ends and another begins
+pub insert_append : {X : Type 0} (front back : List X) (x : X) → insert (front ++ back) (length front) x ≡ front ++ x ∷ back
+insert_append [] back x = refl
+insert_append (y ∷ front) back x = ap (λ l. y ∷ l) (insert_append front back x)

@@ -54,7 +54,7 @@ present_iff ops es id b text there missing = (
 )
 
 -- the places after the parent
-begins : (ops : List Op) (es : List Element) (p : Option OpId) (start : ℕ) → IsTree ops → IsText ops es → IsAfter es p start → IsStart ops es p start
+pub begins : (ops : List Op) (es : List Element) (p : Option OpId) (start : ℕ) → IsTree ops → IsText ops es → IsAfter es p start → IsStart ops es p start
 begins ops es None start t text e = subst (λ n. IsStart ops es None n) (sym e) (start_root ops t es (present_at ops es text))
 begins ops es (Some m) start t text (k, (x, g, is), e) = subst (λ n. IsStart ops es (Some m) n) (sym e) (start_after ops es text.ordered k x m g is)
 

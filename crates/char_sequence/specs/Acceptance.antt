@@ -1,5 +1,6 @@
 -- Which operations are accepted after others (Peritext, CSCW 2022).
-use Rattle.std.specs.Prelude.{◌≡◌, ◌≤◌, List, ◌⊎◌, Contains, true, count_by, Result, Ok, Err}
+use Rattle.std.specs.Prelude.{◌≡◌, ◌≤◌, ◌++◌, ◌⊎◌, ℕ, List, Contains, true, Some, count_by, take, slice_get}
+use Rattle.std.specs.Prelude.{Result, Ok, Err}
 use Rattle.change_ops.specs.Operations.{id_of, is_insert, Names}
 use Rattle.change_ops.specs.declared.id.OpId.{OpId}
 use Rattle.change_ops.specs.declared.operation.Op.{Op}
@@ -27,6 +28,10 @@ pub record Accepts (ops : List Op) (op : Op) : Type 0 where
   pub fresh : IsStale ops op → ⊥
   pub known : (x : OpId) → Names op x → Present ops x
   pub room : IsFull ops op → ⊥
+
+-- each of several operations is accepted after those before it
+abbrev pub AcceptsAll : List Op → List Op → Type 0
+AcceptsAll ops added = (i : ℕ) (op : Op) → slice_get added i ≡ Some op → Accepts (ops ++ take i added) op
 
 -- what a check answers: the first refusal that applies
 abbrev pub Checked : {T : Type 0} → List Op → Op → Result T SequenceError → Type 0

@@ -10,3 +10,4 @@ pub mod Visible
 pub mod Chunks
 pub mod Rooms
 pub mod PlaceTables
+pub mod RunElements

@@ -53,12 +53,12 @@ pub record HasPlaces (places : List (ℕ × ℕ)) (peers : List PeerIndex) : Typ
   pub apart : (a b place : ℕ) → lookup (same_node a) places ≡ Some place → lookup (same_node b) places ≡ Some place
       → a ≡ b
 
--- a peer's part stands at the place, and has room for one more element
-pub record IsPeerPlace (index : Index) (node place : ℕ) : Type 0 where
+-- a peer's part stands at the place, and has room for so many more elements
+pub record IsPeerPlace (index : Index) (node count place : ℕ) : Type 0 where
   pub at : lookup (same_node node) index.places ≡ Some place
   pub peer : PeerIndex
   pub here : slice_get index.peers place ≡ Some peer
-  pub room : 1 ≤ peer.room
+  pub room : count ≤ peer.room
 
 -- the counter is above those of all elements of the same peer
 abbrev pub IsAboveAll : List Element → OpId → Type 0

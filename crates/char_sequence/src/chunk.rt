@@ -1,5 +1,5 @@
-ghost use Rattle.std.specs.Prelude.{vec_capacity, string_bytes, false, ◌≡◌, ℕ, ◌<◌, ◌≤◌, ◌∷◌, [], Some, cond, length};
-ghost use Rattle.std.specs.Prelude.{take, drop, set, insert, slice_get, MatchOption, IfSome};
+ghost use Rattle.std.specs.Prelude.{vec_capacity, string_bytes, false, ◌≡◌, ℕ, ◌+◌, ◌^◌, ◌<◌, ◌≤◌, ◌∷◌, ◌++◌, []};
+ghost use Rattle.std.specs.Prelude.{Some, cond, take, drop, set, insert, length, slice_get, MatchOption, IfSome};
 ghost use Rattle.std.specs.String.{string_capacity};
 ghost use Rattle.std.specs.String.Boundary.{IsSplitPoint};
 ghost use Rattle.change_ops.specs.Ids.{Less};
@@ -9,10 +9,13 @@ ghost use Rattle.char_sequence.specs.Index.{HasId};
 ghost use Rattle.char_sequence.specs.Places.{IsNext};
 ghost use Rattle.char_sequence.specs.Chunks.{IsFloor};
 ghost use Rattle.char_sequence.specs.Visible.{visible_text, visible_count};
+ghost use Rattle.char_sequence.specs.RunElements.{elements_from, insert_all};
 
 use crate::counting::count_visible;
+use crate::runs::{push_elements, put_elements};
 use crate::sequence::Element;
-use crate::visible::{visible_len, write_at, write_text};
+use crate::visible::{push_with_room, visible_len, write_at, write_text};
+use change_ops::character::Character;
 use change_ops::id::OpId;
 use std::alloc::{AllocError, Global};
 use std::marker::Model;
@@ -223,6 +226,48 @@ impl Chunk {
         self.shown += shown_by(&element);
         self.items.insert(index, element).unwrap();
         write_at(&element, at, &mut self.text);
+    }
+
+    /// Appends the elements of a run.
+    fn append_run(&mut self, id: OpId, characters: &[Character])
+        requires room { length self.old + length characters.now ≤ 64 }
+        requires counters { id.counter + length characters.now ≤ 2 ^ 48 }
+        ensures { self.new ≡ self.old ++ elements_from id characters.now }
+    {
+        let start = self.items.len();
+        push_elements(&mut self.items, id, characters);
+        // The run's first id is its least.
+        self.floor = lesser(self.floor, id);
+        let (_, added) = self.items.split_at(start);
+        push_with_room(added, &mut self.text);
+        self.shown += characters.len();
+    }
+
+    /// Puts the elements of a run between others.
+    fn insert_between(&mut self, index: usize, id: OpId, characters: &[Character])
+        requires within { index ≤ length self.old }
+        requires room { length self.old + length characters.now ≤ 64 }
+        requires counters { id.counter + length characters.now ≤ 2 ^ 48 }
+        ensures { self.new ≡ insert_all self.old index (elements_from id characters.now) }
+    {
+        put_elements(&mut self.items, index, id, characters);
+        self.floor = lesser(self.floor, id);
+        write_text(&self.items, &mut self.text);
+        self.shown = count_visible(&self.items);
+    }
+
+    /// Puts the elements of a run at an index; those from there on move on.
+    pub(crate) fn insert_run(&mut self, index: usize, id: OpId, characters: &[Character])
+        requires within { index ≤ length self.old }
+        requires room { length self.old + length characters.now ≤ 64 }
+        requires counters { id.counter + length characters.now ≤ 2 ^ 48 }
+        ensures { self.new ≡ insert_all self.old index (elements_from id characters.now) }
+    {
+        if index == self.items.len() {
+            self.append_run(id, characters);
+        } else {
+            self.insert_between(index, id, characters);
+        }
     }
 
     /// Makes the element at an index a tombstone.

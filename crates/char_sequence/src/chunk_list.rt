@@ -12,12 +12,15 @@ ghost use Rattle.char_sequence.specs.Index.{same_id, HasId};
 ghost use Rattle.char_sequence.specs.Places.{IsPast, IsAfter};
 ghost use Rattle.char_sequence.specs.Chunks.{joined, start_of};
 ghost use Rattle.char_sequence.specs.Named.{name_of, IsAboveAll};
+ghost use Rattle.char_sequence.specs.RunElements.{elements_from, insert_all, AreEntered};
 
 use crate::chunk::{Blank, CHUNK_LIMIT, Chunk};
 use crate::index::Index;
 use crate::newest::Newest;
 use crate::place_table::PlaceTable;
+use crate::runs::{later, push_run};
 use crate::sequence::Element;
+use change_ops::character::Character;
 use change_ops::id::OpId;
 use std::alloc::{AllocError, Global};
 use std::marker::Model;
@@ -187,9 +190,34 @@ fn enter(index: &mut Index, newest: &mut Newest, id: OpId, name: usize) -> Resul
     ensures same { OnErr result (newest.new ≡ newest.old) }
 {
     // The element has its memory before the id is noted.
-    let place = index.reserve(id.node())?;
+    let place = index.reserve(id.node(), 1)?;
     newest.note(id)?;
     index.push(place, id, name);
+    Ok(())
+}
+
+/// The same of a run: its last id is noted, and all get the name.
+fn enter_run(
+    index: &mut Index,
+    newest: &mut Newest,
+    id: OpId,
+    count: usize,
+    name: usize,
+) -> Result<(), AllocError>
+    requires some { 0 < count }
+    requires counters { id.counter + count ≤ 2 ^ 48 }
+    requires fresh { (ops : List Op) × IsNewest ops newest.old × (Used ops id → ⊥) }
+    requires above { (q : OpId) → q.node ≡ id.node → (name_of index.old q ≡ None → ⊥) → q.counter < id.counter }
+    ensures entered { OnOk result (AreEntered (name_of index.old) (name_of index.new) id count name) }
+    ensures noted { (ops : List Op) (op : Op) → (id_of op).node ≡ id.node
+        → (id_of op).counter + 1 ≡ id.counter + count → IsNewest ops newest.old
+        → IfOk result (λ _. IsNewest (ops ++ op ∷ []) newest.new) }
+    ensures unchanged { OnErr result ((q : OpId) → name_of index.new q ≡ name_of index.old q) }
+    ensures same { OnErr result (newest.new ≡ newest.old) }
+{
+    let place = index.reserve(id.node(), count)?;
+    newest.note(later(id, count - 1))?;
+    push_run(index, place, id, count, name);
     Ok(())
 }
 
@@ -443,6 +471,96 @@ impl ChunkList {
             Room::In(spot) => self.put_in(newest, spot, element)?,
         }
         Ok(())
+    }
+
+    /// Puts a run into a chunk that has room for it.
+    fn put_run(
+        &mut self,
+        newest: &mut Newest,
+        spot: Spot,
+        id: OpId,
+        characters: &[Character],
+    ) -> Result<(), AllocError>
+        requires there { (chunk : List Element) × (slice_get self.old.chunks spot.position ≡ Some chunk)
+            × (length chunk + length characters.now ≤ 64) × (spot.at ≤ length chunk) }
+        requires some { 0 < length characters.now }
+        requires few { length (joined self.old.chunks) + length characters.now ≤ 32768 }
+        requires counters { id.counter + length characters.now ≤ 2 ^ 48 }
+        requires fresh { (ops : List Op) × IsNewest ops newest.old × (Used ops id → ⊥) }
+        requires above { IsAboveAll (joined self.old.chunks) id }
+        ensures ok { (chunk : List Element) → slice_get self.old.chunks spot.position ≡ Some chunk
+            → OnOk result (self.new.chunks
+            ≡ set self.old.chunks spot.position (insert_all chunk spot.at (elements_from id characters.now))) }
+        ensures noted { (ops : List Op) (op : Op) → (id_of op).node ≡ id.node
+            → (id_of op).counter + 1 ≡ id.counter + length characters.now → IsNewest ops newest.old
+            → IfOk result (λ _. IsNewest (ops ++ op ∷ []) newest.new) }
+        ensures err { OnErr result ((self.new.chunks ≡ self.old.chunks) × (newest.new ≡ newest.old)) }
+    {
+        let count = characters.len();
+        let name = self.names[spot.position];
+        enter_run(&mut self.index, newest, id, count, name)?;
+        self.chunks[spot.position].insert_run(spot.at, id, characters);
+        self.count += count;
+        self.last = Spot {
+            position: spot.position,
+            at: spot.at + (count - 1),
+        };
+        Ok(())
+    }
+
+    /// How many characters of a run go into the chunk at a spot, which is not full.
+    fn room_at(&self, spot: Spot, count: usize) -> usize
+        requires there { (chunk : List Element) × (slice_get self.now.chunks spot.position ≡ Some chunk)
+            × (length chunk < 64) }
+        requires some { 0 < count }
+        ensures some { 0 < result }
+        ensures within { result ≤ count }
+        ensures room { (chunk : List Element) → slice_get self.now.chunks spot.position ≡ Some chunk
+            → length chunk + result ≤ 64 }
+    {
+        let room = CHUNK_LIMIT - self.chunks[spot.position].len();
+        if room < count { room } else { count }
+    }
+
+    /// Notes the last id of a run's first characters, as many as have room in a chunk, puts them there, and answers how
+    /// many they are; the error is want of memory, and changes nothing.
+    pub(crate) fn put_some(
+        &mut self,
+        newest: &mut Newest,
+        room: Room,
+        id: OpId,
+        characters: &[Character],
+    ) -> Result<usize, AllocError>
+        requires room { (place : ℕ) × IsRoom self.old room place }
+        requires some { 0 < length characters.now }
+        requires few { length (joined self.old.chunks) + length characters.now ≤ 32768 }
+        requires counters { id.counter + length characters.now ≤ 2 ^ 48 }
+        requires fresh { (ops : List Op) × IsNewest ops newest.old × (Used ops id → ⊥) }
+        requires above { IsAboveAll (joined self.old.chunks) id }
+        ensures count { IfOk result (λ n. (0 < n) × (n ≤ length characters.now)) }
+        ensures ok { (place : ℕ) → IsRoom self.old room place → IfOk result (λ n. joined self.new.chunks
+            ≡ insert_all (joined self.old.chunks) place (elements_from id (take n characters.now))) }
+        ensures noted { (ops : List Op) (op : Op) → (id_of op).node ≡ id.node → IsNewest ops newest.old
+            → IfOk result (λ n. (id_of op).counter + 1 ≡ id.counter + n → IsNewest (ops ++ op ∷ []) newest.new) }
+        ensures err { OnErr result ((joined self.new.chunks ≡ joined self.old.chunks) × (newest.new ≡ newest.old)) }
+    {
+        match room {
+            Room::First(blank) => {
+                let element = Element {
+                    id,
+                    character: characters[0],
+                    visible: true,
+                };
+                self.put_first(newest, blank, element)?;
+                Ok(1)
+            }
+            Room::In(spot) => {
+                let count = self.room_at(spot, characters.len());
+                let (piece, _) = characters.split_at(count);
+                self.put_run(newest, spot, id, piece)?;
+                Ok(count)
+            }
+        }
     }
 
     /// Makes the element of this id a tombstone.

@@ -1,5 +1,5 @@
 //! The name of each element's chunk, by the element's id.
-ghost use Rattle.std.specs.Prelude.{◌≡◌, ◌<◌, ◌≤◌, [], ℕ, None, Some, false, slice_get, MatchOption, IfOk, OnOk};
+ghost use Rattle.std.specs.Prelude.{◌≡◌, ◌+◌, ◌<◌, ◌≤◌, [], ℕ, None, Some, false, slice_get, MatchOption, IfOk, OnOk};
 ghost use Rattle.std.specs.Map.{lookup};
 ghost use Rattle.change_ops.specs.declared.id.OpId.{OpId};
 ghost use Rattle.char_sequence.specs.Index.{same_id};
@@ -65,13 +65,13 @@ impl PeerIndex {
         }
     }
 
-    /// Makes room for one more element.
-    fn reserve(&mut self) -> Result<(), AllocError>
+    /// Makes room for so many more elements.
+    fn reserve(&mut self, count: usize) -> Result<(), AllocError>
         ensures same { (self.new.counters ≡ self.old.counters) × (self.new.names ≡ self.old.names) }
-        ensures room { OnOk result (1 ≤ self.new.room) }
+        ensures room { OnOk result (count ≤ self.new.room) }
     {
-        self.counters.reserve(1)?;
-        self.names.reserve(1)?;
+        self.counters.reserve(count)?;
+        self.names.reserve(count)?;
         Ok(())
     }
 
@@ -79,6 +79,7 @@ impl PeerIndex {
     fn push(&mut self, counter: u64, name: usize)
         requires room { 1 ≤ self.old.room }
         requires above { (c : ℕ) → (name_among self.old.counters self.old.names c ≡ None → ⊥) → c < counter }
+        ensures room { self.old.room ≤ self.new.room + 1 }
         ensures here { name_among self.new.counters self.new.names counter ≡ Some name }
         ensures others { (c : ℕ) → (counter ≡ c → ⊥)
             → name_among self.new.counters self.new.names c ≡ name_among self.old.counters self.old.names c }
@@ -164,21 +165,23 @@ impl Index {
         Ok(place)
     }
 
-    /// Makes room for one more element of a peer, and answers the place of its part.
-    pub(crate) fn reserve(&mut self, node: u16) -> Result<usize, AllocError>
+    /// Makes room for so many more elements of a peer, and answers the place of its part.
+    pub(crate) fn reserve(&mut self, node: u16, count: usize) -> Result<usize, AllocError>
         ensures same { (id : OpId) → name_of self.new id ≡ name_of self.old id }
-        ensures room { IfOk result (IsPeerPlace self.new node) }
+        ensures room { IfOk result (IsPeerPlace self.new node count) }
     {
         let place = self.place_for(node)?;
-        self.peers[place].reserve()?;
+        self.peers[place].reserve(count)?;
         Ok(place)
     }
 
     /// Enters an element whose counter is above all others of its peer.
     pub(crate) fn push(&mut self, place: usize, id: OpId, name: usize)
-        requires room { IsPeerPlace self.old id.node place }
+        requires room { IsPeerPlace self.old id.node 1 place }
         requires above { (other : OpId) → other.node ≡ id.node → (name_of self.old other ≡ None → ⊥)
             → other.counter < id.counter }
+        ensures room { (count : ℕ) → IsPeerPlace self.old id.node (count + 1) place
+            → IsPeerPlace self.new id.node count place }
         ensures named { name_of self.new id ≡ Some name }
         ensures kept { (other : OpId) → same_id id other ≡ false → name_of self.new other ≡ name_of self.old other }
     {

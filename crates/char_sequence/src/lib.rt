@@ -8,6 +8,7 @@ pub mod elements;
 mod index;
 pub mod newest;
 pub mod place_table;
+pub mod runs;
 pub mod sequence;
 mod visible;
 pub mod visible_cursor;

@@ -1,6 +1,6 @@
 ghost use Rattle.std.specs.Prelude.{◌≡◌, ℕ, ◌<◌, ◌≤◌, ◌*◌, ◌==◌, ◌++◌, ◌∷◌, [], List, true, false, IsTrue, ◌↔◌, length};
 ghost use Rattle.std.specs.Prelude.{slice_get, slice_range, string_bytes, MatchOption, IfOk, IfErr, OnOk, OnErr, Some};
-ghost use Rattle.std.specs.Prelude.{Contains, insert};
+ghost use Rattle.std.specs.Prelude.{◌+◌, ◌^◌, Contains, insert, take};
 
 use crate::chunk_list::ChunkList;
 use crate::elements::Elements;
@@ -70,6 +70,7 @@ impl Model for Sequence {
 
 ghost use Rattle.change_ops.specs.Ids.{Less};
 ghost use Rattle.change_ops.specs.Operations.{id_of, is_insert, Names};
+ghost use Rattle.change_ops.specs.Runs.{inserts_from};
 ghost use Rattle.char_sequence.specs.Tree.{Present, Removed, IsTree};
 ghost use Rattle.char_sequence.specs.Order.{IsAt, IsText, Shows, SameSet};
 ghost use Rattle.char_sequence.specs.Acceptance.{IsStale, IsUnknown, Accepts, Checked};
@@ -78,6 +79,7 @@ ghost use Rattle.char_sequence.specs.Held.{Holds};
 ghost use Rattle.char_sequence.specs.Index.{HasId};
 ghost use Rattle.char_sequence.specs.Chunks.{joined, AreInChunks};
 ghost use Rattle.char_sequence.specs.Visible.{visible_text};
+ghost use Rattle.char_sequence.specs.RunElements.{AcceptsRun};
 
 /// Whether the counter of a named character, if there is one, is below this one's.
 fn is_above(id: OpId, named: Option<OpId>) -> bool
@@ -181,6 +183,31 @@ impl Sequence {
         };
         self.elements.put(&mut self.newest, room, element)?;
         Ok(())
+    }
+
+    /// Adds the inserts of a run's first characters, which are accepted, as many as go into one chunk, and answers how
+    /// many they are; the error is want of memory, and changes nothing.
+    pub fn insert_some(
+        &mut self,
+        id: OpId,
+        parent: Option<OpId>,
+        characters: &[Character],
+    ) -> Result<usize, AllocError>
+        requires some { 0 < length characters.now }
+        requires counters { id.counter + length characters.now ≤ 2 ^ 48 }
+        requires accepted { (ops : List Op) → Holds self.old ops → AcceptsRun ops id parent characters.now }
+        ensures count { IfOk result (λ n. (0 < n) × (n ≤ length characters.now)) }
+        ensures held { (ops : List Op) → Holds self.old ops
+            → IfOk result (λ n. Holds self.new (ops ++ inserts_from id parent (take n characters.now))) }
+        ensures shows { (ops : List Op) → Shows self.old.elements ops → AcceptsRun ops id parent characters.now
+            → IfOk result (λ n. Shows self.new.elements (ops ++ inserts_from id parent (take n characters.now))) }
+        ensures err { IfErr result (λ _. self.new ≡ self.old) }
+    {
+        let room = self.elements.reserve(parent, id)?;
+        let count = self
+            .elements
+            .put_some(&mut self.newest, room, id, characters)?;
+        Ok(count)
     }
 
     /// Adds a removal that passed `check`; the error is want of memory, and changes nothing.

@@ -71,6 +71,18 @@ Example:
     $ printf 'change2 1 1\\nr 1@1 - 2 48 6d\\n' | hub spans
     0 plain Hm";
 
+const AFTER_JOIN: &str =
+    "The exit status is 0 if the joined changes are printed; 1 if a change is refused, with 40
+to 44 or 46 to 50, or the input isn't UTF-8, with 62, or there is no memory, with 45;
+2 if the command line is wrong; 3 if a read or a write fails.
+
+Example, of two changes of one peer:
+
+    $ printf 'change 1 1\\ni 1@1 - 48\\nchange 1 1\\ni 2@1 1@1 6d\\n' | hub join
+    change 1 2
+    i 1@1 - 48
+    i 2@1 1@1 6d";
+
 const AFTER_REPLAY: &str = "Lines of a session, and what answers each:
 
     the lines of a change            ok version <n>
@@ -111,9 +123,9 @@ With --read also:
     changes <from> <k>               the changes; ok changes <m>
     newest <node>                    ok newest <counter>
 
-The exit status is 0 if all sessions have ended, whatever they were refused; 1 if there
-is no memory, with 45; 2 if the command line is wrong; 3 if the port can't be bound, or
-an accept, a read or a write fails.
+The exit status is 1 if there is no memory, with 45; 2 if the command line is wrong;
+3 if the port can't be bound. With --sessions it is 0 if all sessions have ended,
+whatever they were refused, and 3 also if an accept, a read or a write fails.
 
 Example, of one session that is answered through bash:
 
@@ -121,6 +133,18 @@ Example, of one session that is answered through bash:
     port 4711
     $ printf 'change2 1 1\\nr 1@1 - 2 48 6d\\n' | examples/clients/ask.sh 4711
     ok version 1";
+
+const AFTER_STRAIGHTEN: &str =
+    "The exit status is 0 if the program is printed; 1 if there is none, with 10 to 13, or
+the bytes are no program, with 1 to 9 or 63, or there is no memory, with 27 or 45; 2
+if the command line is wrong; 3 if a read or a write fails.
+
+Example, of a program whose second instruction stands last:
+
+    $ echo 05000100000000009500000000000000b70000000100000005\
+00fdff00000000 | hub straighten
+    b700000001000000
+    9500000000000000";
 
 /// What `check --explain` can be asked for; the first without a word.
 static EXPLANATIONS: [&str; 2] = ["slot", "all"];
@@ -276,6 +300,35 @@ input is no change. Printed are the spans of the last version, each as a line
         .after_help(AFTER_SPANS)
 }
 
+fn join<'a>(alloc: Global) -> Command<'a> {
+    Command::new(alloc, "join")
+        .about("Prints changes joined, as few changes of the same operations")
+        .long_about(
+            "Prints changes joined, as few changes of the same operations. A hub accepts at most
+4,096 changes, whatever their size. Standard input is the texts of changes back to
+back, in the order in which they are to be accepted (docs/CHANGES.md); empty input
+is no change. Printed are the texts of changes in the same form: neighboring ones of
+one peer stand in one, of at most 256 operations. They have the same operations with
+the same ids, in the same order, so a hub that accepts them has the same text, and
+peers go on with the ids that they have.",
+        )
+        .after_help(AFTER_JOIN)
+}
+
+fn straighten<'a>(alloc: Global) -> Command<'a> {
+    Command::new(alloc, "straighten")
+        .about("Prints a program without its jumps back")
+        .long_about(
+            "Prints a program of the same meaning in which no jump leads back, as compilers lay
+out blocks that stand in no loop (docs/PROGRAMS.md). Standard input is the
+program's bytes, as pairs of hexadecimal digits of either case; spaces, tabs and
+line breaks are skipped. Printed is the program, a line of 16 hexadecimal digits
+for each slot: the same slots where no jump leads back. Of a program with a loop
+`refused 10 BackwardJump` is printed, with the slot of a jump back in it.",
+        )
+        .after_help(AFTER_STRAIGHTEN)
+}
+
 /// How many threads filter.
 fn workers<'a>(alloc: Global) -> Arg<'a> {
     Arg::new(alloc, "workers")
@@ -331,6 +384,43 @@ refused is answered `no <number> <Name>`, and the session goes on.",
         .arg(per_session(alloc))
 }
 
+/// How many sessions are served in all; without it there is no end.
+fn sessions<'a>(alloc: Global) -> Arg<'a> {
+    Arg::new(alloc, "sessions")
+        .long("sessions")
+        .value_name("NUMBER")
+        .action(ArgAction::Set)
+        .value_parser(value_parser!(u32).range(1..=i64::from(MOST_SESSIONS)))
+        .help(
+            "How many sessions are answered before the program ends, 1 to 64; without it the program goes on until it is killed",
+        )
+}
+
+/// How many sessions there are at once where they are served without an end.
+fn at_once<'a>(alloc: Global) -> Result<Arg<'a>, AllocError> {
+    let at_once = Arg::new(alloc, "at-once")
+        .long("at-once")
+        .value_name("NUMBER")
+        .action(ArgAction::Set)
+        .value_parser(value_parser!(u32).range(1..=i64::from(MOST_SESSIONS)))
+        .default_value("64")
+        .conflicts_with("sessions")?
+        .help(
+            "How many sessions there are at once, 1 to 64; one connection more is told 69 and closed",
+        );
+    Ok(at_once)
+}
+
+/// After how many seconds without a word a session ends.
+fn idle<'a>(alloc: Global) -> Arg<'a> {
+    Arg::new(alloc, "idle")
+        .long("idle")
+        .value_name("SECONDS")
+        .action(ArgAction::Set)
+        .value_parser(value_parser!(u32).range(1..))
+        .help("Ends a session whose client sends nothing for so many seconds, from 1 on")
+}
+
 fn serve<'a>(alloc: Global) -> Result<Command<'a>, AllocError> {
     let port = Arg::new(alloc, "port")
         .long("port")
@@ -339,24 +429,19 @@ fn serve<'a>(alloc: Global) -> Result<Command<'a>, AllocError> {
         .action(ArgAction::Set)
         .value_parser(value_parser!(u16).range(0..))
         .help("The port, 0 to 65535; with 0 the system chooses one");
-    let sessions = Arg::new(alloc, "sessions")
-        .long("sessions")
-        .value_name("NUMBER")
-        .required(true)
-        .action(ArgAction::Set)
-        .value_parser(value_parser!(u32).range(1..=i64::from(MOST_SESSIONS)))
-        .help("How many sessions are answered before the program ends, 1 to 64");
     Command::new(alloc, "serve")
         .about("Answers sessions over TCP")
         .long_about(
             "Answers sessions over TCP, on 127.0.0.1. Standard input isn't read. Printed is
 `port <number>`. A session has the form that `hub replay --help` tells; all of them
-share one text. The program ends when as many sessions have ended as --sessions
-says.",
+share one text. The program goes on until it is killed; with --sessions it ends when
+so many sessions have ended. The text is gone with it.",
         )
         .after_help(AFTER_SERVE)
         .arg(port)?
-        .arg(sessions)?
+        .arg(sessions(alloc))?
+        .arg(at_once(alloc)?)?
+        .arg(idle(alloc))?
         .arg(workers(alloc))?
         .arg(read(alloc))?
         .arg(counter_jump(alloc))?
@@ -378,8 +463,10 @@ command but `serve` reads standard input, in the form that its own help tells (a
         .subcommand(asm(alloc))?
         .subcommand(check(alloc)?)?
         .subcommand(dis(alloc))?
+        .subcommand(join(alloc))?
         .subcommand(replay(alloc)?)?
         .subcommand(run(alloc)?)?
         .subcommand(serve(alloc)?)?
-        .subcommand(spans(alloc))
+        .subcommand(spans(alloc))?
+        .subcommand(straighten(alloc))
 }

@@ -3,10 +3,11 @@ use change_ops::attribute::Link;
 use clap::error::ErrorKind;
 use clap::{ArgMatches, Error};
 use hub_requests::limits::{SessionLimits, SessionOptions};
-use hub_requests::{Command, Detail, Request, Sessions, Shown, SpanOptions, Workers};
+use hub_requests::{Command, Detail, Request, Service, Sessions, Shown, SpanOptions, Workers};
 use span_context::profile::Profile;
 use std::alloc::{AllocError, Global};
 use std::convert::AsStr;
+use std::time::Duration;
 
 /// Why the words of a command line ask for none of the commands.
 #[derive(Drop)]
@@ -34,10 +35,9 @@ impl From<AllocError> for Unread {
 const BAD_LINK: &str = "error: a link's text has 1 to 1024 characters of ASCII from `!` to `~`\n";
 
 /// What is said beside the words for an argument that is missing.
-const NEEDED_BY_SERVE: &str =
-    "`hub serve` needs a port, 0 for one that the system chooses, and how many sessions it answers, as in:
+const NEEDED_BY_SERVE: &str = "`hub serve` needs a port, 0 for one that the system chooses, as in:
 
-    hub serve --port 4711 --sessions 2
+    hub serve --port 4711
 ";
 
 /// What is said of limits of a session that have none of the forms.
@@ -160,13 +160,28 @@ fn session_options(alloc: Global, matches: &ArgMatches<'_>) -> Result<SessionOpt
     })
 }
 
-/// What the options of `serve` ask for; without its port and its number of sessions, nothing.
+/// How long sessions are served: without a number of them, without an end.
+fn service(matches: &ArgMatches<'_>) -> Option<Service> {
+    match matches.get_one::<u32>("sessions") {
+        Some(count) => Some(Service::Sessions(Sessions::new(count)?)),
+        None => Some(Service::AtOnce(Sessions::new(matches.get_one::<u32>("at-once")?)?)),
+    }
+}
+
+/// For how long a client may say nothing.
+fn idle(matches: &ArgMatches<'_>) -> Option<Duration> {
+    let seconds = matches.get_one::<u32>("idle")?;
+    Some(Duration::from_secs(u64::from(seconds)))
+}
+
+/// What the options of `serve` ask for; without its port, nothing.
 fn serving(matches: &ArgMatches<'_>, options: SessionOptions) -> Option<Request> {
     Some(Request::Serve {
         port: matches.get_one::<u16>("port")?,
-        sessions: Sessions::new(matches.get_one::<u32>("sessions")?)?,
+        service: service(matches)?,
         workers: workers(matches),
         options,
+        idle: idle(matches),
     })
 }
 
@@ -178,6 +193,7 @@ fn request_of(alloc: Global, matches: &ArgMatches<'_>) -> Result<Request, Unread
             profile: profile(check),
         })),
         Some(("dis", _)) => Some(Request::Perform(Command::Dis)),
+        Some(("join", _)) => Some(Request::Perform(Command::Join)),
         Some(("replay", replay)) => Some(Request::Replay {
             workers: workers(replay),
             options: session_options(alloc, replay)?,
@@ -189,6 +205,7 @@ fn request_of(alloc: Global, matches: &ArgMatches<'_>) -> Result<Request, Unread
         })),
         Some(("serve", serve)) => serving(serve, session_options(alloc, serve)?),
         Some(("spans", _)) => Some(Request::Perform(Command::Spans)),
+        Some(("straighten", _)) => Some(Request::Perform(Command::Straighten)),
         _ => None,
     };
     // The parser asks for a subcommand and for what it requires, and knows no other.

@@ -4,4 +4,5 @@ pub mod Explaining
 pub mod Decoding
 pub mod Gathering
 pub mod Appending
+pub mod KeptInputs
 pub mod ReadingChanges

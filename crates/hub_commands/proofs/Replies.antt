@@ -20,6 +20,7 @@ use Rattle.semantics.specs.Safe.{SafeIn}
 use Rattle.verifier.specs.declared.refusal.VerifyError.{VerifyError}
 use Rattle.verifier.specs.Structure.{IsStructured}
 use Rattle.verifier.specs.Judged.{Rejects, IsJudged}
+use Rattle.verifier.specs.Decides.{IsAllowed}
 use Rattle.assembler.specs.declared.fault.AsmError.{AsmError}
 use Rattle.assembler.specs.Text.{AsmText, AsmFault}
 use Rattle.hub_requests.specs.declared.SpanOptions.{SpanOptions}
@@ -117,9 +118,9 @@ first_answered Replies digits bytes given reply stand is right answered =
 
 -- what the verifier's answer says of a program
 pub judged : (profile : Profile) (code : Program) (given : Result Program VerifyError) (left : Option VerifyError) → left ≡ result_err given → IfOk given (λ same. same ≡ code)
-    → IfOk given (SafeIn profile) → IfOk given (λ _. IsStructured code) → IfErr given (Rejects profile code) → IsJudged profile code left
-judged profile code (Ok same) left e is seen structured rejects = subst (IsJudged profile code) (sym e) (structured, subst (SafeIn profile) is seen)
-judged profile code (Err error) left e is seen structured rejects = subst (IsJudged profile code) (sym e) rejects
+    → IfOk given (SafeIn profile) → IfOk given (λ _. IsStructured code) → IfErr given (Rejects profile code) → IfOk given (λ _. IsAllowed profile code) → IsJudged profile code left
+judged profile code (Ok same) left e is seen structured rejects allowed = subst (IsJudged profile code) (sym e) (structured, subst (SafeIn profile) is seen, allowed)
+judged profile code (Err error) left e is seen structured rejects allowed = subst (IsJudged profile code) (sym e) rejects
 
 -- the outcome of a run on what was made of the options and the text
 run_as_defined : (options : SpanOptions) (bytes input text lent link context : List ℕ) (facts : Facts) (given : Outcome) → text ≡ input → facts ≡ facts_of options text

@@ -15,6 +15,7 @@ use Rattle.program_reads.specs.Lines.{read_lines}
 use Rattle.verifier.specs.declared.refusal.VerifyError.{VerifyError}
 use Rattle.verifier.specs.Structure.{IsStructured}
 use Rattle.verifier.specs.Judged.{Rejects}
+use Rattle.verifier.specs.Decides.{IsAllowed}
 use Rattle.refusals.specs.declared.reason.Reason.TheVariants.{Unverified}
 use Rattle.hub_commands.specs.Answers.{Answer, line, done}
 use Rattle.hub_commands.specs.Hexadecimal.{without_blanks}
@@ -34,7 +35,7 @@ pub record IsExplanation (profile : Profile) (code : Program) (text : List ℕ) 
 -- of a program: what `check` answers, and behind it what is known of the program
 pub data IsExplainedReply (profile : Profile) (bytes : List ℕ) (reply : Answer) : Type 0 where
   accepted : (text : List ℕ) → IsStructured (program_of bytes) → SafeIn profile (program_of bytes)
-      → IsExplanation profile (program_of bytes) text
+      → IsAllowed profile (program_of bytes) → IsExplanation profile (program_of bytes) text
       → reply ≡ done (line (codes "accepted " ++ decimal (length (program_of bytes))) ++ text)
       → IsExplainedReply profile bytes reply
   rejected : (text : List ℕ) (error : VerifyError) → Rejects profile (program_of bytes) error

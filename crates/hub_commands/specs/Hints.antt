@@ -2,7 +2,7 @@
 use Rattle.std.specs.Prelude.{ℕ, nat_le, nat_eq, ◌||◌, ◌&&◌, if◌then◌else◌, Bool, List, [], ◌∷◌, Option, Some, None}
 use Rattle.std.specs.List.{list_all, starts_with}
 use Rattle.hub_requests.specs.declared.Command.{Command}
-use Rattle.hub_requests.specs.declared.Command.TheVariants.{Asm, Check, Dis, Run, Spans}
+use Rattle.hub_requests.specs.declared.Command.TheVariants.{Asm, Check, Dis, Join, Run, Spans, Straighten}
 use Rattle.hub_commands.specs.declared.hint.Hint.{Hint}
 use Rattle.hub_commands.specs.declared.hint.Hint.TheVariants.{ByteOrderMark, Binary}
 use Rattle.hub_commands.specs.Hexadecimal.{is_blank}
@@ -29,5 +29,7 @@ abbrev pub hint_to : Command → List ℕ → Option Hint
 hint_to Asm = text_hint
 hint_to (Check detail profile) = digits_hint
 hint_to Dis = digits_hint
+hint_to Join = text_hint
 hint_to (Run shown digits options) = λ input. None
 hint_to Spans = text_hint
+hint_to Straighten = digits_hint

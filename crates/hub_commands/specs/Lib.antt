@@ -9,5 +9,8 @@ pub mod Programs
 pub mod SpansReply
 pub mod Stopping
 pub mod ChangesInput
+pub mod JoinReply
+pub mod KeptInput
+pub mod Straightened
 pub mod Requests
 pub mod Explained

@@ -19,6 +19,7 @@ use Rattle.semantics.specs.Safe.{SafeIn}
 use Rattle.verifier.specs.declared.refusal.VerifyError.{VerifyError}
 use Rattle.verifier.specs.Structure.{IsStructured}
 use Rattle.verifier.specs.Judged.{Rejects}
+use Rattle.verifier.specs.Decides.{IsAllowed}
 use Rattle.assembler.specs.declared.fault.AsmError.{AsmError}
 use Rattle.assembler.specs.Text.{AsmText, AsmFault}
 use Rattle.disassembler.specs.Canonical.{canonical}
@@ -53,10 +54,11 @@ unfoldable pub IsDisReply : List ℕ → Answer → Type 0
 IsDisReply input reply =
     IsProgramReply (λ bytes given. given ≡ done (canonical (program_of bytes))) (without_blanks input) reply
 
--- of a program: how many slots it has, where it is structured and every run of it on what the profile lends ends with a
--- number; or why it isn't accepted
+-- of a program: how many slots it has, where neither its structure nor the rules have a fault and every run of it on
+-- what the profile lends ends with a number; or why it isn't accepted
 pub data IsAcceptanceReply (profile : Profile) (bytes : List ℕ) (reply : Answer) : Type 0 where
   accepted : IsStructured (program_of bytes) → SafeIn profile (program_of bytes)
+      → IsAllowed profile (program_of bytes)
       → reply ≡ done (line (codes "accepted " ++ decimal (length (program_of bytes))))
       → IsAcceptanceReply profile bytes reply
   rejected : (error : VerifyError) → Rejects profile (program_of bytes) error → reply ≡ refusal (Unverified error)

@@ -1,12 +1,14 @@
 -- What is answered to each command.
 use Rattle.std.specs.Prelude.{ℕ, List, string_bytes}
 use Rattle.hub_requests.specs.declared.Command.{Command}
-use Rattle.hub_requests.specs.declared.Command.TheVariants.{Asm, Check, Dis, Run, Spans}
+use Rattle.hub_requests.specs.declared.Command.TheVariants.{Asm, Check, Dis, Join, Run, Spans, Straighten}
 use Rattle.hub_requests.specs.declared.Detail.TheVariants.{Verdict, Reason, Listing}
 use Rattle.hub_commands.specs.Answers.{Answer}
 use Rattle.hub_commands.specs.Explained.{IsExplainReply}
+use Rattle.hub_commands.specs.JoinReply.{IsJoinReply}
 use Rattle.hub_commands.specs.Programs.{IsAsmReply, IsCheckReply, IsDisReply, IsRunReply}
 use Rattle.hub_commands.specs.SpansReply.{IsSpansReply}
+use Rattle.hub_commands.specs.Straightened.{IsStraightenReply}
 
 -- the reply that the command gives to an input
 abbrev pub IsReplyTo : Command → List ℕ → Answer → Type 0
@@ -15,5 +17,7 @@ IsReplyTo (Check Verdict profile) = IsCheckReply profile
 IsReplyTo (Check Reason profile) = IsExplainReply profile
 IsReplyTo (Check Listing profile) = IsExplainReply profile
 IsReplyTo Dis = IsDisReply
+IsReplyTo Join = IsJoinReply
 IsReplyTo (Run shown digits options) = IsRunReply shown (string_bytes digits) options
 IsReplyTo Spans = IsSpansReply
+IsReplyTo Straighten = IsStraightenReply

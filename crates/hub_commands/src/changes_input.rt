@@ -124,7 +124,7 @@ fn take_lines<'a>(
 
 impl ChangesInput {
     /// No byte yet.
-    fn new(alloc: Global) -> ChangesInput
+    pub(crate) fn new(alloc: Global) -> ChangesInput
         ensures { IsChangesInput [] result }
     {
         ChangesInput {
@@ -162,7 +162,7 @@ impl ChangesInput {
     }
 
     /// The end of the input: what is left has to be UTF-8, and changes.
-    fn finish(&mut self) -> Result<(), AllocError>
+    pub(crate) fn finish(&mut self) -> Result<(), AllocError>
         ensures { OnOk result ((input : List ℕ) → IsChangesInput input self.old → IsWholeInput input self.new) }
     {
         let Ok(text) = std::str::from_utf8(&self.left) else {

@@ -11,6 +11,7 @@ ghost use Rattle.hub_commands.specs.Answers.{IsAnswered};
 ghost use Rattle.span_context.specs.declared.profile.Profile.TheVariants.{Two};
 ghost use Rattle.program_reads.specs.Reads.{Determines};
 ghost use Rattle.verifier.specs.Judged.{Rejects};
+ghost use Rattle.verifier.specs.Decides.{IsAllowed};
 ghost use Rattle.hub_commands.specs.Digits.{AreDigits};
 ghost use Rattle.hub_commands.specs.Hexadecimal.{without_blanks};
 ghost use Rattle.hub_commands.specs.Hints.{digits_hint};
@@ -177,6 +178,7 @@ fn accepted_answer(
 ) -> Result<Answer, AllocError>
     requires structured { IsStructured (program_of words.now) }
     requires seen { SafeIn profile (program_of words.now) }
+    requires allowed { IsAllowed profile (program_of words.now) }
     requires determines { Determines reads.now Two (program_of words.now) }
     ensures { IfOk result (λ answer. IsExplainedReply profile words.now answer) }
 {

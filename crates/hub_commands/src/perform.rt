@@ -9,8 +9,10 @@ use crate::dis::dis;
 use crate::ended::Ended;
 use crate::explain::explain;
 use crate::failure::Failure;
+use crate::join::join;
 use crate::run::run;
 use crate::spans::spans;
+use crate::straighten::straighten;
 use hub_requests::{Command, Detail};
 use std::alloc::Global;
 use std::io::{Read, Write};
@@ -35,6 +37,7 @@ pub fn perform<R: Read, W: Write>(
             Detail::Listing => explain(alloc, *profile, true, reader, writer),
         },
         Command::Dis => dis(alloc, reader, writer),
+        Command::Join => join(alloc, reader, writer),
         Command::Run {
             shown,
             digits,
@@ -44,5 +47,6 @@ pub fn perform<R: Read, W: Write>(
             hint: None,
         }),
         Command::Spans => spans(alloc, reader, writer),
+        Command::Straighten => straighten(alloc, reader, writer),
     }
 }

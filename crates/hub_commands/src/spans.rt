@@ -98,8 +98,8 @@ fn shown(alloc: Global, history: &History) -> Result<Answer, AllocError>
     Ok(Answer::done(lines))
 }
 
-/// What `spans` answers to an input that is refused.
-fn fault_answer(alloc: Global, fault: Fault) -> Result<Answer, AllocError>
+/// What is answered to an input that is refused.
+pub(crate) fn fault_answer(alloc: Global, fault: Fault) -> Result<Answer, AllocError>
     ensures { IfOk result (λ answer. answer ≡ fault_reply fault) }
 {
     match fault {

@@ -8,8 +8,9 @@ use command_line::reading::{Unread, request};
 use hub_commands::failure::Failure;
 use hub_commands::perform::perform;
 use hub_requests::limits::SessionOptions;
-use hub_requests::{Command, Request, Sessions, Workers};
+use hub_requests::{Command, Request, Service, Workers};
 use hub_sessions::conversation::SessionFault;
+use hub_sessions::endless::serve_endlessly;
 use hub_sessions::replaying::{ReplayError, replay};
 use hub_sessions::server::{ServeError, serve};
 use std::alloc::Global;
@@ -18,6 +19,7 @@ use std::io::{Read, Write};
 use std::net::{Net, TcpListener, TcpStream};
 use std::sync::Wait;
 use std::thread::Threads;
+use std::time::Duration;
 
 /// Why a command has no exit status of its own.
 enum CommandError {
@@ -120,10 +122,13 @@ fn asked<
         }
         Request::Serve {
             port,
-            sessions,
+            service,
             workers,
             options,
-        } => served(rt, alloc, *port, *sessions, *workers, *options, writer),
+            idle,
+        } => served(
+            rt, alloc, *port, *service, *workers, *options, *idle, writer,
+        ),
     }
 }
 
@@ -174,20 +179,35 @@ fn served<
     rt: &H,
     alloc: Global,
     port: u16,
-    sessions: Sessions,
+    service: Service,
     workers: Workers,
     options: SessionOptions,
+    idle: Option<Duration>,
     writer: &mut W,
 ) -> Result<u8, CommandError> {
-    let served = serve(
-        *rt,
-        alloc,
-        port,
-        sessions.count(),
-        workers.count(),
-        options,
-        writer,
-    );
+    let workers = workers.count();
+    let served = match service {
+        Service::Sessions(sessions) => serve(
+            *rt,
+            alloc,
+            port,
+            sessions.count(),
+            workers,
+            options,
+            idle,
+            writer,
+        ),
+        Service::AtOnce(sessions) => serve_endlessly(
+            *rt,
+            alloc,
+            port,
+            sessions.count(),
+            workers,
+            options,
+            idle,
+            writer,
+        ),
+    };
     match served {
         Ok(()) => Ok(0),
         Err(ServeError::Port(error)) => Err(CommandError::Fault(Fault::Port { port, error })),

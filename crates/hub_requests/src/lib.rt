@@ -10,6 +10,7 @@ use crate::limits::SessionOptions;
 use change_ops::attribute::Link;
 use span_context::profile::Profile;
 use std::marker::Model;
+use std::time::Duration;
 
 /// The most bytes that the text of a link has.
 pub const MOST_LINK_BYTES: u32 = 1_024;
@@ -58,6 +59,8 @@ pub enum Command {
     },
     /// To print the text of the program that it is in hexadecimal.
     Dis,
+    /// To print its changes joined, as few changes of the same operations.
+    Join,
     /// To run a program, in hexadecimal, on the span whose text it is.
     Run {
         shown: Shown,
@@ -66,12 +69,14 @@ pub enum Command {
     },
     /// To print the spans that its changes make.
     Spans,
+    /// To print a program of the same meaning as the one that it is in hexadecimal, without jumps back.
+    Straighten,
 }
 
 /// The most threads that a session's filtering may have.
 pub const MOST_WORKERS: u32 = 16;
 
-/// The most sessions that are served before the program ends.
+/// The most sessions that are served before the program ends, and at once.
 pub const MOST_SESSIONS: u32 = 64;
 
 /// How many threads a session filters versions with, 1 to 16.
@@ -121,7 +126,7 @@ impl Workers {
     }
 }
 
-/// How many sessions are served before the program ends, 1 to 64.
+/// How many sessions are served before the program ends, or at once: 1 to 64.
 #[derive(Clone, Copy)]
 pub struct Sessions {
     count: usize,
@@ -161,6 +166,15 @@ impl Sessions {
     }
 }
 
+/// How long sessions are served, and how many of them.
+#[derive(Clone, Copy)]
+pub enum Service {
+    /// Until so many have ended.
+    Sessions(Sessions),
+    /// Until the program is killed, so many at once.
+    AtOnce(Sessions),
+}
+
 /// What the program is asked to do.
 #[derive(Drop)]
 pub enum Request {
@@ -170,11 +184,13 @@ pub enum Request {
         workers: Workers,
         options: SessionOptions,
     },
-    /// To answer `sessions` sessions over TCP, and then to end. At port 0 the system chooses one.
+    /// To answer sessions over TCP. At port 0 the system chooses one. A session ends where its client says nothing for
+    /// `idle`.
     Serve {
         port: u16,
-        sessions: Sessions,
+        service: Service,
         workers: Workers,
         options: SessionOptions,
+        idle: Option<Duration>,
     },
 }

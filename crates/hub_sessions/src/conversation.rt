@@ -77,7 +77,7 @@ impl From<ReadFault> for TurnFault {
 }
 
 /// Writes lines and flushes them.
-fn write_lines<W: Write>(writer: &mut W, out: &str) -> Result<(), SessionFault>
+pub(crate) fn write_lines<W: Write>(writer: &mut W, out: &str) -> Result<(), SessionFault>
     ensures ok { OnOk result (Appends (W.contents writer.old) (W.contents writer.new) out.now) }
     ensures err { IfErr result IsUnwritten }
 {

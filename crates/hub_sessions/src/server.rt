@@ -1,16 +1,17 @@
 ghost use Rattle.std.specs.Prelude.{◌≡◌, ◌≤◌};
 ghost use Rattle.hub_sessions.specs.declared.server.ServeError.TheVariants as serve_error;
 
-use crate::conversation::{SessionFault, session};
+use crate::connection::{read_rest, session_over};
+use crate::conversation::SessionFault;
 use crate::listening::listen;
 use hub_requests::limits::SessionOptions;
 use ingest_workers::hub::Hub;
 use ingest_workers::share::Share;
 use span_flatten::version::Version;
 use std::alloc::{AllocError, Global};
-use std::io::{Read, Write};
+use std::io::Write;
 use std::marker::Brand;
-use std::net::{Net, OpenListener, Shutdown, TcpListener, TcpStream};
+use std::net::{Net, OpenListener, TcpListener, TcpStream};
 use std::sync::ledger::{Blank, Ledger};
 use std::sync::{OnceLock, Wait};
 use std::thread::Threads;
@@ -18,14 +19,6 @@ use std::time::Duration;
 use std::{io, thread};
 use verifier::verify::Verified;
 use version_history::published::{Naming, Published};
-
-/// How many seconds each read waits for a client that still sends though its session has ended; all reads together wait
-/// at most
-/// `DRAIN_READS` times that.
-const DRAIN_SECONDS: u64 = 1;
-
-/// How many times to read from it, 4,096 bytes at most each time.
-const DRAIN_READS: u32 = 4096;
 
 /// Why a session was not served to its end.
 #[derive(Clone, Copy)]
@@ -57,24 +50,6 @@ impl From<AllocError> for ServeError {
     }
 }
 
-/// Tells the client that no more replies come, and reads past what it still sends: a connection that is closed with
-/// bytes unread is reset, and the client may then miss replies. What fails here takes nothing from the session, which
-/// has ended.
-fn read_rest(stream: &TcpStream) {
-    let pause = Duration::from_secs(DRAIN_SECONDS);
-    if stream.shutdown(Shutdown::Write).is_err() || stream.set_read_timeout(Some(pause)).is_err() {
-        return;
-    }
-    let mut stream = stream;
-    let mut bytes = [0u8; 4096];
-    for _ in 0..DRAIN_READS {
-        match stream.read(&mut bytes) {
-            Ok(0) | Err(_) => return,
-            Ok(_) => {}
-        }
-    }
-}
-
 /// Runs a session over a connection, and notes where a read or a write failed.
 fn serve_one<'p, N: Naming + Ledger + Send + Sync, R: Threads + Wait + Copy + Send + Sync>(
     rt: &R,
@@ -85,23 +60,14 @@ fn serve_one<'p, N: Naming + Ledger + Send + Sync, R: Threads + Wait + Copy + Se
     stream: TcpStream,
     workers: usize,
     options: SessionOptions,
+    idle: Option<Duration>,
     failed: &OnceLock<ConnectionFault>,
 )
     requires { (1 ≤ workers) × (workers ≤ 16) }
 {
     let mut share = share;
-    // A reply goes out at once. Where that can't be had it only comes later.
-    let _ = stream.set_nodelay(true);
-    let ended = session(
-        rt,
-        alloc,
-        hub,
-        published,
-        &mut share,
-        &stream,
-        &mut &stream,
-        workers,
-        options,
+    let ended = session_over(
+        rt, alloc, hub, published, &mut share, &stream, workers, options, idle,
     );
     if let Err(fault) = ended {
         let _ = failed.try_set(ConnectionFault::Session(fault));
@@ -128,6 +94,7 @@ pub fn serve_shares<
     listener: &L,
     workers: usize,
     options: SessionOptions,
+    idle: Option<Duration>,
 ) -> Result<(), ConnectionFault>
     requires { (1 ≤ workers) × (workers ≤ 16) }
 {
@@ -151,7 +118,7 @@ pub fn serve_shares<
                     requires { (1 ≤ workers) × (workers ≤ 16) }
                 {
                     serve_one(
-                        rt, alloc, hub, published, share, stream, workers, options, told,
+                        rt, alloc, hub, published, share, stream, workers, options, idle, told,
                     )
                 };
                 if let Err(refused) = scope.spawn(serving) {
@@ -181,6 +148,7 @@ fn serve_on<
     sessions: usize,
     workers: usize,
     options: SessionOptions,
+    idle: Option<Duration>,
     writer: &mut W,
 ) -> Result<(), ServeError>
     requires named { (versions.now ≡ N.versions) × (programs.now ≡ N.programs) }
@@ -192,7 +160,7 @@ fn serve_on<
     let (hub, shares) = Hub::new(&rt, alloc, blank, &published, sessions)?;
     let listener = listen(&rt, port, writer)?;
     serve_shares(
-        &rt, alloc, &hub, &published, shares, &listener, workers, options,
+        &rt, alloc, &hub, &published, shares, &listener, workers, options, idle,
     )
     .map_err(ServeError::Connection)
 }
@@ -209,6 +177,7 @@ pub fn serve<
     sessions: usize,
     workers: usize,
     options: SessionOptions,
+    idle: Option<Duration>,
     writer: &mut W,
 ) -> Result<(), ServeError>
     requires sessions { (1 ≤ sessions) × (sessions ≤ 64) }
@@ -226,6 +195,7 @@ pub fn serve<
         sessions,
         workers,
         options,
+        idle,
         writer,
     )
 }

@@ -58,12 +58,14 @@ fn locked<'p, N: Naming + Ledger, R: Wait + Copy>(
 ) -> Result<Hub<'p, N, R>, AllocError>
     requires { book.total ≡ 0 }
 {
+    // All other memory is found before version 0 is published, which stays published.
+    let kept = Kept::new(alloc)?;
     let core = Core::new(rt, alloc, published)?;
     Ok(Hub {
         published: published.again(),
         turns: Turns::new(),
         books: Mutex::new(Books::new(alloc, core, book)),
-        kept: Kept::new(alloc)?,
+        kept,
     })
 }
 

@@ -15,6 +15,7 @@ use Rattle.refusals.specs.declared.reason.Reason.TheVariants as reason
 use Rattle.session_lines.specs.declared.reply.Reply.{Reply}
 use Rattle.session_lines.specs.declared.reply.Reply.TheVariants.{Refused}
 use Rattle.session_subscribers.specs.Items.{TakesShort}
+use Rattle.verifier.specs.Decides.{IsAllowed}
 use Rattle.session_subscribers.specs.Holding.{Held, index_in, AreSafe, Pulls, PullsAny, PullsShort}
 
 pub index_within : (held : List Held) (some : Held) (id index : ℕ) → index_in held id ≡ Some index → index < length held
@@ -79,8 +80,8 @@ pub full : (test : Bool) → IsTrue test → InOneHolding (λ old new. (new ≡ 
 full test is found = (found.0, found.1, (found.2.0, found.2.1.0 is), found.3)
 
 -- the bytes of a program that was accepted
-pub safe_bytes : (profile : Profile) (program : Program) (bytes : List ℕ) → IsProgram bytes × (program ≡ program_of bytes) × SafeIn profile program → AreSafe profile bytes
-safe_bytes profile program bytes h = (h.0, subst (SafeIn profile) h.1 h.2)
+pub safe_bytes : (profile : Profile) (program : Program) (bytes : List ℕ) → IsProgram bytes × (program ≡ program_of bytes) × SafeIn profile program × IsAllowed profile (program_of bytes) → AreSafe profile bytes
+safe_bytes profile program bytes h = (h.0, subst (SafeIn profile) h.1 h.2, h.3)
 
 -- an error that is passed on
 pub passed_on : {T E : Type 0} (r : Result T E) (e : E) (P : E → Type 0) → IsErrAnd r (λ y. y ≡ e) → P e → IfErr r P

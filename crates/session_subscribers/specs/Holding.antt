@@ -7,6 +7,7 @@ use Rattle.bpf_words.specs.Words.{IsProgram, IsRefused, program_of}
 use Rattle.semantics.specs.Step.{Program}
 use Rattle.semantics.specs.Safe.{SafeIn}
 use Rattle.verifier.specs.Judged.{Rejects}
+use Rattle.verifier.specs.Decides.{IsAllowed}
 use Rattle.version_history.specs.Tokens.{Token}
 use Rattle.feeds.specs.Orderly.{IsOrderly}
 use Rattle.feeds.specs.Promise.{Promise, IsPromised}
@@ -40,22 +41,23 @@ first_of (Some number) s = number
 abbrev pub promise_of : List ℕ → Option ℕ → Promise
 promise_of bytes first = record { program = program_of bytes; first = first }
 
--- the program of these bytes, each run of which on what the profile lends ends with a number, was subscribed under this
--- id with the other end of this queue, which is empty, of this capacity and with that promise, from its first version
--- on
+-- the program of these bytes, which the rules allow and each run of which on what the profile lends ends with a
+-- number, was subscribed under this id with the other end of this queue, which is empty, of this capacity and with that
+-- promise, from its first version on
 pub record IsSubscribed (profile : Profile) (capacity : ℕ) (bytes : List ℕ) (first : Option ℕ) (id : ℕ)
     (line : Line) : Type 0 where
   pub program : IsProgram bytes
   pub safe : SafeIn profile (program_of bytes)
+  pub allowed : IsAllowed profile (program_of bytes)
   pub token : Token Program
   pub same : token.value ≡ program_of bytes
   pub holding : InOneHolding
       (λ old new. Subscribes old (first_of first old) token
       (record { line = line; sent = []; capacity = capacity; promise = Some (promise_of bytes first) }) (Ok id) new)
 
--- the bytes are a program, each run of which on what the profile lends ends with a number
+-- the bytes are a program that the rules allow, each run of which on what the profile lends ends with a number
 abbrev pub AreSafe : Profile → List ℕ → Type 0
-AreSafe profile bytes = IsProgram bytes × SafeIn profile (program_of bytes)
+AreSafe profile bytes = IsProgram bytes × SafeIn profile (program_of bytes) × IsAllowed profile (program_of bytes)
 
 -- why it was not
 abbrev pub IsNotSubscribed : Profile → ℕ → List ℕ → Option ℕ → Reason → Type 0

@@ -4,6 +4,7 @@ ghost use Rattle.span_context.specs.declared.profile.Profile.{Profile as TheProf
 ghost use Rattle.semantics.specs.Safe.{SafeIn};
 ghost use Rattle.hub_core.specs.Machine.{Subscribes};
 ghost use Rattle.ingest_workers.specs.Holdings.{InOneHolding};
+ghost use Rattle.verifier.specs.Decides.{IsAllowed};
 ghost use Rattle.session_subscribers.specs.Holding.{AreSafe, first_of, IsNotSubscribed, Adds, Closes};
 
 use crate::session_hub::{Held, SessionHub, index_of};
@@ -50,7 +51,7 @@ fn ends<N: Naming, R: Wait + Copy>(
 /// The program of these bytes, accepted by what the profile lets it read.
 fn accepted(alloc: Global, profile: Profile, bytes: &[u8]) -> Result<Verified, Reason>
     ensures ok { IfOk result (λ program. IsProgram bytes.now × (program ≡ program_of bytes.now)
-        × SafeIn profile program) }
+        × SafeIn profile program × IsAllowed profile (program_of bytes.now)) }
     ensures err { IfErr result (λ why. (capacity : ℕ) (first : Option ℕ)
         → IsNotSubscribed profile capacity bytes.now first why) }
 {

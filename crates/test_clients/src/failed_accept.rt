@@ -84,7 +84,9 @@ fn failed_accept_on<
         move || {
             // The listener is closed once the sessions have ended, so that no client waits to be accepted.
             let listener = listener;
-            serve_shares(rt, alloc, hub, published, shares, &listener, 1, options)
+            serve_shares(
+                rt, alloc, hub, published, shares, &listener, 1, options, None,
+            )
         },
         move || one_is_served(rt, alloc, port),
     );

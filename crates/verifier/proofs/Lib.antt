@@ -14,3 +14,5 @@ pub mod Enough
 pub mod Listing
 pub mod Rejecting
 pub mod Unsets
+pub mod Deciding
+pub mod Decided

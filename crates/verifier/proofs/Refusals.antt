@@ -19,6 +19,7 @@ use Rattle.verifier.specs.Arises.{RefusesAt}
 use Rattle.abstract_state.specs.declared.refusal.Refusal.{Refusal}
 use Rattle.verifier.specs.Reaches.{IsStateBelow}
 use Rattle.verifier.specs.Judged.{Rejects}
+use Rattle.verifier.specs.Decided.{NamesFirst}
 use Rattle.verifier.specs.Structure.{LeastFault, FirstFault, IsOfState, IsStructured, number_of}
 
 same_number : (a b : StructureFault) → number_of a ≡ number_of b → a ≡ b
@@ -94,14 +95,15 @@ not_named (Err y) e slot fault is of_state at =
 
 -- what a refusal of the walk says of a structured program
 pub walk_rejects : (profile : Profile) (program : Program) (e : VerifyError) → IsStructured program → IsOfState e → IsStateBelow (length program) e → (IsPlain program → e ≡ OutOfMemory) → (IsFramed program → e ≡ OutOfMemory) → (IsGuard profile program → e ≡ OutOfMemory)
-    → ((slot : ℕ) (fault : Refusal) → e ≡ State slot fault → RefusesAt profile program slot fault) → Rejects profile program e
-walk_rejects profile program (Structure slot fault) structured state below plain framed guard refused = absurd state
-walk_rejects profile program (State slot fault) structured state below plain framed guard refused = (
-  λ other wrong first. no_fault program other wrong structured first,
+    → ((slot : ℕ) (fault : Refusal) → e ≡ State slot fault → RefusesAt profile program slot fault) → NamesFirst profile program e → Rejects profile program e
+walk_rejects profile program (Structure slot fault) structured state below plain framed guard refused first = absurd state
+walk_rejects profile program (State slot fault) structured state below plain framed guard refused first = (
+  λ other wrong found. no_fault program other wrong structured found,
   below,
   λ right. (let bad : State slot fault ≡ OutOfMemory = plain right in absurd (cc)),
   λ right. (let bad : State slot fault ≡ OutOfMemory = framed right in absurd (cc)),
   λ right. (let bad : State slot fault ≡ OutOfMemory = guard right in absurd (cc)),
   refused slot fault refl,
+  first slot fault refl,
 )
-walk_rejects profile program OutOfMemory structured state below plain framed guard refused = λ other wrong first. no_fault program other wrong structured first
+walk_rejects profile program OutOfMemory structured state below plain framed guard refused first = λ other wrong found. no_fault program other wrong structured found

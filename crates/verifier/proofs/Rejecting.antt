@@ -12,6 +12,7 @@ use Rattle.verifier.specs.Structure.{IsOfState, IsStructured}
 use Rattle.verifier.specs.Reaches.{IsStateBelow}
 use Rattle.verifier.specs.Arises.{IsCause}
 use Rattle.verifier.specs.Judged.{Rejects}
+use Rattle.verifier.specs.Decided.{NamesFirst}
 use Rattle.verifier.proofs.Arising.{only_memory, caused}
 use Rattle.verifier.proofs.PlainRuns.{plain_grants}
 use Rattle.verifier.proofs.FramedRuns.{framed_grants}
@@ -30,11 +31,11 @@ below_more end more OutOfMemory few below = tt
 
 pub walk_refused : {T : Type 0} (profile : Profile) (program : Program) (r : Result T VerifyError) (end : ℕ)
     → IsStructured program → end ≤ length program → IfErr r (IsStateBelow end) → IfErr r (IsCause profile program)
-    → IfErr r (λ e. Rejects profile program e)
-walk_refused profile program (Ok t) end structured few below cause = tt
-walk_refused profile program (Err e) end structured few below cause =
+    → IfErr r (NamesFirst profile program) → IfErr r (λ e. Rejects profile program e)
+walk_refused profile program (Ok t) end structured few below cause first = tt
+walk_refused profile program (Err e) end structured few below cause first =
     walk_rejects profile program e structured (is_of_state end e below) (below_more end (length program) e few below)
     (only_memory profile program e (IsPlain program) (plain_grants profile program) cause)
     (only_memory profile program e (IsFramed program) (framed_grants profile program) cause)
     (only_memory profile program e (IsGuard profile program) (guard_grants profile program) cause)
-    (λ slot fault is. caused profile program e slot fault cause is)
+    (λ slot fault is. caused profile program e slot fault cause is) first

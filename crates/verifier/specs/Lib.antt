@@ -8,3 +8,5 @@ pub mod Reaches
 pub mod Judged
 pub mod Framed
 pub mod Unset
+pub mod Decides
+pub mod Decided

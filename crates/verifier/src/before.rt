@@ -1,5 +1,5 @@
 //! What the verifier knows before a slot, and before each.
-ghost use Rattle.std.specs.Prelude.{◌≡◌, ◌↔◌, ℕ, ◌<◌, length, Err, IfOk, IfErr};
+ghost use Rattle.std.specs.Prelude.{◌≡◌, ◌↔◌, ◌⊎◌, ℕ, ◌<◌, length, Err, IfOk, IfErr, IsErrAnd};
 ghost use Rattle.bpf_words.specs.declared.instruction.Insn.{Insn};
 ghost use Rattle.bpf_words.specs.Flow.{StartsAt};
 ghost use Rattle.bpf_words.specs.Words.{program_of};
@@ -10,6 +10,8 @@ ghost use Rattle.verifier.specs.Unset.{ReadsUnset};
 ghost use Rattle.verifier.specs.Framed.{IsFramed};
 ghost use Rattle.verifier.specs.Guard.{IsGuard};
 ghost use Rattle.verifier.specs.Judged.{Rejects};
+ghost use Rattle.abstract_state.specs.Situation.{IsSituationIn};
+ghost use Rattle.verifier.specs.Decides.{IsAllowed, FirstRefusal, IsAllowedBelow, KnownEach, known_before};
 ghost use Rattle.verifier.specs.Structure.{FirstFault};
 ghost use Rattle.program_reads.specs.Runs.{ContainsRuns, ContainAllRuns};
 ghost use Rattle.verifier.specs.Reaches.{AriseEverywhere, IsBefore};
@@ -47,6 +49,14 @@ pub fn state_before(
     ensures guard { IfErr result (λ e. IsGuard profile (program_of words.now) → e ≡ VerifyError.OutOfMemory) }
     ensures before { IfErr result (IsBefore slot) }
     ensures rejects { IfErr result (λ e. Rejects profile (program_of words.now) e) }
+    ensures rule { IfOk result (λ known. IsSituationIn known (known_before profile (program_of words.now) slot)) }
+    ensures accepts { IfOk result (λ _. IsAllowedBelow profile (program_of words.now) slot) }
+    ensures complete { IsAllowedBelow profile (program_of words.now) slot
+        → IfErr result (λ e. e ≡ VerifyError.OutOfMemory) }
+    ensures first { (at : ℕ) (fault : TheRefusal) → result ≡ Err (VerifyError.State at fault)
+        → FirstRefusal profile (program_of words.now) at fault }
+    ensures named { (at : ℕ) (fault : TheRefusal) → at < slot → FirstRefusal profile (program_of words.now) at fault
+        → IsErrAnd result (λ e. (e ≡ VerifyError.State at fault) ⊎ (e ≡ VerifyError.OutOfMemory)) }
 {
     if let Err(wrong) = check(words) {
         return Err(VerifyError::Structure {
@@ -78,6 +88,13 @@ pub fn states_before(
     ensures guard { IfErr result (λ e. IsGuard profile (program_of words.now) → e ≡ VerifyError.OutOfMemory) }
     ensures before { IfErr result (IsBefore (length (program_of words.now))) }
     ensures rejects { IfErr result (λ e. Rejects profile (program_of words.now) e) }
+    ensures rule { IfOk result (λ states. KnownEach profile (program_of words.now) states.items) }
+    ensures accepts { IfOk result (λ _. IsAllowed profile (program_of words.now)) }
+    ensures complete { IsAllowed profile (program_of words.now) → IfErr result (λ e. e ≡ VerifyError.OutOfMemory) }
+    ensures first { (at : ℕ) (fault : TheRefusal) → result ≡ Err (VerifyError.State at fault)
+        → FirstRefusal profile (program_of words.now) at fault }
+    ensures named { (at : ℕ) (fault : TheRefusal) → FirstRefusal profile (program_of words.now) at fault
+        → IsErrAnd result (λ e. (e ≡ VerifyError.State at fault) ⊎ (e ≡ VerifyError.OutOfMemory)) }
 {
     if let Err(wrong) = check(words) {
         return Err(VerifyError::Structure {

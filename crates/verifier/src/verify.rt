@@ -1,5 +1,5 @@
 //! The verifier, and the programs that it accepts.
-ghost use Rattle.std.specs.Prelude.{◌≡◌, ◌↔◌, ℕ, length, Err, IfOk, IfErr};
+ghost use Rattle.std.specs.Prelude.{◌≡◌, ◌↔◌, ◌⊎◌, ℕ, length, Err, IfOk, IfErr, IsErrAnd};
 ghost use Rattle.span_context.specs.declared.profile.Profile.TheVariants.{Two};
 ghost use Rattle.bpf_words.specs.Words.{program_of};
 ghost use Rattle.semantics.specs.Safe.{Safe, SafeIn, IsBlindToLink};
@@ -11,6 +11,7 @@ ghost use Rattle.verifier.specs.Guard.{IsGuard};
 ghost use Rattle.verifier.specs.Structure.{IsStructured, FirstFault};
 ghost use Rattle.verifier.specs.Reaches.{IsBefore};
 ghost use Rattle.verifier.specs.Judged.{Rejects};
+ghost use Rattle.verifier.specs.Decides.{IsAllowed, FirstRefusal};
 ghost use Rattle.verifier.specs.Arises.{RefusesAt};
 ghost use Rattle.abstract_state.specs.declared.refusal.Refusal.{Refusal as TheRefusal};
 ghost use Rattle.verifier.specs.declared.refusal.StructureFault.{StructureFault};
@@ -78,9 +79,9 @@ impl Verified {
 
 /// Accepts a program of which every run ends with a number, and that reads of a span no more than the profile lets it.
 /// The positions and targets of all instructions are looked at first, and then what is known of the machine before
-/// each; the first slot at fault is named (of the second kind of fault the clauses say that what is known before the
-/// slot doesn't grant its instruction, and that the fault is an unset register exactly where the instruction reads
-/// one).
+/// each. Accepted is exactly a program in which neither the structure nor the rules find a fault (`accepts`,
+/// `complete`); of any other the first slot at fault is named, with its fault (`structure`; `first`, `named`). Besides,
+/// memory may run out.
 pub fn verify(alloc: Global, words: &Words<'_>, profile: Profile) -> Result<Verified, VerifyError>
     ensures same { IfOk result (λ verified. verified ≡ program_of words.now) }
     ensures safe { IfOk result (λ verified. Safe verified) }
@@ -98,6 +99,12 @@ pub fn verify(alloc: Global, words: &Words<'_>, profile: Profile) -> Result<Veri
     ensures guard { IfErr result (λ e. IsGuard profile (program_of words.now) → e ≡ VerifyError.OutOfMemory) }
     ensures before { IfErr result (IsBefore (length (program_of words.now))) }
     ensures rejects { IfErr result (λ e. Rejects profile (program_of words.now) e) }
+    ensures accepts { IfOk result (λ _. IsAllowed profile (program_of words.now)) }
+    ensures complete { IsAllowed profile (program_of words.now) → IfErr result (λ e. e ≡ VerifyError.OutOfMemory) }
+    ensures first { (slot : ℕ) (fault : TheRefusal) → result ≡ Err (VerifyError.State slot fault)
+        → FirstRefusal profile (program_of words.now) slot fault }
+    ensures named { (slot : ℕ) (fault : TheRefusal) → FirstRefusal profile (program_of words.now) slot fault
+        → IsErrAnd result (λ e. (e ≡ VerifyError.State slot fault) ⊎ (e ≡ VerifyError.OutOfMemory)) }
 {
     if let Err(wrong) = check(words) {
         return Err(VerifyError::Structure {

@@ -1,5 +1,5 @@
 //! What is known before the slots to which jumps lead.
-ghost use Rattle.std.specs.Prelude.{◌≡◌, ◌≢◌, ℕ, ◌<◌, length, None, IfOk};
+ghost use Rattle.std.specs.Prelude.{◌≡◌, ◌≢◌, ℕ, ◌<◌, ◌≤◌, length, Option, Some, None, IfOk};
 ghost use Rattle.span_context.specs.declared.profile.Profile.{Profile};
 ghost use Rattle.semantics.specs.State.{State};
 ghost use Rattle.abstract_state.specs.Lent.{Lengths};
@@ -7,6 +7,9 @@ ghost use Rattle.abstract_state.specs.State.{Contains, WithinState};
 ghost use Rattle.abstract_state.specs.Steps.{after};
 ghost use Rattle.verifier.specs.Waiting.{unboxed, waiting_at};
 ghost use Rattle.verifier.specs.Walk.{Keeps};
+ghost use Rattle.abstract_state.specs.Situation.{Situation, IsSituation, IsSituationIn};
+ghost use Rattle.verifier.specs.Decides.{Waits, either_way, with_jump};
+ghost use Rattle.verifier.specs.Decided.{WaitsFrom};
 ghost use Rattle.verifier.specs.Arises.{Arises, ArisesAt, AllArise, IsTarget};
 ghost use Rattle.semantics.specs.Step.{Program};
 
@@ -43,6 +46,8 @@ fn join(
     ensures arises { (profile : Profile) (program : Program) (slot : ℕ) → IsTarget program slot
         → ArisesAt profile program slot (unboxed waiting) → Arises profile program slot state.now
         → IfOk result (λ joined. Arises profile program slot joined.value) }
+    ensures rule { (o : Option Situation) (s : Situation) → IsSituationIn (unboxed waiting) o → IsSituation state.now s
+        → IfOk result (λ joined. IsSituationIn (Some joined.value) (either_way o (Some s))) }
 {
     let Some(mut earlier) = waiting else {
         return Ok(Box::new(alloc, *state)?);
@@ -74,6 +79,8 @@ impl Waiting {
         ensures arises { (profile : Profile) (program : Program) → AllArise profile program self.old
             → IsTarget program slot → Arises profile program slot state.now
             → IfOk result (λ _. AllArise profile program self.new) }
+        ensures rule { (from : ℕ) (w : Waits) (s : Situation) → WaitsFrom from self.old w → from ≤ slot
+            → IsSituation state.now s → IfOk result (λ _. WaitsFrom from self.new (with_jump slot (Some s) w)) }
     {
         let joined = join(self.alloc, self.states[slot].take(), state)?;
         self.states[slot] = Some(joined);
@@ -90,11 +97,15 @@ impl Waiting {
             → WithinState (after result state.new) lengths s }
         ensures others { (other : ℕ) → other ≢ slot → waiting_at self.new other ≡ waiting_at self.old other }
         ensures alone { waiting_at self.old slot ≡ None → after result state.new ≡ after flow state.old }
+        ensures taken { waiting_at self.new slot ≡ None }
         ensures waits { (profile : Profile) (program : Program) → AllArise profile program self.old
             → AllArise profile program self.new }
         ensures arises { (profile : Profile) (program : Program) → AllArise profile program self.old
             → ArisesAt profile program slot (after flow state.old)
             → AllArise profile program self.new × ArisesAt profile program slot (after result state.new) }
+        ensures rule { (falling here : Option Situation) → IsSituationIn (after flow state.old) falling
+            → IsSituationIn (waiting_at self.old slot) here
+            → IsSituationIn (after result state.new) (either_way falling here) }
     {
         let Some(waiting) = self.states[slot].take() else {
             return flow;

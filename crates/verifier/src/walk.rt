@@ -18,6 +18,10 @@ ghost use Rattle.verifier.specs.Walk.{Advances, Follows, IsComparison, JumpsWith
 ghost use Rattle.program_reads.specs.Runs.{ContainsRuns, ContainAllRuns};
 ghost use Rattle.program_reads.specs.Loads.{CoversRuns};
 ghost use Rattle.verifier.specs.Reaches.{AriseEverywhere, Covers, ListsBelow, IsStateBelow};
+ghost use Rattle.abstract_state.specs.Situation.{Situation, IsSituation, IsSituationIn, situation_of};
+ghost use Rattle.verifier.specs.Decides.{Waits, IsAllowedBelow, KnownEach};
+ghost use Rattle.verifier.specs.Decided.{WaitsFrom, Awaits, Passes, NamesSlot, NamesFirst};
+ghost use Rattle.verifier.specs.Decides.{led, trimmed, arrived, with_jump, awaited_at, known_before};
 
 use crate::refusal::VerifyError;
 use crate::waiting::Waiting;
@@ -78,6 +82,8 @@ fn record(target: usize, edge: &Option<AbsState>, waiting: &mut Waiting) -> Resu
     ensures arises { (profile : TheProfile) (program : Program) → AllArise profile program waiting.old
         → IsTarget program target → ArisesAt profile program target edge.now
         → IfOk result (λ _. AllArise profile program waiting.new) }
+    ensures rule { (from : ℕ) (w : Waits) (o : Option Situation) → WaitsFrom from waiting.old w → from ≤ target
+        → IsSituationIn edge.now o → IfOk result (λ _. WaitsFrom from waiting.new (with_jump target o w)) }
 {
     let Some(state) = edge else {
         return Ok(());
@@ -131,6 +137,11 @@ fn compare(
         → AllArise profile program waiting.old
         → IfOk result (λ flow. AllArise profile program waiting.new
         × FallsFrom profile program slot insn.now (after flow state.new)) }
+    ensures rule { (w : Waits) → WaitsFrom (slot + 1) waiting.old w
+        → IfOk result (λ flow. Passes profile slot insn.now (Some (situation_of state.old)) w (after flow state.new)
+        waiting.new) }
+    ensures refuses { (fault : TheRefusal) → result ≡ Err (Stop.Refused fault)
+        → led profile insn.now (situation_of state.old) ≡ Err fault }
 {
     let Insn::Branch {
         width,
@@ -170,6 +181,11 @@ fn pass(
         → AllArise profile program waiting.old
         → IfOk result (λ flow. AllArise profile program waiting.new
         × FallsFrom profile program slot insn.now (after flow state.new)) }
+    ensures rule { (w : Waits) → WaitsFrom (slot + 1) waiting.old w
+        → IfOk result (λ flow. Passes profile slot insn.now (Some (situation_of state.old)) w (after flow state.new)
+        waiting.new) }
+    ensures refuses { (fault : TheRefusal) → result ≡ Err (Stop.Refused fault)
+        → led profile insn.now (situation_of state.old) ≡ Err fault }
 {
     match *insn {
         Insn::Jump { .. } => {
@@ -187,6 +203,15 @@ fn pass(
         }
         _ => Ok(state.step(profile, insn)?),
     }
+}
+
+/// A state has no more than the machine's eleven registers and the 64 slots of its stack: what `visit` has to know of
+/// its length, with nothing to run.
+fn is_whole(state: &AbsState)
+    ensures { (s : Situation) → IsSituation state.now s → trimmed s ≡ situation_of state.now }
+{
+    let _register = state.registers[0];
+    let _slot = state.stack[0];
 }
 
 /// Joins all edges into a slot, lists what its instruction can read, and goes past it, if a run can come there.
@@ -220,10 +245,15 @@ fn visit(
         → IfErr result (IsCause profile program)
         × IfOk result (λ next. AllArise profile program waiting.new
         × FallsAs profile program (slot + 1) (after next state.new)) }
+    ensures rule { (falling here : Option Situation) (w : Waits) → IsSituationIn (after flow state.old) falling
+        → IsSituationIn (waiting_at waiting.old slot) here → WaitsFrom (slot + 1) waiting.old w
+        → IfOk result (λ next. Passes profile slot insn.now (arrived falling here) w (after next state.new) waiting.new)
+        × IfErr result (NamesSlot profile slot insn.now (arrived falling here)) }
 {
     let Flow::Live = waiting.arrive(slot, flow, state) else {
         return Ok(Flow::Dead);
     };
+    is_whole(state);
     reads.add_insn(insn, state);
     match pass(profile, slot, insn, state, waiting) {
         Ok(next) => Ok(next),
@@ -261,6 +291,10 @@ fn walk_to(
         × FallsAs profile (program_of words.now) end (after walked.flow walked.state)) }
     ensures below { IfErr result (IsStateBelow end) }
     ensures floor { IfErr result (IsCause profile (program_of words.now)) }
+    ensures awaits { IfOk result (λ walked. Awaits end (after walked.flow walked.state) walked.waiting
+        (awaited_at profile (program_of words.now) end)) }
+    ensures passes { IfOk result (λ _. IsAllowedBelow profile (program_of words.now) end) }
+    ensures names { IfErr result (NamesFirst profile (program_of words.now)) }
 {
     let mut waiting = Waiting::new(alloc, words.len())?;
     let mut state = AbsState::entry();
@@ -296,6 +330,8 @@ pub fn walk(alloc: Global, words: &Words<'_>, profile: Profile) -> Result<Reads,
     ensures states { IfErr result IsOfState }
     ensures below { IfErr result (IsStateBelow (length (program_of words.now))) }
     ensures floor { IfErr result (IsCause profile (program_of words.now)) }
+    ensures passes { IfOk result (λ _. IsAllowedBelow profile (program_of words.now) (length (program_of words.now))) }
+    ensures names { IfErr result (NamesFirst profile (program_of words.now)) }
 {
     let walked = walk_to(alloc, words, profile, words.len())?;
     Ok(walked.reads)
@@ -315,6 +351,9 @@ pub fn walk_before(
         → IfOk result (ArisesAt profile (program_of words.now) slot) }
     ensures below { IfErr result (IsStateBelow slot) }
     ensures floor { IfErr result (IsCause profile (program_of words.now)) }
+    ensures rule { IfOk result (λ known. IsSituationIn known (known_before profile (program_of words.now) slot)) }
+    ensures passes { IfOk result (λ _. IsAllowedBelow profile (program_of words.now) slot) }
+    ensures names { IfErr result (NamesFirst profile (program_of words.now)) }
 {
     let Walked {
         flow,
@@ -340,6 +379,9 @@ pub fn walk_each(
     ensures arises { IfOk result (λ states. AriseEverywhere profile (program_of words.now) states.items) }
     ensures below { IfErr result (IsStateBelow (length (program_of words.now))) }
     ensures floor { IfErr result (IsCause profile (program_of words.now)) }
+    ensures rule { IfOk result (λ states. KnownEach profile (program_of words.now) states.items) }
+    ensures passes { IfOk result (λ _. IsAllowedBelow profile (program_of words.now) (length (program_of words.now))) }
+    ensures names { IfErr result (NamesFirst profile (program_of words.now)) }
 {
     let mut states = Vec::with_capacity(alloc, words.len())?;
     let mut waiting = Waiting::new(alloc, words.len())?;

@@ -15,7 +15,8 @@ use Rattle.mark_anchors.specs.Format.{Touches, IsFormat}
 use Rattle.mark_anchors.specs.Formatting.{Format}
 use Rattle.mark_anchors.specs.Places.{Lies}
 use Rattle.mark_anchors.proofs.Deciding.{place_from_touches}
-use Rattle.version_laws.specs.Later.{Extends, AcceptsAll}
+use Rattle.version_laws.specs.Later.{Extends}
+use Rattle.char_sequence.specs.Acceptance.{AcceptsAll}
 use Rattle.version_laws.proofs.OrderKept.{extends_self, extends_trans, extends_accepted, before_same}
 use Rattle.version_laws.proofs.FormatKept.{edit_touches, format_same}
 

@@ -1,14 +1,10 @@
 -- Lists with one element more.
-use Rattle.std.proofs.Common.{◌≡◌, ℕ, zero, suc, ◌<◌, ◌≤◌, ◌⊎◌, List, [], ◌∷◌, ◌++◌, Some, inl, inr, length, get_or, refl, ap, subst, ◌∙◌, arith, ⊎_elim}
+use Rattle.std.proofs.Common.{◌≡◌, ℕ, zero, suc, ◌<◌, ◌≤◌, ◌⊎◌, List, [], ◌∷◌, Some, inl, inr, length, get_or, refl, ap, subst, ◌∙◌, arith, ⊎_elim}
 use Rattle.std.specs.List.{slice_get, insert, AllPairs, Contains}
 use Rattle.std.proofs.lemmas.Bool.{cases_lt}
 use Rattle.std.proofs.lemmas.Option.{slice_get-get_or, slice_get_within, get_or_from_slice_get}
 use Rattle.char_sequence.proofs.Lists.{InOrder, inserted_cases}
 use Rattle.span_flatten.proofs.Showing.{contains_at, at_contains}
-
-pub insert_append : {X : Type 0} (front back : List X) (x : X) → insert (front ++ back) (length front) x ≡ front ++ x ∷ back
-insert_append [] back x = refl
-insert_append (y ∷ front) back x = ap (λ l. y ∷ l) (insert_append front back x)
 
 -- what stood before the index stands where it did
 pub inserted_low : {X : Type 0} (xs : List X) (k : ℕ) (e : X) (i : ℕ) → i < k → k ≤ length xs → slice_get (insert xs k e) i ≡ slice_get xs i

@@ -10,8 +10,6 @@ pub mod DrawnKept
 pub mod Boundaries
 pub mod DrawnBack
 pub mod WindowKept
-pub mod RunKept
-pub mod RunHeld
 pub mod Counted
 pub mod Rows
 pub mod Replaced

@@ -9,7 +9,7 @@ use Rattle.char_sequence.specs.Order.{Shows}
 use Rattle.mark_anchors.specs.Format.{IsFormat}
 use Rattle.span_flatten.specs.Spans.{Shown, Span, AreVisible, Cuts, AreSpans}
 use Rattle.span_flatten.specs.Taken.{is_visible}
-use Rattle.version_laws.specs.Later.{AcceptsAll}
+use Rattle.char_sequence.specs.Acceptance.{AcceptsAll}
 use Rattle.version_laws.specs.Joints.{Apart}
 use Rattle.version_laws.specs.Characters.{AreDrawn}
 use Rattle.version_laws.specs.Windows.{IsWithinWindow}

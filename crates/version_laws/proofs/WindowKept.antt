@@ -15,7 +15,7 @@ use Rattle.mark_anchors.proofs.Deciding.{place_from_touches}
 use Rattle.span_flatten.specs.Spans.{Shown, Span, Cuts, AreSpans}
 use Rattle.span_flatten.specs.Taken.{element_of, is_visible}
 use Rattle.span_flatten.proofs.Showing.{at_contains, filter_from}
-use Rattle.version_laws.specs.Later.{AcceptsAll}
+use Rattle.char_sequence.specs.Acceptance.{AcceptsAll}
 use Rattle.version_laws.specs.Joints.{Apart}
 use Rattle.version_laws.specs.Characters.{AreDrawn}
 use Rattle.version_laws.specs.Windows.{IsWithinWindow}

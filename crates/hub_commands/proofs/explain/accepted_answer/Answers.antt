@@ -24,7 +24,7 @@ returns c =
     let counted : c.len-slots.result ≡ length (program_of c.args.words.now) = c.len-slots.ensures.value in
     let whole : string_bytes c.push_str.new.self ≡ line (codes "accepted " ++ slots) ++ text =
     grown ∙ ap (λ (front : List ℕ). front ++ more) (printed ∙ ap (λ (front : List ℕ). front ++ lines) made) ∙ joined slots steps lines more in
-    accepted text c.requires.structured c.requires.seen (record {
+    accepted text c.requires.structured c.requires.seen c.requires.allowed (record {
       steps = c.in_ok-steps.steps;
       most = c.in_ok-steps.ensures;
       reads = c.args.reads.now;

@@ -14,6 +14,7 @@ use Rattle.verifier.proofs.Rejecting.{walk_refused}
 use Rattle.verifier.proofs.Unsets.{unset_named}
 use Rattle.verifier.proofs.GuardRuns.{guard_structured, guard_grants}
 use Rattle.verifier.proofs.Reaching.{err_more, is_before, none_of_structure}
+use Rattle.verifier.proofs.Decided.{complete_of, first_of_all, named_of, within_program}
 use Rattle.verifier.proofs.before.states_before.Goals as goal
 
 pub returns-in-Err-clause-structure : goal.returns-in-Err-clause-structure
@@ -64,9 +65,26 @@ pub returns-clause-rejects : goal.returns-clause-rejects
 returns-clause-rejects c =
     let program = program_of c.args.words.now in
     walk_refused c.args.profile program c.walk_each.result (length program) c.in_default.ensures (omega arith)
-    c.walk_each.ensures.below c.walk_each.ensures.floor
+    c.walk_each.ensures.below c.walk_each.ensures.floor c.walk_each.ensures.names
 
 pub returns-clause-unset : goal.returns-clause-unset
 returns-clause-unset c = λ at fault is reads.
     unset_named c.args.profile (program_of c.args.words.now) c.walk_each.result at fault
     c.walk_each.ensures.floor is reads
+
+pub returns-in-Err-clause-complete : goal.returns-in-Err-clause-complete
+returns-in-Err-clause-complete c = λ sound. absurd (no_fault _ _ _ sound.structured c.in-Err.ensures)
+
+pub returns-in-Err-clause-named : goal.returns-in-Err-clause-named
+returns-in-Err-clause-named c = λ at fault first. absurd (no_fault _ _ _ first.before.structured c.in-Err.ensures)
+
+pub returns-clause-complete : goal.returns-clause-complete
+returns-clause-complete c =
+    complete_of c.args.profile (program_of c.args.words.now) (length (program_of c.args.words.now)) c.walk_each.result c.walk_each.ensures.below c.walk_each.ensures.names
+
+pub returns-clause-first : goal.returns-clause-first
+returns-clause-first c = λ at fault is. first_of_all c.args.profile (program_of c.args.words.now) c.walk_each.result at fault c.walk_each.ensures.names is
+
+pub returns-clause-named : goal.returns-clause-named
+returns-clause-named c = λ at fault first.
+    named_of c.args.profile (program_of c.args.words.now) (length (program_of c.args.words.now)) c.walk_each.result at fault c.walk_each.ensures.below c.walk_each.ensures.names c.walk_each.ensures.passes (within_program c.args.profile (program_of c.args.words.now) at fault first) first

@@ -20,6 +20,10 @@ use Rattle.verifier.proofs.Unsets.{unset_named}
 use Rattle.verifier.specs.Framed.{IsFramed}
 use Rattle.verifier.proofs.GuardRuns.{guard_structured, guard_grants}
 use Rattle.verifier.specs.Arises.{IsCause}
+use Rattle.verifier.specs.Reaches.{IsStateBelow}
+use Rattle.verifier.specs.Decides.{IsAllowedBelow}
+use Rattle.verifier.specs.Decided.{NamesFirst}
+use Rattle.verifier.proofs.Decided.{complete_of, first_of_all, named_of, within_program, not_ok, memory_names}
 use Rattle.verifier.proofs.verify.verify.Goals as goal
 
 pub returns-in-Err-clause-structure : goal.returns-in-Err-clause-structure
@@ -69,7 +73,7 @@ returns-in_err-reads-clause-rejects c =
     (only_memory c.args.profile program e (IsPlain program) (plain_grants c.args.profile program) c.in_err-reads.ensures.floor)
     (only_memory c.args.profile program e (IsFramed program) (framed_grants c.args.profile program) c.in_err-reads.ensures.floor)
     (only_memory c.args.profile program e (IsGuard c.args.profile program) (guard_grants c.args.profile program) c.in_err-reads.ensures.floor)
-    (λ slot fault is. caused c.args.profile program e slot fault c.in_err-reads.ensures.floor is))
+    (λ slot fault is. caused c.args.profile program e slot fault c.in_err-reads.ensures.floor is) c.in_err-reads.ensures.names)
 
 pub returns-in_err-of-clause-rejects : goal.returns-in_err-of-clause-rejects
 returns-in_err-of-clause-rejects c =
@@ -119,3 +123,58 @@ returns-in_err-of-clause-unset c = λ at fault is reads.
     unset_named c.args.profile program c.from_residual-in_err-of.result at fault
     (passed_on c.from_residual-in_err-of.result OutOfMemory (IsCause c.args.profile program)
     c.from_residual-in_err-of.ensures.1 (inl refl)) is reads
+
+pub returns-in-Err-clause-complete : goal.returns-in-Err-clause-complete
+returns-in-Err-clause-complete c = λ accepts. absurd (no_fault _ _ _ accepts.structured c.in-Err.ensures)
+
+pub returns-in-Err-clause-named : goal.returns-in-Err-clause-named
+returns-in-Err-clause-named c = λ slot fault first. absurd (no_fault _ _ _ first.before.structured c.in-Err.ensures)
+
+pub returns-clause-named : goal.returns-clause-named
+returns-clause-named c = λ slot fault first.
+    let program = program_of c.args.words.now in
+    absurd (c.in_ok-reads.ensures.passes.below slot fault (within_program c.args.profile program slot fault first) first.here)
+
+pub returns-in_err-reads-clause-complete : goal.returns-in_err-reads-clause-complete
+returns-in_err-reads-clause-complete c =
+    let program = program_of c.args.words.now in
+    complete_of c.args.profile program (length program) c.from_residual.result
+    (passed_on c.from_residual.result c.in_err-reads.field-0.0 (IsStateBelow (length program)) c.from_residual.ensures.1 c.in_err-reads.ensures.below)
+    (passed_on c.from_residual.result c.in_err-reads.field-0.0 (NamesFirst c.args.profile program) c.from_residual.ensures.1 c.in_err-reads.ensures.names)
+
+pub returns-in_err-reads-clause-first : goal.returns-in_err-reads-clause-first
+returns-in_err-reads-clause-first c = λ slot fault is.
+    let program = program_of c.args.words.now in
+    first_of_all c.args.profile program c.from_residual.result slot fault
+    (passed_on c.from_residual.result c.in_err-reads.field-0.0 (NamesFirst c.args.profile program) c.from_residual.ensures.1 c.in_err-reads.ensures.names) is
+
+pub returns-in_err-reads-clause-named : goal.returns-in_err-reads-clause-named
+returns-in_err-reads-clause-named c = λ slot fault first.
+    let program = program_of c.args.words.now in
+    named_of c.args.profile program (length program) c.from_residual.result slot fault
+    (passed_on c.from_residual.result c.in_err-reads.field-0.0 (IsStateBelow (length program)) c.from_residual.ensures.1 c.in_err-reads.ensures.below)
+    (passed_on c.from_residual.result c.in_err-reads.field-0.0 (NamesFirst c.args.profile program) c.from_residual.ensures.1 c.in_err-reads.ensures.names)
+    (not_ok c.from_residual.result _ (λ _. IsAllowedBelow c.args.profile program (length program)) c.from_residual.ensures.1)
+    (within_program c.args.profile program slot fault first) first
+
+pub returns-in_err-of-clause-complete : goal.returns-in_err-of-clause-complete
+returns-in_err-of-clause-complete c =
+    let program = program_of c.args.words.now in
+    complete_of c.args.profile program (length program) c.from_residual-in_err-of.result
+    (passed_on c.from_residual-in_err-of.result OutOfMemory (IsStateBelow (length program)) c.from_residual-in_err-of.ensures.1 tt)
+    (passed_on c.from_residual-in_err-of.result OutOfMemory (NamesFirst c.args.profile program) c.from_residual-in_err-of.ensures.1 (memory_names c.args.profile (program_of c.args.words.now)))
+
+pub returns-in_err-of-clause-first : goal.returns-in_err-of-clause-first
+returns-in_err-of-clause-first c = λ slot fault is.
+    let program = program_of c.args.words.now in
+    first_of_all c.args.profile program c.from_residual-in_err-of.result slot fault
+    (passed_on c.from_residual-in_err-of.result OutOfMemory (NamesFirst c.args.profile program) c.from_residual-in_err-of.ensures.1 (memory_names c.args.profile (program_of c.args.words.now))) is
+
+pub returns-in_err-of-clause-named : goal.returns-in_err-of-clause-named
+returns-in_err-of-clause-named c = λ slot fault first.
+    let program = program_of c.args.words.now in
+    named_of c.args.profile program (length program) c.from_residual-in_err-of.result slot fault
+    (passed_on c.from_residual-in_err-of.result OutOfMemory (IsStateBelow (length program)) c.from_residual-in_err-of.ensures.1 tt)
+    (passed_on c.from_residual-in_err-of.result OutOfMemory (NamesFirst c.args.profile program) c.from_residual-in_err-of.ensures.1 (memory_names c.args.profile (program_of c.args.words.now)))
+    (not_ok c.from_residual-in_err-of.result _ (λ _. IsAllowedBelow c.args.profile program (length program)) c.from_residual-in_err-of.ensures.1)
+    (within_program c.args.profile program slot fault first) first

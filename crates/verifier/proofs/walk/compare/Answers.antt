@@ -13,6 +13,11 @@ use Rattle.abstract_state.specs.Unset.{HasUnset}
 use Rattle.abstract_state.specs.declared.refusal.Refusal.TheVariants.{UnsetRegister}
 use Rattle.verifier.proofs.Arising.{refused_for, not_refused}
 use Rattle.bpf_words.specs.declared.instruction.Insn.{Insn}
+use Rattle.std.proofs.Common.{Ok, Err, refl}
+use Rattle.abstract_state.specs.Situation.{IsSituationIn, situation_of}
+use Rattle.abstract_state.specs.Edges.{branched}
+use Rattle.verifier.specs.Decides.{led}
+use Rattle.verifier.proofs.Deciding.{branch_in, branch_refused, leads_branch, passes_branch}
 use Rattle.verifier.proofs.walk.compare.Goals as goal
 
 pub record-requires : goal.record-requires
@@ -70,3 +75,25 @@ returns-in_err-edges-clause-unset c = λ fault is.
 
 pub returns-in_err-record-clause-unset : goal.returns-in_err-record-clause-unset
 returns-in_err-record-clause-unset c = λ fault is. not_refused c.from_residual-in_err-record.result fault _ c.from_residual-in_err-record.ensures.1 is
+
+pub returns-clause-rule : goal.returns-clause-rule
+returns-clause-rule c = λ w waits.
+    let jumps = ap jump_of c.in-Branch.is in
+    let j = c.requires.jumps _ jumps in
+    let t : c.target.result ≡ c.args.slot + 1 + j.0 = c.target.ensures j.0 (jumps ∙ ap Some j.1) in
+    let s = situation_of c.args.state.now in
+    let (ways, rule, taken, untaken) = branch_in (branched c.in-Branch.width c.in-Branch.comparison c.in-Branch.left c.in-Branch.right s) (Ok c.in_ok-edges.edges) c.in_ok-edges.edges refl c.in_ok-edges.ensures.rule in
+    let leads = leads_branch c.args.profile c.args.insn.now c.in-Branch.width c.in-Branch.comparison c.in-Branch.left c.in-Branch.right _ s c.in-Branch.is ∙ rule in
+    let more = c.in_ok-record.ensures.rule (c.args.slot + 1) w ways.taken waits (omega (arith, t)) taken in
+    passes_branch c.args.profile c.args.slot j.0 c.target.result c.args.insn.now _ s w ways _ c.record.new.waiting leads jumps j.1 t
+    (subst (λ o. IsSituationIn o ways.untaken) (sym c.go_on.ensures) untaken) more
+
+pub returns-in_err-edges-clause-refuses : goal.returns-in_err-edges-clause-refuses
+returns-in_err-edges-clause-refuses c = λ fault is.
+    let s = situation_of c.args.state.now in
+    refused_for c.from_residual.result c.in_err-edges.field-0.0 fault (λ fault. led c.args.profile c.args.insn.now s ≡ Err fault) c.from_residual.ensures.1
+    (leads_branch c.args.profile c.args.insn.now c.in-Branch.width c.in-Branch.comparison c.in-Branch.left c.in-Branch.right _ s c.in-Branch.is
+    ∙ branch_refused (branched c.in-Branch.width c.in-Branch.comparison c.in-Branch.left c.in-Branch.right s) (Err c.in_err-edges.field-0.0) c.in_err-edges.field-0.0 refl c.in_err-edges.ensures.rule) is
+
+pub returns-in_err-record-clause-refuses : goal.returns-in_err-record-clause-refuses
+returns-in_err-record-clause-refuses c = λ fault is. not_refused c.from_residual-in_err-record.result fault _ c.from_residual-in_err-record.ensures.1 is

@@ -7,6 +7,13 @@ use Rattle.bpf_words.specs.Flow.{read_by}
 use Rattle.abstract_state.specs.Unset.{HasUnset}
 use Rattle.abstract_state.specs.declared.refusal.Refusal.TheVariants.{UnsetRegister}
 use Rattle.verifier.proofs.Arising.{refused_for, not_refused}
+use Rattle.std.proofs.Common.{Ok, Err}
+use Rattle.abstract_state.specs.Addresses.{answer_of}
+use Rattle.abstract_state.specs.Situation.{situation_of}
+use Rattle.abstract_state.specs.Edges.{ways}
+use Rattle.std.proofs.Common.{None}
+use Rattle.verifier.specs.Decides.{led}
+use Rattle.verifier.proofs.Deciding.{own, leads_jump, leads_long, leads_exit, passes_jump, passes_exit, passes_straight, step_refused}
 use Rattle.verifier.proofs.walk.pass.Goals as goal
 use Rattle.std.proofs.lemmas.Bool.{false≢true}
 use Rattle.abstract_state.specs.Steps.{after}
@@ -54,6 +61,10 @@ returns-in_ok-step-in_default c = record {
   kept = λ slot lengths s waits. waits;
   floor = λ granted. tt;
   unset = λ fault is. absurd (cc);
+  rule = λ w waits.
+      passes_straight c.args.profile c.args.slot c.args.insn.now (situation_of c.args.state.now) w (Ok c.in_ok-step-in_default.field-0) c.in_ok-step-in_default.field-0 c.step.new.self c.args.waiting.now
+      (straight c.args.insn.now c.in_default.not-Jump c.in_default.not-JumpLong c.in_default.not-Branch c.in_default.not-Exit) refl c.in_ok-step-in_default.ensures.rule waits;
+  refuses = λ fault is. absurd (cc);
   arises = λ program starts from all.
       let is = straight c.args.insn.now c.in_default.not-Jump c.in_default.not-JumpLong c.in_default.not-Branch c.in_default.not-Exit in (
         all,
@@ -115,3 +126,44 @@ returns-in_err-exit-in-Exit-clause-unset c = λ fault is.
 pub returns-in_err-step-in_default-clause-unset : goal.returns-in_err-step-in_default-clause-unset
 returns-in_err-step-in_default-clause-unset c = λ fault is.
     refused_for c.from_residual-in_err-step-in_default.result c.in_err-step-in_default.field-0.0 fault (λ fault. (fault ≡ UnsetRegister) ↔ HasUnset c.args.state.now (read_by c.args.insn.now)) c.from_residual-in_err-step-in_default.ensures.1 c.in_err-step-in_default.ensures.unset is
+
+pub returns-in_ok-add-in-Jump-clause-rule : goal.returns-in_ok-add-in-Jump-clause-rule
+returns-in_ok-add-in-Jump-clause-rule c = λ w waits.
+    let jumps = ap jump_of c.in-Jump.is in
+    let j = c.requires.jumps _ jumps in
+    let t : c.target.result ≡ c.args.slot + 1 + j.0 = c.target.ensures j.0 (jumps ∙ ap Some j.1) in
+    let s = situation_of c.args.state.now in
+    passes_jump c.args.profile c.args.slot j.0 c.target.result c.args.insn.now _ s w c.add.new.self (leads_jump c.args.profile c.args.insn.now _ s c.in-Jump.is) jumps j.1 t
+    (c.in_ok-add-in-Jump.ensures.rule (c.args.slot + 1) w s waits (omega (arith, t)) (own c.args.state.now))
+
+pub returns-in_ok-add-in-JumpLong-clause-rule : goal.returns-in_ok-add-in-JumpLong-clause-rule
+returns-in_ok-add-in-JumpLong-clause-rule c = λ w waits.
+    let jumps = ap jump_of c.in-JumpLong.is in
+    let j = c.requires.jumps _ jumps in
+    let t : c.target-in-JumpLong.result ≡ c.args.slot + 1 + j.0 = c.target-in-JumpLong.ensures j.0 (jumps ∙ ap Some j.1) in
+    let s = situation_of c.args.state.now in
+    passes_jump c.args.profile c.args.slot j.0 c.target-in-JumpLong.result c.args.insn.now _ s w c.add-in-JumpLong.new.self (leads_long c.args.profile c.args.insn.now _ s c.in-JumpLong.is) jumps j.1 t
+    (c.in_ok-add-in-JumpLong.ensures.rule (c.args.slot + 1) w s waits (omega (arith, t)) (own c.args.state.now))
+
+pub returns-in_ok-exit-in-Exit-clause-rule : goal.returns-in_ok-exit-in-Exit-clause-rule
+returns-in_ok-exit-in-Exit-clause-rule c = λ w waits.
+    passes_exit c.args.profile c.args.slot c.args.insn.now _ (situation_of c.args.state.now) w c.args.waiting.now c.in-Exit.is (sym c.in_ok-exit-in-Exit.ensures.rule) waits
+
+pub returns-in_err-add-in-Jump-clause-refuses : goal.returns-in_err-add-in-Jump-clause-refuses
+returns-in_err-add-in-Jump-clause-refuses c = λ fault is. not_refused c.from_residual.result fault _ c.from_residual.ensures.1 is
+
+pub returns-in_err-add-in-JumpLong-clause-refuses : goal.returns-in_err-add-in-JumpLong-clause-refuses
+returns-in_err-add-in-JumpLong-clause-refuses c = λ fault is. not_refused c.from_residual-in_err-add-in-JumpLong.result fault _ c.from_residual-in_err-add-in-JumpLong.ensures.1 is
+
+pub returns-in_err-exit-in-Exit-clause-refuses : goal.returns-in_err-exit-in-Exit-clause-refuses
+returns-in_err-exit-in-Exit-clause-refuses c = λ fault is.
+    let s = situation_of c.args.state.now in
+    refused_for c.from_residual-in_err-exit-in-Exit.result c.in_err-exit-in-Exit.field-0.0 fault (λ fault. led c.args.profile c.args.insn.now s ≡ Err fault) c.from_residual-in_err-exit-in-Exit.ensures.1
+    (leads_exit c.args.profile c.args.insn.now s c.in-Exit.is ∙ ap (answer_of (λ d. ways None None)) (sym c.in_err-exit-in-Exit.ensures.rule)) is
+
+pub returns-in_err-step-in_default-clause-refuses : goal.returns-in_err-step-in_default-clause-refuses
+returns-in_err-step-in_default-clause-refuses c = λ fault is.
+    let s = situation_of c.args.state.now in
+    refused_for c.from_residual-in_err-step-in_default.result c.in_err-step-in_default.field-0.0 fault (λ fault. led c.args.profile c.args.insn.now s ≡ Err fault) c.from_residual-in_err-step-in_default.ensures.1
+    (step_refused c.args.profile c.args.insn.now s (Err c.in_err-step-in_default.field-0.0) c.in_err-step-in_default.field-0.0 c.step.new.self
+    (straight c.args.insn.now c.in_default.not-Jump c.in_default.not-JumpLong c.in_default.not-Branch c.in_default.not-Exit) refl c.in_err-step-in_default.ensures.rule) is

@@ -1,7 +1,12 @@
-use Rattle.std.proofs.Common.{None, Some}
+use Rattle.std.proofs.Common.{Option, None, Some}
 use Rattle.abstract_state.specs.State.{lengths_of}
 use Rattle.abstract_state.specs.Steps.{after}
 use Rattle.verifier.proofs.Walking.{arrived, passed, skipped}
+use Rattle.std.proofs.Common.{subst, sym}
+use Rattle.abstract_state.specs.Situation.{Situation}
+use Rattle.verifier.specs.Decides.{arrived as arriving, Refuses}
+use Rattle.verifier.specs.Decided.{Passes}
+use Rattle.verifier.proofs.Decided.{arrives_at, arrives_nowhere, waits_beyond, passes_dead, names_here}
 use Rattle.verifier.proofs.walk.visit.Goals as goal
 use Rattle.std.proofs.Common.{refl, inl, inr, Err, ap}
 use Rattle.verifier.specs.declared.walk.Stop.{Stop}
@@ -80,3 +85,28 @@ returns-in-Ok-clause-lists c = λ program structured starts covers below.
     lists_more c.args.profile program c.args.slot c.args.insn.now c.arrive.new.state c.args.reads.now c.add_insn.new.self starts
     (all_joined c.args.profile program c.args.slot (after c.args.flow c.args.state.now) (Some c.arrive.new.state) c.args.waiting.now structured c.in-Live.ensures.falls c.in-Live.ensures.arrives covers)
     c.add_insn.ensures.grows c.add_insn.ensures.covers below
+
+pub returns-in_default-clause-rule : goal.returns-in_default-clause-rule
+returns-in_default-clause-rule c = λ falling here w falls waits above.
+    let none = arrives_nowhere falling here (c.in_default.ensures.rule falling here falls waits) in
+    (passes_dead c.args.profile c.args.slot c.args.insn.now (arriving falling here) w c.arrive.new.self none (waits_beyond c.args.waiting.now c.arrive.new.self c.args.slot w c.in_default.ensures.others above), tt)
+
+pub returns-in-Ok-clause-rule : goal.returns-in-Ok-clause-rule
+returns-in-Ok-clause-rule c = λ falling here w falls waits above.
+    let known = arrives_at c.arrive.new.state falling here c.is_whole.ensures (c.in-Live.ensures.rule falling here falls waits) in (
+      subst (λ (o : Option Situation). Passes c.args.profile c.args.slot c.args.insn.now o w (after c.in-Ok.next c.pass.new.state) c.pass.new.waiting) (sym known)
+          (c.in-Ok.ensures.rule w (waits_beyond c.args.waiting.now c.arrive.new.self c.args.slot w c.in-Live.ensures.others above)),
+      tt,
+    )
+
+pub returns-in-Err-Refused-clause-rule : goal.returns-in-Err-Refused-clause-rule
+returns-in-Err-Refused-clause-rule c = λ falling here w falls waits above.
+    let known = arrives_at c.arrive.new.state falling here c.is_whole.ensures (c.in-Live.ensures.rule falling here falls waits) in
+    let bad = c.in-Err-Refused.ensures.refuses c.in-Err-Refused.fault (ap (λ (stop : Stop). Err stop) c.in-Err-Refused.field-0-is) in (
+      tt,
+      names_here c.args.profile c.args.slot c.args.insn.now (arriving falling here) c.in-Err-Refused.fault
+          (subst (λ (o : Option Situation). Refuses c.args.profile c.args.insn.now o c.in-Err-Refused.fault) (sym known) bad),
+    )
+
+pub returns-in-Err-OutOfMemory-clause-rule : goal.returns-in-Err-OutOfMemory-clause-rule
+returns-in-Err-OutOfMemory-clause-rule c = λ falling here w falls waits above. (tt, λ at fault is. absurd (cc (is)))

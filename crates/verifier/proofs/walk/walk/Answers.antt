@@ -5,6 +5,7 @@ use Rattle.semantics.proofs.More.{seen_safe}
 use Rattle.verifier.specs.Walk.{Follows}
 use Rattle.verifier.proofs.Listing.{lists_all}
 use Rattle.verifier.proofs.Walking.{ends}
+use Rattle.verifier.specs.Decides.{IsAllowedBelow}
 use Rattle.verifier.proofs.walk.walk.Goals as goal
 
 pub returns-clause-seen : goal.returns-clause-seen
@@ -22,3 +23,6 @@ returns-clause-safe c =
 
 pub returns-clause-reads : goal.returns-clause-reads
 returns-clause-reads c = lists_all c.args.profile (program_of c.args.words.now) _ c.in_ok-walked.walked.reads c.len.ensures.value c.in_ok-walked.ensures.lists
+
+pub returns-clause-passes : goal.returns-clause-passes
+returns-clause-passes c = subst (λ n. IsAllowedBelow c.args.profile (program_of c.args.words.now) n) c.len.ensures.value c.in_ok-walked.ensures.passes

@@ -15,6 +15,11 @@ use Rattle.verifier.proofs.Arising.{entry_falls, falls_here, here_falls, second_
 use Rattle.verifier.proofs.Walking.{jumps_within}
 use Rattle.verifier.proofs.Reaching.{ContainRunsBelow, AriseBelow, all_joined, contain_none, contain_more, arise_none, arise_more, count_more, covers_begin, covers_over, covers_arrived}
 use Rattle.verifier.proofs.walk.walk_each.Goals.{in-Some+in_ok-flow, in_default}
+use Rattle.abstract_state.specs.Situation.{IsSituationIn}
+use Rattle.verifier.specs.declared.refusal.VerifyError.TheVariants.{OutOfMemory}
+use Rattle.verifier.specs.Decides.{IsAllowedBelow, arrived, either_way, awaited_at}
+use Rattle.verifier.specs.Decided.{NamesFirst, NamesSlot, Passes, WaitsFrom}
+use Rattle.verifier.proofs.Decided.{KnownBelow, known_none, known_more, known_is, arrived_once, awaits_first, sound_first, awaits_over, awaits_second, sound_over, sound_second, names_first, waits_beyond, waits_after, le_self}
 use Rattle.verifier.proofs.walk.walk_each.Goals as goal
 
 pub loop-slot-init : goal.loop-slot-init
@@ -28,6 +33,9 @@ loop-slot-init c =
       waits = λ slot a e. let none = c.in_ok-waiting.ensures.nothing slot in absurd (cc);
       falls = entry_falls c.args.profile (program_of c.args.words.now) c.entry-state.result some (program_of-paired c.args.words.now c.len.ensures.sound) c.entry-state.ensures.context c.entry-state.ensures.frame c.entry-state.ensures.unset;
       arises = arise_none c.args.profile (program_of c.args.words.now) c.in_ok-states.states.items;
+      awaits = awaits_first c.args.profile (program_of c.args.words.now) c.entry-state.result c.in_ok-waiting.waiting c.entry-state.ensures.rule c.in_ok-waiting.ensures.nothing;
+      sound = sound_first c.args.profile (program_of c.args.words.now) c.requires;
+      known = known_none c.args.profile (program_of c.args.words.now) c.in_ok-states.states.items;
     }
 
 pub visit-requires-clause-jumps : goal.visit-requires-clause-jumps
@@ -62,10 +70,20 @@ loop-slot-preserved c =
     (c.arrive-flow.ensures.arises c.args.profile program c.loop-slot.invariant.waits (falls_here c.args.profile program slot insn falling starts c.loop-slot.invariant.falls)).1 in
     let arises : AriseBelow c.args.profile program (slot + 1) c.push.new.self.items =
     subst (λ states. AriseBelow c.args.profile program (slot + 1) states) (sym items) (arise_more c.args.profile program slot joined c.loop-slot.states.items counted known c.loop-slot.invariant.arises) in
+    let a = awaited_at c.args.profile program slot in
+    let awaits = c.loop-slot.invariant.awaits in
+    let arrives : IsSituationIn joined (either_way a.falling (a.waiting slot)) = c.arrive-flow.ensures.rule a.falling (a.waiting slot) awaits.falls (awaits.waits slot (le_self slot)) in
+    let beyond : WaitsFrom (slot + 1) c.arrive-flow.new.self a.waiting = waits_beyond c.loop-slot.waiting c.arrive-flow.new.self slot a.waiting c.arrive-flow.ensures.others (waits_after c.loop-slot.waiting slot a.waiting awaits.waits) in
+    let known_here : KnownBelow c.args.profile program (slot + 1) c.push.new.self.items =
+    subst (λ states. KnownBelow c.args.profile program (slot + 1) states) (sym items) (known_more c.args.profile program slot joined c.loop-slot.states.items counted (known_is c.args.profile program slot joined arrives) c.loop-slot.invariant.known) in
     elim c.match-insn.branch [
       | in-Some+in_ok-flow w ↦
           let step = w.in_ok-flow.ensures.floor program (program_of-paired c.args.words.now c.len.ensures.sound) c.requires w.in-Some.ensures.value waits
           (here_falls c.args.profile program slot w.in-Some.insn joined w.in-Some.ensures.value (known w.in-Some.insn w.in-Some.ensures.value)) covers in
+          let next = after w.in_ok-flow.flow w.visit.new.state in
+          let passes : Passes c.args.profile slot w.in-Some.insn (arrived a.falling (a.waiting slot)) a.waiting next w.visit.new.waiting =
+          subst (λ o. Passes c.args.profile slot w.in-Some.insn o a.waiting next w.visit.new.waiting) (arrived_once a.falling (a.waiting slot))
+          (w.in_ok-flow.ensures.rule (either_way a.falling (a.waiting slot)) None a.waiting arrives c.arrive-flow.ensures.taken beyond).0 in
           rw (w.waiting-is, w.state-is, w.flow-is)
           (record {
             size = w.in_ok-flow.ensures.size ∙ size;
@@ -75,6 +93,9 @@ loop-slot-preserved c =
             waits = step.1.0;
             falls = step.1.1;
             arises = arises;
+            awaits = awaits_over c.args.profile program slot w.in-Some.insn next w.visit.new.waiting w.in-Some.ensures.value passes;
+            sound = sound_over c.args.profile program slot w.in-Some.insn next w.visit.new.waiting w.in-Some.ensures.value c.loop-slot.invariant.sound passes;
+            known = known_here;
           })
       | in_default w ↦
           let nothing : waiting_at c.loop-slot.waiting slot ≡ None = nothing_waits c.args.profile program slot c.loop-slot.waiting c.requires w.in_default.ensures.value c.loop-slot.invariant.waits in
@@ -89,6 +110,9 @@ loop-slot-preserved c =
             waits = waits;
             falls = second_falls c.args.profile program slot joined w.in_default.ensures.value falls;
             arises = arises;
+            awaits = awaits_second c.args.profile program slot joined c.arrive-flow.new.self w.in_default.ensures.value (subst (λ o. IsSituationIn o a.falling) (sym alone) awaits.falls) beyond;
+            sound = sound_second c.args.profile program slot w.in_default.ensures.value c.loop-slot.invariant.sound;
+            known = known_here;
           })
     ]
 
@@ -116,3 +140,38 @@ returns-in_err-flow-clause-floor c =
     passed_on c.from_residual-in_err-flow.result c.in_err-flow.field-0.0 (IsCause c.args.profile program) c.from_residual-in_err-flow.ensures.1
     (c.in_err-flow.ensures.floor program (program_of-paired c.args.words.now c.len.ensures.sound) c.requires c.in-Some.ensures.value waits
     (here_falls c.args.profile program c.loop-slot.slot c.in-Some.insn joined c.in-Some.ensures.value known) covers).0
+
+pub returns-clause-rule : goal.returns-clause-rule
+returns-clause-rule c = λ at less.
+    let last : c.loop-slot.slot ≡ length (program_of c.args.words.now) = search rules in
+    c.loop-slot.invariant.known at (subst (λ n. at < n) (sym last) less)
+
+pub returns-clause-passes : goal.returns-clause-passes
+returns-clause-passes c =
+    let last : c.loop-slot.slot ≡ length (program_of c.args.words.now) = search rules in
+    subst (λ n. IsAllowedBelow c.args.profile (program_of c.args.words.now) n) last c.loop-slot.invariant.sound
+
+pub returns-in_err-flow-clause-names : goal.returns-in_err-flow-clause-names
+returns-in_err-flow-clause-names c =
+    let program = program_of c.args.words.now in
+    let slot = c.loop-slot.slot in
+    let a = awaited_at c.args.profile program slot in
+    let awaits = c.loop-slot.invariant.awaits in
+    let arrives = c.arrive-flow.ensures.rule a.falling (a.waiting slot) awaits.falls (awaits.waits slot (le_self slot)) in
+    let beyond = waits_beyond c.loop-slot.waiting c.arrive-flow.new.self slot a.waiting c.arrive-flow.ensures.others (waits_after c.loop-slot.waiting slot a.waiting awaits.waits) in
+    let named = (c.in_err-flow.ensures.rule (either_way a.falling (a.waiting slot)) None a.waiting arrives c.arrive-flow.ensures.taken beyond).1 in
+    passed_on c.from_residual-in_err-flow.result c.in_err-flow.field-0.0 (NamesFirst c.args.profile program) c.from_residual-in_err-flow.ensures.1
+    (names_first c.args.profile program slot c.in-Some.insn c.in_err-flow.field-0.0 c.in-Some.ensures.value c.loop-slot.invariant.sound
+    (subst (λ o. NamesSlot c.args.profile slot c.in-Some.insn o c.in_err-flow.field-0.0) (arrived_once a.falling (a.waiting slot)) named))
+
+pub returns-in_err-states-clause-names : goal.returns-in_err-states-clause-names
+returns-in_err-states-clause-names c =
+    passed_on c.from_residual.result OutOfMemory (NamesFirst c.args.profile (program_of c.args.words.now)) c.from_residual.ensures.1 (λ at fault is. absurd (cc (is)))
+
+pub returns-in_err-waiting-clause-names : goal.returns-in_err-waiting-clause-names
+returns-in_err-waiting-clause-names c =
+    passed_on c.from_residual-in_err-waiting.result OutOfMemory (NamesFirst c.args.profile (program_of c.args.words.now)) c.from_residual-in_err-waiting.ensures.1 (λ at fault is. absurd (cc (is)))
+
+pub returns-in_err-push-clause-names : goal.returns-in_err-push-clause-names
+returns-in_err-push-clause-names c =
+    passed_on c.from_residual-in_err-push.result OutOfMemory (NamesFirst c.args.profile (program_of c.args.words.now)) c.from_residual-in_err-push.ensures.1 (λ at fault is. absurd (cc (is)))

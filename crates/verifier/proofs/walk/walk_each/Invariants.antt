@@ -3,6 +3,9 @@ use Rattle.bpf_words.specs.Words.{program_of}
 use Rattle.abstract_state.specs.Steps.{after}
 use Rattle.verifier.specs.Arises.{AllArise, FallsAs}
 use Rattle.verifier.specs.Reaches.{Covers}
+use Rattle.verifier.specs.Decides.{IsAllowedBelow, awaited_at}
+use Rattle.verifier.specs.Decided.{Awaits}
+use Rattle.verifier.proofs.Decided.{KnownBelow}
 use Rattle.verifier.proofs.Reaching.{ContainRunsBelow, AriseBelow}
 use Rattle.verifier.proofs.walk.walk_each.Given as goal
 
@@ -15,4 +18,7 @@ invariant-loop-slot l = record {
   waits : AllArise l.profile (program_of l.words) l.waiting;
   falls : FallsAs l.profile (program_of l.words) l.slot (after l.flow l.state);
   arises : AriseBelow l.profile (program_of l.words) l.slot l.states.items;
+  awaits : Awaits l.slot (after l.flow l.state) l.waiting (awaited_at l.profile (program_of l.words) l.slot);
+  sound : IsAllowedBelow l.profile (program_of l.words) l.slot;
+  known : KnownBelow l.profile (program_of l.words) l.slot l.states.items;
 }

@@ -7,6 +7,10 @@ use Rattle.verifier.specs.declared.refusal.StructureFault.TheVariants.{WriteR10}
 use Rattle.verifier.specs.Reaches.{Covers, ListsBelow}
 use Rattle.verifier.proofs.Walking.{jumps_within, begins, stepped_over}
 use Rattle.verifier.proofs.walk.walk_to.Goals.{in-Some+in_ok-flow, in_default}
+use Rattle.verifier.specs.declared.refusal.VerifyError.TheVariants.{OutOfMemory}
+use Rattle.verifier.specs.Decides.{IsAllowedBelow, awaited_at}
+use Rattle.verifier.specs.Decided.{Awaits, NamesFirst}
+use Rattle.verifier.proofs.Decided.{awaits_first, sound_first, awaits_over, awaits_second, sound_over, sound_second, names_first, waits_after, le_self}
 use Rattle.verifier.proofs.walk.walk_to.Goals as goal
 use Rattle.verifier.specs.Arises.{IsCause}
 use Rattle.verifier.proofs.Arising.{entry_falls, second_falls, passed_on}
@@ -23,6 +27,8 @@ loop-slot-init c =
       lists = lists_none c.args.profile (program_of c.args.words.now) c.nothing-reads.result;
       waits = λ slot a e. let none = c.in_ok-waiting.ensures.nothing slot in absurd (cc);
       falls = entry_falls c.args.profile (program_of c.args.words.now) c.entry-state.result some (program_of-paired c.args.words.now c.len.ensures.sound) c.entry-state.ensures.context c.entry-state.ensures.frame c.entry-state.ensures.unset;
+      awaits = awaits_first c.args.profile (program_of c.args.words.now) c.entry-state.result c.in_ok-waiting.waiting c.entry-state.ensures.rule c.in_ok-waiting.ensures.nothing;
+      sound = sound_first c.args.profile (program_of c.args.words.now) c.requires.structured;
     }
 
 pub visit-requires-clause-jumps : goal.visit-requires-clause-jumps
@@ -42,6 +48,8 @@ loop-slot-preserved c =
           let follows : Follows c.args.profile (program_of c.args.words.now) (c.loop-slot.slot + 1) (after w.in_ok-flow.flow w.visit.new.state) w.visit.new.waiting =
           w.in_ok-flow.ensures.follows (program_of c.args.words.now) (program_of-paired c.args.words.now c.len.ensures.sound) c.requires.structured w.in-Some.ensures.value c.loop-slot.invariant.follows in
           let step = w.in_ok-flow.ensures.floor (program_of c.args.words.now) (program_of-paired c.args.words.now c.len.ensures.sound) c.requires.structured w.in-Some.ensures.value c.loop-slot.invariant.waits c.loop-slot.invariant.falls c.loop-slot.invariant.covers in
+          let a = awaited_at c.args.profile (program_of c.args.words.now) c.loop-slot.slot in
+          let passes = (w.in_ok-flow.ensures.rule a.falling (a.waiting c.loop-slot.slot) a.waiting c.loop-slot.invariant.awaits.falls (c.loop-slot.invariant.awaits.waits c.loop-slot.slot (le_self c.loop-slot.slot)) (waits_after c.loop-slot.waiting c.loop-slot.slot a.waiting c.loop-slot.invariant.awaits.waits)).0 in
           rw (w.waiting-is, w.state-is, w.flow-is, w.reads-is)
           (record {
             size = w.in_ok-flow.ensures.size ∙ c.loop-slot.invariant.size;
@@ -50,6 +58,8 @@ loop-slot-preserved c =
             lists = w.in_ok-flow.ensures.lists (program_of c.args.words.now) c.requires.structured w.in-Some.ensures.value c.loop-slot.invariant.covers c.loop-slot.invariant.lists;
             waits = step.1.0;
             falls = step.1.1;
+            awaits = awaits_over c.args.profile (program_of c.args.words.now) c.loop-slot.slot w.in-Some.insn (after w.in_ok-flow.flow w.visit.new.state) w.visit.new.waiting w.in-Some.ensures.value passes;
+            sound = sound_over c.args.profile (program_of c.args.words.now) c.loop-slot.slot w.in-Some.insn (after w.in_ok-flow.flow w.visit.new.state) w.visit.new.waiting w.in-Some.ensures.value c.loop-slot.invariant.sound passes;
           })
       | in_default w ↦
           rw (w.waiting-is, w.state-is, w.flow-is, w.reads-is)
@@ -60,6 +70,8 @@ loop-slot-preserved c =
             lists = lists_over c.args.profile (program_of c.args.words.now) c.loop-slot.slot c.loop-slot.reads w.in_default.ensures.value c.loop-slot.invariant.lists;
             waits = c.loop-slot.invariant.waits;
             falls = second_falls c.args.profile (program_of c.args.words.now) c.loop-slot.slot (after c.loop-slot.flow c.loop-slot.state) w.in_default.ensures.value c.loop-slot.invariant.falls;
+            awaits = awaits_second c.args.profile (program_of c.args.words.now) c.loop-slot.slot (after c.loop-slot.flow c.loop-slot.state) c.loop-slot.waiting w.in_default.ensures.value c.loop-slot.invariant.awaits.falls (waits_after c.loop-slot.waiting c.loop-slot.slot _ c.loop-slot.invariant.awaits.waits);
+            sound = sound_second c.args.profile (program_of c.args.words.now) c.loop-slot.slot w.in_default.ensures.value c.loop-slot.invariant.sound;
           })
     ]
 
@@ -82,3 +94,24 @@ pub returns-in_err-flow-clause-floor : goal.returns-in_err-flow-clause-floor
 returns-in_err-flow-clause-floor c =
     passed_on c.from_residual-in_err-flow.result c.in_err-flow.field-0.0 (IsCause c.args.profile (program_of c.args.words.now)) c.from_residual-in_err-flow.ensures.1
     (c.in_err-flow.ensures.floor (program_of c.args.words.now) (program_of-paired c.args.words.now c.len.ensures.sound) c.requires.structured c.in-Some.ensures.value c.loop-slot.invariant.waits c.loop-slot.invariant.falls c.loop-slot.invariant.covers).0
+
+pub returns-clause-awaits : goal.returns-clause-awaits
+returns-clause-awaits c =
+    let last : c.loop-slot.slot ≡ c.args.end = search rules in
+    subst (λ n. Awaits n (after c.loop-slot.flow c.loop-slot.state) c.loop-slot.waiting (awaited_at c.args.profile (program_of c.args.words.now) n)) last c.loop-slot.invariant.awaits
+
+pub returns-clause-passes : goal.returns-clause-passes
+returns-clause-passes c =
+    let last : c.loop-slot.slot ≡ c.args.end = search rules in
+    subst (λ n. IsAllowedBelow c.args.profile (program_of c.args.words.now) n) last c.loop-slot.invariant.sound
+
+pub returns-in_err-flow-clause-names : goal.returns-in_err-flow-clause-names
+returns-in_err-flow-clause-names c =
+    let a = awaited_at c.args.profile (program_of c.args.words.now) c.loop-slot.slot in
+    passed_on c.from_residual-in_err-flow.result c.in_err-flow.field-0.0 (NamesFirst c.args.profile (program_of c.args.words.now)) c.from_residual-in_err-flow.ensures.1
+    (names_first c.args.profile (program_of c.args.words.now) c.loop-slot.slot c.in-Some.insn c.in_err-flow.field-0.0 c.in-Some.ensures.value c.loop-slot.invariant.sound
+    (c.in_err-flow.ensures.rule a.falling (a.waiting c.loop-slot.slot) a.waiting c.loop-slot.invariant.awaits.falls (c.loop-slot.invariant.awaits.waits c.loop-slot.slot (le_self c.loop-slot.slot)) (waits_after c.loop-slot.waiting c.loop-slot.slot a.waiting c.loop-slot.invariant.awaits.waits)).1)
+
+pub returns-in_err-waiting-clause-names : goal.returns-in_err-waiting-clause-names
+returns-in_err-waiting-clause-names c =
+    passed_on c.from_residual.result OutOfMemory (NamesFirst c.args.profile (program_of c.args.words.now)) c.from_residual.ensures.1 (λ at fault is. absurd (cc (is)))

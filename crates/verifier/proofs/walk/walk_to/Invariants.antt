@@ -4,6 +4,8 @@ use Rattle.abstract_state.specs.Steps.{after}
 use Rattle.verifier.specs.Arises.{AllArise, FallsAs}
 use Rattle.verifier.specs.Walk.{Follows}
 use Rattle.verifier.specs.Reaches.{Covers, ListsBelow}
+use Rattle.verifier.specs.Decides.{IsAllowedBelow, awaited_at}
+use Rattle.verifier.specs.Decided.{Awaits}
 use Rattle.verifier.proofs.walk.walk_to.Given as goal
 
 abbrev pub invariant-loop-slot : goal.invariant-loop-slot
@@ -14,4 +16,6 @@ invariant-loop-slot l = record {
   lists : ListsBelow l.profile (program_of l.words) l.slot l.reads;
   waits : AllArise l.profile (program_of l.words) l.waiting;
   falls : FallsAs l.profile (program_of l.words) l.slot (after l.flow l.state);
+  awaits : Awaits l.slot (after l.flow l.state) l.waiting (awaited_at l.profile (program_of l.words) l.slot);
+  sound : IsAllowedBelow l.profile (program_of l.words) l.slot;
 }

@@ -63,6 +63,7 @@ returns-clause-ok g c =
       record {
         program = safe.0;
         safe = safe.1;
+        allowed = safe.2;
         token = c.in_ok-token.token;
         same = c.in_ok-token.ensures.ok ∙ c.in_ok-program.ensures.ok.1;
         holding = subst (λ (q : QueueSink). InOneHolding (λ old new. Subscribes old (first_of c.args.first old) c.in_ok-token.token q (Ok c.in_ok-id.id) new))

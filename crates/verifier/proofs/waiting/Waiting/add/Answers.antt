@@ -4,6 +4,10 @@ use Rattle.verifier.specs.Waiting.{waiting_at}
 use Rattle.verifier.proofs.Waits.{keeps_added, added_there}
 use Rattle.verifier.proofs.waiting.Waiting.add.Goals as goal
 use Rattle.verifier.specs.Arises.{AllArise}
+use Rattle.abstract_state.specs.Situation.{IsSituationIn}
+use Rattle.verifier.specs.Decided.{WaitsFrom}
+use Rattle.verifier.proofs.Waits.{read_waiting}
+use Rattle.verifier.proofs.Deciding.{waits_added}
 use Rattle.verifier.proofs.Arising.{arise_added, read_arises}
 
 pub returns-clause-kept : goal.returns-clause-kept
@@ -23,3 +27,10 @@ returns-clause-arises c = λ profile program all target arises.
     let every = subst (λ v. AllArise profile program v) (sym c.self.view_is) all in
     arise_added profile program c.self.inside.states.items c.args.slot c.take.new.self c.in_ok-joined.joined within every target
     (c.in_ok-joined.ensures.arises profile program c.args.slot target (λ a e. (read_arises profile program c.self.inside.states.items c.args.slot c.index_mut.result.now c.take.result a within c.index_mut.ensures.value c.take.ensures.value every e).1) arises)
+
+pub returns-clause-rule : goal.returns-clause-rule
+returns-clause-rule c = λ from w s waits few is.
+    let within : c.args.slot < length c.self.inside.states.items = search rules in
+    let every = subst (λ v. WaitsFrom from v w) (sym c.self.view_is) waits in
+    let there = subst (λ o. IsSituationIn o (w c.args.slot)) (read_waiting c.self.inside.states.items c.args.slot c.index_mut.result.now c.take.result within c.index_mut.ensures.value c.take.ensures.value) (every c.args.slot few) in
+    waits_added c.self.inside.states.items c.args.slot from c.take.new.self c.in_ok-joined.joined s w within every (c.in_ok-joined.ensures.rule (w c.args.slot) s there is)

@@ -1,4 +1,4 @@
-use Rattle.std.proofs.Common.{◌≡◌, ◌<◌, None, length, refl, sym, ap, subst, rules}
+use Rattle.std.proofs.Common.{◌≡◌, ◌<◌, None, length, refl, sym, ap, ◌∙◌, subst, rules}
 use Rattle.abstract_state.specs.State.{Contains, WithinState}
 use Rattle.abstract_state.specs.Steps.{after}
 use Rattle.verifier.specs.Waiting.{waiting_at}
@@ -7,6 +7,10 @@ use Rattle.verifier.proofs.waiting.Waiting.arrive.Goals as goal
 use Rattle.verifier.specs.Arises.{Arises, AllArise, joined}
 use Rattle.verifier.specs.Waiting.{unboxed}
 use Rattle.verifier.proofs.Arising.{arise_taken, read_arises, read_nothing, at_one}
+use Rattle.abstract_state.specs.declared.state.AbsState.{AbsState}
+use Rattle.abstract_state.specs.Situation.{IsSituation, IsSituationIn, situation_of, joined as joined_situation}
+use Rattle.verifier.proofs.Waits.{read_waiting, waiting-set_same}
+use Rattle.verifier.proofs.Deciding.{arrives_both, arrives_alone, arrives_none}
 
 pub returns-clause-falls : goal.returns-clause-falls
 returns-clause-falls c = λ lengths s falls.
@@ -79,3 +83,40 @@ pub returns-in_default-clause-waits : goal.returns-in_default-clause-waits
 returns-in_default-clause-waits c = λ profile program all.
     let within : c.args.slot < length c.self.inside.states.items = search rules in
     arise_taken profile program c.self.inside.states.items c.args.slot c.take.new.self within c.take.ensures.after (subst (λ v. AllArise profile program v) (sym c.self.view_is) all)
+
+pub returns-clause-rule : goal.returns-clause-rule
+returns-clause-rule c = λ falling here falls waits.
+    let within : c.args.slot < length c.self.inside.states.items = search rules in
+    let every = subst (λ v. IsSituationIn (waiting_at v c.args.slot) here) (sym c.self.view_is) waits in
+    let there = read_waiting c.self.inside.states.items c.args.slot c.index_mut.result.now c.take.result within c.index_mut.ensures.value c.take.ensures.value ∙ ap unboxed c.in-Some.is in
+    arrives_both (waiting_at c.self.inside.states.items c.args.slot) (after c.args.flow c.args.state.now) c.args.state.now c.in-Some.waiting.value c.join.new.self falling here there (ap (λ f. after f c.args.state.now) c.in-Live.is) every falls
+    (subst (λ (a : AbsState). IsSituation c.join.new.self (joined_situation (situation_of c.args.state.now) (situation_of a))) c.deref.ensures c.join.ensures.rule)
+
+pub returns-in_default-flow-clause-rule : goal.returns-in_default-flow-clause-rule
+returns-in_default-flow-clause-rule c = λ falling here falls waits.
+    let within : c.args.slot < length c.self.inside.states.items = search rules in
+    let every = subst (λ v. IsSituationIn (waiting_at v c.args.slot) here) (sym c.self.view_is) waits in
+    let there = read_waiting c.self.inside.states.items c.args.slot c.index_mut.result.now c.take.result within c.index_mut.ensures.value c.take.ensures.value ∙ ap unboxed c.in-Some.is in
+    arrives_alone (waiting_at c.self.inside.states.items c.args.slot) (after c.args.flow c.args.state.now) c.in-Some.waiting.value c.into_inner.result falling here there (search rules) c.into_inner.ensures every falls
+
+pub returns-in_default-clause-rule : goal.returns-in_default-clause-rule
+returns-in_default-clause-rule c = λ falling here falls waits.
+    let within : c.args.slot < length c.self.inside.states.items = search rules in
+    let every = subst (λ v. IsSituationIn (waiting_at v c.args.slot) here) (sym c.self.view_is) waits in
+    let there = read_waiting c.self.inside.states.items c.args.slot c.index_mut.result.now c.take.result within c.index_mut.ensures.value c.take.ensures.value ∙ ap unboxed c.in_default.is in
+    arrives_none (waiting_at c.self.inside.states.items c.args.slot) (after c.args.flow c.args.state.now) falling here there every falls
+
+pub returns-clause-taken : goal.returns-clause-taken
+returns-clause-taken c =
+    let within : c.args.slot < length c.self.inside.states.items = search rules in
+    waiting-set_same c.self.inside.states.items c.args.slot c.take.new.self within ∙ ap unboxed c.take.ensures.after
+
+pub returns-in_default-flow-clause-taken : goal.returns-in_default-flow-clause-taken
+returns-in_default-flow-clause-taken c =
+    let within : c.args.slot < length c.self.inside.states.items = search rules in
+    waiting-set_same c.self.inside.states.items c.args.slot c.take.new.self within ∙ ap unboxed c.take.ensures.after
+
+pub returns-in_default-clause-taken : goal.returns-in_default-clause-taken
+returns-in_default-clause-taken c =
+    let within : c.args.slot < length c.self.inside.states.items = search rules in
+    waiting-set_same c.self.inside.states.items c.args.slot c.take.new.self within ∙ ap unboxed c.take.ensures.after

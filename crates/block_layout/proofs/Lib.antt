@@ -1,0 +1,4 @@
+pub mod Same
+pub mod Readings
+pub mod Walks
+pub mod Unchanged

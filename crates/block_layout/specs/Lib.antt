@@ -1,0 +1,5 @@
+pub mod Meaning
+pub mod Loops
+pub mod Structure
+pub mod Kept
+pub mod Refused

@@ -1,0 +1,11 @@
+//! Lays the instructions of a program out so that no jump leads back, with the same meaning.
+#![tactic(auto)]
+
+mod check;
+mod layout;
+mod loops;
+pub mod refusal;
+pub mod straighten;
+mod structure;
+mod walk;
+mod ways;

@@ -1,9 +1,0 @@
-use Rattle.std.proofs.Common.{List, ℕ, ◌+◌}
-use Rattle.change_ops.specs.declared.operation.Op.{Op}
-use Rattle.change_ops.specs.Runs.{inserts_of}
-use Rattle.change_history.specs.Kept.{StandAt}
-use Rattle.change_history.specs.Tally.{IsAdmitted}
-use Rattle.change_history.proofs.admission.admit_run.Given as goal
-
-abbrev pub invariant-loop-index : goal.invariant-loop-index
-invariant-loop-index l = (ops added : List Op) (from node : ℕ) → IsAdmitted ops added from node l.parts l.fn.tally → StandAt added from (inserts_of l.run) → IsAdmitted ops added (from + l.index) node l.parts l.tally

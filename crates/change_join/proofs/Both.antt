@@ -1,0 +1,108 @@
+-- The change of the lines of two.
+use Rattle.std.proofs.Common.{◌≡◌, ℕ, ◌+◌, ◌<◌, ◌≤◌, true, List, [], ◌∷◌, ◌++◌, length, get_or, drop, add-one, drop-cons, refl, sym, ap, subst, ◌∙◌, arith, append_assoc, length-append}
+use Rattle.std.specs.Prelude.{IsTrue, nat_le, ◌==◌}
+use Rattle.std.specs.List.{AllByRecursion}
+use Rattle.std.proofs.lemmas.List.{drop_all}
+use Rattle.std.proofs.lemmas.Bool.{and_parts, leb-true, eqb-true}
+use Rattle.change_ops.specs.Changes.{Change, IsChange, IsLine, operations}
+use Rattle.change_ops.specs.Lines.{ops_of, ops_of_lines, count_of, line_within, has_line}
+use Rattle.change_ops.specs.declared.line.Form.{Form}
+use Rattle.change_ops.specs.declared.line.Form.TheVariants.{First, Second}
+use Rattle.change_ops.specs.declared.line.Line.{Line}
+use Rattle.change_ops.specs.declared.line.Line.TheVariants.{Operation, Run}
+use Rattle.change_ops.proofs.ChangeLaws.{more_ops, no_ops}
+use Rattle.change_ops.proofs.RunLaws.{run_limits}
+use Rattle.change_join.specs.Joined.{can_join, wider, both_of}
+
+pub ops-append : (lines more : List Line) → ops_of_lines (lines ++ more) ≡ ops_of_lines lines ++ ops_of_lines more
+unfolding ops_of_lines
+ops-append [] more = refl
+ops-append (line ∷ lines) more =
+    ap (λ (ops : _). ops_of line ++ ops) (ops-append lines more) ∙ sym (append_assoc (ops_of line) (ops_of_lines lines) (ops_of_lines more))
+
+-- their operations
+pub both_operations : (change next : Change) → operations (both_of change next) ≡ operations change ++ operations next
+both_operations change next = ops-append change.lines next.lines
+
+pub both_count : (change next : Change) → length (operations (both_of change next)) ≡ length (operations change) + length (operations next)
+both_count change next = ap length (both_operations change next) ∙ length-append (operations change) (operations next)
+
+-- what a test says
+pub record CanJoin (change next : Change) : Type 0 where
+  pub node : change.node ≡ next.node
+  pub few : length (operations change) + length (operations next) ≤ 256
+
+pub joinable : (change next : Change) → can_join change next ≡ true → CanJoin change next
+joinable change next e =
+    let parts = and_parts (change.node == next.node) (nat_le (length (operations change) + length (operations next)) 256) e in
+    record { node = eqb-true _ _ parts.0; few = leb-true _ _ parts.1 }
+
+-- its lines are of the wider form
+wider_left : (form other : Form) (line : Line) → IsTrue (has_line form line) → IsTrue (has_line (wider form other) line)
+wider_left First First line h = h
+wider_left First Second line h = refl
+wider_left Second other line h = refl
+
+wider_right : (form other : Form) (line : Line) → IsTrue (has_line other line) → IsTrue (has_line (wider form other) line)
+wider_right First other line h = h
+wider_right Second other line h = refl
+
+module _ (form other : Form) (peer : ℕ) where
+  lines_left : (lines : List Line) → AllByRecursion (IsLine form peer) lines → AllByRecursion (IsLine (wider form other) peer) lines
+  lines_left [] h = tt
+  lines_left (line ∷ lines) h =
+      (record { own = h.0.own; within = h.0.within; characters = h.0.characters; formed = wider_left form other line h.0.formed }, lines_left lines h.1)
+
+  lines_right : (lines : List Line) → AllByRecursion (IsLine other peer) lines → AllByRecursion (IsLine (wider form other) peer) lines
+  lines_right [] h = tt
+  lines_right (line ∷ lines) h =
+      (record { own = h.0.own; within = h.0.within; characters = h.0.characters; formed = wider_right form other line h.0.formed }, lines_right lines h.1)
+
+  lines_both : (lines more : List Line) → AllByRecursion (IsLine form peer) lines → AllByRecursion (IsLine other peer) more → AllByRecursion (IsLine (wider form other) peer) (lines ++ more)
+  lines_both [] more h k = lines_right more k
+  lines_both (line ∷ lines) more h k =
+      (record { own = h.0.own; within = h.0.within; characters = h.0.characters; formed = wider_left form other line h.0.formed }, lines_both lines more h.1 k)
+
+pub both_is_change : (change next : Change) → can_join change next ≡ true → IsChange change → IsChange next → IsChange (both_of change next)
+both_is_change change next e h k =
+    let c = joinable change next e in
+    let count = both_count change next in
+    let some = h.some in
+    let few = c.few in
+    record {
+      named = h.named;
+      known = h.known;
+      some = omega (arith, length-append change.lines next.lines, some);
+      few = omega (arith, count, few);
+      lines = lines_both change.form next.form change.node change.lines next.lines h.lines (subst (λ (n : ℕ). AllByRecursion (IsLine next.form n) next.lines) (sym c.node) k.lines);
+    }
+
+-- ---- how many operations lines mean
+pub count_more : (lines : List Line) (line : Line) (i count own total : ℕ) → i < length lines → line ≡ get_or lines i line → own ≡ count_of line
+    → count + length (ops_of_lines (drop i lines)) ≡ total → (count + own) + length (ops_of_lines (drop (i + 1) lines)) ≡ total
+count_more lines line i count own total lt is counted so_far =
+    let left : drop i lines ≡ line ∷ drop (i + 1) lines = rw (add-one, drop-cons lines i line lt, ← is) refl in
+    let both : length (ops_of_lines (drop i lines)) ≡ count_of line + length (ops_of_lines (drop (i + 1) lines)) =
+    ap (λ (l : List Line). length (ops_of_lines l)) left ∙ more_ops line (drop (i + 1) lines) in
+    omega (arith, counted, so_far, both)
+
+pub count_done : (lines : List Line) (i count total : ℕ) → length lines ≤ i → count + length (ops_of_lines (drop i lines)) ≡ total → count ≡ total
+count_done lines i count total le so_far =
+    let none : length (ops_of_lines (drop i lines)) ≡ 0 = ap (λ (l : List Line). length (ops_of_lines l)) (drop_all i lines le) ∙ no_ops in
+    omega (arith, none, so_far)
+
+-- each line means an operation at least
+line_counts : (line : Line) → line_within line ≡ true → 1 ≤ count_of line
+line_counts (Operation op) h = omega arith
+line_counts (Run run) h = let l = run_limits run h in let s = l.some in omega arith
+
+lines_count : (form : Form) (peer : ℕ) (lines : List Line) → AllByRecursion (IsLine form peer) lines → length lines ≤ length (ops_of_lines lines)
+lines_count form peer [] h = omega arith
+lines_count form peer (line ∷ lines) h =
+    let one = line_counts line h.0.within in
+    let others = lines_count form peer lines h.1 in
+    let all = more_ops line lines in
+    omega arith
+
+pub few_lines : (change : Change) → IsChange change → length change.lines ≤ 256
+few_lines change h = let count = lines_count change.form change.node change.lines h.lines in let few = h.few in omega arith

@@ -1,0 +1,15 @@
+-- Whole changes put together, so that each group can be one change.
+use Rattle.std.specs.Prelude.{◌≡◌, ℕ, ◌≤◌, List, length}
+use Rattle.std.specs.List.{AllByRecursion, flat_map}
+use Rattle.change_ops.specs.Changes.{Change, operations}
+
+-- they are of one peer, and have at most 256 operations together
+pub record CanBeOne (group : List Change) : Type 0 where
+  pub node : ℕ
+  pub own : AllByRecursion (λ (change : Change). change.node ≡ node) group
+  pub few : length (flat_map operations group) ≤ 256
+
+-- the changes in groups, each of which can be one
+pub record AreGroups (changes : List Change) (groups : List (List Change)) : Type 0 where
+  pub whole : flat_map (λ group. group) groups ≡ changes
+  pub each : AllByRecursion CanBeOne groups

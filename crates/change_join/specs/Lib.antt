@@ -1,0 +1,4 @@
+pub mod Joined
+pub mod Groups
+pub mod Joints
+pub mod Replacing

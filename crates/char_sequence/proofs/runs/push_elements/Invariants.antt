@@ -1,0 +1,7 @@
+use Rattle.std.proofs.Common.{◌≡◌, ◌+◌, ◌≤◌, ◌++◌, length, drop, vec_capacity}
+use Rattle.char_sequence.specs.RunElements.{later_id, elements_from}
+use Rattle.char_sequence.proofs.runs.push_elements.Given as goal
+
+abbrev pub invariant-loop-by : goal.invariant-loop-by
+invariant-loop-by l =
+    (l.initial.items.items ++ elements_from l.id l.characters ≡ l.items.items ++ elements_from (later_id l.id l.by) (drop l.by l.characters)) × (length l.items.items ≡ length l.initial.items.items + l.by) × (vec_capacity l.initial.items ≤ vec_capacity l.items)

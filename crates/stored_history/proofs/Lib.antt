@@ -1,0 +1,5 @@
+pub mod Answering
+pub mod Copies
+pub mod Faults
+pub mod Logs
+pub mod Texts

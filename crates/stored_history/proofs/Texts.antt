@@ -1,0 +1,65 @@
+-- Texts that are accepted again, one after another.
+use Rattle.std.proofs.Common.{◌≡◌, ℕ, ◌+◌, List, [], ◌∷◌, ◌++◌, Some, Result, Ok, Err, IsErrAnd, MatchResult, length, map, take, sym, ap, ◌∙◌, subst, rules}
+use Rattle.std.specs.List.{slice_get, AllByRecursion}
+use Rattle.std.proofs.lemmas.List.{map-append}
+use Rattle.std.proofs.lemmas.Option.{none-some}
+use Rattle.std.proofs.Math.Seq.{take-length}
+use Rattle.change_ops.specs.Changes.{Change, IsChange}
+use Rattle.change_ops.specs.Spelling.{change_text}
+use Rattle.change_history.specs.Accepted.{IsAccepted}
+use Rattle.change_history.proofs.Chronicle.{take_push, accepted_more}
+use Rattle.stored_history.specs.declared.error.OpenError.{OpenError}
+use Rattle.stored_history.specs.declared.error.OpenError.TheVariants.{LogFailed, Damaged, OutOfMemory}
+use Rattle.stored_history.specs.Texts.{IsTextOf, AreTextsOf, IsAtFault, IsFirstAtFault, FollowsBy, IsFaultOf, IsNotRead}
+
+all_more : (P : Change → Type 0) (changes : List Change) (change : Change) → AllByRecursion P changes → P change → AllByRecursion P (changes ++ change ∷ [])
+all_more P [] change all one = (one, tt)
+all_more P (first ∷ changes) change all one = (all.0, all_more P changes change all.1 one)
+
+of_none : AreTextsOf [] []
+of_none = record { spelled = search rules; valid = tt; accepted = λ n change here. absurd (none-some change here) }
+
+pub read_none : (texts : List (List ℕ)) (changes : List Change) → changes ≡ [] → AreTextsOf (take 0 texts) changes
+read_none texts changes none = subst (λ (cs : List Change). AreTextsOf [] cs) (sym none) of_none
+
+pub read_more : (texts : List (List ℕ)) (changes : List Change) (index : ℕ) (text : List ℕ) (change : Change) → AreTextsOf (take index texts) changes → slice_get texts index ≡ Some text → IsTextOf text change → IsAccepted changes change
+    → AreTextsOf (take (index + 1) texts) (changes ++ change ∷ [])
+read_more texts changes index text change read here spelled accepted = record {
+  spelled = take_push texts index text here ∙ ap (λ ts. ts ++ text ∷ []) read.spelled ∙ ap (λ t. map change_text changes ++ t ∷ []) spelled.1
+      ∙ sym (map-append change_text changes (change ∷ []));
+  valid = all_more IsChange changes change read.valid spelled.0;
+  accepted = accepted_more changes change read.accepted accepted;
+}
+
+-- the same, where the history has the changes
+pub read_next : (texts : List (List ℕ)) (changes grown old new : List Change) (index : ℕ) (text : List ℕ) (change : Change) → AreTextsOf (take index texts) changes → slice_get texts index ≡ Some text → old ≡ changes
+    → FollowsBy text change old new → grown ≡ changes ++ change ∷ [] → AreTextsOf (take (index + 1) texts) grown × (new ≡ grown)
+read_next texts changes grown old new index text change read here same follows is = (
+  subst (λ (cs : List Change). AreTextsOf (take (index + 1) texts) cs) (sym is)
+      (read_more texts changes index text change read here follows.spelled (subst (λ (cs : List Change). IsAccepted cs change) same follows.accepted)),
+  follows.grown ∙ ap (λ cs. cs ++ change ∷ []) same ∙ sym is,
+)
+
+pub first_fault : (texts : List (List ℕ)) (changes old : List Change) (index : ℕ) (text : List ℕ) → AreTextsOf (take index texts) changes → length changes ≡ index → slice_get texts index ≡ Some text → old ≡ changes
+    → IsAtFault old text → IsFirstAtFault texts (index + 1)
+first_fault texts changes old index text read count here same fault = record {
+  before = changes;
+  text = text;
+  spelled = subst (λ (n : ℕ). AreTextsOf (take n texts) changes) (sym count) read;
+  here = subst (λ (n : ℕ). slice_get texts n ≡ Some text) (sym count) here;
+  fault = subst (λ (cs : List Change). IsAtFault cs text) same fault;
+  numbered = ap (λ n. n + 1) (sym count);
+}
+
+pub read_all : (texts : List (List ℕ)) (changes : List Change) (index : ℕ) → index ≡ length texts → AreTextsOf (take index texts) changes → AreTextsOf texts changes
+read_all texts changes index whole read = subst (λ (ts : List (List ℕ)). AreTextsOf ts changes) (ap (λ n. take n texts) whole ∙ take-length texts) read
+
+-- the first text that isn't accepted is the first at fault
+pub not_read : {R : Type 0} (r : Result R OpenError) (P : R → Type 0) (texts : List (List ℕ)) (changes old : List Change) (index : ℕ) (text : List ℕ) (error : OpenError) → IsErrAnd r (λ e. e ≡ error) → AreTextsOf (take index texts) changes
+    → length changes ≡ index → slice_get texts index ≡ Some text → old ≡ changes → IsFaultOf old text (index + 1) error → MatchResult r P (IsNotRead texts)
+not_read (Ok x) P texts changes old index text error is read count here same why = absurd is
+not_read (Err e) P texts changes old index text LogFailed is read count here same why = absurd why
+not_read (Err e) P texts changes old index text (Damaged at) is read count here same why =
+    subst (λ (x : OpenError). IsNotRead texts x) (sym is)
+    (subst (λ (n : ℕ). IsFirstAtFault texts n) (sym why.0) (first_fault texts changes old index text read count here same why.1))
+not_read (Err e) P texts changes old index text OutOfMemory is read count here same why = subst (λ (x : OpenError). IsNotRead texts x) (sym is) tt

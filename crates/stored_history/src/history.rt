@@ -1,0 +1,147 @@
+ghost use Rattle.std.specs.Prelude.{◌≡◌, ℕ, List, Err, true, false, [], ◌++◌, length, map, IfOk, IfErr, OnOk};
+ghost use Rattle.change_ops.specs.Spelling.{change_text};
+ghost use Rattle.change_history.specs.Accepted.{AreAccepted};
+ghost use Rattle.stored_history.specs.Answers.{AreAnswered};
+ghost use Rattle.stored_history.specs.Stored.{IsLeft};
+ghost use Rattle.stored_history.specs.Texts.{IsNotOpened, StillKeeps};
+
+use crate::answer::Answer;
+use crate::error::{AcceptError, OpenError};
+use crate::group::accept_all;
+use crate::reading::read_again;
+use change_history::history::History;
+use change_log::log::{ChangeLog, LogError};
+use change_log::text::ChangeText;
+use change_ops::change::Change;
+use std::alloc::Global;
+use std::marker::Model;
+
+/// A history, and a log that keeps the texts of its changes. Whatever is answered of a change is kept first, unless the
+/// log has failed; then nothing is answered any more.
+#[derive(Drop)]
+pub struct StoredHistory<L: ChangeLog> {
+    history: History,
+    log: L,
+    is_failed: bool,
+    alloc: Global,
+}
+
+impl<L: ChangeLog> Model for StoredHistory<L> {
+    ghost use Rattle.std.specs.Prelude.{◌≡◌, false, map};
+    ghost use Rattle.change_ops.specs.Spelling.{change_text};
+    ghost use Rattle.stored_history.specs.Stored.{Stored};
+
+    ghost Value = { Stored L };
+
+    ghost view = { λ s. record { changes = s.history; log = s.log; is_failed = s.is_failed } };
+
+    ghost invariant = { λ s. s.is_failed ≡ false → L.kept s.log (map change_text s.history) };
+}
+
+/// A history whose log was opened, and its changes, for whoever is to be told of them.
+#[derive(Drop)]
+pub struct Opened<L: ChangeLog> {
+    pub stored: StoredHistory<L>,
+    pub changes: Vec<Change>,
+}
+
+/// A log that was not opened, and why.
+#[derive(Drop)]
+pub struct NotOpened<L: ChangeLog> {
+    pub log: L,
+    pub error: OpenError,
+}
+
+/// Keeps texts behind the others, if there are any: all of them at once.
+fn append_some<L: ChangeLog>(log: &mut L, texts: &[ChangeText]) -> Result<(), LogError>
+    ensures kept { (before : List (List ℕ)) → L.kept log.old before
+        → OnOk result (L.kept log.new (before ++ texts.now)) }
+    ensures none { texts.now ≡ [] → log.new ≡ log.old }
+{
+    if texts.is_empty() {
+        return Ok(());
+    }
+    log.append(texts)
+}
+
+impl<L: ChangeLog> StoredHistory<L> {
+    /// Accepts the changes whose texts a log keeps, in order.
+    pub fn open(alloc: Global, log: L) -> Result<Opened<L>, NotOpened<L>>
+        requires { (texts : List (List ℕ)) × L.kept log texts }
+        ensures kept { IfOk result (λ opened. L.kept opened.stored.log (map change_text opened.changes.items)) }
+        ensures accepted { IfOk result (λ opened. AreAccepted opened.changes.items
+            × (opened.stored.changes ≡ opened.changes.items) × (opened.stored.is_failed ≡ false)) }
+        ensures same { (texts : List (List ℕ)) → L.kept log texts
+            → IfOk result (λ opened. L.kept opened.stored.log texts) }
+        ensures same_err { (texts : List (List ℕ)) → L.kept log texts
+            → IfErr result (λ refused. StillKeeps L.kept refused.log texts refused.error) }
+        ensures err { IfErr result (λ refused. IsNotOpened L.kept refused.log refused.error) }
+    {
+        let mut log = log;
+        match read_again(alloc, &mut log) {
+            Ok(reading) => {
+                let stored = StoredHistory {
+                    history: reading.history,
+                    log,
+                    is_failed: false,
+                    alloc,
+                };
+                Ok(Opened {
+                    stored,
+                    changes: reading.changes,
+                })
+            }
+            Err(error) => Err(NotOpened { log, error }),
+        }
+    }
+
+    /// Accepts or refuses each change after those before it, and keeps the accepted ones before it answers: all of them
+    /// by one call of the log, and none if there are none. Where the log fails it isn't known what it keeps: nothing is
+    /// answered, now or later.
+    pub fn accept(&mut self, changes: Vec<Change>) -> Result<Vec<Answer>, AcceptError>
+        ensures answered { IfOk result (λ answers.
+            AreAnswered self.old.changes changes.items answers.items self.new.changes) }
+        ensures kept { OnOk result (L.kept self.new.log (map change_text self.new.changes)) }
+        ensures works { OnOk result (self.new.is_failed ≡ false) }
+        ensures untouched { self.new.changes ≡ self.old.changes → self.new.log ≡ self.old.log }
+        ensures err { IfErr result (λ error. IsLeft self.old error self.new) }
+        ensures failed { self.old.is_failed ≡ true
+            → (result ≡ Err AcceptError.LogFailed) × (self.new ≡ self.old) }
+    {
+        if self.is_failed {
+            return Err(AcceptError::LogFailed);
+        }
+        let Ok(group) = accept_all(self.alloc, &mut self.history, changes) else {
+            return Err(AcceptError::OutOfMemory);
+        };
+        if append_some(&mut self.log, &group.texts).is_err() {
+            self.is_failed = true;
+            return Err(AcceptError::LogFailed);
+        }
+        Ok(group.answers)
+    }
+
+    /// How many changes were accepted: as many as are kept, unless the log has failed.
+    pub fn count(&self) -> usize
+        ensures value { result ≡ length self.now.changes }
+        ensures accepted { AreAccepted self.now.changes }
+        ensures kept { self.now.is_failed ≡ false → L.kept self.now.log (map change_text self.now.changes) }
+    {
+        self.history.len()
+    }
+
+    /// Whether the log has failed.
+    pub fn is_failed(&self) -> bool
+        ensures { result ≡ self.now.is_failed }
+    {
+        self.is_failed
+    }
+
+    /// The log, which keeps what it kept.
+    pub fn into_log(self) -> L
+        ensures value { result ≡ self.log }
+        ensures kept { self.is_failed ≡ false → L.kept result (map change_text self.changes) }
+    {
+        self.log
+    }
+}

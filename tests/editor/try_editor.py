@@ -1,0 +1,102 @@
+#!/usr/bin/env python3
+"""Tries the editor of examples/editor in browsers: try_editor.py [HUB] [--rounds N] [--operations N] [--seed N] [--pictures FOLDER]
+
+HUB is the executable, by default $HUB or `hub`. It takes Chromium and its driver (Debian: chromium, chromium-driver), and a built
+examples/editor. Three editors and a peer of peer.py edit one text at random, one of the editors cut off for a while; after each round all
+four show the hub's text. Then each thing by itself: marks at their ends, undo, composition, paste, drag, limits, a hub that is gone; and
+the time from a key to the screen in a full text, which is printed."""
+import argparse
+import os
+import pathlib
+import random
+import time
+from concurrent.futures import ThreadPoolExecutor
+
+import cases
+from editors import Editor, number_in, place, program
+
+ROUNDS_A_HUB = 5
+KEYS = ["strong", "em", "code", "comment:7", "link", "color"]
+
+
+# Random rounds.
+
+def peer_at_random(peer, rng, count):
+    for _ in range(count):
+        peer.follow()
+        length = len(peer.replica.layout().visible)
+        first = rng.randrange(length + 1)
+        end = min(length, first + 1 + rng.randrange(8))
+        kind = rng.random()
+        if kind < 0.5 or first == end:
+            peer.insert(first, rng.choice(["p", "qr", "peer ", "\n", "\U0001f40d"]))
+        elif kind < 0.7:
+            peer.remove(first, end)
+        else:
+            key = rng.choice(KEYS)
+            if rng.random() < 0.25:
+                peer.unmark(first, end, key)
+            else:
+                peer.mark(first, end, key, {"link": "https://p.q/", "color": "b42318"}.get(key, "-"))
+        time.sleep(rng.random() * 0.04)
+
+
+def editor_at_random(editor, rng, count):
+    errors = []
+    for first in range(0, count, 25):
+        errors += editor.do("return round(...arguments)", rng.randrange(1 << 31), min(25, count - first), 60)
+    return errors
+
+
+def one_round(here, rng, operations):
+    """All edit at once; one of the editors is cut off for a part of the time."""
+    count = operations // (len(here.editors) + 1)
+    away = rng.randrange(len(here.editors))
+    with ThreadPoolExecutor(len(here.editors) + 1) as pool:
+        jobs = [pool.submit(editor_at_random, editor, random.Random(rng.random()), count) for editor in here.editors]
+        jobs.append(pool.submit(peer_at_random, here.peer, random.Random(rng.random()), count))
+        time.sleep(0.2)
+        here.bridges[away].stop()
+        time.sleep(0.3 + rng.random())
+        here.bridges[away].start()
+        for job in jobs:
+            errors = job.result()
+            assert not errors, errors
+    here.compare()
+
+
+def try_rounds(hub, editors, rng, rounds, operations):
+    begun, done = time.monotonic(), 0
+    while done < rounds:
+        with place(hub, editors) as here:
+            for _ in range(min(ROUNDS_A_HUB, rounds - done)):
+                one_round(here, rng, operations)
+                done += 1
+            _, latest = here.session.ask("latest")
+            used = here.editors[0].run("return [hub.replica.characters.size, hub.replica.marks.length]")
+            print(f"round {done}: {latest} versions, {used[0]} characters, {used[1]} marks, all alike, {time.monotonic() - begun:.0f} s", flush=True)
+
+
+def main():
+    parser = argparse.ArgumentParser(description=__doc__, formatter_class=argparse.RawDescriptionHelpFormatter)
+    parser.add_argument("hub", nargs="?", default=os.environ.get("HUB", "hub"))
+    parser.add_argument("--rounds", type=int, default=20)
+    parser.add_argument("--operations", type=int, default=500)
+    parser.add_argument("--seed", type=int, default=random.randrange(1 << 31))
+    parser.add_argument("--pictures", type=pathlib.Path)
+    arguments = parser.parse_args()
+    print(f"seed {arguments.seed}", flush=True)
+    with program("chromedriver", "--port=0") as driver:
+        address = f"http://127.0.0.1:{number_in(driver, 'successfully on port ([0-9]+)')}"
+        editors = [Editor(address) for _ in range(3)]
+        try:
+            cases.try_all(arguments.hub, editors, arguments.pictures)
+            try_rounds(arguments.hub, editors, random.Random(arguments.seed), arguments.rounds, arguments.operations)
+            cases.measure(arguments.hub, editors[0])
+        finally:
+            for editor in editors:
+                editor.quit()
+
+
+if __name__ == "__main__":
+    main()
