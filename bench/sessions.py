@@ -10,6 +10,7 @@ import socket
 import statistics
 import subprocess
 import sys
+import tempfile
 import time
 
 CHARACTERS = 32768
@@ -279,7 +280,69 @@ def serve_with(hub, clients, size):
     return each * clients / took, waits
 
 
+def handshake(connection):
+    """Begins a WebSocket."""
+    lines = ["GET /session HTTP/1.1", "Host: 127.0.0.1", "Upgrade: websocket", "Connection: Upgrade", "Sec-WebSocket-Version: 13",
+             "Sec-WebSocket-Key: dGhlIHNhbXBsZSBub25jZQ==", "", ""]
+    connection.sendall("\r\n".join(lines).encode())
+    reply = b""
+    while not reply.endswith(b"\r\n\r\n"):
+        reply += connection.recv(4096)
+    if not reply.startswith(b"HTTP/1.1 101 "):
+        sys.exit(f"answered {reply!r}")
+
+
+def text_frame(text):
+    """A message in one frame, with a mask of zeros."""
+    length = bytes([128 | len(text)]) if len(text) < 126 else bytes([254]) + len(text).to_bytes(2, "big")
+    return b"\x81" + length + bytes(4) + text
+
+
+def waits_at_doors(hub, size, count=1300):
+    """How long changes wait for their replies over a socket file, TCP and a WebSocket, one after another at each door in turn, by one
+    process with a session at each."""
+    with tempfile.TemporaryDirectory() as folder:
+        words = ["--port", "0", "--web", "0", "--unix", f"{folder}/hub.sock", "--sessions", "3"]
+        server = subprocess.Popen([hub, "serve", *words], stdout=subprocess.PIPE)
+        port, web = (int(server.stdout.readline().split()[1]) for _ in range(2))
+        server.stdout.readline()
+        file = socket.socket(socket.AF_UNIX)
+        file.connect(f"{folder}/hub.sock")
+        doors = {"--unix": file}
+        for door, number in (("--port", port), ("--web", web)):
+            doors[door] = socket.create_connection(("127.0.0.1", number))
+            doors[door].setsockopt(socket.IPPROTO_TCP, socket.TCP_NODELAY, 1)
+        handshake(doors["--web"])
+        waits = {door: [] for door in doors}
+        for k in range(count):
+            for node, (door, connection) in enumerate(doors.items(), 1):
+                request = typed(node, size * k + 1, f"{size * k}@{node}" if k else "-", size).encode()
+                request = text_frame(request) if door == "--web" else request
+                start = time.perf_counter()
+                connection.sendall(request)
+                reply = connection.recv(4096)
+                waits[door].append(time.perf_counter() - start)
+                if b"ok version " not in reply or not reply.endswith(b"\n"):
+                    sys.exit(f"answered {reply!r}")
+        for connection in doors.values():
+            connection.close()
+        if server.wait() != 0:
+            sys.exit("the server failed")
+    return waits
+
+
+def measure_doors(hub):
+    print("\nA change at each door of one server in turn, by one that waits: the least median of three, and its ratio to TCP's")
+    for size in (1, 8):
+        runs = [waits_at_doors(hub, size) for _ in range(3)]
+        medians = {door: min(statistics.median(waits[door]) for waits in runs) for door in runs[0]}
+        for door, median in medians.items():
+            row(f"{door}, changes of {size} character(s)", median * 1e6, "us")
+            row("  by --port", median / medians["--port"], "times")
+
+
 def measure_serve(hub):
+    measure_doors(hub)
     print("\nA server on 127.0.0.1: 4,096 changes of clients that wait for each reply")
     for size in (1, 8):
         for clients in (1, 8):

@@ -1,7 +1,11 @@
 #!/usr/bin/env python3
 """A peer of a hub that runs with --read: it follows the text, and makes changes of what a person says.
 
-    peer.py PORT [--node N] < COMMANDS
+    peer.py PORT|PATH [--node N] < COMMANDS
+
+PATH is a socket file of a hub that runs with --unix. Where the connection breaks, the peer connects anew for a minute, takes what it
+missed, and sends those of its own changes again that the hub doesn't have: its last one, and more where the hub began anew from an
+older store or from none.
 
 The node is that of the peer's own changes, 1 to 65,535; without --node one that has made none is taken, and so it is where the counters
 of a node are used up. Commands are lines:
@@ -28,6 +32,7 @@ import time
 from typing import NamedTuple
 
 OPERATIONS, NODES, TRIES = 256, 65535, 50
+CONNECTS, WAITS, PAUSE = 120, 20, 0.5
 GREATEST = (1 << 48) - 1
 AT_ONCE = 64
 LONGEST_LINE = 1 << 22
@@ -46,11 +51,21 @@ class NoCounter(ValueError):
     """There is no counter above all that an operation must exceed."""
 
 
+def connected(place):
+    """A connection to a port of this machine, or to a socket file."""
+    if isinstance(place, int):
+        return socket.create_connection(("127.0.0.1", place), timeout=60)
+    connection = socket.socket(socket.AF_UNIX)
+    connection.settimeout(60)
+    connection.connect(place)
+    return connection
+
+
 class Session:
     """A session of a hub on this machine."""
 
-    def __init__(self, port):
-        self.socket = socket.create_connection(("127.0.0.1", port), timeout=60)
+    def __init__(self, place):
+        self.socket = connected(place)
         self.lines = self.socket.makefile("rb")
 
     def line(self):
@@ -66,6 +81,8 @@ class Session:
         while not reply[-1].startswith(("ok ", "no ")):
             reply.append(self.line())
         last = reply.pop()
+        if last.startswith(("no 66 ", "no 69 ")):
+            raise ConnectionError(f"the hub ends this session: {last}")
         if last.startswith("no "):
             raise Refused(last)
         return reply, int(last.split(" ")[2])
@@ -111,6 +128,11 @@ def changes_in(lines):
     """Lines of changes that stand one behind another, as a list of lines for each change."""
     lines = iter(lines)
     return [[header, *itertools.islice(lines, int(header.split(" ")[2]))] for header in lines]
+
+
+def first_id(change):
+    """The id of a change's first operation."""
+    return id_in(change[1].split(" ")[1])
 
 
 def format_text(format):
@@ -160,10 +182,12 @@ class Replica:
         self.children = {None: []}
         self.removed = set()
         self.marks = []
+        self.changes = {}
         self.kept_layout = None
 
     def take(self, change):
         """Takes an accepted change, as its lines."""
+        self.changes[first_id(change)] = change
         for line in change[1:]:
             kind, own, *words = line.split(" ")
             own = id_in(own)
@@ -317,9 +341,10 @@ def check_value(key, value):
 class Peer:
     """A replica of a hub's text, and the changes of one node. A session is one peer's own: calls of it don't overlap."""
 
-    def __init__(self, port, node=None):
-        self.session = Session(port)
+    def __init__(self, place, node=None):
+        self.place, self.session = place, Session(place)
         self.replica = Replica()
+        self.own, self.is_behind = [], False
         if node is not None:
             self.session.ask(f"newest {node}")
         self.node = self.unused_node() if node is None else node
@@ -333,16 +358,81 @@ class Peer:
 
     def follow(self):
         """Takes all changes that the replica hasn't yet. Returns whether there were some."""
-        before, taken = self.replica.version, AT_ONCE
+        before = self.replica.version
+        try:
+            self.take_all()
+            if self.is_behind and self.replica.version > before:
+                self.send_again()
+        except OSError:
+            self.connect_again()
+        return self.replica.version != before
+
+    def take_all(self):
+        taken = AT_ONCE
         while taken == AT_ONCE:
             lines, taken = self.session.ask(f"changes {self.replica.version} {AT_ONCE}")
             for change in changes_in(lines):
                 self.replica.take(change)
-        return self.replica.version > before
+
+    def connect_again(self):
+        """Connects anew, takes what the hub has, and sends again what it should have."""
+        self.session.close()
+        for left in reversed(range(CONNECTS)):
+            try:
+                self.session = Session(self.place)
+                if not self.goes_on():
+                    self.replica = Replica()
+                self.take_all()
+                self.send_again()
+                return
+            except OSError:
+                if not left:
+                    raise
+                time.sleep(PAUSE)
+
+    def goes_on(self):
+        """Whether the hub has the changes that the replica took, told by the last one: it may have begun anew."""
+        version = self.replica.version
+        if version == 0:
+            return True
+        if self.session.ask("latest")[1] < version:
+            return False
+        return changes_in(self.session.ask(f"changes {version - 1} 1")[0]) == [next(reversed(self.replica.changes.values()))]
+
+    def send_again(self):
+        """Sends those of the own changes that the hub doesn't have, up to one that names what another peer must send again first."""
+        self.is_behind = False
+        for change in [change for change in self.own if not self.has(change)]:
+            try:
+                self.session.ask(*change)
+            except Refused as why:
+                if why.number == 47:
+                    self.is_behind = True
+                    break
+                if why.number != 46:
+                    raise
+        self.take_all()
+
+    def catch_up(self):
+        """Waits a while for other peers to send again what own changes name; after it those are given up."""
+        for _ in range(WAITS):
+            if not self.is_behind:
+                return
+            time.sleep(PAUSE)
+            self.follow()
+        self.own = [change for change in self.own if self.has(change)]
+        self.is_behind = False
+
+    def has(self, change):
+        """Whether the hub has an own change, by the newest counter of its node."""
+        counter, node = first_id(change)
+        return counter <= self.replica.newest.get(node, 0)
 
     def submit(self, build):
         """Submits the change whose lines `build` makes of a node and its newest counter. Where the hub has newer changes that make it
-        wrong (46 StaleCounter, 47 UnknownRef), follows them and tries again with fresh ids. Returns the first operation's id."""
+        wrong (46 StaleCounter, 47 UnknownRef), follows them and tries again with fresh ids; where the connection breaks, goes on once
+        it is known whether the hub has the change. Returns the first operation's id."""
+        self.catch_up()
         for left in reversed(range(TRIES)):
             change = self.change_of(build)
             try:
@@ -352,8 +442,13 @@ class Peer:
                 if why.number not in (46, 47) or not left:
                     raise
                 self.follow()
+            except OSError:
+                self.connect_again()
+                if self.replica.changes.get(first_id(change)) == change:
+                    break
+        self.own.append(change)
         self.follow()
-        return id_in(change[1].split(" ")[1])
+        return first_id(change)
 
     def change_of(self, build):
         """The change that `build` makes for this peer's node, or for another one if only that one has no counters left for it: anyone
@@ -419,6 +514,8 @@ class Peer:
     def way_behind(self, node, newest, behind, count):
         """The counter and the parent by which `count` characters come to stand behind one. The parent is the character to their left;
         where no counter is above it, or above the sibling that they must stand before, another one by which they stand there too."""
+        if behind is not None and behind not in self.replica.characters:
+            raise ValueError(f"the hub no longer has the character {word_of(behind)}")
         wrong = None
         for left in self.replica.gaps(behind):
             for parent, following, before in self.replica.ways(left):
@@ -534,12 +631,13 @@ def perform(peer, line):
 
 def main():
     parser = argparse.ArgumentParser(description=__doc__, formatter_class=argparse.RawDescriptionHelpFormatter)
-    parser.add_argument("port", type=int)
+    parser.add_argument("place", metavar="PORT|PATH")
     parser.add_argument("--node", type=int)
     arguments = parser.parse_args()
+    place = int(arguments.place) if re.fullmatch("[0-9]{1,5}", arguments.place) else arguments.place
     sys.stdout.reconfigure(encoding="utf-8", newline="\n")
     try:
-        peer = Peer(arguments.port, arguments.node)
+        peer = Peer(place, arguments.node)
         for line in sys.stdin.buffer:
             try:
                 said = perform(peer, line.removesuffix(b"\n").decode("utf-8", "surrogateescape"))

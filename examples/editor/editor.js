@@ -7,8 +7,9 @@ import { Cannot, Hub, LIMITS, checkMark, sessionsOf } from "../js/hub.js";
 import { colorOf, hubPlugin, schema } from "../js/prosemirror-hub.js";
 
 const the = name => document.getElementById(name);
-const FILTER_COLORS = ["#b34700", "#0072b2", "#00704f", "#a0447f", "#7a5c00", "#3a6ea5"];
-const ITEMS = 8, FEW_CHARACTERS = 2000, FEW_CHANGES = 200, TOLD = 8000;
+const COMMAND_BUTTONS = document.querySelectorAll("button[data-command]");
+const COLOR_BUTTONS = document.querySelectorAll("button[data-color]");
+const FILTERS = 6, ITEMS = 8, FEW_CHARACTERS = 2000, FEW_CHANGES = 200, TOLD = 8000;
 const asked = Number(new URLSearchParams(location.search).get("node"));
 const hub = new Hub(sessionsOf(location), { node: asked >= 1 && asked <= 65535 ? asked : null });
 let items = [];
@@ -130,14 +131,14 @@ function isSet(name) { return marksOver(view.state, schema.marks[name]).length >
 function showSelection() {
   if (!globalThis.hubView) return;
   const { empty } = view.state.selection;
-  for (const button of document.querySelectorAll("[data-command]")) {
+  for (const button of COMMAND_BUTTONS) {
     const { command } = button.dataset;
     if (schema.marks[command]) button.setAttribute("aria-pressed", isSet(command));
     button.disabled = !hub.isEditable || empty && (command === "comment" || command === "link" && !isSet("link")) ||
       command === "undo" && !hub.done.length || command === "redo" && !hub.undone.length;
   }
   const [color] = marksOver(view.state, schema.marks.color);
-  for (const button of document.querySelectorAll("button[data-color]")) {
+  for (const button of COLOR_BUTTONS) {
     button.setAttribute("aria-pressed", color?.attrs.color === button.dataset.color);
     button.disabled = !hub.isEditable;
   }
@@ -191,28 +192,30 @@ the("ask").addEventListener("keydown", event => { if (event.key === "Escape") en
 the("unlink").addEventListener("click", () => endLink(() => setLink("")));
 
 async function subscribe(file) {
-  const color = FILTER_COLORS.find(one => hub.filters.every(filter => filter.color !== one));
-  if (!color) throw new Cannot(`At most ${FILTER_COLORS.length} filters.`);
+  const places = Array.from({ length: FILTERS }, (_, at) => at);
+  const place = places.find(one => hub.filters.every(filter => filter.place !== one));
+  if (place === undefined) throw new Cannot(`At most ${FILTERS} filters.`);
   const program = (await file.slice(0, 100000).text()).replace(/[ \t\r\n]/g, "");
-  Object.assign(await hub.subscribe(file.name, program), { color });
+  Object.assign(await hub.subscribe(file.name, program), { place });
   showFilters();
 }
 
-function colored(tag, color, text) {
+/** An element that looks as the hits of a filter do: each has its color and its kind of line. */
+function lookOf(place, tag, text) {
   const dom = Object.assign(document.createElement(tag), { textContent: text });
-  dom.style.color = color;
+  dom.dataset.place = place;
   return dom;
 }
 
 function showFilters() {
   the("filters").replaceChildren(...hub.filters.map(filter => {
-    const dom = colored("span", filter.color, filter.name), close = colored("button", filter.color, "\u00d7");
-    Object.assign(close, { type: "button", ariaLabel: "close " + filter.name });
+    const dom = document.createElement("span"), close = document.createElement("button");
+    Object.assign(close, { type: "button", ariaLabel: "close " + filter.name, textContent: "\u00d7" });
     close.addEventListener("click", () => hub.unsubscribe(filter).then(showFilters));
-    dom.append(close);
+    dom.append(lookOf(filter.place, "b", filter.name), close);
     return dom;
   }));
-  the("items").replaceChildren(...items.map(([color, item]) => colored("div", color, item)));
+  the("items").replaceChildren(...items.map(([place, item]) => lookOf(place, "div", item)));
 }
 
 the("program").addEventListener("change", () => {
@@ -221,7 +224,7 @@ the("program").addEventListener("change", () => {
   the("program").value = "";
 });
 
-for (const button of document.querySelectorAll("[data-command], button[data-color]")) {
+for (const button of [...COMMAND_BUTTONS, ...COLOR_BUTTONS]) {
   button.addEventListener("mousedown", event => event.preventDefault());
   if (button.dataset.command) button.addEventListener("click", () => run(button.dataset.command));
   else {
@@ -233,7 +236,7 @@ for (const button of document.querySelectorAll("[data-command], button[data-colo
   }
 }
 hub.addEventListener("items", ({ detail: { filter, items: whole } }) => {
-  items = [...items, ...whole.map(item => [filter.color, `${filter.name}: ${item}`])].slice(-ITEMS);
+  items = [...items, ...whole.map(item => [filter.place, `${filter.name}: ${item}`])].slice(-ITEMS);
   showFilters();
 });
 hub.addEventListener("notice", ({ detail }) => tell(detail));

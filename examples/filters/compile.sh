@@ -4,8 +4,8 @@
 #     ./compile.sh strong.c > strong.hex
 #
 # COMPILER is the compiler: clang, or where that isn't there gcc for BPF (bpf-gcc, bpf-unknown-none-gcc). OBJCOPY and OBJDUMP are
-# the tools, MCPU is the instruction set, CFLAGS has further options. STRAIGHT has the options that are added, one after the other, as
-# long as a jump leads back; none if it is empty.
+# the tools, MCPU is the instruction set, CFLAGS has further options. Where the compiler laid out a jump back, HUB (hub) lays the
+# blocks out again, unless it is empty: `hub straighten`. A program with a loop stays as it is.
 set -eu
 if [ $# -ne 1 ] || [ "$1" = --help ]; then
     sed -n '2,8s/^# \{0,1\}//p' "$0" >&2
@@ -30,43 +30,26 @@ case $(basename "$compiler") in
     # Beside `bpf-gcc` stands `bpf-objdump`.
     tools=${compiler%gcc*}
     target=
-    straight=-fno-reorder-blocks
-    backend=
     ;;
 *)
     tools=llvm-
     target='-target bpf'
-    straight='-disable-block-placement -jump-threading-threshold=0'
-    backend=-mllvm
     ;;
 esac
-straight=${STRAIGHT-$straight}
+hub=${HUB-hub}
 objdump=${OBJDUMP:-${tools}objdump}
 folder=$(mktemp -d)
 trap 'rm -rf "$folder"' EXIT
 
-# Compiles with further options, and leaves the program's digits in the file `digits`.
-compile() {
-    # shellcheck disable=SC2086 # several options each
-    "$compiler" $target -mcpu="${MCPU:-v3}" -O2 -Wall -Werror ${CFLAGS:-} "$@" -c "$source" -o "$folder/object"
-    "${OBJCOPY:-${tools}objcopy}" -O binary --only-section=.text "$folder/object" "$folder/program"
-    od -An -v -tx1 "$folder/program" | tr -d ' \n' > "$folder/digits"
-}
+# shellcheck disable=SC2086 # several options each
+"$compiler" $target -mcpu="${MCPU:-v3}" -O2 -Wall -Werror ${CFLAGS:-} -c "$source" -o "$folder/object"
+"${OBJCOPY:-${tools}objcopy}" -O binary --only-section=.text "$folder/object" "$folder/program"
+od -An -v -tx1 "$folder/program" | tr -d ' \n' > "$folder/digits"
 
 # Whether an instruction of the classes 5 and 6, jumps, has a negative distance.
 jumps_back() {
     fold -w 16 "$folder/digits" | grep -q '^.[56de]....[89a-f]'
 }
-
-compile
-set --
-for option in $straight; do
-    if jumps_back; then
-        # shellcheck disable=SC2086 # nothing where options aren't for the backend
-        set -- "$@" $backend "$option"
-        compile "$@"
-    fi
-done
 
 # The program is the section .text: one function, which calls none and needs no data.
 "$objdump" -t "$folder/object" | awk '
@@ -87,6 +70,15 @@ if [ -s "$folder/wrong" ]; then
         echo "$source: $line" >&2
     done < "$folder/wrong"
     exit 1
+fi
+if [ -n "$hub" ] && jumps_back; then
+    if ! command -v "$hub" > /dev/null; then
+        echo "$source: a jump leads back, and there is no $hub to lay the blocks out again" >&2
+        exit 1
+    fi
+    if "$hub" straighten < "$folder/digits" > "$folder/straight" 2> /dev/null; then
+        tr -d '\n' < "$folder/straight" > "$folder/digits"
+    fi
 fi
 cat "$folder/digits"
 echo

@@ -58,7 +58,8 @@ class Session {
     this.why = "";                // why it isn't open
   }
 
-  /** Sends the lines of a request. Answers the reply's lines but the last one, and that one's number. */
+  /** Sends the lines of a request. Answers the reply's lines but the last one, and that one's last word, also as a
+   * number. */
   ask(...lines) {
     return new Promise((resolve, reject) => {
       if (!this.isOpen) return reject(new Lost(this.why));
@@ -74,10 +75,11 @@ class Session {
     if (!this.isOpen || !/^(ok|no) /.test(last)) return;
     this.heard = "";
     if (/^no (61|69) /.test(last)) return this.close("The hub has no session for this page.");
-    const { resolve, reject, late } = this.asked.shift();
+    if (/^no 66 /.test(last)) return this.close("The hub can't keep changes at the moment.");
+    const { resolve, reject, late } = this.asked.shift(), word = last.split(" ").at(-1);
     clearTimeout(late);
     if (last.startsWith("no ")) reject(new Refused(last));
-    else resolve({ lines, number: Number(last.split(" ").at(-1)) });
+    else resolve({ lines, word, number: Number(word) });
   }
 
   end(why = AWAY) {
@@ -137,6 +139,7 @@ export class Hub extends EventTarget {
     Object.assign(this, { url, node, session: null, state: "connecting", why: "" });
     this.replica = new Replica();
     this.filters = [];
+    this.id = null;               // the hub's, which a hub with a store keeps when it is started again
     this.begun = null;            // the version at which the page began
     this.groups = [];             // operations that aren't sent, those of each edit together
     this.flight = null;           // the change that was sent and isn't answered
@@ -288,23 +291,42 @@ export class Hub extends EventTarget {
     }
     await this.follow();
     this.begun ??= this.replica.version;
-    for (const filter of this.filters) await this.resume(filter);
+    for (const filter of this.filters) if (this.filters.includes(filter)) await this.resume(filter);
     this.isDue = true;
     this.become("connected");
     this.tell("version");
   }
 
-  /** A hub that was started anew has another text. */
+  /** Looks whether the hub has the text that was taken: it has the same id, and the last change where it was. A hub
+   * that is started anew has both if it keeps its changes in a store. */
   async checkSame() {
+    const before = this.replica.version ? this.id : null;
+    this.id = await this.idOfHub();
+    if (await this.hasLast() && (before === null || this.id === before)) return;
+    throw new Stopped("The hub was started anew and has another text: copy what you need, and load the page again.");
+  }
+
+  /** The hub's id, null where it tells none. */
+  async idOfHub() {
+    try {
+      return (await this.session.ask("hub")).word;
+    } catch (why) {
+      if (why.number !== 60) throw why;
+      return null;
+    }
+  }
+
+  /** Whether the hub's change of the version taken last is the one taken. */
+  async hasLast() {
     const { version } = this.replica;
     try {
       const { lines } = await this.session.ask(`changes ${Math.max(version - 1, 0)} 1`);
-      if (version === 0 || lines.join("\n") === this.last) return;
+      return version === 0 || lines.join("\n") === this.last;
     } catch (why) {
       if (why.number === 60) throw new Stopped("The hub must be started with --read.");
       if (why.number !== 55) throw why;
+      return false;
     }
-    throw new Stopped("The hub was started anew and has another text: copy what you need, and load the page again.");
   }
 
   async unusedNode() {
@@ -468,10 +490,17 @@ export class Hub extends EventTarget {
     }
   }
 
+  /** Takes a filter away; it may be one whose items are just being taken. */
   async unsubscribe(filter) {
+    const { number } = filter;
     this.filters = this.filters.filter(other => other !== filter);
-    if (filter.number !== null) await this.session.ask(`close ${filter.number}`);
+    filter.number = null;
     this.tell("hits");
+    try {
+      if (number !== null) await this.session.ask(`close ${number}`);
+    } catch (why) {
+      if (!(why instanceof Lost)) throw why;   // it ended with its session
+    }
   }
 
   /** Takes a filter's items, those of versions that aren't taken yet too. Returns whether there were some. */

@@ -9,7 +9,7 @@ import { Decoration, DecorationSet } from "prosemirror-view";
 import { Cannot, formatOf } from "./hub.js";
 
 const LINK = /^[!-~]{1,1024}$/, COLOR = /^[0-9a-f]{6}$/, COMMENT = /^[1-9][0-9]{0,9}$/;
-const COMPOSED = 60, HERE = 60000;
+const COMPOSED = 60, QUIET = 5000, HERE = 60000;
 
 /** Only http and https are followed. */
 function address(link) {
@@ -135,7 +135,8 @@ const key = new PluginKey("hub");
  * feed). */
 class Binding {
   constructor(hub, view) {
-    Object.assign(this, { hub, view, shown: [], looks: [], handled: new WeakSet(), isTaking: false, isGone: false });
+    Object.assign(this, { hub, view, handled: new WeakSet(), isTaking: false, isGone: false, composed: 0 });
+    this.show([], []);
     this.heard = {
       text: ({ detail }) => this.refresh(detail.isOwn),
       version: () => this.decorate(),
@@ -143,7 +144,7 @@ class Binding {
       state: () => this.dispatch(this.view.state.tr),
     };
     for (const [type, hear] of Object.entries(this.heard)) hub.addEventListener(type, hear);
-    this.clock = setInterval(this.heard.version, HERE / 6);
+    this.clock = setInterval(() => this.look(), QUIET);
     this.refresh(false);
   }
 
@@ -153,30 +154,38 @@ class Binding {
     for (const [type, hear] of Object.entries(this.heard)) this.hub.removeEventListener(type, hear);
   }
 
+  /** What changes by itself, with time. */
+  look() {
+    if (performance.now() - this.composed > QUIET) this.endComposition();
+    this.decorate();
+  }
+
+  /** Where the document is changed around what is composed, a browser may end that and not tell: then a key that isn't
+   * part of it does, the focus that goes, or a time without any. */
+  endComposition() {
+    if (this.view.composing) this.view.dom.dispatchEvent(new CompositionEvent("compositionend", { bubbles: true }));
+  }
+
   dispatch(transaction, more = {}) {
     this.view.dispatch(transaction.setMeta(key, { isHub: true, ...more }).setMeta("addToHistory", false));
   }
 
-  /** How many characters stand wholly before a position. */
-  indexAt(position) {
-    const { shown } = this;
-    let at = 1, index = 0;
-    while (index < shown.length && (at += shown[index].size) <= position) index += 1;
-    return index;
-  }
+  /** Notes what the document has now. Before `start`, a position, there are `index` characters. */
+  show(characters, looks) { Object.assign(this, { shown: characters, looks, index: 0, start: 1 }); }
 
-  /** How many characters stand wholly behind a position. */
-  indexBehind(position, size) {
+  /** Notes how many characters stand wholly before a position, and where they end. It looks from where it looked last: a
+   * person goes on near there. */
+  seek(position) {
     const { shown } = this;
-    let at = size - 1, count = 0;
-    while (count < shown.length && (at -= shown[shown.length - 1 - count].size) >= position) count += 1;
-    return count;
-  }
-
-  positionOf(index) {
-    let at = 1;
-    for (let place = 0; place < index; place += 1) at += this.shown[place].size;
-    return at;
+    while (this.start > position && this.index > 0) {
+      this.index -= 1;
+      this.start -= shown[this.index].size;
+    }
+    while (this.index < shown.length && this.start + shown[this.index].size <= position) {
+      this.start += shown[this.index].size;
+      this.index += 1;
+    }
+    return this;
   }
 
   // From the view to the hub.
@@ -241,11 +250,10 @@ class Binding {
 
   /** Where a range of one document was replaced in the next one: removes and inserts what differs. */
   replace(edit, before, after, from, to, isExplicit) {
-    const first = this.indexAt(from), start = this.positionOf(first);
-    const end = this.shown.length - Math.min(this.indexBehind(to, before.content.size), this.shown.length - first);
-    let size = 0;
-    for (let at = end; at < this.shown.length; at += 1) size += this.shown[at].size;
-    const items = itemsBetween(after, start, after.content.size - 1 - size);
+    const { index: first, start } = this.seek(from);
+    let end = first, behind = start;
+    for (; end < this.shown.length && behind < to; end += 1) behind += this.shown[end].size;
+    const items = itemsBetween(after, start, behind + after.content.size - before.content.size);
     const isSame = (at, item) => item && seen(this.shown[at].text) === item.text && this.looks[at] === item.format &&
       (item.text === "\n") === item.isBreak;
     let head = 0, tail = 0;
@@ -281,7 +289,7 @@ class Binding {
 
   /** Takes the formats that a range has now. A character of which it has a half stays as it was. */
   takeLooks(doc, from, to) {
-    const first = this.indexAt(from), items = itemsBetween(doc, from, to);
+    const { index: first } = this.seek(from), items = itemsBetween(doc, from, to);
     items.forEach(({ text, format }, at) => {
       const place = first + at, one = this.shown[place];
       if (!text.isWellFormed()) this.shown[place] = wrong(one.text);
@@ -325,8 +333,8 @@ class Binding {
   restore() {
     const { doc } = this.view.state, items = itemsBetween(doc, 0, doc.content.size);
     this.window = [0, Infinity];
-    this.shown = items.map(({ text, isBreak }) => wrong(isBreak ? text : text.replace("\n", " ")));
-    this.looks = items.map(({ format }) => format);
+    const shown = items.map(({ text, isBreak }) => wrong(isBreak ? text : text.replace("\n", " ")));
+    this.show(shown, items.map(({ format }) => format));
   }
 
   // From the hub to the view.
@@ -341,8 +349,7 @@ class Binding {
     for (const { from, to, characters } of regions.toReversed())
       transaction.step(new ReplaceStep(from, to, sliceOf(characters)));
     this.reformat(transaction, after);
-    this.shown = after.slice();
-    this.looks = after.map(one => one.text === "\n" ? null : one.format);
+    this.show(after.slice(), after.map(one => one.text === "\n" ? null : one.format));
     if (!transaction.docChanged) return;
     this.select(transaction, state, isOwn ? regions.at(-1) : null);
     this.dispatch(transaction.setStoredMarks(state.storedMarks));
@@ -415,37 +422,42 @@ class Binding {
 
   decorate() {
     if (this.isGone || this.view.composing || !this.isLevel()) return;
+    const { hub, view } = this, hits = hub.filters.filter(({ parts }) => parts.length), peers = this.peers();
+    const isNone = hits.length + peers.length === 0;
+    if (isNone && key.getState(view.state).decorations === DecorationSet.empty) return;
     let at = 1;
-    for (const one of this.shown) {
+    for (const one of isNone ? [] : this.shown) {
       one.start = at;
       at += one.size;
     }
-    const { hub, view } = this, decorations = [...hub.filters.flatMap(filter => this.hits(filter)), ...this.peers()];
-    if (decorations.length === 0 && key.getState(view.state).decorations === DecorationSet.empty) return;
+    const decorations = [...hits.flatMap(filter => this.hits(filter)), ...peers.map(peer => this.placeOfPeer(peer))];
     this.dispatch(view.state.tr, { decorations: DecorationSet.create(view.state.doc, decorations) });
   }
 
   /** Whether the document is the hub's text: not while something is composed. */
   isLevel() { return this.shown.length === this.hub.replica.visible.length; }
 
-  hits({ name, color = "#b34700", parts }) {
+  /** What a filter hits, each part in an element of its own: several filters may hit the same. */
+  hits({ name, place = 0, parts }) {
     return parts.flatMap(part => {
       const first = part.find(one => one.isVisible), last = part.findLast(one => one.isVisible);
-      const look = { class: "hit", style: `--hit: ${color}`, title: name };
+      const look = { nodeName: "span", class: "hit", "data-place": String(place), title: name };
       return first ? [Decoration.inline(first.start, last.start + last.size, look)] : [];
     });
   }
 
-  /** Where other peers last changed something, of those that did so a short while ago. */
+  /** The other peers that changed something a short while ago. */
   peers() {
     const { hub } = this, now = performance.now(), found = [];
     for (const [node, place] of hub.replica.places) {
       place.time ??= place.version > hub.begun ? now : -Infinity;
-      if (node === hub.node || now - place.time > HERE) continue;
-      const behind = this.placeOf(place.character), look = { key: `peer ${node}`, side: 1 };
-      found.push(Decoration.widget(behind, () => peerElement(node), look));
+      if (node !== hub.node && now - place.time <= HERE) found.push([node, place.character]);
     }
     return found;
+  }
+
+  placeOfPeer([node, character]) {
+    return Decoration.widget(this.placeOf(character), () => peerElement(node), { key: `peer ${node}`, side: 1 });
   }
 
   /** The position behind a character, or where it stood. */
@@ -513,6 +525,16 @@ function stateOf(binding) {
   };
 }
 
+function handlers(binding) {
+  const compose = () => { binding().composed = performance.now(); };
+  const type = (_, { isComposing }) => { if (!isComposing) binding().endComposition(); };
+  const end = () => { setTimeout(() => { binding().refresh(false); binding().decorate(); }, COMPOSED); };
+  return {
+    compositionstart: compose, compositionupdate: compose, compositionend: end, keydown: type, beforeinput: type,
+    blur: () => binding().endComposition(),
+  };
+}
+
 /** A plugin by which a document of `schema`, empty at first, is a hub's text. */
 export function hubPlugin(hub) {
   let binding = null;
@@ -532,12 +554,7 @@ export function hubPlugin(hub) {
     props: {
       decorations: state => key.getState(state).decorations,
       editable: () => hub.isEditable,
-      handleDOMEvents: {
-        compositionend() {
-          setTimeout(() => { binding.refresh(false); binding.decorate(); }, COMPOSED);
-          return false;
-        },
-      },
+      handleDOMEvents: handlers(() => binding),
       clipboardTextParser: sliceOfText,
       clipboardTextSerializer: linesOf,
     },

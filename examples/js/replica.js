@@ -48,6 +48,7 @@ function compareIds(one, other) { return one.counter - other.counter || one.node
 class Mark {
   constructor(key, value, start, end, counter = 0, node = 0) {
     Object.assign(this, { key, value, start, end, counter, node, isEmpty: false, isPending: false });
+    this.origin = this;           // the mark that it gives back, where it takes back one above that
   }
 }
 
@@ -493,12 +494,13 @@ export class Edit {
     if (wrong) throw wrong;
   }
 
-  /** Adds a key from one visible character to another, or takes it away where the value is null. */
+  /** Adds a key from one visible character to another, or takes it away where the value is null. Returns the mark. */
   mark(first, last, key, value) {
     checkMark(key, value);
     const mark = new Mark(key, value, ...this.replica.ends(first, last, key));
     this.do({ mark });
     this.marks.push(mark);
+    return mark;
   }
 
   /** Takes back what another edit did, as far as nobody else did so or did something newer. */
@@ -524,18 +526,26 @@ export class Edit {
     return groups;
   }
 
-  /** Where this mark decides, gives back what it covers. */
+  /** Where this mark decides, or one that gave it back, gives back what it covers. */
   takeBackMark(mark) {
     const [from, to] = this.replica.covered(mark), runs = [];
     let isRun = false;
     for (const one of this.replica.order.slice(from, to).filter(one => one.isVisible)) {
-      const [newest, below] = one.cover.marks.filter(other => other.key === mark.key), value = below?.value ?? null;
-      const isChanged = newest === mark && value !== mark.value;
-      if (isChanged && isRun && runs.at(-1).value === value) runs.at(-1).last = one;
-      else if (isChanged) runs.push({ first: one, last: one, value });
+      const over = one.cover.marks.filter(other => other.key === mark.key), below = over[over.indexOf(mark) + 1];
+      const value = below?.value ?? null, origin = below?.origin, run = runs.at(-1);
+      const isChanged = over[0].origin === mark.origin && value !== mark.value;
+      if (isChanged && isRun && run.value === value) {
+        run.last = one;
+        if (run.origin !== origin) run.origin = undefined;
+      } else if (isChanged) {
+        runs.push({ first: one, last: one, value, origin });
+      }
       isRun = isChanged;
     }
-    for (const { first, last, value } of runs) this.mark(first, last, mark.key, value);
+    for (const { first, last, value, origin } of runs) {
+      const made = this.mark(first, last, mark.key, value);
+      made.origin = origin ?? made;
+    }
   }
 
   get isEmpty() { return this.operations.length === 0; }

@@ -1,8 +1,9 @@
 #!/usr/bin/env python3
-"""Tries the page in two browsers: try_page.py [HUB] [--picture FILE.png] [--seed N]
+"""Tries the page in two browsers: try_page.py [HUB] [--pictures FOLDER] [--seed N]
 
-HUB is the executable, by default $HUB or `hub`. It takes Chromium and its driver (Debian: chromium, chromium-driver). Two pages and a peer
-of peer.py type into one text; what the pages show is compared with what the hub's `show` and a subscription of the same filter say."""
+HUB is the executable, by default $HUB or `hub`. It takes Chromium and its driver (Debian: chromium, chromium-driver). Two pages, which the
+hub serves itself, and a peer of peer.py type into one text; what the pages show is compared with what the hub's `show` and a subscription
+of the same filter say. The hub keeps its changes in a store: in between it is killed and started again, and the pages go on."""
 import argparse
 import base64
 import contextlib
@@ -28,7 +29,7 @@ QUESTION = HERE.parent / "filters" / "question.hex"
 UNGUARDED = "791100000000000071100100000000009500000000000000"
 ELEMENT = "element-6066-11e4-a52e-4f735466cecf"
 END = 1 << 20
-# Chromium has no sandbox where it is run as root; it opens no page but the bridge's.
+# Chromium has no sandbox where it is run as root; it opens no page but the hub's.
 OPTIONS = ["--headless=new", "--no-sandbox", "--disable-dev-shm-usage", "--window-size=860,740", "--force-device-scale-factor=1"]
 SHOWN = """return [...document.querySelectorAll('#text > *')].map(one => {
     const style = getComputedStyle(one);
@@ -42,10 +43,11 @@ PASTE = """const box = document.getElementById('box'); box.focus(); box.setSelec
 class Browser:
     """A browser, by the WebDriver protocol."""
 
-    def __init__(self, driver):
+    def __init__(self, driver, *more):
         self.driver = driver
-        options = {"alwaysMatch": {"goog:chromeOptions": {"args": OPTIONS}}}
+        options = {"alwaysMatch": {"goog:chromeOptions": {"args": [*OPTIONS, *more]}}}
         self.session = self.call("POST", "", {"capabilities": options}, driver + "/session")
+        self.call("POST", "/timeouts", {"script": 300_000})
 
     def call(self, method, path, body=None, at=None):
         at = at or f"{self.driver}/session/{self.session['sessionId']}{path}"
@@ -74,6 +76,20 @@ class Browser:
     def keys(self, selector, text):
         self.call("POST", self.element(selector) + "/value", {"text": text})
 
+    def press(self, *keys, held=""):
+        """Presses keys, wherever the focus is, with some held."""
+        steps = [("keyDown", key) for key in held] + [(kind, key) for key in keys for kind in ("keyDown", "keyUp")] + \
+            [("keyUp", key) for key in held]
+        actions = [{"type": kind, "value": key} for kind, key in steps]
+        self.call("POST", "/actions", {"actions": [{"type": "key", "id": "keys", "actions": actions}]})
+
+    def focused(self):
+        """What has the focus, by its id or its key."""
+        return self.run("return document.activeElement.id || document.activeElement.dataset.key || document.activeElement.textContent")
+
+    def picture(self, path):
+        pathlib.Path(path).write_bytes(base64.b64decode(self.call("GET", "/screenshot")))
+
     def click(self, selector):
         self.call("POST", self.element(selector) + "/click", {})
 
@@ -100,12 +116,12 @@ class Browser:
 
 
 def until(holds, what):
-    """Waits until something holds."""
-    for _ in range(150):
+    """Waits until something holds; given up where it is clear that it never will."""
+    for _ in range(1200):
         if holds():
             return
         time.sleep(0.1)
-    raise AssertionError(what)
+    raise AssertionError(what() if callable(what) else what)
 
 
 @contextlib.contextmanager
@@ -121,6 +137,34 @@ def program(*words):
 def number_in(lines, form):
     """The number in the first line that has a form."""
     return next(int(found[1]) for found in map(re.compile(form).search, lines) if found)
+
+
+class Hub:
+    """A hub with a store, that serves the examples, and can be killed and started again at the same ports."""
+
+    def __init__(self, path, store):
+        self.path, self.process = path, None
+        self.port, self.web = free_port(), free_port()
+        self.words = ["--read", "--port", str(self.port), "--web", str(self.web), "--files", str(HERE.parent), "--origin", self.address("")]
+        self.start(store)
+
+    def address(self, path):
+        return f"http://127.0.0.1:{self.web}{path}"
+
+    def start(self, store):
+        words = [self.path, "serve", *self.words, *(["--store", str(store)] if store else [])]
+        self.process = subprocess.Popen(words, stdout=subprocess.PIPE, text=True)
+        assert [self.process.stdout.readline() for _ in range(2)] == [f"port {self.port}\n", f"web {self.web}\n"]
+
+    def kill(self):
+        self.process.kill()
+        self.process.wait()
+        self.process.stdout.close()
+
+
+def free_port():
+    with socket.create_server(("127.0.0.1", 0)) as made:
+        return made.getsockname()[1]
 
 
 # What a page shows, and what the hub says.
@@ -141,7 +185,7 @@ def compare(page, session, subscriber):
     """Compares what a page shows with the hub's latest version, and its outlines with the filter's hits."""
     until(lambda: page.run("return hub.waiting ? -1 : hub.replica.version") == session.ask("latest")[1], "the page isn't at the latest version")
     _, latest = session.ask("latest")
-    assert page.says("state").startswith(f"version {latest},")
+    until(lambda: page.says("state").startswith(f"version {latest},"), "the page doesn't show its version")
     lines, count = session.ask(f"show {latest} 0 1024")
     assert len(lines) == count
     hits = subscriber.hits(latest)
@@ -222,7 +266,7 @@ def try_filters(ann, session, subscriber):
         for name, text, why in [("unguarded.hex", UNGUARDED, "no 21 TextBounds slot 1"), ("none.hex", "hello", "in hexadecimal")]:
             pathlib.Path(folder, name).write_text(text, encoding="ascii")
             ann.keys("#program", f"{folder}/{name}")
-            until(lambda why=why: why in ann.says("error"), "what is no filter isn't told")
+            until(lambda why=why: why in ann.says("error"), lambda: f"what is no filter isn't told, but {ann.says('error')!r}")
     compare(ann, session, subscriber)
 
 
@@ -347,74 +391,145 @@ def try_greatest(page, peer, session, subscriber):
     until(lambda: "no counter is left" in page.says("error") and page.box().startswith("Qab"), page.says("error"))
     page.mark("em", 0, 3)
     compare(page, session, subscriber)
-    assert [one["text"] for one in page.run(SHOWN)][0] in ("Q", "Qab"), page.run(SHOWN)[0]
+    # What follows may have the same format.
+    first = page.run(SHOWN)[0]["text"]
+    assert first == "Q" or first.startswith("Qab"), first
     peer.follow()
     peer.insert(1, "xy")
     compare(page, session, subscriber)
     assert page.box().startswith("Qxyab")
 
 
-def try_requests(port):
-    """Which requests the bridge doesn't answer, and that what is no WebSocket's ends its session alone."""
-    evil, own = "http://evil.example", f"127.0.0.1:{port}"
-    asks = {"Upgrade": "websocket", "Connection": "Upgrade", "Sec-WebSocket-Version": "13", "Sec-WebSocket-Key": "x3JJHMbDL1EzLkh9GBhXDw=="}
-    rows = [("/", {}, 200), ("/?node=2", {"Sec-Fetch-Site": "cross-site"}, 200), ("/", {"Host": "evil.example"}, 403), ("/x", {}, 404),
-            ("/hub.js", {}, 200), ("/hub.js", {"Sec-Fetch-Site": "cross-site"}, 403), ("/", {"Host": f"evil.example:{port}"}, 403),
-            ("/../page/page.html", {}, 404), ("/%2e%2e/page.html", {}, 404), ("/bridge.py", {}, 404), ("//etc/passwd", {}, 404),
-            ("/session", asks, 101), ("/session", {**asks, "Origin": f"http://{own}"}, 101), ("/session", {**asks, "Origin": evil}, 403),
-            ("/session", {**asks, "Origin": "null"}, 403), ("/session", {**asks, "Host": "evil.example"}, 403), ("/session", {}, 400),
-            ("/session", {**asks, "Sec-Fetch-Site": "cross-site"}, 403), ("/session", {**asks, "Sec-WebSocket-Key": "x"}, 400)]
-    for path, headers, want in rows:
-        with socket.create_connection(("127.0.0.1", port), timeout=20) as connection:
-            lines = [f"GET {path} HTTP/1.1", *(f"{name}: {value}" for name, value in {"Host": own, **headers}.items())]
-            connection.sendall("\r\n".join([*lines, "", ""]).encode())
-            reply = connection.recv(4096)
-            assert reply.startswith(f"HTTP/1.1 {want} ".encode()), (path, headers, reply[:40])
-            if want == 101:
-                connection.sendall(b"\x81\x06latest")
-                assert b"ok" not in connection.makefile("rb").read(), "a message without a mask is taken"
-    with contextlib.suppress(ConnectionRefusedError):
-        socket.create_connection(("127.0.0.2", port), timeout=5)
-        raise AssertionError("the bridge listens on 127.0.0.2")
+SHIFT, CONTROL, TAB, SPACE, ENTER, LEFT, HOME, LAST = "\ue008", "\ue009", "\ue004", " ", "\ue007", "\ue012", "\ue011", "\ue010"
+PARTS = ["the menu", "box", "strong", "em", "code", "link", "target", "comment", "comment", "program"]
 
 
-def try_all(driver, hub_port, arguments):
-    with program(sys.executable, HERE / "bridge.py", hub_port, "--port", 0) as lines:
-        port = number_in(lines, r"http://127\.0\.0\.1:([0-9]+)/")
-        session, peer, rng = Session(hub_port), Peer(hub_port, 3), random.Random(arguments.seed)
-        subscriber, pages = Subscriber(session), [Browser(driver), Browser(driver)]
-        try:
-            for node, page in enumerate(pages, 1):
-                page.open(f"http://127.0.0.1:{port}/?node={node}")
-                until(lambda page=page, node=node: page.says("state") == f"version 0, you are node {node}", page.says("state"))
-            try_the_tour(*pages, peer, session, subscriber)
-            if arguments.picture:
-                pathlib.Path(arguments.picture).write_bytes(base64.b64decode(pages[0].call("GET", "/screenshot")))
-            try_filters(pages[0], session, subscriber)
-            try_toggle(pages[0], session, subscriber)
-            try_characters(*pages, peer, session, subscriber)
-            try_composition(pages[0], peer, session, subscriber)
-            try_at_once(pages, peer, session, subscriber, rng)
-            try_greatest(pages[0], peer, session, subscriber)
-            try_requests(port)
-            print(f"{pages[0].version()}: {session.ask('latest')[1]} versions, all alike")
-        finally:
-            for page in pages:
-                page.quit()
-            session.close()
-            peer.close()
+def try_keyboard(page, session, subscriber):
+    """All of the page by the keyboard alone: a link and each part are reached by Tab, marks by shortcuts and by buttons, undo, redo."""
+    page.run("document.getElementById('text').focus()")
+    reached = []
+    for _ in PARTS:
+        page.press(TAB)
+        reached.append(page.focused())
+    assert reached == PARTS, reached
+    for _ in PARTS[2:]:
+        page.press(TAB, held=SHIFT)
+    assert page.focused() == "box", page.focused()
+    page.press(HOME, held=CONTROL)
+    page.press(*"keys alone, ", LEFT, LEFT)
+    page.press(*[LEFT] * 5, held=SHIFT)
+    page.press("i", held=CONTROL)
+    compare(page, session, subscriber)
+    shown = [(one["text"], format_of(one)) for one in page.run(SHOWN)]
+    assert ("alone", "em") in shown, shown
+    for key in ("strong", "em"):
+        page.press(TAB)
+        assert page.focused() == key, page.focused()
+        page.press(SPACE if key == "em" else ENTER)
+        compare(page, session, subscriber)
+    shown = [(one["text"], format_of(one)) for one in page.run(SHOWN)]
+    assert ("alone", "strong") in shown, shown
+    for _ in range(2):
+        page.press(TAB, held=SHIFT)
+    for step, want in enumerate(["strong,em", "em", "plain", "em"]):
+        page.press("z", held=CONTROL if step < 3 else CONTROL + SHIFT)
+        compare(page, session, subscriber)
+        found = [(one["text"], format_of(one)) for one in page.run(SHOWN)]
+        assert [kind for text, kind in found if "alone" in text] == [want], (step, found)
+
+
+def try_restart(hub, store, pages, rng):
+    """The hub is killed while both pages type; they tell so, go on, and all of it is there when it is started again."""
+    before = [page.run("return hub.replica.version") for page in pages]
+    for number, page in enumerate(pages):
+        page.select(0, 0)
+        page.keys("#box", f"[{number} before]")
+    hub.kill()
+    for number, page in enumerate(pages):
+        page.select(END, END)
+        page.keys("#box", f"[{number} without the hub {rng.randrange(1000)}]")
+    for page in pages:
+        until(lambda page=page: page.run("return hub.state") == "offline", "a page doesn't miss the hub")
+        assert "What you type is sent once it can be" in page.says("error"), page.says("error")
+    typed = [page.box() for page in pages]
+    hub.start(store)
+    session = Session(hub.port)
+    subscriber = Subscriber(session)
+    for page in pages:
+        until(lambda page=page: page.run("return hub.state") == "connected", lambda page=page: f"a page doesn't go on: {page.says('error')}")
+    for page in pages:
+        compare(page, session, subscriber)
+        assert page.says("error") == "", page.says("error")
+    for number, box in enumerate(typed):
+        parts = re.findall(rf"\[{number} [^]]*\]", box)
+        assert len(parts) == 2 and all(page.box().count(part) == 1 for part in parts for page in pages), (parts, pages[0].box())
+    assert all(page.run("return hub.replica.version") > version for page, version in zip(pages, before))
+    return session, subscriber
+
+
+def try_another_hub(hub, pages):
+    """A hub with another text takes the place of the one that the pages know: they say so, and keep what they show."""
+    boxes = [page.box() for page in pages]
+    hub.kill()
+    hub.start(None)
+    for page, box in zip(pages, boxes):
+        until(lambda page=page: page.run("return hub.state") == "stopped", "a page goes on with another text")
+        assert "has another text" in page.says("error") and page.box() == box, page.says("error")
+        assert page.run("return document.getElementById('box').readOnly")
+
+
+def try_all(driver, hub, store, arguments):
+    session, peer, rng = Session(hub.port), Peer(hub.port, 3), random.Random(arguments.seed)
+    subscriber, pages = Subscriber(session), [Browser(driver), Browser(driver)]
+
+    def picture(name):
+        if arguments.pictures:
+            arguments.pictures.mkdir(exist_ok=True)
+            pages[0].picture(arguments.pictures / f"{name}.png")
+
+    try:
+        for node, page in enumerate(pages, 1):
+            page.open(hub.address(f"/page/page.html?node={node}"))
+            until(lambda page=page, node=node: page.says("state") == f"version 0, you are node {node}", page.says("state"))
+        try_the_tour(*pages, peer, session, subscriber)
+        picture("page")
+        try_filters(pages[0], session, subscriber)
+        try_toggle(pages[0], session, subscriber)
+        try_keyboard(pages[0], session, subscriber)
+        picture("keyboard")
+        for one in (session, peer):
+            one.close()
+        session, subscriber = try_restart(hub, store, pages, rng)
+        picture("restarted")
+        peer = Peer(hub.port, 3)
+        try_characters(*pages, peer, session, subscriber)
+        try_composition(pages[0], peer, session, subscriber)
+        try_at_once(pages, peer, session, subscriber, rng)
+        try_greatest(pages[0], peer, session, subscriber)
+        versions = session.ask("latest")[1]
+        try_another_hub(hub, pages)
+        picture("another")
+        print(f"{pages[0].version()}: {versions} versions, all alike")
+    finally:
+        for page in pages:
+            page.quit()
+        session.close()
+        peer.close()
 
 
 def main():
     parser = argparse.ArgumentParser(description=__doc__, formatter_class=argparse.RawDescriptionHelpFormatter)
     parser.add_argument("hub", nargs="?", default=os.environ.get("HUB", "hub"))
-    parser.add_argument("--picture")
+    parser.add_argument("--pictures", type=pathlib.Path)
     parser.add_argument("--seed", type=int, default=random.randrange(1 << 32))
     arguments = parser.parse_args()
     print(f"seed {arguments.seed}")
-    with program(arguments.hub, "serve", "--read", "--port", 0, "--sessions", 8) as lines, \
-            program("chromedriver", "--port=0") as driver:
-        try_all(f"http://127.0.0.1:{number_in(driver, 'successfully on port ([0-9]+)')}", number_in(lines, "port ([0-9]+)"), arguments)
+    with tempfile.TemporaryDirectory() as folder, program("chromedriver", "--port=0") as driver:
+        hub = Hub(arguments.hub, pathlib.Path(folder, "store"))
+        try:
+            try_all(f"http://127.0.0.1:{number_in(driver, 'successfully on port ([0-9]+)')}", hub, pathlib.Path(folder, "store"), arguments)
+        finally:
+            hub.kill()
 
 
 if __name__ == "__main__":

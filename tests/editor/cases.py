@@ -1,15 +1,17 @@
 """Each thing that an editor does, by itself."""
-import base64
 import itertools
 import re
 import statistics
+import tempfile
 
-from editors import ROOT, place, until
+from browser import until
+from editors import PEER, ROOT, place
 from peer import changes_in
 
 FILTERS = ROOT / "examples" / "filters"
 CONTROL, NOTHING, ENTER, BACK, DELETE, LEFT, HOME, END = "\ue009", "\ue000", "\ue007", "\ue003", "\ue017", "\ue012", "\ue011", "\ue010"
-KEYBOARD, KEYS = ".ProseMirror", 200
+KEYBOARD, KEYS, OTHER = ".ProseMirror", 200, 8
+CHARACTERS, MARKS, CHANGES = 32768, 4096, 4096
 
 
 def spans(here):
@@ -51,15 +53,16 @@ def pictures():
             printed.append(line[13:])
 
 
-def try_pictures(editor):
-    """What the replica makes of each example is what is printed there."""
-    tried = 0
-    for changes, printed in pictures():
-        found = editor.run("const one = new hub.replica.constructor(); for (const change of arguments[0]) one.take(change); return one.lines()",
-                           changes_in(changes))
-        assert found == [f"span {line}" for line in printed], (changes, found, printed)
-        tried += 1
-    print(f"{tried} examples of docs/PERITEXT.md: as printed", flush=True)
+def try_pictures(hub, editor):
+    """What the editor and the peer show of each example, change by change, is what is printed there."""
+    examples = list(pictures())
+    for changes, printed in examples:
+        with place(hub, [editor]) as here:
+            for change in changes_in(changes):
+                here.session.ask(*change)
+            assert here.compare() == [f"span {line}" for line in printed], (changes, printed)
+    assert examples
+    print(f"{len(examples)} examples of docs/PERITEXT.md: as printed", flush=True)
 
 
 def try_ends(here):
@@ -148,6 +151,44 @@ def try_undo(here):
     assert spans(here) == ["plain two ", "strong base"], spans(here)
 
 
+def selected(editor):
+    return editor.run("const {doc, selection: {from, to}} = hubView.state; return doc.textBetween(from, to, '\\n')")
+
+
+def try_selection(here):
+    """What others type at a selection's ends stays out of it, and behind a caret; what they remove or mark leaves it where it is."""
+    editor, peer = here.editors[0], here.peer
+    clear(here, "one two three")
+    editor.do("find('two')")
+    for first, text in [(4, "x"), (8, "y"), (0, "\n"), (16, "z")]:
+        peer.follow()
+        peer.insert(first, text)
+        here.compare()
+        assert selected(editor) == "two" and editor.run("return getSelection().toString()") == "two", selected(editor)
+    peer.mark(0, 17, "strong")
+    peer.remove(6, 7)
+    here.compare()
+    assert selected(editor) == "wo", selected(editor)
+    editor.keys(KEYBOARD, "T")
+    assert spans(here) == ["strong \\none xTy threez"], spans(here)
+    peer.follow()
+    peer.insert(7, "a")
+    here.compare()
+    editor.keys(KEYBOARD, "b")
+    assert spans(here) == ["strong \\none xTbay threez"], spans(here)
+
+
+def compose(editor, *texts):
+    """What a person composes, step by step, and isn't done with."""
+    for text in texts:
+        editor.protocol("Input.imeSetComposition", text=text, selectionStart=len(text), selectionEnd=len(text))
+
+
+def take_all(here, editor):
+    _, latest = here.session.ask("latest")
+    until(lambda: editor.run("return hub.replica.version") == latest, lambda: f"the page doesn't take what others type: {editor}")
+
+
 def try_composition(here):
     """A word that is composed is one edit; others' edits wait until it is done."""
     editor = here.editors[0]
@@ -155,16 +196,74 @@ def try_composition(here):
     _, before = here.session.ask("latest")
     editor.do("find('ab', 1); select(hubView.state.selection.to)")
     for text in ["n", "\u306b", "\u306bh", "\u306b\u307b"]:
-        editor.call("POST", "/goog/cdp/execute", {"cmd": "Input.imeSetComposition", "params": {
-            "text": text, "selectionStart": len(text), "selectionEnd": len(text)}})
+        compose(editor, text)
         here.peer.follow()
         here.peer.insert(0, "x")
-        until(lambda: editor.run("return hub.replica.version") == here.session.ask("latest")[1], "the page doesn't take what others type")
+        take_all(here, editor)
         assert editor.run("return hubView.dom.textContent") == f"a{text}b"
-    editor.call("POST", "/goog/cdp/execute", {"cmd": "Input.insertText", "params": {"text": "\u65e5\u672c"}})
-    until(lambda: editor.text() == "xxxxa\u65e5\u672cb", editor.text())
+    editor.protocol("Input.insertText", text="\u65e5\u672c")
+    until(lambda: editor.text() == "xxxxa\u65e5\u672cb", editor.text)
     assert spans(here) == ["plain xxxxa\u65e5\u672cb"], spans(here)
     assert here.session.ask("latest")[1] == before + 5, "what was composed is more than one change"
+
+
+def try_composition_among_others(here):
+    """Where a word is composed others remove what stands before it, mark and split the line; one that is given up is no change; one that is
+    composed over a selection, or with a mark that was turned on, is as a typed one."""
+    one, two = here.editors[:2]
+    clear(here, "one two three")
+    one.do("find('two', 3); select(hubView.state.selection.to)")
+    compose(one, "x", "xy")
+    here.peer.follow()
+    here.peer.mark(0, 4, "strong")
+    here.peer.remove(4, 7)
+    two.do("find('three', 0)")
+    two.keys(KEYBOARD, ENTER)
+    take_all(here, one)
+    compose(one, "xyz")
+    one.protocol("Input.insertText", text="XYZ")
+    until(lambda: "XYZ" in one.text(), one.text)
+    assert spans(here) == ["strong one ", "plain XYZ \\nthree"], spans(here)
+    _, before = here.session.ask("latest")
+    compose(one, "q", "qr", "")
+    one.do("await pause(500)")
+    assert spans(here) == ["strong one ", "plain XYZ \\nthree"] and here.session.ask("latest")[1] == before, spans(here)
+    one.do("find('XYZ')")
+    compose(one, "n", "\u306b")
+    one.protocol("Input.insertText", text="\u4e8c")
+    until(lambda: "\u4e8c" in one.text(), one.text)
+    one.do("press('[data-command=em]')")
+    compose(one, "k")
+    one.protocol("Input.insertText", text="\u6728")
+    until(lambda: "\u6728" in one.text(), one.text)
+    assert spans(here) == ["strong one ", "plain \u4e8c", "em \u6728", "plain  \\nthree"], spans(here)
+    press(one, "z")
+    press(one, "z")
+    assert spans(here) == ["strong one ", "plain XYZ \\nthree"], spans(here)
+
+
+def try_composition_lost(here):
+    """Where a browser loses what is composed, since the document is changed there, what is typed next is sent, and others' is shown."""
+    editor = here.editors[0]
+    for change, typed, left in [("tr.insertText('ZZ', 2, 9)", "q", "oZZq three"), ("tr.split(4)", ENTER, "one\n tN\nwo three")]:
+        clear(here, "one two three")
+        editor.do("select(6)")
+        compose(editor, "n", "N")
+        editor.run(f"const {{tr}} = hubView.state; hubView.dispatch({change})")
+        editor.protocol("Input.insertText", text="")
+        here.peer.follow()
+        here.peer.insert(13, "!")
+        editor.keys(KEYBOARD, typed)
+        here.compare()
+        assert editor.text() == left + "!", editor.text()
+        clear(here, "one")
+        editor.do("select(4)")
+        compose(editor, "n", "N")
+        editor.run("hubView.dom.firstChild.replaceWith(hubView.dom.firstChild.cloneNode(true))")
+        here.peer.follow()
+        here.peer.insert(0, "?")
+        here.compare()
+        assert editor.text() == "?oneN", editor.text()
 
 
 def try_clipboard(here):
@@ -176,6 +275,9 @@ def try_clipboard(here):
     text, html = editor.do("find('one two'); return copy()")
     assert text == "one two" and "<strong>two</strong>" in html, (text, html)
     editor.do("select(1e9); await key('Enter'); await paste(...arguments)", text, html)
+    here.compare()
+    changes, _ = here.session.ask(f"changes {here.session.ask('latest')[1] - 1} 1")
+    assert any(line.startswith("r ") for line in changes), changes
     assert spans(here) == ["plain one ", "strong two\\n", "plain one ", "strong two"] or \
         spans(here) == ["plain one ", "strong two", "plain \\none ", "strong two"], spans(here)
     clear(here, "")
@@ -186,11 +288,12 @@ def try_clipboard(here):
     assert editor.run("return document.querySelectorAll('.ProseMirror script, .ProseMirror [onclick], .ProseMirror a[href], "
                       ".ProseMirror img:not(.ProseMirror-separator)').length") == 0
     clear(here, "abc def")
-    editor.do("""find('abc'); const slice = hubView.state.selection.content(), dataTransfer = new DataTransfer();
-        hubView.dragging = {slice, move: true};
-        const end = hubView.coordsAtPos(8), at = {clientX: end.left + 1, clientY: (end.top + end.bottom) / 2, bubbles: true, cancelable: true};
-        hubView.dom.dispatchEvent(new DragEvent('drop', {...at, dataTransfer})); await pause(50)""")
+    editor.do("find('abc'); await drop(8)")
     assert spans(here) == ["plain  defabc"], spans(here)
+    editor.do("find('def'); press('[data-command=strong]'); find('def'); await drop(1, false)")
+    assert spans(here) == ["strong def", "plain  ", "strong def", "plain abc"], spans(here)
+    press(editor, "z")
+    assert spans(here) == ["plain  ", "strong def", "plain abc"], spans(here)
     assert here.session.ask("latest")[1] > before
 
 
@@ -210,14 +313,46 @@ def try_characters(here):
     assert "\ufffd" in spans(here)[0], spans(here)
 
 
+def shown(editor, selector, of):
+    return editor.run(f"return [...document.querySelectorAll(arguments[0])].map(one => {of})", selector)
+
+
+def subscribe(editor, name):
+    editor.keys("#program", str(FILTERS / name))
+    until(lambda: name in editor.says("filters"), lambda: editor.says("notice"))
+
+
+def try_hits(here):
+    """What two filters hit is told by each, also where both hit the same: by a kind of line, beside the color, and by a name."""
+    editor = here.editors[0]
+    clear(here, "Who comes? All.")
+    editor.do("find('Who comes?'); press('[data-command=strong]')")
+    here.compare()
+    subscribe(editor, "question.hex")
+    subscribe(editor, "strong.hex")
+    until(lambda: len(shown(editor, ".hit", "one.title")) == 2, lambda: editor.says("items"))
+    assert sorted(shown(editor, ".hit", "[one.title, one.textContent]")) == \
+        [["question.hex", "Who comes?"], ["strong.hex", "Who comes?"]]
+    lines = "getComputedStyle(one).textDecorationStyle + getComputedStyle(one).textUnderlineOffset"
+    names = dict(shown(editor, "#filters b", f"[one.textContent, {lines}]"))
+    assert dict(shown(editor, ".hit", f"[one.title, {lines}]")) == names and len(set(names.values())) == 2, names
+    editor.do("find('comes?', 6); select(hubView.state.selection.to)")
+    editor.keys(KEYBOARD, BACK + "!")
+    here.compare()
+    until(lambda: shown(editor, ".hit", "one.title") == ["strong.hex"], lambda: editor.says("items"))
+    for _ in range(2):
+        editor.click("#filters button")
+        editor.do("await pause(300)")
+    assert shown(editor, ".hit", "one.title") == [] and editor.says("filters") == ""
+
+
 def try_away(here):
-    """A hub that is gone for a while; a session that makes changes in an editor's name; a filter goes on."""
-    editor, bridge = here.editors[0], here.bridges[0]
+    """A hub that can't be reached for a while; a session that makes changes in an editor's name; a filter goes on."""
+    editor = here.editors[0]
     clear(here, "Who comes? ")
-    editor.keys("#program", str(FILTERS / "question.hex"))
-    until(lambda: "question.hex" in editor.says("filters"), editor.says("notice"))
-    bridge.stop()
-    until(lambda: editor.says("state") == "offline", editor.says("state"))
+    subscribe(editor, "question.hex")
+    editor.do("cut()")
+    until(lambda: editor.says("state") == "offline", lambda: editor.says("state"))
     editor.do("select(1e9)")
     editor.keys(KEYBOARD, "I do.")
     here.peer.follow()
@@ -225,69 +360,150 @@ def try_away(here):
     _, mine = here.session.ask("newest 1")
     here.session.ask("change 1 1", f"i {mine + 3}@1 - 2a")
     assert "Type on" in editor.says("trouble")
-    bridge.start()
+    may_go = "return dispatchEvent(new Event('beforeunload', {cancelable: true}))"
+    assert editor.run(may_go) is False, "a page that is left loses what isn't sent, and doesn't ask"
+    editor.do("mend()")
     assert spans(here) == ["plain *Ann? Who comes? I do."], spans(here)
-    assert editor.run("return hub.node") != 1
+    assert editor.run("return hub.node") != 1 and editor.run(may_go) is True
     editor.keys(KEYBOARD, "?")
     here.compare()
-    until(lambda: editor.run("return [...document.querySelectorAll('.hit')].map(one => one.textContent).join('')") == "*Ann? Who comes? I do.?",
-          "other spans are shown as hit")
-    assert "node 9" in editor.run("return [...document.querySelectorAll('.peer')].map(one => one.dataset.node)")
+    until(lambda: "".join(shown(editor, ".hit", "one.textContent")) == "*Ann? Who comes? I do.?", "other spans are shown as hit")
+    assert f"node {PEER}" in shown(editor, ".peer", "one.dataset.node")
     editor.click("#filters button")
 
 
+def add_marks(here, count):
+    """So many mark operations that cover nothing, by another session."""
+    _, counter = here.session.ask(f"newest {OTHER}")
+    for first in range(0, count, 256):
+        lines = [f"u {counter + at}@{OTHER} em ^ ^" for at in range(1, 1 + min(256, count - first))]
+        counter += len(lines)
+        here.session.ask(f"change {OTHER} {len(lines)}", *lines)
+
+
+def add_characters(here, count, code="61"):
+    """So many characters at the text's start, by another session."""
+    _, counter = here.session.ask(f"newest {OTHER}")
+    for first in range(0, count, 256):
+        size = min(256, count - first)
+        form = f"r {counter + 1}@{OTHER} - {size}" if size > 1 else f"i {counter + 1}@{OTHER} -"
+        here.session.ask(f"change2 {OTHER} 1", " ".join([form, *[code] * size]))
+        counter += size
+
+
+def add_changes(here, count):
+    _, counter = here.session.ask(f"newest {OTHER}")
+    for at in range(1, 1 + count):
+        here.session.ask(f"change {OTHER} 1", f"u {counter + at}@{OTHER} em ^ ^")
+
+
 def try_full_marks(here):
-    """Marks, characters and changes that the hub takes no more of are told, and nothing is lost."""
+    """Marks that the hub takes no more of are told, also those made while it was away, and nothing that was typed is lost."""
     editor = here.editors[0]
     clear(here, "abc")
-    used = editor.run("return [hub.replica.marks.length, hub.replica.characters.size]")
-    _, counter = here.session.ask("newest 8")
-    for first in range(used[0], 4096, 256):
-        lines = [f"u {counter + at}@8 em ^ ^" for at in range(1, 1 + min(256, 4096 - first))]
-        counter += len(lines)
-        here.session.ask(f"change 8 {len(lines)}", *lines)
+    add_marks(here, MARKS - 1 - editor.run("return hub.replica.marks.length"))
     here.compare()
-    editor.do("find('abc'); press('[data-command=strong]')")
-    assert "4,096 marks" in editor.says("notice") and spans(here) == ["plain abc"], editor.says("notice")
-    for first in range(used[1], 32768 - 2, 256):
-        count = min(256, 32768 - 2 - first)
-        line = f"r {counter + 1}@8 - {count} " + " ".join(["61"] * count) if count > 1 else f"i {counter + 1}@8 - 61"
-        here.session.ask("change2 8 1", line)
-        counter += count
-    here.compare()
-    assert "Room for 2 characters" in editor.says("room"), editor.says("room")
+    editor.do("cut(); find('abc'); press('[data-command=strong]')")
     editor.do("select(1e9)")
-    editor.keys(KEYBOARD, "xyz")
-    until(lambda: "The text is full" in editor.says("notice"), editor.says("notice"))
+    editor.keys(KEYBOARD, "d")
+    assert "strong" in editor.lines()[0]
+    add_marks(here, 1)
+    editor.do("mend()")
+    until(lambda: "4,096 marks" in editor.says("notice"), lambda: f"{editor} {editor.says('notice')}")
+    assert spans(here) == ["plain abcd"], spans(here)
+    editor.run("document.getElementById('notice').textContent = ''")
+    editor.do("find('abc'); press('[data-command=em]')")
+    assert "4,096 marks" in editor.says("notice") and spans(here) == ["plain abcd"], editor.says("notice")
+
+
+def try_full_characters(here):
+    """The same of characters: of what is typed, pasted, and typed while the hub was away."""
+    editor, other = here.editors[:2]
+    clear(here, "abc")
+    add_characters(here, CHARACTERS - 4 - editor.run("return hub.replica.characters.size"))
     here.compare()
-    assert editor.text().endswith("abcxy")
+    assert "Room for 4 characters" in editor.says("room"), editor.says("room")
+    editor.do("select(1e9); await paste('12345')")
+    assert "The text is full" in editor.says("notice"), editor.says("notice")
+    editor.run("document.getElementById('notice').textContent = ''")
+    editor.keys(KEYBOARD, "xyz")
+    here.compare()
+    other.do("cut(); select(1e9)")
+    other.keys(KEYBOARD, "!")
+    editor.keys(KEYBOARD, "vw")
+    until(lambda: "The text is full" in editor.says("notice"), lambda: editor.says("notice"))
+    until(lambda: editor.run("return hub.waiting") == 0, lambda: str(editor))
+    other.do("mend()")
+    until(lambda: "The text is full" in other.says("trouble"), lambda: f"{other} {other.says('trouble')}")
+    assert "copy what you need" in other.says("trouble") and other.text().endswith("abcxyz!v"), other.text()[-9:]
+    here.editors = [editor]
+    here.compare()
+    assert editor.text().endswith("abcxyzv")
+    editor.do("find('xyzv', 0)")
+    editor.keys(KEYBOARD, BACK)
+    here.compare()
+    assert editor.text().endswith("abxyzv")
+
+
+def try_greatest(hub, editor):
+    """A text of 32,768 characters of four bytes each."""
+    with place(hub, [editor]) as here:
+        add_characters(here, CHARACTERS, "1f600")
+        here.compare()
+        assert editor.run("return new TextEncoder().encode(hub.replica.text).length") == 131072
+        editor.do("select(1e9)")
+        editor.keys(KEYBOARD, BACK)
+        editor.do("select(20001); await key('Backspace')")
+        here.compare()
+        assert editor.run("return new TextEncoder().encode(hub.replica.text).length") == 131064
 
 
 def try_full_changes(here):
     """The same of changes, some of them of others while an editor types."""
-    editor = here.editors[0]
+    editor, other = here.editors
     clear(here, "")
-    _, latest = here.session.ask("latest")
-    for counter in range(1, 4096 - latest):
-        here.session.ask("change 7 1", f"u {counter}@7 em ^ ^")
+    add_changes(here, CHANGES - 1 - here.session.ask("latest")[1])
     here.compare()
+    other.do("cut()")
+    other.keys(KEYBOARD, "c")
     editor.keys(KEYBOARD, "a")
-    here.compare()
+    until(lambda: editor.run("return hub.waiting") == 0, lambda: str(editor))
     editor.keys(KEYBOARD, "b")
-    until(lambda: "no more changes" in editor.says("notice"), editor.says("notice"))
+    until(lambda: "no more changes" in editor.says("notice"), lambda: editor.says("notice"))
+    other.do("mend()")
+    until(lambda: "no more changes" in other.says("trouble"), lambda: f"{other} {other.says('trouble')}")
+    assert sorted(other.text()) == ["a", "c"], other.text()
+    here.editors = [editor]
     assert spans(here) == ["plain a"], spans(here)
 
 
-def try_anew(here, hub):
+def try_anew(hub, editor):
     """A hub that was started anew is told, and the text can still be read and copied."""
-    editor, bridge = here.editors[0], here.bridges[0]
-    before = editor.text()
-    bridge.stop()
-    with place(hub, []) as other:
-        bridge.hub_port = other.port
-        bridge.start()
-        until(lambda: "started anew" in editor.says("trouble"), editor.says("trouble"))
-    assert editor.text() == before and editor.run("return hubView.editable") is False
+    with place(hub, [editor]) as here:
+        clear(here, "abc")
+        web = here.web
+    until(lambda: editor.says("state") == "offline", lambda: str(editor))
+    with place(hub, [], web=web):
+        until(lambda: "started anew" in editor.says("trouble"), lambda: f"{editor} {editor.says('trouble')}")
+    assert editor.text() == "abc" and editor.run("return hubView.editable") is False
+
+
+def try_kept(hub, editors):
+    """A hub that keeps its changes is ended and started again: what was typed meanwhile, and what it may not have answered, is there once."""
+    with tempfile.TemporaryDirectory() as folder, place(hub, editors[:2], "--store", f"{folder}/changes") as here:
+        one, two = here.editors
+        clear(here, "ab")
+        for at, editor in enumerate([one, two]):
+            editor.do("select(arguments[0])", 2 + at)
+        for turn in range(5):
+            one.keys(KEYBOARD, f"1{turn}")
+            two.keys(KEYBOARD, f"2{turn}")
+            here.kill()
+            one.keys(KEYBOARD, "x")
+            here.begin()
+            here.compare()
+        assert one.text() == "a10x11x12x13x14xb2021222324", one.text()
+    print("try_kept: as expected", flush=True)
 
 
 def take_pictures(here, folder):
@@ -298,34 +514,40 @@ def take_pictures(here, folder):
         <p>Who comes? <i>All of us</i>, it seems.</p>
         <p>The room is <span data-color="b42318">upstairs</span>, behind the <span data-color="1a7f37">garden</span>. How do we get there?</p>""")
     one.do("find('Who comes', 3); press('[data-command=comment]'); find('menu', 0)")
-    one.keys("#program", str(FILTERS / "question.hex"))
+    subscribe(one, "question.hex")
+    subscribe(one, "strong.hex")
     here.compare()
     two.do("find('seems', 0)")
     two.keys(KEYBOARD, "really ")
     here.compare()
-    until(lambda: one.run("return document.querySelectorAll('.hit').length > 1 && document.querySelectorAll('.peer').length === 1"), "no hit")
-    for width, height in [(1200, 560), (400, 700)]:
-        size = {"width": width, "height": height, "deviceScaleFactor": 1, "mobile": False}
-        one.call("POST", "/goog/cdp/execute", {"cmd": "Emulation.setDeviceMetricsOverride", "params": size})
+    until(lambda: len(shown(one, ".hit", "one.title")) >= 3 and len(shown(one, ".peer", "one.dataset.node")) == 1, "no hit")
+    for width, height in [(1200, 600), (400, 760)]:
+        one.protocol("Emulation.setDeviceMetricsOverride", width=width, height=height, deviceScaleFactor=1, mobile=width < 1000)
         one.do("await pause(300)")
-        (folder / f"editor-{width}.png").write_bytes(base64.b64decode(one.call("GET", "/screenshot")))
-    one.call("POST", "/goog/cdp/execute", {"cmd": "Emulation.clearDeviceMetricsOverride", "params": {}})
+        wide = one.run("return document.documentElement.scrollWidth")
+        assert wide <= width, f"the page is {wide} wide on a screen of {width}"
+        one.take_picture(folder / f"editor-{width}.png")
+    one.protocol("Emulation.clearDeviceMetricsOverride")
 
 
 def try_all(hub, editors, pictures):
-    parts = [try_ends, try_typing, try_undo, try_composition, try_clipboard, try_characters, try_away, try_full_marks]
+    parts = [try_ends, try_typing, try_selection, try_undo, try_composition, try_composition_among_others, try_composition_lost,
+             try_clipboard, try_characters, try_hits, try_away]
     with place(hub, editors[:2]) as here:
-        try_pictures(editors[0])
         for part in parts:
             part(here)
             print(f"{part.__name__}: as expected", flush=True)
+    for part in (try_full_marks, try_full_characters, try_full_changes):
+        with place(hub, editors[:2]) as here:
+            part(here)
+            print(f"{part.__name__}: as expected", flush=True)
+    try_greatest(hub, editors[0])
+    try_anew(hub, editors[0])
+    print("try_greatest, try_anew: as expected", flush=True)
+    try_pictures(hub, editors[0])
     if pictures:
         with place(hub, editors[:2]) as here:
             take_pictures(here, pictures)
-    with place(hub, editors[:1]) as here:
-        try_full_changes(here)
-        try_anew(here, hub)
-        print("try_full_changes, try_anew: as expected", flush=True)
 
 
 # Speed.
@@ -356,6 +578,12 @@ def fill(here, characters, marks):
         counter += len(lines)
 
 
+def tap(editor, key):
+    """Presses a key by Chromium's protocol: the driver would first look for the element, in the time that is measured."""
+    for kind in ("keyDown", "keyUp"):
+        editor.protocol("Input.dispatchKeyEvent", type=kind, key=key, text=key if kind == "keyDown" else "")
+
+
 def measure(hub, editor):
     """Prints the time from a key to the screen in a text of 32,768 characters with 1,000 marks."""
     with place(hub, [editor]) as here:
@@ -363,7 +591,7 @@ def measure(hub, editor):
         here.compare()
         editor.do("select(16000); watch()")
         for _ in range(KEYS):
-            editor.keys(KEYBOARD, "x")
+            tap(editor, "x")
         here.compare()
         times = sorted(editor.do("return times"))
         assert len(times) == KEYS

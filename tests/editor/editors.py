@@ -1,51 +1,36 @@
-"""Editors in browsers, each with a bridge of its own to one hub, a peer, and a session that looks."""
+"""Editors in browsers, which a hub serves itself, a peer, and a session that looks."""
 import contextlib
 import pathlib
-import signal
+import socket
 import subprocess
 import sys
 
+from browser import Browser, number_in, until
+
 ROOT = pathlib.Path(__file__).resolve().parent.parent.parent
-sys.path[:0] = [str(ROOT / "examples" / "clients"), str(ROOT / "examples" / "page")]
+sys.path.insert(0, str(ROOT / "examples" / "clients"))
 from peer import Peer, Session  # noqa: E402
-from try_page import OPTIONS, Browser, number_in, program, until  # noqa: E402, F401
 
 IN_PAGE = (ROOT / "tests" / "editor" / "in_page.js").read_text(encoding="utf-8")
-BRIDGE, EDITOR = ROOT / "examples" / "page" / "bridge.py", ROOT / "examples" / "editor"
-OPTIONS += ["--disable-gpu", "--disable-extensions", "--disable-background-networking", "--disable-background-timer-throttling",
-            "--disable-renderer-backgrounding", "--window-size=600,500"]
-
-
-class Bridge:
-    """A bridge that can be stopped for a while."""
-
-    def __init__(self, hub_port):
-        self.hub_port, self.port, self.process = hub_port, 0, None
-        self.start()
-
-    def start(self):
-        words = [sys.executable, str(BRIDGE), str(self.hub_port), str(EDITOR), "--port", str(self.port)]
-        self.process = subprocess.Popen(words, stdout=subprocess.PIPE, text=True)
-        self.port = number_in(self.process.stdout, r"http://127\.0\.0\.1:([0-9]+)/")
-
-    def stop(self):
-        self.process.send_signal(signal.SIGKILL)
-        self.process.wait()
-        self.process.stdout.close()
+EDITOR, PEER = ROOT / "examples" / "editor", 9
 
 
 class Editor(Browser):
     """An editor in a browser."""
 
-    def enter(self, bridge, node):
-        self.call("POST", "/timeouts", {"script": 300000})
-        self.open(f"http://127.0.0.1:{bridge.port}/?node={node}")
-        until(lambda: self.says("state") == "connected", f"the editor is {self.says('state')}: {self.says('trouble')}")
+    def enter(self, address, node):
+        until(lambda: self.begins(f"{address}/?node={node}"), "no editor is served")
+        until(lambda: self.says("state") == "connected", lambda: f"the editor is {self.says('state')}: {self.says('trouble')}")
         self.run(IN_PAGE)
+
+    def begins(self, url):
+        """Opens a page; a hub that is slow, on a busy machine, may answer a part of it with 408."""
+        self.open(url)
+        return self.run("return 'hubView' in window")
 
     def do(self, script, *arguments):
         """Runs a script that uses what in_page.js has."""
-        return self.run("const {select, find, type, key, paste, copy, press, link, round, unlike, watch, times, pause} = trial;"
+        return self.run("const {select, find, type, key, paste, drop, copy, press, link, round, unlike, cut, mend, watch, times, pause} = trial;"
                         f"return (async () => {{ {script} }})()", *arguments)
 
     def lines(self):
@@ -54,23 +39,45 @@ class Editor(Browser):
     def text(self):
         return self.run("return hub.replica.text")
 
+    def is_level(self, latest):
+        """Whether all that was typed here is sent, and all that others did is here, also on the screen. A word that is composed is typed
+        once it is done."""
+        return self.run("return hub.waiting === 0 && hub.state === 'connected' && hub.replica.version === arguments[0] && "
+                        "!hubView.composing && trial.unlike() === ''", latest)
+
+    def __str__(self):
+        return self.run("return `node ${hub.node}, ${hub.state} (${hub.why}), version ${hub.replica.version}, ${hub.waiting} wait, "
+                        "${hubView.composing ? 'composing' : 'not composing'}, ${trial.unlike()}`")
+
+
+def free_port():
+    """A port that nothing uses: a page's origin, which the hub is given, has it."""
+    with socket.create_server(("127.0.0.1", 0)) as server:
+        return server.getsockname()[1]
+
 
 class Place:
-    """A hub with some editors, each with a bridge, a peer, and a session that looks."""
+    """A hub with some editors that it serves, a peer, and a session that looks."""
 
-    def __init__(self, hub, editors, *options):
-        self.hub = subprocess.Popen([hub, "serve", "--read", "--port", "0", "--sessions", "64", *options], stdout=subprocess.PIPE, text=True)
-        self.port = number_in(self.hub.stdout, "port ([0-9]+)")
-        self.session, self.peer = Session(self.port), Peer(self.port, 9)
-        self.editors, self.bridges = editors, [Bridge(self.port) for _ in editors]
-        for node, (editor, bridge) in enumerate(zip(editors, self.bridges), 1):
-            editor.enter(bridge, node)
+    def __init__(self, hub, editors, *options, web=None):
+        self.command, self.options, self.web = hub, options, web or free_port()
+        self.address = f"http://127.0.0.1:{self.web}"
+        self.editors = editors
+        self.begin()
+        for node, editor in enumerate(editors, 1):
+            editor.enter(self.address, node)
+
+    def begin(self):
+        doors = ["--port", "0", "--web", str(self.web), "--files", str(EDITOR), "--origin", self.address]
+        words = [self.command, "serve", "--read", *doors, *self.options]
+        self.hub = subprocess.Popen(words, stdout=subprocess.PIPE, text=True)
+        self.port = number_in(self.hub.stdout, "^port ([0-9]+)$")
+        assert number_in(self.hub.stdout, "^web ([0-9]+)$") == self.web
+        self.session, self.peer = Session(self.port), Peer(self.port, PEER)
 
     def compare(self):
         """Waits until all have taken all changes, and compares what they show with what the hub shows."""
-        for editor in self.editors:
-            until(lambda editor=editor: editor.run("return hub.waiting === 0 && hub.state === 'connected'"),
-                  f"an editor still waits: {editor.says('state')} {editor.says('trouble')} {editor.run('return hub.waiting')}")
+        until(self.is_level, lambda: "; ".join(str(editor) for editor in self.editors))
         _, latest = self.session.ask("latest")
         want, count = [], 1
         while len(want) < count:
@@ -79,29 +86,30 @@ class Place:
         self.peer.wait(latest)
         assert [f"span {line}" for line in self.peer.replica.span_lines()] == want, "the peer's text is another one"
         for at, editor in enumerate(self.editors):
-            until(lambda editor=editor: editor.run("return hub.replica.version") == latest, "an editor doesn't take a change")
             lines = editor.lines()
             assert lines == want, f"editor {at} has {first_unlike(lines, want)}"
-            assert editor.do("return unlike()") == "", f"editor {at}: {editor.do('return unlike()')}"
         return want
 
-    def close(self):
+    def is_level(self):
+        _, latest = self.session.ask("latest")
+        return all(editor.is_level(latest) for editor in self.editors) and self.session.ask("latest")[1] == latest
+
+    def kill(self):
+        """Ends the hub as a loss of power would; `begin` starts it again."""
         for one in (self.session, self.peer):
             one.close()
-        for bridge in self.bridges:
-            bridge.stop()
-        self.hub.terminate()
+        self.hub.kill()
         self.hub.wait()
         self.hub.stdout.close()
 
 
 @contextlib.contextmanager
-def place(hub, editors, *options):
-    made = Place(hub, editors, *options)
+def place(hub, editors, *options, web=None):
+    made = Place(hub, editors, *options, web=web)
     try:
         yield made
     finally:
-        made.close()
+        made.kill()
 
 
 def first_unlike(found, want):

@@ -59,6 +59,17 @@ window.trial = (() => {
     await soon();
   }
 
+  /** Drags the selection to a position that is seen on the screen: to move it, or a copy of it. */
+  async function drop(position, move = true) {
+    const dataTransfer = new DataTransfer(), { top, bottom, left } = view.coordsAtPos(position);
+    const at = { clientX: left + 0.5, clientY: (top + bottom) / 2, ctrlKey: !move, bubbles: true, cancelable: true };
+    if (top < 0 || bottom > innerHeight || view.state.selection.empty) return;
+    view.dragging = { slice: view.state.selection.content(), move };
+    view.dom.dispatchEvent(new DragEvent("drop", { ...at, dataTransfer }));
+    view.dragging = null;
+    await soon();
+  }
+
   function copy() {
     const clipboardData = new DataTransfer();
     view.dom.dispatchEvent(new ClipboardEvent("copy", { clipboardData, bubbles: true, cancelable: true }));
@@ -88,6 +99,7 @@ window.trial = (() => {
     else if (kind < 0.85) { select(at, end); if (!view.state.selection.empty) link(pick(["https://a.b/", "https://c.d/e", ""])); }
     else if (kind < 0.88) { select(at); await paste("one\ntwo"); }
     else if (kind < 0.91) { select(at); await paste("", "<p>p <b>strong</b> <a href='https://a.b/'>link</a></p><p><i>em</i></p>"); }
+    else if (kind < 0.925) { select(at, end); await drop(Math.floor(next() * (most + 1)), next() < 0.7); }
     else if (kind < 0.96) await key("z", { ctrlKey: true });
     else await key("y", { ctrlKey: true });
   }
@@ -105,6 +117,20 @@ window.trial = (() => {
     removeEventListener("unhandledrejection", listen);
     return errors;
   }
+
+  // The page without its network: the connection is lost, maybe with a reply, and none can be opened.
+  const { WebSocket } = window;
+  class NoSocket {
+    constructor() { setTimeout(() => this.onclose()); }
+    close() {}
+  }
+
+  function cut() {
+    window.WebSocket = NoSocket;
+    hub.session.socket.close();
+  }
+
+  function mend() { window.WebSocket = WebSocket; }
 
   const words = ({ type: { name }, attrs }) => name === "comment" ? `comment:${attrs.number}` :
     attrs.href ? `link=${attrs.href}` : attrs.color ? `color=${attrs.color}` : name;
@@ -135,5 +161,5 @@ window.trial = (() => {
     }), true);
   }
 
-  return { select, find, type, key, paste, copy, press, link, round, unlike, watch, times, pause };
+  return { select, find, type, key, paste, drop, copy, press, link, round, unlike, cut, mend, watch, times, pause };
 })();

@@ -1,10 +1,12 @@
 #!/usr/bin/env python3
-"""Tries the editor of examples/editor in browsers: try_editor.py [HUB] [--rounds N] [--operations N] [--seed N] [--pictures FOLDER]
+"""Tries the editor of examples/editor in browsers:
+try_editor.py [HUB] [--only PART].. [--rounds N] [--operations N] [--seed N] [--pictures FOLDER]
 
-HUB is the executable, by default $HUB or `hub`. It takes Chromium and its driver (Debian: chromium, chromium-driver), and a built
-examples/editor. Three editors and a peer of peer.py edit one text at random, one of the editors cut off for a while; after each round all
-four show the hub's text. Then each thing by itself: marks at their ends, undo, composition, paste, drag, limits, a hub that is gone; and
-the time from a key to the screen in a full text, which is printed."""
+HUB is the executable, by default $HUB or `hub`; it serves the editor itself. It takes Chromium and its driver (Debian: chromium,
+chromium-driver), and a built examples/editor. The parts: `cases`, each thing by itself: marks at their ends, undo, composition, paste, drag,
+limits, a hub that is gone; `store`, a hub that keeps its changes and is ended and started again; `rounds`, in which three editors and a
+peer of peer.py edit one text at random, one of the editors cut off for a while, after each of which all four show the hub's text; and
+`speed`, the time from a key to the screen in a full text, which is printed."""
 import argparse
 import os
 import pathlib
@@ -13,9 +15,11 @@ import time
 from concurrent.futures import ThreadPoolExecutor
 
 import cases
-from editors import Editor, number_in, place, program
+from browser import number_in, program
+from editors import Editor, place
 
 ROUNDS_A_HUB = 5
+PARTS = ["cases", "store", "rounds", "speed"]
 KEYS = ["strong", "em", "code", "comment:7", "link", "color"]
 
 
@@ -42,9 +46,14 @@ def peer_at_random(peer, rng, count):
 
 
 def editor_at_random(editor, rng, count):
+    """So many edits in the page; behind each 25 of them a word is composed, by the browser."""
     errors = []
     for first in range(0, count, 25):
-        errors += editor.do("return round(...arguments)", rng.randrange(1 << 31), min(25, count - first), 60)
+        errors += editor.do("return round(...arguments)", rng.randrange(1 << 31), min(25, count - first) - 1, 60)
+        editor.do("select(arguments[0])", rng.randrange(2000))
+        cases.compose(editor, "n", "\u306b", "\u306bh")
+        time.sleep(rng.random() * 0.3)
+        editor.protocol("Input.insertText", text=rng.choice(["\u65e5\u672c", "\u306b", ""]))
     return errors
 
 
@@ -53,12 +62,10 @@ def one_round(here, rng, operations):
     count = operations // (len(here.editors) + 1)
     away = rng.randrange(len(here.editors))
     with ThreadPoolExecutor(len(here.editors) + 1) as pool:
+        begin = rng.randrange(100, 1000)
+        here.editors[away].do("setTimeout(cut, arguments[0]); setTimeout(mend, arguments[1])", begin, begin + rng.randrange(300, 3000))
         jobs = [pool.submit(editor_at_random, editor, random.Random(rng.random()), count) for editor in here.editors]
         jobs.append(pool.submit(peer_at_random, here.peer, random.Random(rng.random()), count))
-        time.sleep(0.2)
-        here.bridges[away].stop()
-        time.sleep(0.3 + rng.random())
-        here.bridges[away].start()
         for job in jobs:
             errors = job.result()
             assert not errors, errors
@@ -80,19 +87,26 @@ def try_rounds(hub, editors, rng, rounds, operations):
 def main():
     parser = argparse.ArgumentParser(description=__doc__, formatter_class=argparse.RawDescriptionHelpFormatter)
     parser.add_argument("hub", nargs="?", default=os.environ.get("HUB", "hub"))
+    parser.add_argument("--only", action="append", choices=PARTS)
     parser.add_argument("--rounds", type=int, default=20)
     parser.add_argument("--operations", type=int, default=500)
     parser.add_argument("--seed", type=int, default=random.randrange(1 << 31))
     parser.add_argument("--pictures", type=pathlib.Path)
     arguments = parser.parse_args()
+    parts = arguments.only or PARTS
     print(f"seed {arguments.seed}", flush=True)
     with program("chromedriver", "--port=0") as driver:
         address = f"http://127.0.0.1:{number_in(driver, 'successfully on port ([0-9]+)')}"
         editors = [Editor(address) for _ in range(3)]
         try:
-            cases.try_all(arguments.hub, editors, arguments.pictures)
-            try_rounds(arguments.hub, editors, random.Random(arguments.seed), arguments.rounds, arguments.operations)
-            cases.measure(arguments.hub, editors[0])
+            if "cases" in parts:
+                cases.try_all(arguments.hub, editors, arguments.pictures)
+            if "store" in parts:
+                cases.try_kept(arguments.hub, editors)
+            if "rounds" in parts:
+                try_rounds(arguments.hub, editors, random.Random(arguments.seed), arguments.rounds, arguments.operations)
+            if "speed" in parts:
+                cases.measure(arguments.hub, editors[0])
         finally:
             for editor in editors:
                 editor.quit()

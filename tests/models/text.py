@@ -345,6 +345,9 @@ PROGRAMS = {"b7000000010000009500000000000000", "b700000002000000950000000000000
 FLAG_BITS = {"strong": 1, "em": 2, "link": 4, "color": 8, "comment": 16, "code": 32}
 
 
+LIMITS = 4096, CHARACTERS, MARKS, 64
+
+
 class Foreign(Exception):
     """What this model doesn't know."""
 
@@ -489,6 +492,21 @@ class Session:
             raise Refused(42, 1)
         return [f"ok newest {self.text.counters.get(int(node), 0)}"]
 
+    def left(self):
+        used = self.text.changes, len(self.text.codes), len(self.text.marks), len(self.subscribers)
+        return ["ok left " + " ".join(str(limit - count) for limit, count in zip(LIMITS, used))]
+
+    def stats(self):
+        """A subscriber's queue must have had room for all that was due when it was last pulled, so that it was sent what it was given."""
+        text, listening = self.text, [subscriber for subscriber in self.subscribers if subscriber]
+        used = text.changes, len(text.codes), len(text.marks), len(self.subscribers)
+        visible = "".join(chr(code) for at, code in text.codes.items() if at not in text.removed)
+        told = [("versions", text.changes), ("characters", len(visible)), ("removed", len(text.removed)), ("marks", len(text.marks)), ("subscribers", len(listening)),
+                ("subscribed", len(self.subscribers)), ("sessions", 1), ("bytes", len(visible.encode())),
+                ("lag", max((text.changes + 1 - version for version, _, _ in listening), default=0))]
+        told += [(name + "-used", count * 1000 // limit) for name, count, limit in zip(("changes", "characters", "marks", "subscribers"), used, LIMITS)]
+        return ["ok stats " + " ".join(f"{name} {count}" for name, count in told)]
+
     def answer(self, line, ended):
         if line.split(b" ")[0] in (b"change", b"change2"):
             if not ended:
@@ -498,7 +516,7 @@ class Session:
         forms = [("sub2? %s ([^ ]+)(?: from %s)?" % (number, number), self.subscribe),
                  ("pull %s %s" % (number, number), self.pull), ("close %s" % number, self.close)]
         if self.reads:
-            forms += [("latest", self.latest), ("show %s %s %s" % (number, number, number), self.show),
+            forms += [("latest", self.latest), ("left", self.left), ("stats", self.stats), ("show %s %s %s" % (number, number, number), self.show),
                       ("changes %s %s" % (number, number), self.changes), ("newest %s" % number, self.newest)]
         for form, act in forms:
             found = re.fullmatch(form, line.decode("latin-1"))
@@ -868,6 +886,33 @@ def reads(cases, rng):
     cases.add("session-read-many-spans-in-parts", ["replay", "--read"], Session(input_of(lines), True).replies(), lines=lines)
 
 
+def counted(cases, rng):
+    cases.heading("Sessions that read how much there is of the hub and how much it still takes. A subscriber is given all that is due, and is closed before the next one.")
+    for at in range(1, 9):
+        writer, lines, subscriber = Writer(rng), ["left", "stats"], 0
+        for _ in range(rng.randrange(6, 13)):
+            form, node = rng.choice([1, 2, 2]), rng.choice([1, 2, 3])
+            made = writer.change(form, node)
+            made = writer.spoiled(made) if rng.random() < 0.25 else made
+            try:
+                writer.text.accept(made)
+            except Refused:
+                pass
+            lines += rng.choice([[], [], [f"sub 1024 {FLAGS}", "stats", f"close {subscriber}"], [f"sub 1024 {FLAGS} from 0", "stats", f"pull {subscriber} 1024", "stats", f"close {subscriber}"]])
+            subscriber += lines[-1].startswith("close")
+            lines += change_lines(form, node, made) + rng.choice([["left"], ["stats"], ["left", "stats"]])
+        cases.add(f"session-counted-{at}", ["replay", "--read"], Session(input_of(lines), True).replies(), lines=lines)
+    typed = ["change2 1 1", "r 1@1 - 2 61 1f600", "change 1 1", "d 3@1 1@1"]
+    lines = ["left", "stats", "hub", "left ", "left 0", "stats ", " stats", "stats all", "Stats", "lefts", "hub 0"]
+    cases.heading("Beside them lines of no form. The hub of `replay` has no id. Without `--read` each is a line of no form.")
+    cases.add("session-counted-lines", ["replay", "--read"], Session(input_of(lines + typed + lines), True).replies(), lines=lines + typed + lines)
+    cases.add("session-counted-lines-without-read", ["replay"], Session(input_of(lines)).replies(), lines=lines)
+    lines = [f"sub 1024 {FLAGS}", "close 0"] * 1 + [f"sub 1 {FLAGS}"] * 63
+    lines += ["left", "stats", "change 1 200"] + [f"{'i' if at < 100 else 'm'} {at + 1}@1 {'- 61' if at == 0 else f'{at}@1 61' if at < 100 else 'strong - <1@1 $'}" for at in range(200)]
+    cases.heading("No subscriber is left, and some changes, characters and marks are used.")
+    cases.add("session-counted-full", ["replay", "--read"], Session(input_of(lines + ["left", "stats"]), True).replies(), lines=lines + ["left", "stats"])
+
+
 def limited(cases, rng):
     cases.heading("Sessions of such histories, in which a change may be too far above all counters, or more than the session may have accepted.")
     for at in range(1, 9):
@@ -895,6 +940,7 @@ def write_cases(folder):
     refused_histories(cases, rng)
     sessions(cases, rng)
     reads(cases, random.Random(2027))
+    counted(cases, random.Random(2029))
     limited(cases, random.Random(2028))
     cases.write(folder, "text")
 

@@ -1,6 +1,7 @@
 ghost use Rattle.std.specs.Prelude.{◌≡◌, ◌<◌, ◌≤◌, ◌+◌, ◌-◌, ◌^◌, ℕ, List, [], ◌++◌, ◌∷◌};
-ghost use Rattle.std.specs.Prelude.{IfOk, MatchResult, MatchOption, length, take};
+ghost use Rattle.std.specs.Prelude.{IfOk, MatchResult, MatchOption, length, take, count_by};
 ghost use Rattle.change_ops.specs.Changes.{Change, operations};
+ghost use Rattle.change_ops.specs.Operations.{is_insert, is_mark};
 ghost use Rattle.change_ops.specs.Runs.{inserts_of};
 ghost use Rattle.change_ops.specs.Lines.{ops_of, ops_of_lines};
 ghost use Rattle.change_ops.specs.declared.operation.Op.{Op};
@@ -273,6 +274,22 @@ impl History {
             → ⊥) (IsFormat (operations_of self.now) id)) }
     {
         self.parts.format_at(alloc, id)
+    }
+
+    /// How many characters the accepted operations inserted, removed ones too.
+    pub fn inserted(&self) -> usize
+        ensures count { result ≡ count_by is_insert (operations_of self.now) }
+        ensures few { result ≤ 32768 }
+    {
+        self.parts.inserted()
+    }
+
+    /// How many of the accepted operations are of marks.
+    pub fn mark_count(&self) -> usize
+        ensures count { result ≡ count_by is_mark (operations_of self.now) }
+        ensures few { result ≤ 4096 }
+    {
+        self.parts.mark_count()
     }
 
     /// The greatest counter of a peer's accepted operations, 0 where it has none.

@@ -1,6 +1,6 @@
 ghost use Rattle.std.specs.Prelude.{◌≡◌, ◌↔◌, ◌<◌, ℕ, List, [], ◌++◌, ◌∷◌, true, false, length, Contains, Some, IsTrue};
-ghost use Rattle.std.specs.Prelude.{MatchResult, MatchOption, IfOk, ◌≤◌, ◌+◌, ◌^◌, take};
-ghost use Rattle.change_ops.specs.Operations.{id_of, is_mark, Names};
+ghost use Rattle.std.specs.Prelude.{MatchResult, MatchOption, IfOk, ◌≤◌, ◌+◌, ◌^◌, take, count_by};
+ghost use Rattle.change_ops.specs.Operations.{id_of, is_insert, is_mark, Names};
 ghost use Rattle.change_ops.specs.Runs.{inserts_from};
 ghost use Rattle.change_ops.specs.declared.operation.Op.{Op};
 ghost use Rattle.char_sequence.specs.Order.{SameSet};
@@ -205,6 +205,24 @@ impl Parts {
             Some(_) => Ok(Some(self.marks.format_at(alloc, &self.sequence, id)?)),
             None => Ok(None),
         }
+    }
+
+    /// How many characters were inserted, removed ones too.
+    pub fn inserted(&self) -> usize
+        ensures count { (ops : List Op) → Keeps ops self.now → result ≡ count_by is_insert ops }
+        ensures few { result ≤ 32768 }
+    {
+        self.sequence.len()
+    }
+
+    /// How many mark operations there are.
+    pub fn mark_count(&self) -> usize
+        ensures count { (ops : List Op) → Keeps ops self.now → result ≡ count_by is_mark ops }
+        ensures few { result ≤ 4096 }
+    {
+        // Tells the proof how many there are at most.
+        let _ = self.marks.is_full();
+        self.marks.operations().len()
     }
 
     /// The last counter of a peer, 0 where it has no operation.

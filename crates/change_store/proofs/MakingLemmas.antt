@@ -27,10 +27,10 @@ abbrev pub change_text : List ℕ
 change_text = codes "CREATE TABLE change (number INTEGER PRIMARY KEY, text TEXT NOT NULL) STRICT"
 
 abbrev pub hub_text : List ℕ
-hub_text = codes "CREATE TABLE hub (format INTEGER NOT NULL, size TEXT NOT NULL) STRICT"
+hub_text = codes "CREATE TABLE hub (format INTEGER NOT NULL, size TEXT NOT NULL, id TEXT NOT NULL) STRICT"
 
 abbrev pub description : List ℕ
-description = codes "INSERT INTO hub (format, size) VALUES (?1, ?2)"
+description = codes "INSERT INTO hub (format, size, id) VALUES (?1, ?2, ?3)"
 
 abbrev unplaced : Table
 unplaced = record hub { tree = 0 }
@@ -52,9 +52,9 @@ unfolding understood everything
 hub_plain = (refl, refl)
 
 abbrev terms : List Term
-terms = lit Null ∷ col 0 0 ∷ col 0 1 ∷ []
+terms = lit Null ∷ col 0 0 ∷ col 0 1 ∷ col 0 2 ∷ []
 
-description_is : command_of (understood (schema_of (change ∷ hub ∷ [])) description) ≡ Insert 1 (Values terms 3)
+description_is : command_of (understood (schema_of (change ∷ hub ∷ [])) description) ≡ Insert 1 (Values terms 4)
 unfolding understood everything
 description_is = refl
 
@@ -98,9 +98,9 @@ makes_hub old new count before h =
 pub describes : (old new : State) (params : Row) (count : ℕ) → IsStore [] old.now → Executes description params old new (Ok count) → IsStore [] new.now
 describes old new params count store h =
     let db = old.now.trees in
-    let w = runs_as description params old new (schema_of (change ∷ hub ∷ [])) store.schema (Insert 1 (Values terms 3)) description_is description_plain count h in
+    let w = runs_as description params old new (schema_of (change ∷ hub ∷ [])) store.schema (Insert 1 (Values terms 4)) description_is description_plain count h in
     let sql = statement_of description (understood (schema_of (change ∷ hub ∷ [])) description) in
-    let done = went (subst (λ s. Does old.step_limit (mode_of old) params (record old.now { schema = s }) sql None (Insert 1 (Values terms 3)) (Ok (w.tally, new.now))) store.schema w.changed) in
+    let done = went (subst (λ s. Does old.step_limit (mode_of old) params (record old.now { schema = s }) sql None (Insert 1 (Values terms 4)) (Ok (w.tally, new.now))) store.schema w.changed) in
     let now = ap (λ (p : Tally × Database). p.1) (same_value (went (went done.2).2).2) in
     let given = went done.1 in
     let written = went (went given.2).2 in

@@ -61,7 +61,7 @@ reads_store old new rows texts has h is =
     record { schema = has; rows = IsPermutation-sym _ _ (subst (IsPermutation (map shown (old.now.trees 0))) back (subst (λ l. IsPermutation l (map (λ (o : Output). o.1) a.ordered)) front same)) }
 
 abbrev pub question : List ℕ
-question = codes "SELECT format, size FROM hub"
+question = codes "SELECT format, size, id FROM hub"
 
 question_plain : IsPlain (understood (schema_of (change ∷ hub ∷ [])) question)
 unfolding understood everything

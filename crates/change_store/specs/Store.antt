@@ -39,9 +39,12 @@ abbrev pub change : Table
 change =
     table_of (codes "change") 0 (column_of (codes "number") Integer false ∷ column_of (codes "text") Text true ∷ []) (Some 0) (0 ∷ [])
 
--- CREATE TABLE hub (format INTEGER NOT NULL, size TEXT NOT NULL) STRICT
+-- CREATE TABLE hub (format INTEGER NOT NULL, size TEXT NOT NULL, id TEXT NOT NULL) STRICT
 abbrev pub hub : Table
-hub = table_of (codes "hub") 1 (column_of (codes "format") Integer true ∷ column_of (codes "size") Text true ∷ []) None []
+hub =
+    table_of (codes "hub") 1
+    (column_of (codes "format") Integer true ∷ column_of (codes "size") Text true ∷ column_of (codes "id") Text true ∷ [])
+    None []
 
 abbrev pub schema_of : List Table → Schema
 schema_of tables = record { tables = tables; indexes = []; views = [] }

@@ -13,6 +13,8 @@ pub enum Damage {
     Format,
     /// It is a store of a hub of another size.
     Size,
+    /// The hub's id isn't 32 small hexadecimal digits.
+    Id,
     /// No change has this number, and one has a greater.
     MissingNumber(u32),
     /// A number isn't within 32 bits, or a text isn't UTF-8.
@@ -55,9 +57,11 @@ impl From<AllocError> for StoreError {
 }
 
 /// Why a log that is a store fails. But for want of memory it isn't known what is kept then.
-pub(crate) fn log_error(error: StoreError) -> LogError {
-    match error {
-        StoreError::OutOfMemory => LogError::OutOfMemory,
-        _ => LogError::Failed,
+impl From<StoreError> for LogError {
+    fn from(error: StoreError) -> LogError {
+        match error {
+            StoreError::OutOfMemory => LogError::OutOfMemory,
+            _ => LogError::Failed,
+        }
     }
 }

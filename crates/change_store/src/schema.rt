@@ -68,20 +68,24 @@ fn has_change_columns(columns: &Items<Column>) -> bool
     is_column(text, "text", Kind::Text, true)
 }
 
-#[tactic(auto, using(crate::proofs::SchemaLemmas::two_items))]
+#[tactic(auto, using(crate::proofs::SchemaLemmas::three_items))]
 fn has_hub_columns(columns: &Items<Column>) -> bool
     ensures { IsTrue result → columns.now ≡ hub.columns }
 {
-    let (Some(format), Some(size)) = (columns.get(0), columns.get(1)) else {
+    let (Some(format), Some(size), Some(id)) = (columns.get(0), columns.get(1), columns.get(2))
+    else {
         return false;
     };
-    if columns.len() != 2 {
+    if columns.len() != 3 {
         return false;
     }
     if !is_column(format, "format", Kind::Integer, true) {
         return false;
     }
-    is_column(size, "size", Kind::Text, true)
+    if !is_column(size, "size", Kind::Text, true) {
+        return false;
+    }
+    is_column(id, "id", Kind::Text, true)
 }
 
 fn is_change(alloc: Global, table: &Table) -> Result<bool, AllocError>

@@ -4,7 +4,7 @@ ghost use Rattle.sqlite.specs.Held.{state};
 ghost use Rattle.sqlite.specs.Files.{file_state};
 ghost use Rattle.change_store.specs.Store.{AreKept};
 
-use crate::error::{Damage, StoreError, log_error};
+use crate::error::{Damage, StoreError};
 use crate::file::make_private;
 use crate::{rows, schema, tables};
 use change_log::log::{ChangeLog, LogError};
@@ -18,6 +18,7 @@ use std::rt::HostRuntime;
 pub struct ChangeStore<S: Alter> {
     file: Connection<S>,
     count: u32,
+    id: String,
     ghost settled: { file.in_transaction ≡ false },
 }
 
@@ -40,14 +41,15 @@ fn connect<F: Start>(
     }
 }
 
-/// Makes the tables of a new file, or looks whether an old one is a store of this format and size. It returns how many
-/// changes are kept.
+/// Makes the tables of a new file, of a hub of this id, or looks whether an old one is a store of this format and size:
+/// then the id is its own. It returns how many changes are kept.
 #[tactic(auto, unfolding(crate::specs::Store::AreKept))]
 fn settle<S: Alter>(
     conn: &mut Connection<S>,
     alloc: Global,
     format: u32,
     size: &str,
+    id: &mut String,
 ) -> Result<u32, StoreError>
     requires { conn.old.in_transaction ≡ false }
     ensures settled { conn.new.in_transaction ≡ false }
@@ -56,13 +58,13 @@ fn settle<S: Alter>(
         → IfOk result (λ count. (texts : List (List ℕ)) × AreKept (state S.Store conn.new) count texts) }
 {
     if schema::is_empty(conn.schema()) {
-        tables::make(conn, format, size)?;
+        tables::make(conn, format, size, id.as_str())?;
         return Ok(0);
     }
     if !schema::is_store(alloc, conn.schema())? {
         return Err(StoreError::StoreDamaged(Damage::Tables));
     }
-    tables::check_hub(conn, format, size)?;
+    *id = tables::check_hub(conn, format, size)?;
     let texts = rows::read(conn, alloc)?;
     match u32::try_from(texts.len()) {
         Ok(count) => Ok(count),
@@ -71,20 +73,27 @@ fn settle<S: Alter>(
 }
 
 impl<F: Start> ChangeStore<FileStore<FileFrom<F>>> {
-    /// Opens the store of a hub of this format and size, or makes one where no file is, or an empty one. `F` stands for
-    /// what the file held before: `Unknown` or `Wary` of `sqlite`.
+    /// Opens the store of a hub of this format and size, or makes one where no file is, or an empty one: then of a hub
+    /// of this id. `F` stands for what the file held before: `Unknown` or `Wary` of `sqlite`.
     pub fn open(
         rt: &HostRuntime,
         path: &str,
         format: u32,
         size: &str,
+        id: &str,
         start: F,
     ) -> Result<ChangeStore<FileStore<FileFrom<F>>>, StoreError>
         ensures { IfOk result (λ store. (texts : List (List ℕ)) × AreKept (file_state store.file) store.count texts) }
     {
         let mut file = connect(rt, path, start)?;
-        let count = settle(&mut file, rt.alloc(), format, size)?;
-        Ok(ChangeStore { file, count })
+        let mut id = String::from_str(rt.alloc(), id)?;
+        let count = settle(&mut file, rt.alloc(), format, size, &mut id)?;
+        Ok(ChangeStore { file, count, id })
+    }
+
+    /// The id of the hub whose changes it keeps: the one that it was made with.
+    pub fn id(&self) -> &str {
+        self.id.as_str()
     }
 
     /// Copies the log into the file, which then stands alone. A store that is let go keeps its texts in both.
@@ -105,14 +114,14 @@ impl<S: Alter> ChangeLog for ChangeStore<S> {
                 self.count = count;
                 Ok(())
             }
-            Err(error) => Err(log_error(StoreError::from(error))),
+            Err(error) => Err(LogError::from(StoreError::from(error))),
         }
     }
 
     fn all(&mut self, alloc: Global) -> Result<Vec<ChangeText>, LogError> {
         match rows::read(&mut self.file, alloc) {
             Ok(texts) => Ok(texts),
-            Err(error) => Err(log_error(error)),
+            Err(error) => Err(LogError::from(error)),
         }
     }
 }

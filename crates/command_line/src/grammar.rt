@@ -1,4 +1,4 @@
-use clap::{Arg, ArgAction, Command, value_parser};
+use clap::{Arg, ArgAction, ArgGroup, Command, value_parser};
 use hub_requests::{MOST_LINK_BYTES, MOST_SESSIONS, MOST_WORKERS};
 use std::alloc::{AllocError, Global};
 
@@ -100,7 +100,8 @@ With --read also:
     newest <node>                    ok newest <counter>
 
 The exit status is 0 if the session has ended, whatever it was refused; 1 if there is
-no memory, with 45; 2 if the command line is wrong; 3 if a read or a write fails.
+no memory, with 45, or the file of --store is refused, with 65 or 67; 2 if the command
+line is wrong; 3 if a read or a write fails, or that of the file of --store.
 
 Example:
 
@@ -123,9 +124,10 @@ With --read also:
     changes <from> <k>               the changes; ok changes <m>
     newest <node>                    ok newest <counter>
 
-The exit status is 1 if there is no memory, with 45; 2 if the command line is wrong;
-3 if the port can't be bound. With --sessions it is 0 if all sessions have ended,
-whatever they were refused, and 3 also if an accept, a read or a write fails.
+The exit status is 1 if there is no memory, with 45, or the file of --store is refused,
+with 65 or 67; 2 if the command line is wrong; 3 if a door can't be had, or the file of
+--store fails. With --sessions it is 0 if all sessions have ended, whatever they were
+refused, and 3 also if an accept, a read or a write fails.
 
 Example, of one session that is answered through bash:
 
@@ -378,6 +380,7 @@ changes, and subscriptions of programs. Printed are the replies. A request that 
 refused is answered `no <number> <Name>`, and the session goes on.",
         )
         .after_help(AFTER_REPLAY)
+        .arg(store(alloc))?
         .arg(workers(alloc))?
         .arg(read(alloc))?
         .arg(counter_jump(alloc))?
@@ -421,27 +424,107 @@ fn idle<'a>(alloc: Global) -> Arg<'a> {
         .help("Ends a session whose client sends nothing for so many seconds, from 1 on")
 }
 
-fn serve<'a>(alloc: Global) -> Result<Command<'a>, AllocError> {
-    let port = Arg::new(alloc, "port")
-        .long("port")
+/// Which file keeps the changes.
+fn store<'a>(alloc: Global) -> Arg<'a> {
+    Arg::new(alloc, "store")
+        .long("store")
+        .value_name("FILE")
+        .action(ArgAction::Set)
+        .help(
+            "Keeps each accepted change in this SQLite file before it is answered, and begins with those that it has",
+        )
+}
+
+/// A port of one kind.
+fn port<'a>(alloc: Global, name: &'a str, help: &'a str) -> Arg<'a> {
+    Arg::new(alloc, name)
+        .long(name)
         .value_name("NUMBER")
-        .required(true)
         .action(ArgAction::Set)
         .value_parser(value_parser!(u16).range(0..))
-        .help("The port, 0 to 65535; with 0 the system chooses one");
-    Command::new(alloc, "serve")
-        .about("Answers sessions over TCP")
+        .help(help)
+}
+
+/// Where sessions come in.
+fn with_doors<'a>(alloc: Global, serve: Command<'a>) -> Result<Command<'a>, AllocError> {
+    let unix = Arg::new(alloc, "unix")
+        .long("unix")
+        .value_name("PATH")
+        .action(ArgAction::Set)
+        .help("Lines over a socket file of this path, which its owner alone may open");
+    let host = Arg::new(alloc, "host")
+        .long("host")
+        .value_name("ADDRESS")
+        .action(ArgAction::Set)
+        .help("The IPv4 or IPv6 address of --port and --web; 127.0.0.1 if it is left out");
+    let doors = ArgGroup::new(alloc, "doors")
+        .arg("port")?
+        .arg("web")?
+        .arg("unix")?
+        .required(true)
+        .multiple(true);
+    serve
+        .arg(port(
+            alloc,
+            "port",
+            "Lines over TCP at this port, 0 to 65535; with 0 the system chooses one",
+        ))?
+        .arg(port(
+            alloc,
+            "web",
+            "WebSockets at /session of this port, and files; with 0 the system chooses one",
+        ))?
+        .arg(unix)?
+        .arg(host)?
+        .group(doors)
+}
+
+/// What a browser may have.
+fn with_web<'a>(alloc: Global, serve: Command<'a>) -> Result<Command<'a>, AllocError> {
+    let origin = Arg::new(alloc, "origin")
+        .long("origin")
+        .value_name("URL")
+        .action(ArgAction::Append)
+        .requires_arg("web")?
+        .help(
+            "A page of this origin, as http://127.0.0.1:4712, may begin a session; it may be given several times",
+        );
+    let files = Arg::new(alloc, "files")
+        .long("files")
+        .value_name("FOLDER")
+        .action(ArgAction::Set)
+        .requires_arg("web")?
+        .help("The files of this folder are served at --web; without it 404");
+    serve.arg(origin)?.arg(files)
+}
+
+/// Whether sessions are told of.
+fn log<'a>(alloc: Global) -> Arg<'a> {
+    Arg::new(alloc, "log")
+        .long("log")
+        .action(ArgAction::SetTrue)
+        .help("Writes a line on standard error where a session begins, and where it ends")
+}
+
+fn serve<'a>(alloc: Global) -> Result<Command<'a>, AllocError> {
+    let serve = Command::new(alloc, "serve")
+        .about("Answers sessions over TCP, WebSockets or a socket file")
         .long_about(
-            "Answers sessions over TCP, on 127.0.0.1. Standard input isn't read. Printed is
-`port <number>`. A session has the form that `hub replay --help` tells; all of them
-share one text. The program goes on until it is killed; with --sessions it ends when
-so many sessions have ended. The text is gone with it.",
+            "Answers sessions at doors: over TCP (--port), in the messages of WebSockets
+(--web), over a socket file (--unix), at one or several of them. Standard input
+isn't read. Printed is a line for each door, `port <number>`, `web <number>`,
+`unix <path>`, in this order. A session has the form that `hub replay --help` tells;
+all of them share one text. The program goes on until it is killed; with --sessions
+it ends when so many sessions have ended. The text is gone with it, unless --store
+keeps its changes.",
         )
-        .after_help(AFTER_SERVE)
-        .arg(port)?
+        .after_help(AFTER_SERVE);
+    with_web(alloc, with_doors(alloc, serve)?)?
+        .arg(store(alloc))?
         .arg(sessions(alloc))?
         .arg(at_once(alloc)?)?
         .arg(idle(alloc))?
+        .arg(log(alloc))?
         .arg(workers(alloc))?
         .arg(read(alloc))?
         .arg(counter_jump(alloc))?

@@ -3,10 +3,12 @@ use change_ops::attribute::Link;
 use clap::error::ErrorKind;
 use clap::{ArgMatches, Error};
 use hub_requests::limits::{SessionLimits, SessionOptions};
-use hub_requests::{Command, Detail, Request, Service, Sessions, Shown, SpanOptions, Workers};
+use hub_requests::serving::{Doors, Service, Terms, WebDoor};
+use hub_requests::{Command, Detail, Request, Sessions, Shown, SpanOptions, Workers};
 use span_context::profile::Profile;
 use std::alloc::{AllocError, Global};
 use std::convert::AsStr;
+use std::net::{IpAddr, Ipv4Addr};
 use std::time::Duration;
 
 /// Why the words of a command line ask for none of the commands.
@@ -35,10 +37,16 @@ impl From<AllocError> for Unread {
 const BAD_LINK: &str = "error: a link's text has 1 to 1024 characters of ASCII from `!` to `~`\n";
 
 /// What is said beside the words for an argument that is missing.
-const NEEDED_BY_SERVE: &str = "`hub serve` needs a port, 0 for one that the system chooses, as in:
+const NEEDED_BY_SERVE: &str =
+    "`hub serve` needs a port, 0 for one that the system chooses, or a socket file, as in:
 
     hub serve --port 4711
+    hub serve --web 4712 --files examples/page
+    hub serve --unix hub.socket
 ";
+
+/// What is said of a host that is no address.
+const BAD_HOST: &str = "error: `--host` takes an IPv4 or an IPv6 address\n";
 
 /// What is said of limits of a session that have none of the forms.
 const BAD_LIMITS: &str =
@@ -155,6 +163,7 @@ fn limits(alloc: Global, matches: &ArgMatches<'_>) -> Result<SessionLimits, Unre
 fn session_options(alloc: Global, matches: &ArgMatches<'_>) -> Result<SessionOptions, Unread> {
     Ok(SessionOptions {
         reads: matches.get_flag("read"),
+        hub: None,
         counter_jump: matches.get_one::<u64>("counter-jump"),
         limits: limits(alloc, matches)?,
     })
@@ -174,15 +183,80 @@ fn idle(matches: &ArgMatches<'_>) -> Option<Duration> {
     Some(Duration::from_secs(u64::from(seconds)))
 }
 
-/// What the options of `serve` ask for; without its port, nothing.
-fn serving(matches: &ArgMatches<'_>, options: SessionOptions) -> Option<Request> {
-    Some(Request::Serve {
-        port: matches.get_one::<u16>("port")?,
+/// The value of an option that is a text.
+fn text(alloc: Global, matches: &ArgMatches<'_>, name: &str) -> Result<Option<String>, AllocError> {
+    match matches.get_str(name) {
+        Some(text) => Ok(Some(String::from_str(alloc, text)?)),
+        None => Ok(None),
+    }
+}
+
+/// The address that the ports are at.
+fn host(alloc: Global, matches: &ArgMatches<'_>) -> Result<IpAddr, Unread> {
+    let Some(text) = matches.get_str("host") else {
+        return Ok(IpAddr::V4(Ipv4Addr::LOCALHOST));
+    };
+    match text.parse::<IpAddr>() {
+        Ok(host) => Ok(host),
+        Err(_) => Err(Unread::Usage(String::from_str(alloc, BAD_HOST)?)),
+    }
+}
+
+/// Whose pages may begin a session.
+fn origins(alloc: Global, matches: &ArgMatches<'_>) -> Result<Vec<String>, AllocError> {
+    let mut origins = Vec::new(alloc);
+    if let Some(given) = matches.get_strs("origin") {
+        for origin in given {
+            origins.push(String::from_str(alloc, origin)?)?;
+        }
+    }
+    Ok(origins)
+}
+
+/// The door for browsers, if there is to be one.
+fn web(alloc: Global, matches: &ArgMatches<'_>) -> Result<Option<WebDoor>, AllocError> {
+    match matches.get_one::<u16>("web") {
+        Some(port) => Ok(Some(WebDoor {
+            port,
+            origins: origins(alloc, matches)?,
+            files: text(alloc, matches, "files")?,
+        })),
+        None => Ok(None),
+    }
+}
+
+/// Where sessions come in.
+fn doors(alloc: Global, matches: &ArgMatches<'_>) -> Result<Doors, Unread> {
+    Ok(Doors {
+        host: host(alloc, matches)?,
+        port: matches.get_one::<u16>("port"),
+        web: web(alloc, matches)?,
+        unix: text(alloc, matches, "unix")?,
+    })
+}
+
+/// On what terms sessions are served; none where neither of the two numbers of sessions is there.
+fn terms(matches: &ArgMatches<'_>, options: SessionOptions) -> Option<Terms> {
+    Some(Terms {
         service: service(matches)?,
         workers: workers(matches),
         options,
         idle: idle(matches),
+        is_logged: matches.get_flag("log"),
     })
+}
+
+/// What the options of `serve` ask for.
+fn serving(alloc: Global, matches: &ArgMatches<'_>) -> Result<Option<Request>, Unread> {
+    let options = session_options(alloc, matches)?;
+    match terms(matches, options) {
+        Some(terms) => Ok(Some(Request::Serve {
+            doors: doors(alloc, matches)?,
+            terms,
+            store: text(alloc, matches, "store")?,
+        })),
+        None => Ok(None),
+    }
 }
 
 fn request_of(alloc: Global, matches: &ArgMatches<'_>) -> Result<Request, Unread> {
@@ -197,13 +271,14 @@ fn request_of(alloc: Global, matches: &ArgMatches<'_>) -> Result<Request, Unread
         Some(("replay", replay)) => Some(Request::Replay {
             workers: workers(replay),
             options: session_options(alloc, replay)?,
+            store: text(alloc, replay, "store")?,
         }),
         Some(("run", run)) => Some(Request::Perform(Command::Run {
             shown: shown(run),
             digits: String::from_str(alloc, run.get_str("HEX").unwrap_or(""))?,
             options: span_options(alloc, run)?,
         })),
-        Some(("serve", serve)) => serving(serve, session_options(alloc, serve)?),
+        Some(("serve", serve)) => serving(alloc, serve)?,
         Some(("spans", _)) => Some(Request::Perform(Command::Spans)),
         Some(("straighten", _)) => Some(Request::Perform(Command::Straighten)),
         _ => None,

@@ -264,6 +264,13 @@ impl<N: Naming, S: Sink<Item<N>>> Subscriber<N, S> {
         self.closed
     }
 
+    /// The first version that wasn't sent whole.
+    pub fn cursor(&self) -> u64
+        ensures { result ≡ self.now.cursor }
+    {
+        self.cursor
+    }
+
     /// Where its items go.
     pub fn sink(&self) -> &S
         ensures value { result.now ≡ self.now.sink }

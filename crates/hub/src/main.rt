@@ -1,6 +1,9 @@
 //! The program: its command, on the words that it was called with and the standard streams.
 #![tactic(auto)]
 
+mod system;
+
+use crate::system::HostSystem;
 use hub_program::fault::Fault;
 use hub_program::{command, complain};
 use std::alloc::AllocError;
@@ -18,10 +21,13 @@ fn main(rt: HostRuntime) -> ExitCode {
     let mut writer = io::writer(&rt);
     let stderr = rt.stderr();
     let mut errors = io::writer(&stderr);
+    let system = HostSystem { rt: &rt };
     let status = match words(&rt) {
         Ok(words) => command(
             &rt,
             rt.alloc(),
+            &system,
+            &system,
             &words,
             &mut reader,
             &mut writer,

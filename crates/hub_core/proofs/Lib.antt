@@ -1,3 +1,4 @@
 pub mod Sound
 pub mod Streams
 pub mod Running
+pub mod Lags

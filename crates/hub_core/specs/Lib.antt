@@ -1,4 +1,5 @@
 pub mod Accepting
 pub mod Machine
+pub mod Counting
 pub mod Runs
 pub mod Consistent

@@ -11,11 +11,13 @@ ghost use Rattle.change_history.specs.VersionAt.{IsVersionAt};
 ghost use Rattle.feeds.specs.Stream.{BeginsStream};
 ghost use Rattle.feeds.specs.Promise.{Suits};
 ghost use Rattle.hub_core.specs.Consistent.{IsConsistent};
+ghost use Rattle.hub_core.specs.Counting.{AreCounts, AreWithinLimits};
 ghost use Rattle.hub_core.specs.Runs.{CommitsJob};
 ghost use Rattle.hub_core.specs.Accepting.{Accepts};
 ghost use Rattle.hub_core.specs.Machine.{IsStart, Submits, Subscribes, Commits, Pumps, Reissues, Closes, TakesJob};
 ghost use Rattle.hub_core.specs.Machine.{Misses, FindsAt, FindsJob};
 
+use crate::counts::{Counts, greatest_lag, open_count};
 use crate::error::{CommitError, NoSubscriber, SubscribeError};
 use change_history::history::{Draft, History};
 use change_history::refusal::SubmitError;
@@ -195,6 +197,30 @@ impl<'p, N: Naming, S: Sink<Item<N>>> Core<'p, N, S> {
     {
         let token = self.versions.get(number as usize)?;
         Some(token.again())
+    }
+
+    /// The token of the latest version.
+    pub fn latest_version(&self) -> VersionToken<N>
+        ensures { slice_get self.now.versions (length self.now.changes) ≡ Some result }
+    {
+        self.versions[self.history.len()].again()
+    }
+
+    /// How much there is of it.
+    pub fn counts(&self) -> Counts
+        ensures counts { AreCounts self.now result }
+        ensures few { AreWithinLimits result }
+    {
+        let changes = latest(&self.history);
+        let subscribers = self.subscribers.as_slice();
+        Counts {
+            changes,
+            inserted: self.history.inserted() as u64,
+            marks: self.history.mark_count() as u64,
+            subscribers: open_count(subscribers),
+            subscribed: subscribers.len() as u64,
+            lag: greatest_lag(changes, subscribers),
+        }
     }
 
     /// The greatest counter of a peer's accepted operations, 0 where it has none.

@@ -2,6 +2,7 @@
 //! that are sent what their programs say of those.
 #![tactic(auto)]
 
+pub mod counts;
 pub mod error;
 pub mod hub;
 pub mod run;

@@ -1,32 +1,53 @@
 //! The program's command, over any reader and any two writers.
 #![tactic(auto)]
 
+mod errors;
 pub mod fault;
+mod replayed;
+mod served;
+pub mod system;
 
 use crate::fault::Fault;
+use crate::replayed::replayed;
+use crate::served::served;
+use crate::system::{Folders, StoreFault, System};
 use command_line::reading::{Unread, request};
 use hub_commands::failure::Failure;
 use hub_commands::perform::perform;
-use hub_requests::limits::SessionOptions;
-use hub_requests::{Command, Request, Service, Workers};
-use hub_sessions::conversation::SessionFault;
-use hub_sessions::endless::serve_endlessly;
-use hub_sessions::replaying::{ReplayError, replay};
-use hub_sessions::server::{ServeError, serve};
+use hub_requests::{Command, Request};
+use refusal_titles::{OUT_OF_MEMORY, STORE_BUSY, STORE_DAMAGED};
 use std::alloc::Global;
 use std::convert::AsStr;
+use std::fs::Files;
+use std::io;
 use std::io::{Read, Write};
 use std::net::{Net, TcpListener, TcpStream};
+use std::rt::Clock;
 use std::sync::Wait;
 use std::thread::Threads;
-use std::time::Duration;
 
 /// Why a command has no exit status of its own.
+#[derive(Clone, Copy)]
 enum CommandError {
     /// Something failed that is told on standard error.
     Fault(Fault),
+    /// The store is refused: it holds something else; where that is known, from the change of this number on.
+    Damaged(Option<u32>),
+    /// Another process has the store open.
+    Busy,
     /// No memory was found.
     Memory,
+}
+
+impl From<StoreFault> for CommandError {
+    fn from(fault: StoreFault) -> CommandError {
+        match fault {
+            StoreFault::Damaged(number) => CommandError::Damaged(number),
+            StoreFault::Busy => CommandError::Busy,
+            StoreFault::Failed => CommandError::Fault(Fault::Store),
+            StoreFault::OutOfMemory => CommandError::Memory,
+        }
+    }
 }
 
 impl From<Failure> for CommandError {
@@ -39,25 +60,58 @@ impl From<Failure> for CommandError {
     }
 }
 
+/// Prints why a command is refused; None where that is told on standard error.
+fn write_refusal<W: Write>(writer: &mut W, error: &CommandError) -> Option<io::Result<()>> {
+    Some(match error {
+        CommandError::Fault(_) => return None,
+        CommandError::Damaged(Some(number)) => {
+            writeln!(writer, "refused {STORE_DAMAGED} change {number}")
+        }
+        CommandError::Damaged(None) => writeln!(writer, "refused {STORE_DAMAGED}"),
+        CommandError::Busy => writeln!(writer, "refused {STORE_BUSY}"),
+        CommandError::Memory => writeln!(writer, "refused {OUT_OF_MEMORY}"),
+    })
+}
+
 /// Runs the command that the words name (the program's own name is the first), and answers the exit
 /// status: 0 done, 1 refused or faulted, 2 usage, 3 where a read, a write, a bind or an accept failed. What stands
 /// beside the answer goes to `errors`: usage, hints, and what failed. Only `replay` and `serve` start threads or wait
-/// for them, and only
-/// `serve` opens sockets.
+/// for them, and only `serve` opens sockets; only these two open a store, by `system`, and `serve` alone files, by
+/// `folders`.
 pub fn command<
-    H: Threads + Wait + Net<Listener = TcpListener, Stream = TcpStream> + Copy + Send + Sync,
+    H: Threads
+        + Wait
+        + Net<Listener = TcpListener, Stream = TcpStream>
+        + Files
+        + Clock
+        + Copy
+        + Send
+        + Sync,
+    Y: System,
+    F: Folders + Send + Sync,
     S: AsStr,
     R: Read,
     W: Write,
-    E: Write,
->(rt: &H, alloc: Global, words: &[S], reader: &mut R, writer: &mut W, errors: &mut E) -> u8 {
-    let fault = match answered(rt, alloc, words, reader, writer, errors) {
+    E: Write + Send,
+>(
+    rt: &H,
+    alloc: Global,
+    system: &Y,
+    folders: &F,
+    words: &[S],
+    reader: &mut R,
+    writer: &mut W,
+    errors: &mut E,
+) -> u8 {
+    let error = match answered(rt, alloc, system, folders, words, reader, writer, errors) {
         Ok(status) => return status,
-        Err(CommandError::Memory) => match writeln!(writer, "refused 45 OutOfMemory") {
-            Ok(()) => return 1,
-            Err(error) => Fault::Output(error),
-        },
-        Err(CommandError::Fault(fault)) => fault,
+        Err(error) => error,
+    };
+    let fault = match (write_refusal(writer, &error), error) {
+        (Some(Ok(())), _) => return 1,
+        (Some(Err(error)), _) => Fault::Output(error),
+        (None, CommandError::Fault(fault)) => fault,
+        (None, _) => return 1,
     };
     complain(errors, &fault);
     3
@@ -77,21 +131,32 @@ fn shown<W: Write>(writer: &mut W, text: &str) -> Result<u8, CommandError> {
 }
 
 fn answered<
-    H: Threads + Wait + Net<Listener = TcpListener, Stream = TcpStream> + Copy + Send + Sync,
+    H: Threads
+        + Wait
+        + Net<Listener = TcpListener, Stream = TcpStream>
+        + Files
+        + Clock
+        + Copy
+        + Send
+        + Sync,
+    Y: System,
+    F: Folders + Send + Sync,
     S: AsStr,
     R: Read,
     W: Write,
-    E: Write,
+    E: Write + Send,
 >(
     rt: &H,
     alloc: Global,
+    system: &Y,
+    folders: &F,
     words: &[S],
     reader: &mut R,
     writer: &mut W,
     errors: &mut E,
 ) -> Result<u8, CommandError> {
     match request(alloc, words) {
-        Ok(request) => asked(rt, alloc, &request, reader, writer, errors),
+        Ok(request) => asked(rt, alloc, system, folders, &request, reader, writer, errors),
         Err(Unread::Shown(text)) => shown(writer, text.as_str()),
         Err(Unread::Usage(text)) => {
             let _ = errors.write_all(text.as_bytes());
@@ -103,13 +168,24 @@ fn answered<
 
 /// Does what is asked.
 fn asked<
-    H: Threads + Wait + Net<Listener = TcpListener, Stream = TcpStream> + Copy + Send + Sync,
+    H: Threads
+        + Wait
+        + Net<Listener = TcpListener, Stream = TcpStream>
+        + Files
+        + Clock
+        + Copy
+        + Send
+        + Sync,
+    Y: System,
+    F: Folders + Send + Sync,
     R: Read,
     W: Write,
-    E: Write,
+    E: Write + Send,
 >(
     rt: &H,
     alloc: Global,
+    system: &Y,
+    folders: &F,
     request: &Request,
     reader: &mut R,
     writer: &mut W,
@@ -117,17 +193,35 @@ fn asked<
 ) -> Result<u8, CommandError> {
     match request {
         Request::Perform(command) => performed(alloc, command, reader, writer, errors),
-        Request::Replay { workers, options } => {
-            replayed(rt, alloc, reader, writer, *workers, *options)
-        }
-        Request::Serve {
-            port,
-            service,
+        Request::Replay {
             workers,
             options,
-            idle,
+            store,
+        } => replayed(
+            rt,
+            alloc,
+            system,
+            workers,
+            *options,
+            store.as_ref(),
+            reader,
+            writer,
+            errors,
+        ),
+        Request::Serve {
+            doors,
+            terms,
+            store,
         } => served(
-            rt, alloc, *port, *service, *workers, *options, *idle, writer,
+            rt,
+            alloc,
+            system,
+            folders,
+            doors,
+            terms,
+            store.as_ref(),
+            writer,
+            errors,
         ),
     }
 }
@@ -148,71 +242,4 @@ fn performed<R: Read, W: Write, E: Write>(
         _ => {}
     }
     Ok(ended.status)
-}
-
-/// Runs the session that the input is.
-fn replayed<H: Threads + Wait + Copy + Send + Sync, R: Read, W: Write>(
-    rt: &H,
-    alloc: Global,
-    reader: &mut R,
-    writer: &mut W,
-    workers: Workers,
-    options: SessionOptions,
-) -> Result<u8, CommandError> {
-    match replay(rt, alloc, reader, writer, workers.count(), options) {
-        Ok(()) => Ok(0),
-        Err(ReplayError::Session(SessionFault::Read(error))) => {
-            Err(CommandError::Fault(Fault::Input(error)))
-        }
-        Err(ReplayError::Session(SessionFault::Write(error))) => {
-            Err(CommandError::Fault(Fault::Output(error)))
-        }
-        Err(ReplayError::OutOfMemory) => Err(CommandError::Memory),
-    }
-}
-
-/// Serves sessions over TCP.
-fn served<
-    H: Threads + Wait + Net<Listener = TcpListener, Stream = TcpStream> + Copy + Send + Sync,
-    W: Write,
->(
-    rt: &H,
-    alloc: Global,
-    port: u16,
-    service: Service,
-    workers: Workers,
-    options: SessionOptions,
-    idle: Option<Duration>,
-    writer: &mut W,
-) -> Result<u8, CommandError> {
-    let workers = workers.count();
-    let served = match service {
-        Service::Sessions(sessions) => serve(
-            *rt,
-            alloc,
-            port,
-            sessions.count(),
-            workers,
-            options,
-            idle,
-            writer,
-        ),
-        Service::AtOnce(sessions) => serve_endlessly(
-            *rt,
-            alloc,
-            port,
-            sessions.count(),
-            workers,
-            options,
-            idle,
-            writer,
-        ),
-    };
-    match served {
-        Ok(()) => Ok(0),
-        Err(ServeError::Port(error)) => Err(CommandError::Fault(Fault::Port { port, error })),
-        Err(ServeError::Output(error)) => Err(CommandError::Fault(Fault::Output(error))),
-        Err(ServeError::Connection(fault)) => Err(CommandError::Fault(Fault::Connection(fault))),
-        Err(ServeError::OutOfMemory) => Err(CommandError::Memory),
-    }
 }

@@ -2,15 +2,17 @@
 //! needs the other.
 #![tactic(auto)]
 
+pub mod identity;
 pub mod limits;
+pub mod serving;
 
 ghost use Rattle.std.specs.Prelude.{◌≡◌, ◌≤◌, SomeIff};
 
 use crate::limits::SessionOptions;
+use crate::serving::{Doors, Terms};
 use change_ops::attribute::Link;
 use span_context::profile::Profile;
 use std::marker::Model;
-use std::time::Duration;
 
 /// The most bytes that the text of a link has.
 pub const MOST_LINK_BYTES: u32 = 1_024;
@@ -166,31 +168,20 @@ impl Sessions {
     }
 }
 
-/// How long sessions are served, and how many of them.
-#[derive(Clone, Copy)]
-pub enum Service {
-    /// Until so many have ended.
-    Sessions(Sessions),
-    /// Until the program is killed, so many at once.
-    AtOnce(Sessions),
-}
-
 /// What the program is asked to do.
 #[derive(Drop)]
 pub enum Request {
     Perform(Command),
-    /// To answer the session that its input is, line by line.
+    /// To answer the session that its input is, line by line, and to keep its changes in a file.
     Replay {
         workers: Workers,
         options: SessionOptions,
+        store: Option<String>,
     },
-    /// To answer sessions over TCP. At port 0 the system chooses one. A session ends where its client says nothing for
-    /// `idle`.
+    /// To answer sessions at doors, and to keep their changes in a file.
     Serve {
-        port: u16,
-        service: Service,
-        workers: Workers,
-        options: SessionOptions,
-        idle: Option<Duration>,
+        doors: Doors,
+        terms: Terms,
+        store: Option<String>,
     },
 }

@@ -3,6 +3,8 @@ ghost use Rattle.std.specs.Prelude.{◌≡◌, None, IsTrue};
 ghost use Rattle.hub_requests.specs.Limits.{has_room, less, takes_change, after_change, takes_subscriber};
 ghost use Rattle.hub_requests.specs.Limits.{after_subscriber};
 
+use crate::identity::HubId;
+
 /// What a session may still have accepted, beside what the hub takes of all; None where it has no limit of its own.
 #[derive(Clone, Copy)]
 pub struct SessionLimits {
@@ -19,6 +21,8 @@ pub struct SessionLimits {
 pub struct SessionOptions {
     /// Whether it may read of the text.
     pub reads: bool,
+    /// Which hub it is a session of; None where the hub has no id.
+    pub hub: Option<HubId>,
     /// By how much a counter of a change may be above all accepted ones; None for however much.
     pub counter_jump: Option<u64>,
     /// What it may have accepted in all.
@@ -91,14 +95,16 @@ impl SessionLimits {
 }
 
 impl SessionOptions {
-    /// No limits; it may read of the text or may not.
+    /// No limits, of a hub that has no id; it may read of the text or may not.
     pub fn unlimited(reads: bool) -> Self
         ensures reads { result.reads ≡ reads }
+        ensures hub { result.hub ≡ None }
         ensures jump { result.counter_jump ≡ None }
         ensures limits { result.limits ≡ record { changes = None; subscribers = None; bytes = None } }
     {
         SessionOptions {
             reads,
+            hub: None,
             counter_jump: None,
             limits: SessionLimits::none(),
         }

@@ -1,2 +1,4 @@
 pub mod Admitting
 pub mod Conversing
+pub mod Keeping
+pub mod Replayed

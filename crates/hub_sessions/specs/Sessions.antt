@@ -1,5 +1,5 @@
 -- A session from its first line to its end: what came, and what was printed for it.
-use Rattle.std.specs.Prelude.{◌≡◌, ◌⊎◌, ℕ, List, [], ◌∷◌, ◌++◌, Option, Result, Ok, Err, ⊤}
+use Rattle.std.specs.Prelude.{◌≡◌, ◌⊎◌, ℕ, Bool, true, false, List, length, [], ◌∷◌, ◌++◌, Option, Result, Ok, Err, ⊤}
 use Rattle.std.specs.List.{flat_map}
 use Rattle.std.specs.Io.KnownBytes.{Appends, Keeps}
 use Rattle.hub_requests.specs.declared.limits.SessionLimits.{SessionLimits}
@@ -16,6 +16,9 @@ use Rattle.session_lines.specs.declared.request.SessionRequest.TheVariants as as
 use Rattle.session_subscribers.specs.Holding.{Held, Adds, Closes, PullsAny, PullsShort}
 use Rattle.session_reads.specs.Found.{found_text}
 use Rattle.session_reads.specs.Reads.{Reads}
+use Rattle.change_ops.specs.Changes.{Change}
+use Rattle.change_keeping.specs.Kept.{Kept, none_kept, some_log, AreStored}
+use Rattle.hub_restoring.specs.Restoring.{AreIngested}
 use Rattle.hub_sessions.specs.Submitting.{Submits}
 use Rattle.hub_sessions.specs.declared.conversation.SessionFault.{SessionFault}
 use Rattle.hub_sessions.specs.declared.conversation.SessionFault.TheVariants as fault
@@ -26,35 +29,39 @@ use Rattle.hub_sessions.specs.declared.conversation.Turn.TheVariants.{More, Last
 use Rattle.hub_sessions.specs.declared.conversation.TurnFault.{TurnFault}
 use Rattle.hub_sessions.specs.declared.conversation.TurnFault.TheVariants as turn_fault
 
--- how many of its changes were accepted, the subscribers that it holds, what it may still have accepted, what it may do
-pub record SessionState : Type 0 where
+-- whether its changes are kept, as texts that meet `kept`; how many of them were accepted, the subscribers that it
+-- holds, what it may still have accepted, what it may do
+pub record SessionState (kept : Kept) : Type 0 where
+  pub stores : Bool
   pub count : ℕ
   pub held : List Held
   pub left : SessionLimits
   pub options : SessionOptions
 
-abbrev pub session_state : ℕ → List Held → SessionLimits → SessionOptions → SessionState
-session_state count held left options = record { count = count; held = held; left = left; options = options }
+abbrev pub session_state : (kept : Kept) → Bool → ℕ → List Held → SessionLimits → SessionOptions → SessionState kept
+session_state kept stores count held left options =
+    record { stores = stores; count = count; held = held; left = left; options = options }
 
 -- what is done for a request, the lines of items or of what is read that are printed, and the reply after them
-abbrev pub Answers : SessionRequest → SessionState → List ℕ → List ℕ → Reply → SessionState → Type 0
-Answers (asked.Change change) s out out' answer s' =
-    Submits s.options.counter_jump change s.count s.left answer s'.count s'.left
-    × (s'.held ≡ s.held) × (out' ≡ out) × (s'.options ≡ s.options)
+abbrev pub Answers : {kept : Kept} → SessionRequest → SessionState kept → List ℕ → List ℕ → Reply → SessionState kept
+    → Type 0
+Answers {kept} (asked.Change change) s out out' answer s' =
+    Submits kept s.stores s.options.counter_jump change s.count s.left answer s'.count s'.left
+    × (s'.held ≡ s.held) × (out' ≡ out) × (s'.options ≡ s.options) × (s'.stores ≡ s.stores)
 Answers (asked.Subscribe profile capacity program first) s out out' answer s' =
     Adds profile capacity program.items first s.left s.held answer s'.left s'.held
-    × (s'.count ≡ s.count) × (out' ≡ out) × (s'.options ≡ s.options)
+    × (s'.count ≡ s.count) × (out' ≡ out) × (s'.options ≡ s.options) × (s'.stores ≡ s.stores)
 Answers (asked.Pull id count) s out out' answer s' =
     PullsAny id count s.held s'.held out out' answer
-    × (s'.count ≡ s.count) × (s'.left ≡ s.left) × (s'.options ≡ s.options)
+    × (s'.count ≡ s.count) × (s'.left ≡ s.left) × (s'.options ≡ s.options) × (s'.stores ≡ s.stores)
 Answers (asked.Close id) s out out' answer s' =
     Closes s.held id answer s'.held
-    × (s'.count ≡ s.count) × (out' ≡ out) × (s'.left ≡ s.left) × (s'.options ≡ s.options)
+    × (s'.count ≡ s.count) × (out' ≡ out) × (s'.left ≡ s.left) × (s'.options ≡ s.options) × (s'.stores ≡ s.stores)
 Answers (asked.Read query) s out out' answer s' =
-    (text : List ℕ) × (out' ≡ out ++ text) × Reads s.options.reads query text answer × (s' ≡ s)
+    (text : List ℕ) × (out' ≡ out ++ text) × Reads s.options.reads s.options.hub query text answer × (s' ≡ s)
 
 -- a request is answered, or what is none is refused and changes nothing
-abbrev pub Meets : Next → SessionState → List ℕ → List ℕ → Reply → SessionState → Type 0
+abbrev pub Meets : {kept : Kept} → Next → SessionState kept → List ℕ → List ℕ → Reply → SessionState kept → Type 0
 Meets (next.Request request) s out out' answer s' = Answers request s out out' answer s'
 Meets (next.Refused refusal) s out out' answer s' =
     (answer ≡ reply.Refused (reason_of refusal)) × (s' ≡ s) × (out' ≡ out)
@@ -62,34 +69,35 @@ Meets next.TooLong s out out' answer s' = ⊥
 Meets next.End s out out' answer s' = ⊥
 
 -- one came next of the input, and was met; what is left of the input, and the session's state then
-pub record Exchange : Type 0 where
+pub record Exchange (kept : Kept) : Type 0 where
   pub came : Next
   pub items : List ℕ
   pub answer : Reply
   pub left : Option (List ℕ)
-  pub state : SessionState
+  pub state : SessionState kept
 
 -- the line of a reply, with its LF
 abbrev pub reply_line : Reply → List ℕ
 reply_line answer = reply_text answer ++ 10 ∷ []
 
 -- what is printed of it: the lines of items, and one line more
-abbrev pub printed : Exchange → List ℕ
+abbrev pub printed : {kept : Kept} → Exchange kept → List ℕ
 printed e = e.items ++ reply_line e.answer
 
-pub record IsExchange (s : SessionState) (left : Option (List ℕ)) (e : Exchange) : Type 0 where
+pub record IsExchange {kept : Kept} (s : SessionState kept) (left : Option (List ℕ)) (e : Exchange kept) : Type 0 where
   pub next : IsNext left e.came e.left
   pub met : Meets e.came s [] e.items e.answer e.state
 
 -- each begins where the one before it ended
-abbrev pub Follow : SessionState → Option (List ℕ) → List Exchange → SessionState → Option (List ℕ) → Type 0
+abbrev pub Follow : {kept : Kept} → SessionState kept → Option (List ℕ) → List (Exchange kept) → SessionState kept
+    → Option (List ℕ) → Type 0
 Follow s left [] s' left' = (s' ≡ s) × (left' ≡ left)
 Follow s left (e ∷ more) s' left' = IsExchange s left e × Follow e.state e.left more s' left'
 
 -- these were printed, one after another, after what a writer had
-pub record Converses (s : SessionState) (left old : Option (List ℕ)) (s' : SessionState)
+pub record Converses {kept : Kept} (s : SessionState kept) (left old : Option (List ℕ)) (s' : SessionState kept)
     (left' new : Option (List ℕ)) : Type 0 where
-  pub exchanges : List Exchange
+  pub exchanges : List (Exchange kept)
   pub follow : Follow s left exchanges s' left'
   pub written : Appends old new (flat_map printed exchanges)
 
@@ -100,9 +108,10 @@ IsLast left left' text =
     ⊎ (IsNext left next.TooLong left' × (text ≡ reply_line (reply.Refused reason.LineTooLong)))
 
 -- an exchange, or what ends the session
-abbrev pub TakesTurn : Turn → SessionState → Option (List ℕ) → List ℕ → SessionState → Option (List ℕ) → Type 0
-TakesTurn (More found) s left text s' left' =
-    (e : Exchange) × IsExchange s left e × (text ≡ printed e) × (s' ≡ e.state) × (left' ≡ e.left)
+abbrev pub TakesTurn : {kept : Kept} → Turn → SessionState kept → Option (List ℕ) → List ℕ → SessionState kept
+    → Option (List ℕ) → Type 0
+TakesTurn {kept} (More found) s left text s' left' =
+    (e : Exchange kept) × IsExchange s left e × (text ≡ printed e) × (s' ≡ e.state) × (left' ≡ e.left)
 TakesTurn Last s left text s' left' = IsLast left left' text × (s' ≡ s)
 
 -- what is printed for a request to read, and the lines of items that are printed for others: never both
@@ -120,17 +129,18 @@ read_in (Ok turn) = found_in turn
 read_in (Err fault) = []
 
 -- no memory was found for a whole reply: nothing of it is printed, or, of a pull, whole lines of items that it took
-abbrev pub FallsShort : SessionState → List ℕ → SessionState → Type 0
+abbrev pub FallsShort : {kept : Kept} → SessionState kept → List ℕ → SessionState kept → Type 0
 FallsShort s text s' = (text ≡ []) ⊎ ((id : ℕ) × (count : ℕ) × PullsShort id count s.held s'.held [] text)
 
 -- a turn whose read failed changed and printed nothing
-abbrev pub BreaksTurn : TurnFault → SessionState → List ℕ → SessionState → Type 0
+abbrev pub BreaksTurn : {kept : Kept} → TurnFault → SessionState kept → List ℕ → SessionState kept → Type 0
 BreaksTurn (turn_fault.Read error) s text s' = (s' ≡ s) × (text ≡ [])
 BreaksTurn turn_fault.Memory s text s' = FallsShort s text s'
 
 -- after its exchanges the session came to its end, by what came or for want of memory
-pub record EndsAfter (s : SessionState) (left old : Option (List ℕ)) (count : ℕ) (new : Option (List ℕ)) : Type 0 where
-  pub state : SessionState
+pub record EndsAfter {kept : Kept} (s : SessionState kept) (left old : Option (List ℕ)) (count : ℕ)
+    (new : Option (List ℕ)) : Type 0 where
+  pub state : SessionState kept
   pub rest : Option (List ℕ)
   pub before : Option (List ℕ)
   pub converses : Converses s left old state rest before
@@ -140,23 +150,23 @@ pub record EndsAfter (s : SessionState) (left old : Option (List ℕ)) (count : 
   pub written : Appends before new text
   pub counted : count ≡ state.count
 
-pub record EndsShort (s : SessionState) (left old new : Option (List ℕ)) : Type 0 where
-  pub state : SessionState
+pub record EndsShort {kept : Kept} (s : SessionState kept) (left old new : Option (List ℕ)) : Type 0 where
+  pub state : SessionState kept
   pub rest : Option (List ℕ)
   pub before : Option (List ℕ)
   pub converses : Converses s left old state rest before
   pub part : List ℕ
-  pub last : SessionState
+  pub last : SessionState kept
   pub short : FallsShort state part last
   pub written : Appends before new (part ++ reply_line (reply.Refused reason.OutOfMemory))
 
 -- or a read failed after them
-pub record BreaksAfter (s : SessionState) (left old : Option (List ℕ)) (count : ℕ) (new : Option (List ℕ)) : Type 0
-  where
-    pub state : SessionState
-    pub rest : Option (List ℕ)
-    pub converses : Converses s left old state rest new
-    pub counted : count ≡ state.count
+pub record BreaksAfter {kept : Kept} (s : SessionState kept) (left old : Option (List ℕ)) (count : ℕ)
+    (new : Option (List ℕ)) : Type 0 where
+  pub state : SessionState kept
+  pub rest : Option (List ℕ)
+  pub converses : Converses s left old state rest new
+  pub counted : count ≡ state.count
 
 -- a write failed
 abbrev pub IsUnwritten : SessionFault → Type 0
@@ -164,20 +174,29 @@ IsUnwritten (fault.Read error) = ⊥
 IsUnwritten (fault.Write error) = ⊤
 
 -- how a session ended; nothing is said of what was written before a write failed
-abbrev pub Ends : Result ⊤ SessionFault → SessionState → Option (List ℕ) → Option (List ℕ) → ℕ → Option (List ℕ)
-    → Type 0
+abbrev pub Ends : {kept : Kept} → Result ⊤ SessionFault → SessionState kept → Option (List ℕ) → Option (List ℕ) → ℕ
+    → Option (List ℕ) → Type 0
 Ends (Ok done) s left old count new = EndsAfter s left old count new ⊎ EndsShort s left old new
 Ends (Err (fault.Read error)) s left old count new = BreaksAfter s left old count new
 Ends (Err (fault.Write error)) s left old count new = ⊤
 
 -- a session's state at its start: it holds nothing, and all that it may have accepted is left
-abbrev pub begins : ℕ → SessionOptions → SessionState
-begins count options = session_state count [] options.limits options
+abbrev pub begins : (kept : Kept) → Bool → ℕ → SessionOptions → SessionState kept
+begins kept stores count options = session_state kept stores count [] options.limits options
 
 -- a session on a hub of its own, which has no change yet; or no memory was found for the hub, and nothing was printed
 abbrev pub Replays : SessionOptions → Result ⊤ ReplayError → Option (List ℕ) → Option (List ℕ) → Option (List ℕ)
     → Type 0
-Replays options (Ok done) left old new = (count : ℕ) × Ends (Ok done) (begins 0 options) left old count new
+Replays options (Ok done) left old new =
+    (count : ℕ) × Ends (Ok done) (begins none_kept false 0 options) left old count new
 Replays options (Err (replay.Session why)) left old new =
-    (count : ℕ) × Ends (Err why) (begins 0 options) left old count new
+    (count : ℕ) × Ends (Err why) (begins none_kept false 0 options) left old count new
 Replays options (Err replay.OutOfMemory) left old new = Keeps old new
+
+-- a session on a hub of its own that a log keeps: first the changes that it kept were accepted again, in order, and
+-- they are kept still; the session counts on from them
+abbrev pub ReplaysKept : {L : Type 0} → (L → List (List ℕ) → Type 0) → SessionOptions → Result ⊤ SessionFault
+    → Option (List ℕ) → Option (List ℕ) → Option (List ℕ) → Type 0
+ReplaysKept kept options ended left old new =
+    (before : List Change) × AreIngested 0 before × AreStored (some_log kept) before
+    × (count : ℕ) × Ends ended (begins (some_log kept) true (length before) options) left old count new

@@ -1,12 +1,14 @@
 -- What a session may submit, and what is done with its changes.
 use Rattle.std.specs.Prelude.{◌≡◌, ◌⊎◌, ℕ, ◌+◌, ◌≤◌, List, Bool, Option, None, Some, Ok, Err, IsTrue, IsFalse, length}
-use Rattle.std.specs.Prelude.{⊤}
+use Rattle.std.specs.Prelude.{⊤, true, false}
 use Rattle.change_ops.specs.Changes.{Change}
 use Rattle.change_ops.specs.Spelling.{change_text}
 use Rattle.change_ops.specs.declared.refusal.ChangeError.TheVariants as reading
 use Rattle.change_counters.specs.Counters.{greatest_counter, line_above}
 use Rattle.change_history.specs.Accepted.{operations_of}
+use Rattle.change_history.specs.declared.refusal.SubmitError.{SubmitError}
 use Rattle.change_history.specs.declared.refusal.SubmitError.TheVariants as submit
+use Rattle.change_keeping.specs.Kept.{Kept, IsStored, IsUnkept}
 use Rattle.hub_requests.specs.Limits.{takes_change, after_change}
 use Rattle.hub_requests.specs.declared.limits.SessionLimits.{SessionLimits}
 use Rattle.ingest_workers.specs.Holdings.{InOneHolding, Ingests}
@@ -39,22 +41,48 @@ has_share left change = takes_change left (length (change_text change))
 abbrev pub IsAdmitted : Option ℕ → Change → SessionLimits → Type 0
 IsAdmitted jump change left = IsInReach jump change × IsTrue (has_share left change)
 
--- why it was not accepted: a counter is too far above all accepted ones; the session has no room left for it, which is
--- told as a full history is; the hub refused it; or no memory was found for its text, whose bytes are looked at only
--- where they have a limit
-abbrev pub IsNotSubmitted : Option ℕ → Change → SessionLimits → Reason → Type 0
-IsNotSubmitted jump change left (reason.Unread (reading.Limit line)) = LeapsAt jump change line
-IsNotSubmitted jump change left (reason.Unaccepted error) =
-    (IsInReach jump change × IsFalse (has_share left change) × (error ≡ submit.HistoryFull))
-    ⊎ (IsAdmitted jump change left × InOneHolding (λ old new. Ingests old change (Err error) new))
-IsNotSubmitted jump change left reason.OutOfMemory = IsInReach jump change × (¬ (left.bytes ≡ None))
-IsNotSubmitted jump change left _ = ⊥
+-- with a store, the change has this number among those that are kept
+abbrev pub IsKeptIf : Kept → Bool → ℕ → Change → Type 0
+IsKeptIf kept true number change = IsStored kept number (change_text change)
+IsKeptIf kept false number change = ⊤
 
--- a change is submitted to the hub, and counted where it is accepted; or it is refused, and what the session has stays
-abbrev pub Submits : Option ℕ → Change → ℕ → SessionLimits → Reply → ℕ → SessionLimits → Type 0
-Submits jump change count left (reply.Version number) count' left' =
+-- why the session may not submit it: a counter is too far above all accepted ones; the session has no room left for it,
+-- which is told as a full history is; or no memory was found for its text, whose bytes are looked at only where they
+-- have a limit
+abbrev pub IsNotAdmitted : Option ℕ → Change → SessionLimits → Reason → Type 0
+IsNotAdmitted jump change left (reason.Unread (reading.Limit line)) = LeapsAt jump change line
+IsNotAdmitted jump change left (reason.Unaccepted error) =
+    IsInReach jump change × IsFalse (has_share left change) × (error ≡ submit.HistoryFull)
+IsNotAdmitted jump change left reason.OutOfMemory = IsInReach jump change × (¬ (left.bytes ≡ None))
+IsNotAdmitted jump change left _ = ⊥
+
+-- the hub refused it; with a store, what keeps its changes did
+abbrev pub IsRefusedBy : Kept → Bool → Change → SubmitError → Type 0
+IsRefusedBy kept true change error = IsUnkept kept (change_text change) error
+IsRefusedBy kept false change error = InOneHolding (λ old new. Ingests old change (Err error) new)
+
+-- why a change that the session may submit was not accepted: it was refused, or what keeps changes failed
+abbrev pub IsNotAccepted : Kept → Bool → Change → Reason → Type 0
+IsNotAccepted kept stores change (reason.Unaccepted error) = IsRefusedBy kept stores change error
+IsNotAccepted kept stores change reason.StoreFailed = IsTrue stores
+IsNotAccepted kept stores change _ = ⊥
+
+abbrev pub IsNotSubmitted : Kept → Bool → Option ℕ → Change → SessionLimits → Reason → Type 0
+IsNotSubmitted kept stores jump change left why =
+    IsNotAdmitted jump change left why ⊎ (IsAdmitted jump change left × IsNotAccepted kept stores change why)
+
+-- the count of accepted changes stays, or has one more where the hub shows a change that isn't acknowledged, since its
+-- number is another than the store's: then nothing is acknowledged any more
+abbrev pub IsCountAfter : ℕ → Reason → ℕ → Type 0
+IsCountAfter count why count' = (count' ≡ count) ⊎ ((why ≡ reason.StoreFailed) × (count' ≡ count + 1))
+
+-- a change is submitted to the hub, and counted where it is accepted; with a store it is kept before; or it is refused,
+-- and what the session has stays
+abbrev pub Submits : Kept → Bool → Option ℕ → Change → ℕ → SessionLimits → Reply → ℕ → SessionLimits → Type 0
+Submits kept stores jump change count left (reply.Version number) count' left' =
     (count' ≡ count + 1) × (count' ≤ number) × (left' ≡ after_change left (length (change_text change)))
     × IsAdmitted jump change left × InOneHolding (λ old new. Ingests old change (Ok number) new)
-Submits jump change count left (reply.Refused why) count' left' =
-    (count' ≡ count) × (left' ≡ left) × IsNotSubmitted jump change left why
-Submits jump change count left _ count' left' = ⊥
+    × IsKeptIf kept stores number change
+Submits kept stores jump change count left (reply.Refused why) count' left' =
+    IsCountAfter count why count' × (left' ≡ left) × IsNotSubmitted kept stores jump change left why
+Submits kept stores jump change count left _ count' left' = ⊥

@@ -9,6 +9,7 @@ ghost use Rattle.hub_sessions.specs.Sessions.{TakesTurn, BreaksTurn, Ends, IsUnw
 ghost use Rattle.hub_sessions.specs.declared.conversation.TurnFault.TheVariants as turn_fault;
 
 use crate::submitting::submit;
+use change_keeping::keeper::Keeper;
 use hub_requests::limits::{SessionLimits, SessionOptions};
 use ingest_workers::hub::Hub;
 use ingest_workers::share::Share;
@@ -119,8 +120,9 @@ fn write_reply<W: Write>(
 
 /// Does what is asked, appends the lines of items to an empty string, and answers what was found and the line after
 /// that or those.
-fn answer<'s, N: Naming + Ledger + Send + Sync, R: Threads + Wait + Copy + Send + Sync>(
+fn answer<'s, N: Naming + Ledger + Send + Sync, R: Threads + Wait + Copy + Send + Sync, K: Keeper>(
     hub: &SessionHub<'s, '_, N, R>,
+    keeper: &mut K,
     share: &mut Share<N>,
     held: &mut Vec<Held<N, R>>,
     left: &mut SessionLimits,
@@ -129,17 +131,22 @@ fn answer<'s, N: Naming + Ledger + Send + Sync, R: Threads + Wait + Copy + Send 
 ) -> Result<Answer<'s>, AllocError>
     requires { string_bytes out.old ≡ [] }
     ensures answers { IfOk result (λ answer. Answers request
-        (session_state share.old held.old.items left.old hub.now.options) (string_bytes out.old)
+        (session_state K.kept (K.stores keeper.old) share.old held.old.items left.old hub.now.options)
+        (string_bytes out.old)
         (found_text answer.found ++ string_bytes out.new)
-        answer.reply (session_state share.new held.new.items left.new hub.now.options)) }
+        answer.reply (session_state K.kept (K.stores keeper.new) share.new held.new.items left.new hub.now.options)) }
     ensures apart { IfOk result (λ answer. AreApart request (found_text answer.found) (string_bytes out.new)) }
-    ensures short { OnErr result (FallsShort (session_state share.old held.old.items left.old hub.now.options)
+    ensures short { OnErr result (FallsShort
+        (session_state K.kept (K.stores keeper.old) share.old held.old.items left.old hub.now.options)
         (string_bytes out.new)
-        (session_state share.new held.new.items left.new hub.now.options)) }
+        (session_state K.kept (K.stores keeper.new) share.new held.new.items left.new hub.now.options)) }
     ensures share { share.old ≤ share.new }
+    ensures same { K.stores keeper.new ≡ K.stores keeper.old }
 {
     match request {
-        SessionRequest::Change(change) => Ok(Answer::line(submit(hub, share, left, change))),
+        SessionRequest::Change(change) => Ok(Answer::line(submit(
+            hub, keeper, share, left, change,
+        ))),
         SessionRequest::Subscribe {
             profile,
             capacity,
@@ -156,6 +163,7 @@ fn answer<'s, N: Naming + Ledger + Send + Sync, R: Threads + Wait + Copy + Send 
             hub.hub,
             hub.published,
             hub.options.reads,
+            hub.options.hub,
             query,
         )),
     }
@@ -171,27 +179,36 @@ fn empty_reply(out: &mut String)
 
 /// Reads a request, does what it asks, and puts the lines of the reply where those of the one before were. The last
 /// line is there before what was found is written, so that no want of memory can come between them.
-fn take_turn<'s, N: Naming + Ledger + Send + Sync, R: Threads + Wait + Copy + Send + Sync, I: Read>(
+fn take_turn<
+    's,
+    N: Naming + Ledger + Send + Sync,
+    R: Threads + Wait + Copy + Send + Sync,
+    K: Keeper,
+    I: Read,
+>(
     hub: &SessionHub<'s, '_, N, R>,
+    keeper: &mut K,
     share: &mut Share<N>,
     held: &mut Vec<Held<N, R>>,
     left: &mut SessionLimits,
     lines: &mut LineReader<I>,
     out: &mut String,
 ) -> Result<Turn<'s>, TurnFault>
-    ensures ok { IfOk result (λ turn. TakesTurn turn (session_state share.old held.old.items left.old hub.now.options)
+    ensures ok { IfOk result (λ turn. TakesTurn turn
+        (session_state K.kept (K.stores keeper.old) share.old held.old.items left.old hub.now.options)
         lines.old.left (found_in turn ++ string_bytes out.new)
-        (session_state share.new held.new.items left.new hub.now.options) lines.new.left) }
+        (session_state K.kept (K.stores keeper.new) share.new held.new.items left.new hub.now.options) lines.new.left) }
     ensures err { IfErr result (λ fault. BreaksTurn fault
-        (session_state share.old held.old.items left.old hub.now.options)
+        (session_state K.kept (K.stores keeper.old) share.old held.old.items left.old hub.now.options)
         (string_bytes out.new)
-        (session_state share.new held.new.items left.new hub.now.options)) }
+        (session_state K.kept (K.stores keeper.new) share.new held.new.items left.new hub.now.options)) }
     ensures share { share.old ≤ share.new }
+    ensures same { K.stores keeper.new ≡ K.stores keeper.old }
 {
     empty_reply(out);
     match next_request(hub.alloc, lines)? {
         Next::Request(request) => {
-            let answer = answer(hub, share, held, left, request, out)?;
+            let answer = answer(hub, keeper, share, held, left, request, out)?;
             answer.reply.push_line(out)?;
             Ok(Turn::More(answer.found))
         }
@@ -211,10 +228,12 @@ fn take_turn<'s, N: Naming + Ledger + Send + Sync, R: Threads + Wait + Copy + Se
 fn converse<
     N: Naming + Ledger + Send + Sync,
     R: Threads + Wait + Copy + Send + Sync,
+    K: Keeper,
     I: Read,
     O: Write,
 >(
     hub: &SessionHub<'_, '_, N, R>,
+    keeper: &mut K,
     share: &mut Share<N>,
     held: &mut Vec<Held<N, R>>,
     left: &mut SessionLimits,
@@ -222,12 +241,14 @@ fn converse<
     out: &mut String,
     writer: &mut O,
 ) -> Result<(), SessionFault>
-    ensures ends { Ends result (session_state share.old held.old.items left.old hub.now.options) lines.old.left
+    ensures ends { Ends result
+        (session_state K.kept (K.stores keeper.old) share.old held.old.items left.old hub.now.options) lines.old.left
         (O.contents writer.old) share.new (O.contents writer.new) }
     ensures share { share.old ≤ share.new }
+    ensures same { K.stores keeper.new ≡ K.stores keeper.old }
 {
     for _ in hub.rt.forever() {
-        let turn = take_turn(hub, share, held, left, lines, out);
+        let turn = take_turn(hub, keeper, share, held, left, lines, out);
         write_reply(writer, &turn, out.as_str())?;
         match turn {
             Ok(Turn::More(_)) => hub.help_others(),
@@ -243,19 +264,24 @@ fn converse<
 fn begin<
     N: Naming + Ledger + Send + Sync,
     R: Threads + Wait + Copy + Send + Sync,
+    K: Keeper,
     I: Read + Drop,
     O: Write,
 >(
     hub: &SessionHub<'_, '_, N, R>,
+    keeper: &mut K,
     share: &mut Share<N>,
     held: &mut Vec<Held<N, R>>,
     left: &mut SessionLimits,
     reader: I,
     writer: &mut O,
 ) -> Result<(), SessionFault>
-    ensures ends { Ends result (session_state share.old held.old.items left.old hub.now.options) (I.remaining reader)
+    ensures ends { Ends result
+        (session_state K.kept (K.stores keeper.old) share.old held.old.items left.old hub.now.options)
+        (I.remaining reader)
         (O.contents writer.old) share.new (O.contents writer.new) }
     ensures share { share.old ≤ share.new }
+    ensures same { K.stores keeper.new ≡ K.stores keeper.old }
 {
     let Ok(mut lines) = LineReader::new(hub.alloc, reader) else {
         return write_no_memory(writer);
@@ -263,7 +289,7 @@ fn begin<
     let Ok(mut out) = String::with_capacity(hub.alloc, REPLY_ROOM) else {
         return write_no_memory(writer);
     };
-    converse(hub, share, held, left, &mut lines, &mut out, writer)
+    converse(hub, keeper, share, held, left, &mut lines, &mut out, writer)
 }
 
 /// Runs one session on a hub, by its own share and within its options, over any reader and writer: each request is
@@ -272,6 +298,7 @@ pub fn session<
     'p,
     N: Naming + Ledger + Send + Sync,
     R: Threads + Wait + Copy + Send + Sync,
+    K: Keeper,
     I: Read + Drop,
     O: Write,
 >(
@@ -279,6 +306,7 @@ pub fn session<
     alloc: Global,
     hub: &Hub<'p, N, R>,
     published: &Published<'p, N>,
+    keeper: &mut K,
     share: &mut Share<N>,
     reader: I,
     writer: &mut O,
@@ -286,10 +314,12 @@ pub fn session<
     options: SessionOptions,
 ) -> Result<(), SessionFault>
     requires workers { (1 ≤ workers) × (workers ≤ 16) }
-    ensures ends { Ends result (begins share.old options) (I.remaining reader) (O.contents writer.old) share.new
-        (O.contents writer.new) }
+    ensures ends { Ends result (begins K.kept (K.stores keeper.old) share.old options) (I.remaining reader)
+        (O.contents writer.old) share.new (O.contents writer.new) }
     ensures share { share.old ≤ share.new }
+    ensures same { K.stores keeper.new ≡ K.stores keeper.old }
 {
+    let _counted = hub.begin_session();
     let session_hub = SessionHub {
         rt: *rt,
         alloc,
@@ -301,7 +331,15 @@ pub fn session<
     };
     let mut held = Vec::new(alloc);
     let mut left = options.limits;
-    let ended = begin(&session_hub, share, &mut held, &mut left, reader, writer);
+    let ended = begin(
+        &session_hub,
+        keeper,
+        share,
+        &mut held,
+        &mut left,
+        reader,
+        writer,
+    );
     for one in held {
         let _ = hub.close(rt, one.id);
     }

@@ -1,9 +1,14 @@
-ghost use Rattle.std.specs.Prelude.{◌≡◌, ◌≤◌};
-ghost use Rattle.hub_sessions.specs.Sessions.{Replays};
+ghost use Rattle.std.specs.Prelude.{◌≡◌, ◌≤◌, ℕ, List, IfOk, OnErr};
+ghost use Rattle.std.specs.Io.KnownBytes.{Keeps};
+ghost use Rattle.hub_sessions.specs.Sessions.{Replays, ReplaysKept};
 ghost use Rattle.hub_sessions.specs.declared.replaying.ReplayError.TheVariants as replay_error;
 
 use crate::conversation::{SessionFault, session};
+use change_keeping::keeper::NoStore;
+use change_keeping::own::OwnStore;
+use change_log::log::ChangeLog;
 use hub_requests::limits::SessionOptions;
+use hub_restoring::restoring::{NotRestored, restore};
 use ingest_workers::hub::Hub;
 use span_flatten::version::Version;
 use std::alloc::{AllocError, Global};
@@ -60,7 +65,16 @@ fn replay_on<
         unreachable!()
     };
     match session(
-        rt, alloc, &hub, &published, &mut share, reader, writer, workers, options,
+        rt,
+        alloc,
+        &hub,
+        &published,
+        &mut NoStore,
+        &mut share,
+        reader,
+        writer,
+        workers,
+        options,
     ) {
         Ok(()) => Ok(()),
         Err(fault) => Err(ReplayError::Session(fault)),
@@ -87,6 +101,131 @@ pub fn replay<R: Threads + Wait + Copy + Send + Sync, I: Read + Drop, O: Write>(
         Blank::new(1),
         &versions,
         &programs,
+        reader,
+        writer,
+        workers,
+        options,
+    )
+}
+
+/// How a session went on a hub that a log keeps, and the log.
+#[derive(Drop)]
+pub struct Replayed<L: ChangeLog> {
+    pub log: L,
+    /// Whether the log failed, or the hub didn't show what it keeps.
+    pub is_failed: bool,
+    pub ended: Result<(), SessionFault>,
+}
+
+/// Why a session on a hub that a log keeps was not begun.
+#[derive(Drop)]
+pub enum NotReplayed<L: ChangeLog> {
+    /// What the log keeps wasn't accepted again.
+    NotRestored(NotRestored<L>),
+    /// No memory was found for the hub.
+    OutOfMemory(L),
+}
+
+/// Runs a session on the hub `N`, whose changes a log keeps.
+fn replay_kept_on<
+    N: Naming + Ledger + Send + Sync,
+    R: Threads + Wait + Copy + Send + Sync,
+    L: ChangeLog,
+    I: Read + Drop,
+    O: Write,
+    P: FnMut(usize, usize),
+>(
+    rt: &R,
+    alloc: Global,
+    blank: Blank,
+    versions: &boxcar::Vec<Version>,
+    programs: &boxcar::Vec<Verified>,
+    log: L,
+    progress: P,
+    reader: I,
+    writer: &mut O,
+    workers: usize,
+    options: SessionOptions,
+) -> Result<Replayed<L>, NotReplayed<L>>
+    requires named { (versions.now ≡ N.versions) × (programs.now ≡ N.programs) }
+    requires blank { (blank.name ≡ N.name) × (blank.parts ≡ N.parts) × (N.parts ≡ 1) }
+    requires workers { (1 ≤ workers) × (workers ≤ 16) }
+    requires log { (texts : List (List ℕ)) × L.kept log texts }
+    requires progress { P.IsAlwaysCallable progress }
+    ensures ok { IfOk result (λ replayed. ReplaysKept L.kept options replayed.ended (I.remaining reader)
+        (O.contents writer.old) (O.contents writer.new)) }
+    ensures err { OnErr result (Keeps (O.contents writer.old) (O.contents writer.new)) }
+{
+    let published = Published::<N>::new(versions, programs);
+    let Ok((hub, mut shares)) = Hub::new(rt, alloc, blank, &published, 1) else {
+        return Err(NotReplayed::OutOfMemory(log));
+    };
+    let Some(mut share) = shares.pop() else {
+        unreachable!()
+    };
+    let stored = match restore(rt, alloc, &hub, &mut share, log, progress) {
+        Ok(stored) => stored,
+        Err(not) => return Err(NotReplayed::NotRestored(not)),
+    };
+    let mut keeper = OwnStore::new(alloc, stored);
+    let ended = session(
+        rt,
+        alloc,
+        &hub,
+        &published,
+        &mut keeper,
+        &mut share,
+        reader,
+        writer,
+        workers,
+        options,
+    );
+    Ok(Replayed {
+        is_failed: keeper.is_failed(),
+        log: keeper.into_log(),
+        ended,
+    })
+}
+
+/// Runs one session on a hub of its own, whose changes a log keeps: first those that the log keeps are accepted again,
+/// and `progress` is told how many of how many.
+pub fn replay_kept<
+    R: Threads + Wait + Copy + Send + Sync,
+    L: ChangeLog,
+    I: Read + Drop,
+    O: Write,
+    P: FnMut(usize, usize),
+>(
+    rt: &R,
+    alloc: Global,
+    log: L,
+    progress: P,
+    reader: I,
+    writer: &mut O,
+    workers: usize,
+    options: SessionOptions,
+) -> Result<Replayed<L>, NotReplayed<L>>
+    requires workers { (1 ≤ workers) × (workers ≤ 16) }
+    requires log { (texts : List (List ℕ)) × L.kept log texts }
+    requires progress { P.IsAlwaysCallable progress }
+    ensures ok { IfOk result (λ replayed. ReplaysKept L.kept options replayed.ended (I.remaining reader)
+        (O.contents writer.old) (O.contents writer.new)) }
+    ensures err { OnErr result (Keeps (O.contents writer.old) (O.contents writer.new)) }
+{
+    let Ok(versions) = boxcar::Vec::new(alloc) else {
+        return Err(NotReplayed::OutOfMemory(log));
+    };
+    let Ok(programs) = boxcar::Vec::new(alloc) else {
+        return Err(NotReplayed::OutOfMemory(log));
+    };
+    replay_kept_on::<Brand, _, _, _, _, _>(
+        rt,
+        alloc,
+        Blank::new(1),
+        &versions,
+        &programs,
+        log,
+        progress,
         reader,
         writer,
         workers,

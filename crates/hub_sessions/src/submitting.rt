@@ -1,12 +1,17 @@
 //! The changes that a session submits.
-ghost use Rattle.std.specs.Prelude.{◌≡◌, ◌≤◌, None, Some, IfOk, IfErr, OnErr, length};
+ghost use Rattle.std.specs.Prelude.{◌≡◌, ◌⊎◌, ◌+◌, ◌≤◌, None, Some, Ok, IfOk, IfErr, OnErr, length};
 ghost use Rattle.change_ops.specs.Spelling.{change_text};
+ghost use Rattle.ingest_workers.specs.Holdings.{InOneHolding, Ingests};
 ghost use Rattle.hub_requests.specs.Limits.{takes_change, after_change};
 ghost use Rattle.hub_requests.specs.declared.limits.SessionLimits.{SessionLimits as Limits};
-ghost use Rattle.hub_sessions.specs.Submitting.{IsInReach, IsAdmitted, IsNotSubmitted, Submits};
+ghost use Rattle.refusals.specs.declared.reason.Reason.TheVariants as reason;
+ghost use Rattle.change_keeping.specs.Kept.{IsKeptAs};
+ghost use Rattle.hub_sessions.specs.Submitting.{IsInReach, IsAdmitted, IsNotAdmitted, IsNotAccepted, Submits};
+ghost use Rattle.hub_sessions.specs.Submitting.{IsKeptIf, IsCountAfter};
 
 use change_counters::first_jump;
 use change_history::refusal::SubmitError;
+use change_keeping::keeper::{KeepError, Keeper};
 use change_ops::change::Change;
 use change_ops::refusal::ChangeError;
 use change_ops::writing::write_change;
@@ -48,7 +53,7 @@ fn check_jump<N: Naming + Ledger, R: Wait + Copy>(
     change: &Change,
 ) -> Result<(), Reason>
     ensures ok { IfOk result (λ _. IsInReach (Some jump) change.now) }
-    ensures err { IfErr result (λ why. (left : Limits) → IsNotSubmitted (Some jump) change.now left why) }
+    ensures err { IfErr result (λ why. (left : Limits) → IsNotAdmitted (Some jump) change.now left why) }
 {
     let greatest = hub.hub.greatest_counter(&hub.rt);
     match first_jump(change, greatest, jump) {
@@ -64,7 +69,7 @@ fn check_counters<N: Naming + Ledger, R: Wait + Copy>(
 ) -> Result<(), Reason>
     ensures ok { IfOk result (λ _. IsInReach hub.now.options.counter_jump change.now) }
     ensures err { IfErr result (λ why. (left : Limits)
-        → IsNotSubmitted hub.now.options.counter_jump change.now left why) }
+        → IsNotAdmitted hub.now.options.counter_jump change.now left why) }
 {
     match hub.options.counter_jump {
         None => Ok(()),
@@ -83,7 +88,7 @@ fn admit<N: Naming + Ledger, R: Wait + Copy>(
         ≡ takes_change left (length (change_text change.now))) }
     ensures after { IfOk result (λ bytes. after_change left bytes
         ≡ after_change left (length (change_text change.now))) }
-    ensures err { IfErr result (IsNotSubmitted hub.now.options.counter_jump change.now left) }
+    ensures err { IfErr result (IsNotAdmitted hub.now.options.counter_jump change.now left) }
 {
     check_counters(hub, change)?;
     let Ok(bytes) = counted_bytes(hub.alloc, left, change) else {
@@ -96,25 +101,98 @@ fn admit<N: Naming + Ledger, R: Wait + Copy>(
     }
 }
 
-/// Submits a change, and counts it where it is accepted.
-pub(crate) fn submit<N: Naming + Ledger, R: Wait + Copy>(
+/// Has a change kept, where there is a store, before it is shown. It answers its number among all that are kept.
+#[tactic(auto, using(crate::proofs::Keeping::refused_by))]
+fn keep<K: Keeper>(keeper: &mut K, change: &Change) -> Result<Option<u64>, Reason>
+    ensures ok { IfOk result (IsKeptAs K.kept (K.stores keeper.old) change.now) }
+    ensures err { IfErr result (IsNotAccepted K.kept (K.stores keeper.old) change.now) }
+    ensures same { K.stores keeper.new ≡ K.stores keeper.old }
+{
+    match keeper.keep(change) {
+        Ok(number) => Ok(number),
+        Err(KeepError::Refused(error)) => Err(Reason::Unaccepted(error)),
+        Err(KeepError::Failed) => Err(Reason::StoreFailed),
+    }
+}
+
+/// Shows a change that is kept. Where it isn't shown, or under another number, it is not to be acknowledged, and no
+/// later one is.
+fn show_kept<N: Naming + Ledger, R: Wait + Copy>(
     hub: &SessionHub<'_, '_, N, R>,
+    share: &mut Share<N>,
+    change: Change,
+    kept: u64,
+) -> Result<u64, Reason>
+    ensures ok { IfOk result (λ number. (number ≡ kept) × (share.new ≡ share.old + 1) × (share.new ≤ number)
+        × InOneHolding (λ old new. Ingests old change (Ok number) new)) }
+    ensures err { IfErr result (λ why. (why ≡ reason.StoreFailed)
+        × ((share.new ≡ share.old) ⊎ (share.new ≡ share.old + 1))) }
+    ensures share { share.old ≤ share.new }
+{
+    match ingest_change(&hub.rt, hub.hub, share, change) {
+        Ok(number) if number == kept => Ok(number),
+        _ => Err(Reason::StoreFailed),
+    }
+}
+
+/// Shows a change under the number that it is kept by, or one that isn't to be kept.
+#[tactic(auto, using(crate::proofs::Keeping::shown_ok, crate::proofs::Keeping::shown_err, crate::proofs::Keeping::alone_ok, crate::proofs::Keeping::alone_err))]
+fn show<N: Naming + Ledger, R: Wait + Copy, K: Keeper>(
+    hub: &SessionHub<'_, '_, N, R>,
+    keeper: &mut K,
+    share: &mut Share<N>,
+    change: Change,
+    kept: Option<u64>,
+) -> Result<u64, Reason>
+    requires { IsKeptAs K.kept (K.stores keeper.old) change kept }
+    ensures ok { IfOk result (λ number. (share.new ≡ share.old + 1) × (share.new ≤ number)
+        × InOneHolding (λ old new. Ingests old change (Ok number) new)
+        × IsKeptIf K.kept (K.stores keeper.old) number change) }
+    ensures err { IfErr result (λ why. IsCountAfter share.old why share.new
+        × IsNotAccepted K.kept (K.stores keeper.old) change why) }
+    ensures share { share.old ≤ share.new }
+    ensures same { K.stores keeper.new ≡ K.stores keeper.old }
+{
+    match kept {
+        None => match ingest_change(&hub.rt, hub.hub, share, change) {
+            Ok(number) => Ok(number),
+            Err(error) => Err(Reason::Unaccepted(error)),
+        },
+        Some(kept) => {
+            let shown = show_kept(hub, share, change, kept);
+            keeper.settle(shown.is_ok());
+            shown
+        }
+    }
+}
+
+/// Submits a change, and counts it where it is accepted.
+#[tactic(auto, using(crate::proofs::Keeping::kept_still, crate::proofs::Keeping::turned_away, crate::proofs::Keeping::not_kept, crate::proofs::Keeping::not_shown, crate::proofs::Keeping::shown))]
+pub(crate) fn submit<N: Naming + Ledger, R: Wait + Copy, K: Keeper>(
+    hub: &SessionHub<'_, '_, N, R>,
+    keeper: &mut K,
     share: &mut Share<N>,
     left: &mut SessionLimits,
     change: Change,
 ) -> Reply
-    ensures submits { Submits hub.now.options.counter_jump change share.old left.old result share.new left.new }
+    ensures submits { Submits K.kept (K.stores keeper.old) hub.now.options.counter_jump change share.old left.old result
+        share.new left.new }
     ensures share { share.old ≤ share.new }
+    ensures same { K.stores keeper.new ≡ K.stores keeper.old }
 {
     let bytes = match admit(hub, *left, &change) {
         Ok(bytes) => bytes,
         Err(why) => return Reply::Refused(why),
     };
-    match ingest_change(&hub.rt, hub.hub, share, change) {
+    let kept = match keep(keeper, &change) {
+        Ok(kept) => kept,
+        Err(why) => return Reply::Refused(why),
+    };
+    match show(hub, keeper, share, change, kept) {
         Ok(number) => {
             left.spend_change(bytes);
             Reply::Version(number)
         }
-        Err(error) => Reply::Refused(Reason::Unaccepted(error)),
+        Err(why) => Reply::Refused(why),
     }
 }

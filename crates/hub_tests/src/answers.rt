@@ -1,6 +1,9 @@
 use hub_program::command;
+use hub_program::system::InMemory;
+use std::fs::Files;
 use std::io;
 use std::net::{Net, TcpListener, TcpStream};
+use std::rt::Clock;
 use std::sync::Wait;
 use std::test::Fail;
 use std::thread::Threads;
@@ -11,6 +14,8 @@ pub fn answer<
         + Threads
         + Wait
         + Net<Listener = TcpListener, Stream = TcpStream>
+        + Files
+        + Clock
         + Copy
         + Send
         + Sync,
@@ -21,7 +26,9 @@ pub fn answer<
     let mut output = Vec::new(alloc);
     let status = command(
         rt,
-        rt.alloc(),
+        alloc,
+        &InMemory { alloc },
+        &InMemory { alloc },
         &words,
         &mut reader,
         &mut output,
@@ -36,6 +43,8 @@ pub fn is_answered<
         + Threads
         + Wait
         + Net<Listener = TcpListener, Stream = TcpStream>
+        + Files
+        + Clock
         + Copy
         + Send
         + Sync,

@@ -1,5 +1,8 @@
 use hub_program::command;
+use hub_program::system::InMemory;
+use std::fs::Files;
 use std::net::{Net, TcpListener, TcpStream};
+use std::rt::Clock;
 use std::sync::Wait;
 use std::test::Fail;
 use std::thread::Threads;
@@ -42,6 +45,8 @@ fn outcome_where_fails<
         + Threads
         + Wait
         + Net<Listener = TcpListener, Stream = TcpStream>
+        + Files
+        + Clock
         + Copy
         + Send
         + Sync,
@@ -61,7 +66,9 @@ fn outcome_where_fails<
     let mut errors = Vec::new(alloc);
     let status = command(
         rt,
-        rt.alloc(),
+        alloc,
+        &InMemory { alloc },
+        &InMemory { alloc },
         &words,
         &mut reader,
         &mut writer,
@@ -99,6 +106,8 @@ fn tells_failures<
         + Threads
         + Wait
         + Net<Listener = TcpListener, Stream = TcpStream>
+        + Files
+        + Clock
         + Copy
         + Send
         + Sync,
@@ -126,6 +135,8 @@ fn first_untold<
         + Threads
         + Wait
         + Net<Listener = TcpListener, Stream = TcpStream>
+        + Files
+        + Clock
         + Copy
         + Send
         + Sync,

@@ -1,5 +1,7 @@
 use crate::answers::answer;
+use std::fs::Files;
 use std::net::{Net, TcpListener, TcpStream};
+use std::rt::Clock;
 use std::sync::Wait;
 use std::test::Fail;
 use std::thread::Threads;
@@ -21,6 +23,8 @@ fn first_silent<
         + Threads
         + Wait
         + Net<Listener = TcpListener, Stream = TcpStream>
+        + Files
+        + Clock
         + Copy
         + Send
         + Sync,

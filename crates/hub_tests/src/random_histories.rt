@@ -2,7 +2,9 @@ use crate::answers::is_answered;
 use std::alloc::{AllocError, Global};
 use std::fmt;
 use std::fmt::Write;
+use std::fs::Files;
 use std::net::{Net, TcpListener, TcpStream};
+use std::rt::Clock;
 use std::sync::Wait;
 use std::test::Fail;
 use std::thread::Threads;
@@ -463,6 +465,8 @@ fn first_wrong<
         + Threads
         + Wait
         + Net<Listener = TcpListener, Stream = TcpStream>
+        + Files
+        + Clock
         + Copy
         + Send
         + Sync,

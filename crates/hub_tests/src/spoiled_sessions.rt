@@ -5,7 +5,9 @@ use crate::answers::{answer, is_answered};
 use crate::refused_requests::{LAST, REFUSED};
 use std::alloc::{AllocError, Global};
 use std::fmt::Write;
+use std::fs::Files;
 use std::net::{Net, TcpListener, TcpStream};
+use std::rt::Clock;
 use std::sync::Wait;
 use std::test::Fail;
 use std::thread::Threads;
@@ -214,6 +216,8 @@ fn is_unchanged<
         + Threads
         + Wait
         + Net<Listener = TcpListener, Stream = TcpStream>
+        + Files
+        + Clock
         + Copy
         + Send
         + Sync,
@@ -232,6 +236,8 @@ fn first_spoiled<
         + Threads
         + Wait
         + Net<Listener = TcpListener, Stream = TcpStream>
+        + Files
+        + Clock
         + Copy
         + Send
         + Sync,

@@ -10,17 +10,20 @@ ghost use Rattle.feeds.specs.Stream.{BeginsStream};
 ghost use Rattle.change_history.specs.Accepted.{AreAccepted, operations_of};
 ghost use Rattle.hub_core.specs.Machine.{Submits, Subscribes, TakesJob, Misses, Commits, Pumps, Reissues, Closes};
 ghost use Rattle.hub_core.specs.Consistent.{IsConsistent};
+ghost use Rattle.hub_core.specs.Counting.{AreCounts, AreWithinLimits};
 ghost use Rattle.subscriber_queues.specs.Queue.{QueueSink as QueueSinkValue, was_sent, IsFull};
 ghost use Rattle.ingest_workers.specs.Holdings.{AreConsistent};
 
 use crate::share::Share;
-use crate::text::{ChangeText, next_text, some_texts};
+use crate::text::{next_text, some_texts};
 use change_counters::greatest_with;
 use change_history::history::CHANGE_LIMIT;
 use change_history::refusal::SubmitError;
+use change_log::text::ChangeText;
 use change_ops::change::Change;
 use feeds::batch::Batch;
 use feeds::item::Job;
+use hub_core::counts::Counts;
 use hub_core::error::{CommitError, NoSubscriber, SubscribeError};
 use hub_core::hub::Core;
 use std::alloc::{AllocError, Global};
@@ -243,6 +246,16 @@ impl<'p, N: Naming + Ledger, R: Wait + Copy> Books<'p, N, R> {
         ensures consistent { IsConsistent was_sent IsFull self.now }
     {
         self.core.version(number)
+    }
+
+    /// The token of the latest version, and how much there is of the hub.
+    pub fn counts(&self) -> (VersionToken<N>, Counts)
+        ensures latest { slice_get self.now.versions (length self.now.changes) ≡ Some result.0 }
+        ensures counts { AreCounts self.now result.1 }
+        ensures few { AreWithinLimits result.1 }
+        ensures consistent { IsConsistent was_sent IsFull self.now }
+    {
+        (self.core.latest_version(), self.core.counts())
     }
 
     /// The texts of `most` accepted changes behind a version, or of as many as there are; None where no version has

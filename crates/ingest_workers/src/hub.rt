@@ -1,21 +1,24 @@
-ghost use Rattle.std.specs.Prelude.{◌≡◌, ℕ, ◌<◌, ◌≤◌, ◌↔◌, [], Err, length, map, take, drop, slice_get, All, IsTrue};
-ghost use Rattle.std.specs.Prelude.{IfOk, MatchOption, vec_len};
+ghost use Rattle.std.specs.Prelude.{◌≡◌, ℕ, ◌<◌, ◌≤◌, ◌↔◌, [], Some, Err, length, map, take, drop, slice_get, All};
+ghost use Rattle.std.specs.Prelude.{IsTrue, IfOk, MatchOption, vec_len};
 ghost use Rattle.change_ops.specs.Spelling.{change_text};
 ghost use Rattle.char_sequence.specs.Newest.{IsLastCounter};
 ghost use Rattle.change_counters.specs.Counters.{greatest_counter};
 ghost use Rattle.feeds.specs.Promise.{Suits};
 ghost use Rattle.change_history.specs.Accepted.{operations_of};
 ghost use Rattle.hub_core.specs.Machine.{Subscribes, TakesJob, Misses, Commits, Pumps, Reissues, Closes};
+ghost use Rattle.hub_core.specs.Counting.{AreCounts, AreWithinLimits};
 ghost use Rattle.subscriber_queues.specs.Queue.{was_sent, IsFull};
 ghost use Rattle.ingest_workers.specs.Holdings.{InOneHolding};
 
 use crate::books::Books;
 use crate::kept::Kept;
+use crate::open_sessions::{OpenSession, OpenSessions};
 use crate::share::{Share, cut};
-use crate::text::ChangeText;
 use crate::turns::{Turn, Turns};
+use change_log::text::ChangeText;
 use feeds::batch::Batch;
 use feeds::item::Job;
+use hub_core::counts::Counts;
 use hub_core::error::{CommitError, NoSubscriber, SubscribeError};
 use hub_core::hub::Core;
 use std::alloc::{AllocError, Global};
@@ -32,6 +35,7 @@ pub struct Hub<'p, N: Naming + Ledger, R: Wait + Copy> {
     turns: Turns,
     books: Mutex<Books<'p, N, R>>,
     kept: Kept<N>,
+    sessions: OpenSessions,
 }
 
 /// What lies under a hub's lock, for as long as a turn is held.
@@ -66,6 +70,7 @@ fn locked<'p, N: Naming + Ledger, R: Wait + Copy>(
         turns: Turns::new(),
         books: Mutex::new(Books::new(alloc, core, book)),
         kept,
+        sessions: OpenSessions::new(),
     })
 }
 
@@ -126,6 +131,25 @@ impl<'p, N: Naming + Ledger, R: Wait + Copy> Hub<'p, N, R> {
         ensures { InOneHolding (λ old new. (new ≡ old) × (result ≡ slice_get old.versions number)) }
     {
         self.hold(rt).books.version(number)
+    }
+
+    /// The token of the latest version, and how much there was of the hub.
+    pub fn counts(&self, rt: &R) -> (VersionToken<N>, Counts)
+        ensures counts { InOneHolding (λ old new. (new ≡ old)
+            × (slice_get old.versions (length old.changes) ≡ Some result.0) × AreCounts old result.1) }
+        ensures few { AreWithinLimits result.1 }
+    {
+        self.hold(rt).books.counts()
+    }
+
+    /// How many sessions began and didn't end.
+    pub fn session_count(&self) -> u64 {
+        self.sessions.count()
+    }
+
+    /// Counts a session for as long as what is answered is kept.
+    pub fn begin_session(&self) -> OpenSession<'_> {
+        self.sessions.begin()
     }
 
     /// The texts of `most` accepted changes behind a version, or of as many as there were; None where no version had

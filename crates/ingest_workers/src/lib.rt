@@ -5,6 +5,7 @@ pub mod books;
 pub mod hub;
 pub mod ingest;
 pub mod kept;
+pub mod open_sessions;
 pub mod share;
-pub mod text;
+mod text;
 mod turns;

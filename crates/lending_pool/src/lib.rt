@@ -71,6 +71,25 @@ impl<T: Drop> Pool<T> {
         }
         None
     }
+
+    /// Whether nobody can have a value now.
+    pub fn is_empty<R: Wait>(&self, rt: &R) -> bool {
+        self.places.iter().all(|place| place.lock(rt).is_none())
+    }
+}
+
+impl<T: Drop, R: Wait + Copy> Lent<'_, T, R> {
+    /// The value, which is never put back.
+    pub fn keep(self) -> T
+        ensures { result ≡ self.entry.value }
+    {
+        let Lent {
+            value,
+            place: _,
+            rt: _,
+        } = self;
+        value
+    }
 }
 
 impl<T: Drop, R: Wait + Copy> Drop for Lent<'_, T, R> {

@@ -124,3 +124,13 @@ pub const LINE_TOO_LONG: &str = "61 LineTooLong";
 pub const TEXT_REFUSED: &str = "62 TextRefused";
 
 pub const BAD_HEX: &str = "63 BadHex";
+
+// What keeps a hub's changes, and a server that has no session left.
+
+pub const STORE_DAMAGED: &str = "65 StoreDamaged";
+
+pub const STORE_FAILED: &str = "66 StoreFailed";
+
+pub const STORE_BUSY: &str = "67 StoreBusy";
+
+pub const TOO_MANY_SESSIONS: &str = "69 TooManySessions";

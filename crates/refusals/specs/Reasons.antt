@@ -97,6 +97,10 @@ reason_title reason.BadCommand = codes "60 BadCommand"
 reason_title reason.LineTooLong = codes "61 LineTooLong"
 reason_title reason.TextRefused = codes "62 TextRefused"
 reason_title reason.BadHex = codes "63 BadHex"
+reason_title reason.StoreDamaged = codes "65 StoreDamaged"
+reason_title reason.StoreFailed = codes "66 StoreFailed"
+reason_title reason.StoreBusy = codes "67 StoreBusy"
+reason_title reason.TooManySessions = codes "69 TooManySessions"
 
 abbrev pub reason_location : Reason → Location
 reason_location (reason.Words error) = word_location error
@@ -113,6 +117,10 @@ reason_location reason.BadCommand = Whole
 reason_location reason.LineTooLong = Whole
 reason_location reason.TextRefused = Whole
 reason_location reason.BadHex = Whole
+reason_location reason.StoreDamaged = Whole
+reason_location reason.StoreFailed = Whole
+reason_location reason.StoreBusy = Whole
+reason_location reason.TooManySessions = Whole
 
 abbrev pub reason_text : Reason → List ℕ
 reason_text reason = reason_title reason ++ location_text (reason_location reason)

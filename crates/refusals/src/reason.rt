@@ -13,7 +13,8 @@ use change_ops::refusal::ChangeError;
 use refusal_titles::{
     ASSEMBLER_OUT_OF_MEMORY, BAD_CAPACITY, BAD_COMMAND, BAD_HEX, BAD_LINE, CHAR_REFUSED, EMPTY,
     HISTORY_FULL, LENGTH_NOT_EIGHT, LIMIT, LINE_TOO_LONG, NO_SUBSCRIBER, NO_VERSION, OUT_OF_MEMORY,
-    SUBSCRIBERS_FULL, TEXT_REFUSED, TOO_LONG, TRUNCATED, VERIFIER_OUT_OF_MEMORY, WRONG_PEER,
+    STORE_BUSY, STORE_DAMAGED, STORE_FAILED, SUBSCRIBERS_FULL, TEXT_REFUSED, TOO_LONG,
+    TOO_MANY_SESSIONS, TRUNCATED, VERIFIER_OUT_OF_MEMORY, WRONG_PEER,
 };
 use std::fmt;
 use verifier::refusal::VerifyError;
@@ -49,6 +50,14 @@ pub enum Reason {
     TextRefused,
     /// No pairs of hexadecimal digits.
     BadHex,
+    /// A store whose changes aren't those of a hub.
+    StoreDamaged,
+    /// What keeps the hub's changes failed.
+    StoreFailed,
+    /// A store that another process has.
+    StoreBusy,
+    /// A connection for which no session is free.
+    TooManySessions,
 }
 
 /// Where a fault is.
@@ -200,6 +209,10 @@ impl Reason {
             Reason::LineTooLong => LINE_TOO_LONG,
             Reason::TextRefused => TEXT_REFUSED,
             Reason::BadHex => BAD_HEX,
+            Reason::StoreDamaged => STORE_DAMAGED,
+            Reason::StoreFailed => STORE_FAILED,
+            Reason::StoreBusy => STORE_BUSY,
+            Reason::TooManySessions => TOO_MANY_SESSIONS,
         }
     }
 

@@ -1,5 +1,5 @@
 -- A line is read as what it says just where it has that form.
-use Rattle.std.proofs.Common.{◌≡◌, ◌≢◌, ℕ, ◌^◌, ◌<◌, Bool, true, false, cond, ltb, leb, eqb, List, [], ◌∷◌, ◌++◌, length, Some, None, Result, Ok, Err, refl, sym, ap, subst, ◌∙◌, arith, lit≤}
+use Rattle.std.proofs.Common.{◌≡◌, ◌≢◌, ℕ, ◌^◌, ◌<◌, Bool, true, false, cond, ltb, leb, eqb, List, [], ◌∷◌, ◌++◌, length, Option, Some, None, Result, Ok, Err, refl, sym, ap, subst, ◌∙◌, arith, lit≤}
 use Rattle.std.specs.Prelude.{not, codes, if◌then◌else◌, ◌&&◌}
 use Rattle.std.specs.Str.{bytes_eq}
 use Rattle.std.specs.List.{list_all, AllByRecursion}
@@ -15,8 +15,9 @@ use Rattle.change_ops.proofs.NumeralForms.{number_takes, number_again}
 use Rattle.span_context.specs.declared.profile.Profile.{Profile}
 use Rattle.span_context.specs.declared.profile.Profile.TheVariants.{One, Two}
 use Rattle.session_lines.specs.Commands.{Command, name_of, subscribe, pull, close, read, Number, IsCount, Count, IsFewChanges, FewChanges, OneWord, CommandForm, Grants, IsAsked}
-use Rattle.session_lines.specs.Reading.{is_count, is_few_changes, is_one_word, from_at, program_at, subscribe_at, pull_at, close_at, show_at, changes_at, newest_at, query_at, words_at, command_at}
-use Rattle.session_lines.specs.declared.query.Query.TheVariants.{Latest, Show, Changes, Newest}
+use Rattle.session_lines.specs.Reading.{is_count, is_few_changes, is_one_word, from_at, program_at, subscribe_at, pull_at, close_at, show_at, changes_at, newest_at, query_at, words_at, alone_at, either_of, command_at}
+use Rattle.session_lines.specs.declared.query.Query.{Query}
+use Rattle.session_lines.specs.declared.query.Query.TheVariants.{Latest, Left, Hub, Stats, Show, Changes, Newest}
 use Rattle.session_lines.specs.declared.request.SessionRequest.{SessionRequest}
 use Rattle.session_lines.specs.declared.fault.LineRefusal.{LineRefusal}
 use Rattle.session_lines.specs.declared.fault.LineRefusal.TheVariants.{BadCommand, BadCapacity, BadHex, BadChange, OutOfMemory}
@@ -261,31 +262,56 @@ words_form line c e =
       go false false false true f1 f2 f3 f4 e = close_form line fields c (named (codes "close") f4) e
       go false false false false f1 f2 f3 f4 e = query_form line name fields c whole e
 
--- a line of several words isn't `latest`
-not_latest : (line : List ℕ) (parts : List ℕ × List ℕ) → split 32 line ≡ Some parts → bytes_eq line (codes "latest") ≡ false
-unfolding split
-not_latest line parts e = go (bytes_eq line (codes "latest")) refl where
-  go : (b : Bool) → bytes_eq line (codes "latest") ≡ b → b ≡ false
+-- a line of several words is none of one word
+not_word : (word line : List ℕ) (parts : List ℕ × List ℕ) → split 32 word ≡ None → split 32 line ≡ Some parts → bytes_eq line word ≡ false
+not_word word line parts none e = go (bytes_eq line word) refl where
+  go : (b : Bool) → bytes_eq line word ≡ b → b ≡ false
   go false f = refl
   go true f =
-      let there : split 32 (codes "latest") ≡ Some parts = subst (λ (x : List ℕ). split 32 x ≡ Some parts) (same_bytes line (codes "latest") f) e in
-      let none : split 32 (codes "latest") ≡ None = refl in
+      let there : split 32 word ≡ Some parts = subst (λ (x : List ℕ). split 32 x ≡ Some parts) (same_bytes line word f) e in
       absurd cc
+
+not_alone : (line : List ℕ) (parts : List ℕ × List ℕ) → split 32 line ≡ Some parts → alone_at line ≡ None
+unfolding split
+not_alone line parts e =
+    rw (not_word (codes "latest") line parts refl e, not_word (codes "left") line parts refl e, not_word (codes "hub") line parts refl e, not_word (codes "stats") line parts refl e) refl
 
 spoken : (line : List ℕ) (c : Command) → words_at line ≡ Some c → command_at line ≡ Some c
 unfolding command_at words_at
 spoken line c w =
     let a = bind_some (split 32 line) (λ parts. if bytes_eq parts.0 (codes "sub") then subscribe_at One parts.1 else if bytes_eq parts.0 (codes "sub2") then subscribe_at Two parts.1 else if bytes_eq parts.0 (codes "pull") then pull_at parts.1 else if bytes_eq parts.0 (codes "close") then close_at parts.1 else query_at parts.0 parts.1) c w in
-    rw (not_latest line a.0 a.1) w
+    rw (not_alone line a.0 a.1) w
+
+-- one of one word is just that
+alone_form : (line : List ℕ) (query : Query) → alone_at line ≡ Some query → CommandForm (read query) line
+alone_form line query e = go (bytes_eq line (codes "latest")) (bytes_eq line (codes "left")) (bytes_eq line (codes "hub")) (bytes_eq line (codes "stats")) refl refl refl refl e where
+  formed : (found : Query) → found ≡ query → CommandForm (read found) line → CommandForm (read query) line
+  formed found same form = subst (λ (x : Query). CommandForm (read x) line) same form
+
+  go : (s t p q : Bool) → bytes_eq line (codes "latest") ≡ s → bytes_eq line (codes "left") ≡ t → bytes_eq line (codes "hub") ≡ p → bytes_eq line (codes "stats") ≡ q
+      → cond s (Some Latest) (cond t (Some Left) (cond p (Some Hub) (cond q (Some Stats) None))) ≡ Some query → CommandForm (read query) line
+  go true t p q f1 f2 f3 f4 e = let same : Latest ≡ query = cc e in formed Latest same (same_bytes line (codes "latest") f1)
+  go false true p q f1 f2 f3 f4 e = let same : Left ≡ query = cc e in formed Left same (same_bytes line (codes "left") f2)
+  go false false true q f1 f2 f3 f4 e = let same : Hub ≡ query = cc e in formed Hub same (same_bytes line (codes "hub") f3)
+  go false false false true f1 f2 f3 f4 e = let same : Stats ≡ query = cc e in formed Stats same (same_bytes line (codes "stats") f4)
+  go false false false false f1 f2 f3 f4 e = absurd cc
 
 pub command_form : (line : List ℕ) (c : Command) → command_at line ≡ Some c → CommandForm c line
 unfolding command_at
-command_form line c e = go (bytes_eq line (codes "latest")) refl e where
-  go : (b : Bool) → bytes_eq line (codes "latest") ≡ b → cond b (Some (read Latest)) (words_at line) ≡ Some c → CommandForm c line
-  go true f e = let same : read Latest ≡ c = cc e in subst (λ (x : Command). CommandForm x line) same (same_bytes line (codes "latest") f)
-  go false f e = words_form line c e
+command_form line c e = go (alone_at line) refl e where
+  go : (found : Option Query) → alone_at line ≡ found → either_of found (words_at line) ≡ Some c → CommandForm c line
+  go (Some query) f e = let same : read query ≡ c = cc e in subst (λ (x : Command). CommandForm x line) same (alone_form line query f)
+  go None f e = words_form line c e
 
-words_read : (line : List ℕ) (c : Command) → c ≢ read Latest → CommandForm c line → words_at line ≡ Some c
+-- what is said in several words
+abbrev HasWords : Command → Type 0
+HasWords (read Latest) = ⊥
+HasWords (read Left) = ⊥
+HasWords (read Hub) = ⊥
+HasWords (read Stats) = ⊥
+HasWords command = Unit {0}
+
+words_read : (line : List ℕ) (c : Command) → HasWords c → CommandForm c line → words_at line ≡ Some c
 unfolding words_at
 words_read line (subscribe One capacity digits None) n j = rw (named_line (codes "sub") line j (lacks_all 32 (codes "sub") refl), subscribe_read j.second One capacity digits j.after) refl
 words_read line (subscribe One capacity digits (Some first)) n j = rw (named_line (codes "sub") line j (lacks_all 32 (codes "sub") refl), subscribe_from_read j.second One capacity first digits j.after) refl
@@ -293,23 +319,29 @@ words_read line (subscribe Two capacity digits None) n j = rw (named_line (codes
 words_read line (subscribe Two capacity digits (Some first)) n j = rw (named_line (codes "sub2") line j (lacks_all 32 (codes "sub2") refl), subscribe_from_read j.second Two capacity first digits j.after) refl
 words_read line (pull subscriber count) n j = rw (named_line (codes "pull") line j (lacks_all 32 (codes "pull") refl), pull_read j.second subscriber count j.after) refl
 words_read line (close subscriber) n j = rw (named_line (codes "close") line j (lacks_all 32 (codes "close") refl), close_read j.second subscriber j.after) refl
-words_read line (read Latest) n j = absurd (n refl)
+words_read line (read Latest) n j = absurd n
+words_read line (read Left) n j = absurd n
+words_read line (read Hub) n j = absurd n
+words_read line (read Stats) n j = absurd n
 words_read line (read (Show version first count)) n j = rw (named_line (codes "show") line j (lacks_all 32 (codes "show") refl), show_read j.second version first count j.after) refl
 words_read line (read (Changes from count)) n j = rw (named_line (codes "changes") line j (lacks_all 32 (codes "changes") refl), changes_read j.second from count j.after) refl
 words_read line (read (Newest node)) n j = rw (named_line (codes "newest") line j (lacks_all 32 (codes "newest") refl), newest_read j.second node j.after) refl
 
-latest_read : (line : List ℕ) → line ≡ codes "latest" → command_at line ≡ Some (read Latest)
-unfolding command_at
-latest_read line e = ap command_at e
+alone_read : (line word : List ℕ) (query : Query) → command_at word ≡ Some (read query) → line ≡ word → command_at line ≡ Some (read query)
+alone_read line word query is e = ap command_at e ∙ is
 
 pub command_read : (line : List ℕ) (c : Command) → CommandForm c line → command_at line ≡ Some c
-command_read line (subscribe profile capacity digits first) j = spoken line _ (words_read line (subscribe profile capacity digits first) (λ e. cc) j)
-command_read line (pull subscriber count) j = spoken line _ (words_read line (pull subscriber count) (λ e. cc) j)
-command_read line (close subscriber) j = spoken line _ (words_read line (close subscriber) (λ e. cc) j)
-command_read line (read Latest) j = latest_read line j
-command_read line (read (Show version first count)) j = spoken line _ (words_read line (read (Show version first count)) (λ e. cc) j)
-command_read line (read (Changes from count)) j = spoken line _ (words_read line (read (Changes from count)) (λ e. cc) j)
-command_read line (read (Newest node)) j = spoken line _ (words_read line (read (Newest node)) (λ e. cc) j)
+unfolding command_at
+command_read line (subscribe profile capacity digits first) j = spoken line _ (words_read line (subscribe profile capacity digits first) tt j)
+command_read line (pull subscriber count) j = spoken line _ (words_read line (pull subscriber count) tt j)
+command_read line (close subscriber) j = spoken line _ (words_read line (close subscriber) tt j)
+command_read line (read Latest) j = alone_read line (codes "latest") Latest refl j
+command_read line (read Left) j = alone_read line (codes "left") Left refl j
+command_read line (read Hub) j = alone_read line (codes "hub") Hub refl j
+command_read line (read Stats) j = alone_read line (codes "stats") Stats refl j
+command_read line (read (Show version first count)) j = spoken line _ (words_read line (read (Show version first count)) tt j)
+command_read line (read (Changes from count)) j = spoken line _ (words_read line (read (Changes from count)) tt j)
+command_read line (read (Newest node)) j = spoken line _ (words_read line (read (Newest node)) tt j)
 
 -- ---- what is answered to a line
 never : (c : Command) → Grants c (Err BadCommand) → ⊥

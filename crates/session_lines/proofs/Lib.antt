@@ -6,3 +6,4 @@ pub mod Lining
 pub mod Settled
 pub mod Gatherings
 pub mod Nexts
+pub mod Joined

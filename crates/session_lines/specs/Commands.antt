@@ -9,7 +9,7 @@ use Rattle.change_ops.specs.Forms.{Numeral, Word, ◌⎵◌}
 use Rattle.session_lines.specs.declared.request.SessionRequest.{SessionRequest}
 use Rattle.session_lines.specs.declared.request.SessionRequest.TheVariants.{Subscribe, Pull, Close, Read}
 use Rattle.session_lines.specs.declared.query.Query.{Query}
-use Rattle.session_lines.specs.declared.query.Query.TheVariants.{Latest, Show, Changes, Newest}
+use Rattle.session_lines.specs.declared.query.Query.TheVariants.{Latest, Left, Hub, Stats, Show, Changes, Newest}
 use Rattle.session_lines.specs.declared.fault.LineRefusal.{LineRefusal}
 use Rattle.session_lines.specs.declared.fault.LineRefusal.TheVariants.{BadCommand, BadCapacity, BadHex, OutOfMemory}
 
@@ -63,6 +63,9 @@ CommandForm (subscribe profile capacity digits (Some first)) =
 CommandForm (pull subscriber count) = Word (codes "pull") ⎵ Number subscriber ⎵ Count count
 CommandForm (close subscriber) = Word (codes "close") ⎵ Number subscriber
 CommandForm (read Latest) = Word (codes "latest")
+CommandForm (read Left) = Word (codes "left")
+CommandForm (read Hub) = Word (codes "hub")
+CommandForm (read Stats) = Word (codes "stats")
 CommandForm (read (Show version first count)) = Word (codes "show") ⎵ Number version ⎵ Number first ⎵ Count count
 CommandForm (read (Changes from count)) = Word (codes "changes") ⎵ Number from ⎵ FewChanges count
 CommandForm (read (Newest node)) = Word (codes "newest") ⎵ Number node

@@ -10,7 +10,8 @@ use Rattle.change_ops.specs.Reading.{◌>>=◌}
 use Rattle.session_lines.specs.Commands.{Command, subscribe, pull, close, read}
 use Rattle.session_lines.specs.declared.commands.LentCommand.{LentCommand}
 use Rattle.session_lines.specs.declared.commands.LentCommand.TheVariants.{Subscribe, Pull, Close, Read}
-use Rattle.session_lines.specs.declared.query.Query.TheVariants.{Latest, Show, Changes, Newest}
+use Rattle.session_lines.specs.declared.query.Query.{Query}
+use Rattle.session_lines.specs.declared.query.Query.TheVariants.{Latest, Left, Hub, Stats, Show, Changes, Newest}
 
 abbrev pub is_count : ℕ → Bool
 is_count n = nat_le 1 n && nat_le n 1024
@@ -94,6 +95,18 @@ words_at line = do
       if bytes_eq parts.0 (codes "pull") then pull_at parts.1 else
       if bytes_eq parts.0 (codes "close") then close_at parts.1 else query_at parts.0 parts.1
 
+-- what a line of one word says
+abbrev pub alone_at : List ℕ → Option Query
+alone_at line = if bytes_eq line (codes "latest") then Some Latest else
+    if bytes_eq line (codes "left") then Some Left else
+    if bytes_eq line (codes "hub") then Some Hub else
+    if bytes_eq line (codes "stats") then Some Stats else None
+
+-- the first, if there is one, and else the second
+abbrev pub either_of : Option Query → Option Command → Option Command
+either_of (Some query) other = Some (read query)
+either_of None other = other
+
 -- what a line says, if it has a form
 unfoldable pub command_at : List ℕ → Option Command
-command_at line = if bytes_eq line (codes "latest") then Some (read Latest) else words_at line
+command_at line = either_of (alone_at line) (words_at line)

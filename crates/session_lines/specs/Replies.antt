@@ -1,6 +1,7 @@
 -- The lines that a session prints, without their LF.
 use Rattle.std.specs.Prelude.{ℕ, List, ◌++◌, codes}
 use Rattle.std.specs.Fmt.{decimal}
+use Rattle.hex.specs.Hex.{encode_lower}
 use Rattle.refusals.specs.Reasons.{reason_text}
 use Rattle.refusals.specs.declared.reason.Reason.{Reason}
 use Rattle.refusals.specs.declared.reason.Reason.TheVariants as reason
@@ -8,7 +9,32 @@ use Rattle.session_lines.specs.declared.fault.LineRefusal.{LineRefusal}
 use Rattle.session_lines.specs.declared.fault.LineRefusal.TheVariants as line
 use Rattle.session_lines.specs.declared.reply.Reply.{Reply}
 use Rattle.session_lines.specs.declared.reply.Reply.TheVariants.{Version, Subscribed, Hit, End, Items, Closed, Latest}
-use Rattle.session_lines.specs.declared.reply.Reply.TheVariants.{Spans, Changes, Newest, Refused}
+use Rattle.session_lines.specs.declared.reply.Reply.TheVariants.{Left, Hub, Stats, Spans, Changes, Newest, Refused}
+use Rattle.session_lines.specs.declared.stats.PerLimit.{PerLimit}
+use Rattle.session_lines.specs.declared.stats.Stats.{Stats as StatsValue}
+
+-- what is left of each limit
+abbrev pub left_text : PerLimit → List ℕ
+left_text left =
+    codes "ok left " ++ decimal left.changes ++ codes " " ++ decimal left.characters ++ codes " " ++ decimal left.marks
+    ++ codes " " ++ decimal left.subscribers
+
+-- how much there is of a hub's text, of those that use it, and of each limit
+abbrev pub text_stats : StatsValue → List ℕ
+text_stats stats =
+    codes "ok stats versions " ++ decimal stats.versions ++ codes " characters " ++ decimal stats.characters
+    ++ codes " removed " ++ decimal stats.removed ++ codes " marks " ++ decimal stats.marks
+
+abbrev pub user_stats : StatsValue → List ℕ
+user_stats stats =
+    codes " subscribers " ++ decimal stats.subscribers ++ codes " subscribed " ++ decimal stats.subscribed
+    ++ codes " sessions " ++ decimal stats.sessions ++ codes " bytes " ++ decimal stats.bytes
+    ++ codes " lag " ++ decimal stats.lag
+
+abbrev pub used_stats : PerLimit → List ℕ
+used_stats used =
+    codes " changes-used " ++ decimal used.changes ++ codes " characters-used " ++ decimal used.characters
+    ++ codes " marks-used " ++ decimal used.marks ++ codes " subscribers-used " ++ decimal used.subscribers
 
 abbrev pub reply_text : Reply → List ℕ
 reply_text (Version number) = codes "ok version " ++ decimal number
@@ -19,6 +45,9 @@ reply_text (End version spans) = codes "end " ++ decimal version ++ codes " " ++
 reply_text (Items count) = codes "ok items " ++ decimal count
 reply_text (Closed id) = codes "ok closed " ++ decimal id
 reply_text (Latest number) = codes "ok latest " ++ decimal number
+reply_text (Left left) = left_text left
+reply_text (Hub id) = codes "ok hub " ++ encode_lower id.bytes
+reply_text (Stats stats) = text_stats stats ++ user_stats stats ++ used_stats stats.used
 reply_text (Spans count) = codes "ok spans " ++ decimal count
 reply_text (Changes count) = codes "ok changes " ++ decimal count
 reply_text (Newest counter) = codes "ok newest " ++ decimal counter

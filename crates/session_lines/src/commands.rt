@@ -5,8 +5,8 @@ ghost use Rattle.hex.specs.Hex.{decode_of};
 ghost use Rattle.hex.specs.declared.error.FromHexError.{FromHexError};
 ghost use Rattle.session_lines.specs.Commands.{subscribe, Grants, IsAsked};
 ghost use Rattle.session_lines.specs.Reading.{said, from_at, program_at, subscribe_at, pull_at, close_at, show_at};
-ghost use Rattle.session_lines.specs.Reading.{changes_at, newest_at, query_at, words_at, command_at, is_count};
-ghost use Rattle.session_lines.specs.Reading.{is_few_changes};
+ghost use Rattle.session_lines.specs.Reading.{changes_at, newest_at, query_at, words_at, alone_at, command_at};
+ghost use Rattle.session_lines.specs.Reading.{is_count, is_few_changes};
 ghost use Rattle.session_lines.specs.declared.fault.LineRefusal.TheVariants as why;
 
 use crate::fault::LineRefusal;
@@ -28,6 +28,12 @@ const PULL: &[u8] = b"pull";
 const CLOSE: &[u8] = b"close";
 
 const LATEST: &[u8] = b"latest";
+
+const LEFT: &[u8] = b"left";
+
+const HUB: &[u8] = b"hub";
+
+const STATS: &[u8] = b"stats";
 
 const SHOW: &[u8] = b"show";
 
@@ -212,15 +218,32 @@ fn words_in(line: &[u8]) -> Option<LentCommand<'_>>
     }
 }
 
+/// What a line of one word says.
+fn alone_in(line: &[u8]) -> Option<Query>
+    ensures { result ≡ alone_at line.now }
+{
+    if line == LATEST {
+        Some(Query::Latest)
+    } else if line == LEFT {
+        Some(Query::Left)
+    } else if line == HUB {
+        Some(Query::Hub)
+    } else if line == STATS {
+        Some(Query::Stats)
+    } else {
+        None
+    }
+}
+
 /// What a line says, if it has a form.
 #[tactic(auto, unfolding(crate::specs::Reading::command_at))]
 fn command_in(line: &[u8]) -> Option<LentCommand<'_>>
     ensures { option_map said result ≡ command_at line.now }
 {
-    if line == LATEST {
-        return Some(LentCommand::Read(Query::Latest));
+    match alone_in(line) {
+        Some(query) => Some(LentCommand::Read(query)),
+        None => words_in(line),
     }
-    words_in(line)
 }
 
 /// The program that pairs of hexadecimal digits stand for.

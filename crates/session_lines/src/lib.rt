@@ -8,4 +8,5 @@ pub mod query;
 pub mod reader;
 pub mod reply;
 pub mod request;
+pub mod stats;
 mod words;

@@ -3,6 +3,12 @@
 pub enum Query {
     /// The number of the latest version.
     Latest,
+    /// How much the hub still takes.
+    Left,
+    /// Which hub it is.
+    Hub,
+    /// How much there is of the hub.
+    Stats,
     /// `count` spans of a version, from this one on, 1 to 1,024.
     Show {
         version: u64,

@@ -3,10 +3,12 @@ ghost use Rattle.std.specs.Prelude.{◌≡◌, ◌≤◌, ◌+◌, ◌++◌, ◌
 ghost use Rattle.std.specs.String.{string_capacity};
 ghost use Rattle.std.specs.Fmt.{decimal};
 ghost use Rattle.refusals.specs.Reasons.{location_text};
-ghost use Rattle.session_lines.specs.Replies.{reply_text, reason_of};
+ghost use Rattle.session_lines.specs.Replies.{reply_text, reason_of, left_text, text_stats, user_stats, used_stats};
 ghost use Rattle.session_lines.specs.declared.reply.Reply.TheVariants as told;
 
 use crate::fault::LineRefusal;
+use crate::stats::{PerLimit, Stats};
+use hub_requests::identity::HubId;
 use itoa::Buffer;
 use refusals::reason::{Location, Reason};
 use std::alloc::AllocError;
@@ -35,6 +37,12 @@ pub enum Reply {
     Closed(usize),
     /// The latest version has this number.
     Latest(u64),
+    /// How much is left of each limit.
+    Left(PerLimit),
+    /// The hub has this id.
+    Hub(HubId),
+    /// How much there is of the hub.
+    Stats(Stats),
     /// The count of the version's spans.
     Spans(usize),
     /// The count of the changes that were read.
@@ -50,6 +58,15 @@ const NUMBER_ROOM: usize = 33;
 
 /// Room for a line of a hit: `hit`, three numbers of at most 20 digits, each behind a space, and a LF.
 const HIT_ROOM: usize = 67;
+
+/// Room for `ok hub ` and a LF.
+const HUB_ROOM: usize = 8;
+
+/// Room for the line of what is left: `ok left`, four numbers, each behind a space, and a LF.
+const LEFT_ROOM: usize = 92;
+
+/// Room for the line of a hub's stats: its words, thirteen numbers, and a LF.
+const STATS_ROOM: usize = 420;
 
 /// Room for `no `, ` line ` or ` slot `, a number of at most 40 digits, and a LF, beside a refusal's number and name.
 const REFUSAL_ROOM: usize = 50;
@@ -133,6 +150,87 @@ fn push_end(out: &mut String, version: u64, spans: usize) -> Result<(), AllocErr
     Ok(())
 }
 
+/// Appends the line of what is left.
+fn push_left(out: &mut String, left: PerLimit) -> Result<(), AllocError>
+    ensures ok { OnOk result (string_bytes out.new ≡ string_bytes out.old ++ (left_text left ++ 10 ∷ [])) }
+    ensures err { OnErr result (string_bytes out.new ≡ string_bytes out.old) }
+{
+    out.reserve(LEFT_ROOM)?;
+    append_number(out, "ok left ", left.changes);
+    append_number(out, " ", left.characters);
+    append_number(out, " ", left.marks);
+    append_number(out, " ", left.subscribers);
+    append(out, "\n");
+    Ok(())
+}
+
+/// Appends the line of a hub's id.
+fn push_hub(out: &mut String, id: HubId) -> Result<(), AllocError>
+    ensures ok { OnOk result (string_bytes out.new ≡ string_bytes out.old ++ (reply_text (told.Hub id) ++ 10 ∷ [])) }
+    ensures err { OnErr result (string_bytes out.new ≡ string_bytes out.old) }
+{
+    let digits = id.digits(*out.allocator())?;
+    out.reserve(digits.len() + HUB_ROOM)?;
+    append(out, "ok hub ");
+    append(out, digits.as_str());
+    append(out, "\n");
+    Ok(())
+}
+
+/// Appends how much there is of the text, for which there is room.
+fn append_text_stats(out: &mut String, stats: &Stats)
+    requires { string_len out.old + 126 ≤ string_capacity out.old }
+    ensures bytes { string_bytes out.new ≡ string_bytes out.old ++ text_stats stats.now }
+    ensures len { string_len out.new ≤ string_len out.old + 126 }
+    ensures capacity { string_capacity out.old ≤ string_capacity out.new }
+{
+    append_number(out, "ok stats versions ", stats.versions);
+    append_number(out, " characters ", stats.characters);
+    append_number(out, " removed ", stats.removed);
+    append_number(out, " marks ", stats.marks);
+}
+
+/// Appends how many use the hub, for which there is room.
+fn append_user_stats(out: &mut String, stats: &Stats)
+    requires { string_len out.old + 147 ≤ string_capacity out.old }
+    ensures bytes { string_bytes out.new ≡ string_bytes out.old ++ user_stats stats.now }
+    ensures len { string_len out.new ≤ string_len out.old + 147 }
+    ensures capacity { string_capacity out.old ≤ string_capacity out.new }
+{
+    append_number(out, " subscribers ", stats.subscribers);
+    append_number(out, " subscribed ", stats.subscribed);
+    append_number(out, " sessions ", stats.sessions);
+    append_number(out, " bytes ", stats.bytes);
+    append_number(out, " lag ", stats.lag);
+}
+
+/// Appends how much of each limit is used, for which there is room.
+fn append_used_stats(out: &mut String, used: PerLimit)
+    requires { string_len out.old + 141 ≤ string_capacity out.old }
+    ensures bytes { string_bytes out.new ≡ string_bytes out.old ++ used_stats used }
+    ensures len { string_len out.new ≤ string_len out.old + 141 }
+    ensures capacity { string_capacity out.old ≤ string_capacity out.new }
+{
+    append_number(out, " changes-used ", used.changes);
+    append_number(out, " characters-used ", used.characters);
+    append_number(out, " marks-used ", used.marks);
+    append_number(out, " subscribers-used ", used.subscribers);
+}
+
+/// Appends the line of how much there is of a hub.
+fn push_stats(out: &mut String, stats: &Stats) -> Result<(), AllocError>
+    ensures ok { OnOk result (string_bytes out.new ≡ string_bytes out.old
+        ++ (reply_text (told.Stats stats.now) ++ 10 ∷ [])) }
+    ensures err { OnErr result (string_bytes out.new ≡ string_bytes out.old) }
+{
+    out.reserve(STATS_ROOM)?;
+    append_text_stats(out, stats);
+    append_user_stats(out, stats);
+    append_used_stats(out, stats.used);
+    append(out, "\n");
+    Ok(())
+}
+
 /// Appends the line of a refusal.
 fn push_refusal(out: &mut String, reason: Reason) -> Result<(), AllocError>
     ensures ok { OnOk result (string_bytes out.new ≡ string_bytes out.old
@@ -167,6 +265,9 @@ impl Reply {
             Reply::Items(count) => push_number(out, "ok items ", count as u64),
             Reply::Closed(id) => push_number(out, "ok closed ", id as u64),
             Reply::Latest(number) => push_number(out, "ok latest ", number),
+            Reply::Left(left) => push_left(out, left),
+            Reply::Hub(id) => push_hub(out, id),
+            Reply::Stats(stats) => push_stats(out, &stats),
             Reply::Spans(count) => push_number(out, "ok spans ", count as u64),
             Reply::Changes(count) => push_number(out, "ok changes ", count as u64),
             Reply::Newest(counter) => push_number(out, "ok newest ", counter),

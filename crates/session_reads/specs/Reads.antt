@@ -1,5 +1,6 @@
 -- What a session is shown of the text.
-use Rattle.std.specs.Prelude.{◌≡◌, ℕ, ◌<◌, ◌≤◌, Some, None, List, [], length, take, drop, slice_get, Bool, true, false}
+use Rattle.std.specs.Prelude.{◌≡◌, ℕ, ◌<◌, ◌≤◌, Option, Some, None, List, [], length, take, drop, slice_get}
+use Rattle.std.specs.Prelude.{Bool, true, false}
 use Rattle.std.specs.List.{flat_map}
 use Rattle.change_ops.specs.Changes.{Change}
 use Rattle.change_ops.specs.Spelling.{change_text}
@@ -12,11 +13,13 @@ use Rattle.change_history.specs.Accepted.{operations_of}
 use Rattle.hub_core.specs.Machine.{Core}
 use Rattle.subscriber_queues.specs.Queue.{QueueSink}
 use Rattle.ingest_workers.specs.Holdings.{InOneHolding}
+use Rattle.hub_requests.specs.declared.identity.HubId.{HubId}
 use Rattle.refusals.specs.declared.reason.Reason.TheVariants as reason
 use Rattle.session_lines.specs.declared.query.Query.{Query}
-use Rattle.session_lines.specs.declared.query.Query.TheVariants.{Latest, Show, Changes, Newest}
+use Rattle.session_lines.specs.declared.query.Query.TheVariants.{Latest, Left, Hub, Stats, Show, Changes, Newest}
 use Rattle.session_lines.specs.declared.reply.Reply.{Reply}
 use Rattle.session_lines.specs.declared.reply.Reply.TheVariants as reply
+use Rattle.session_reads.specs.Counting.{IsLeft, AreStats}
 
 -- in one holding of the lock, which changed nothing, this was so of the hub
 abbrev pub WasSo : (Core QueueSink → Type 0) → Type 0
@@ -52,16 +55,27 @@ Counts node (reply.Newest counter) = IsPeer node × WasSo (λ s. IsLastCounter (
 Counts node (reply.Refused (reason.Unread (change.Limit line))) = (¬ (IsPeer node)) × (line ≡ 1)
 Counts node _ = ⊥
 
--- what is printed to a query, and the reply behind it
-abbrev pub Tells : Query → List ℕ → Reply → Type 0
-Tells Latest text (reply.Latest number) = WasSo (λ s. number ≡ length s.changes) × (text ≡ [])
-Tells Latest text _ = ⊥
-Tells (Show number first most) text answer = Shows number first most text answer
-Tells (Changes from most) text answer = Lists from most text answer
-Tells (Newest node) text answer = Counts node answer × (text ≡ [])
+-- which hub it is, where it has an id; one that has none has no such line
+abbrev pub Names : Option HubId → Reply → Type 0
+Names (Some id) (reply.Hub told) = told ≡ id
+Names None (reply.Refused reason.BadCommand) = Unit {0}
+Names _ _ = ⊥
+
+-- what is printed to a query of a hub with this id, and the reply behind it
+abbrev pub Tells : Option HubId → Query → List ℕ → Reply → Type 0
+Tells id Latest text (reply.Latest number) = WasSo (λ s. number ≡ length s.changes) × (text ≡ [])
+Tells id Latest text _ = ⊥
+Tells id Left text (reply.Left left) = WasSo (λ s. IsLeft s left) × (text ≡ [])
+Tells id Left text _ = ⊥
+Tells id Hub text answer = Names id answer × (text ≡ [])
+Tells id Stats text (reply.Stats stats) = WasSo (λ s. AreStats s stats) × (text ≡ [])
+Tells id Stats text _ = ⊥
+Tells id (Show number first most) text answer = Shows number first most text answer
+Tells id (Changes from most) text answer = Lists from most text answer
+Tells id (Newest node) text answer = Counts node answer × (text ≡ [])
 
 -- the same, or that no memory was found, and then nothing is printed but that; a hub that isn't read has no such line
-abbrev pub Reads : Bool → Query → List ℕ → Reply → Type 0
-Reads true query text (reply.Refused reason.OutOfMemory) = text ≡ []
-Reads true query text answer = Tells query text answer
-Reads false query text answer = (answer ≡ reply.Refused reason.BadCommand) × (text ≡ [])
+abbrev pub Reads : Bool → Option HubId → Query → List ℕ → Reply → Type 0
+Reads true id query text (reply.Refused reason.OutOfMemory) = text ≡ []
+Reads true id query text answer = Tells id query text answer
+Reads false id query text answer = (answer ≡ reply.Refused reason.BadCommand) × (text ≡ [])

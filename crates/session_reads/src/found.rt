@@ -5,7 +5,7 @@ ghost use Rattle.std.specs.Io.KnownBytes.{Appends};
 ghost use Rattle.session_reads.specs.Found.{found_text};
 ghost use Rattle.session_reads.specs.declared.found.Found.TheVariants as found;
 
-use ingest_workers::text::ChangeText;
+use change_log::text::ChangeText;
 use session_lines::reply::Reply;
 use span_lines::printing::SomeSpans;
 use span_lines::writing::write_displayed;

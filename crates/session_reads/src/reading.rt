@@ -1,10 +1,12 @@
 ghost use Rattle.std.specs.Prelude.{◌≡◌, Some, IfOk, MatchResult};
 ghost use Rattle.session_reads.specs.Found.{found_text};
-ghost use Rattle.session_reads.specs.Reads.{Shows, Lists, Counts, Tells, Reads};
+ghost use Rattle.session_reads.specs.Reads.{Shows, Lists, Counts, Names, Tells, Reads};
 ghost use Rattle.session_lines.specs.declared.query.Query.TheVariants as query;
 
+use crate::counting::{left, stats};
 use crate::found::{Answer, Found};
 use change_ops::refusal::ChangeError;
+use hub_requests::identity::HubId;
 use ingest_workers::hub::Hub;
 use refusals::reason::Reason;
 use session_lines::query::Query;
@@ -70,17 +72,31 @@ fn count<N: Naming + Ledger, R: Wait + Copy>(rt: &R, hub: &Hub<'_, N, R>, node: 
     Reply::Newest(hub.last_counter(rt, node as u16))
 }
 
+/// Which hub it is, where it has an id.
+fn name(id: Option<HubId>) -> Reply
+    ensures { Names id result }
+{
+    match id {
+        Some(id) => Reply::Hub(id),
+        None => Reply::Refused(Reason::BadCommand),
+    }
+}
+
 /// What a query is told.
 fn told<'a, N: Naming + Ledger, R: Wait + Copy>(
     rt: &R,
     hub: &Hub<'_, N, R>,
     published: &'a Published<'_, N>,
+    id: Option<HubId>,
     query: Query,
 ) -> Result<Answer<'a>, AllocError>
-    ensures { IfOk result (λ answer. Tells query (found_text answer.found) answer.reply) }
+    ensures { IfOk result (λ answer. Tells id query (found_text answer.found) answer.reply) }
 {
     match query {
         Query::Latest => Ok(Answer::line(Reply::Latest(hub.latest(rt)))),
+        Query::Left => Ok(Answer::line(Reply::Left(left(rt, hub)))),
+        Query::Hub => Ok(Answer::line(name(id))),
+        Query::Stats => Ok(Answer::line(Reply::Stats(stats(rt, hub, published)))),
         Query::Show {
             version,
             first,
@@ -91,21 +107,22 @@ fn told<'a, N: Naming + Ledger, R: Wait + Copy>(
     }
 }
 
-/// Reads of the text: what is found, and the reply behind it. A hub that isn't read refuses. Reading changes nothing,
-/// and copies nothing of the text: no memory is taken but for a list of up to 64 texts.
+/// Reads of a hub with this id: what is found, and the reply behind it. A hub that isn't read refuses. Reading changes
+/// nothing, and copies nothing of the text: no memory is taken but for a list of up to 64 texts.
 pub fn read<'a, N: Naming + Ledger, R: Wait + Copy>(
     rt: &R,
     hub: &Hub<'_, N, R>,
     published: &'a Published<'_, N>,
     reads: bool,
+    id: Option<HubId>,
     query: Query,
 ) -> Answer<'a>
-    ensures { Reads reads query (found_text result.found) result.reply }
+    ensures { Reads reads id query (found_text result.found) result.reply }
 {
     if !reads {
         return Answer::line(Reply::Refused(Reason::BadCommand));
     }
-    match told(rt, hub, published, query) {
+    match told(rt, hub, published, id, query) {
         Ok(answer) => answer,
         Err(_) => Answer::line(Reply::Refused(Reason::OutOfMemory)),
     }

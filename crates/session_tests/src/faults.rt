@@ -1,6 +1,7 @@
 ghost use Rattle.std.specs.Prelude.{◌≡◌};
 
 use crate::lines::{QUEUE_OF_ONE, QUEUE_OF_ONE_REPLIES};
+use change_keeping::keeper::NoStore;
 use hub_requests::limits::SessionOptions;
 use hub_sessions::conversation::{SessionFault, session};
 use ingest_workers::hub::Hub;
@@ -87,6 +88,7 @@ fn tried_on<N: Naming + Ledger + Send + Sync, R: Threads + Wait + Copy + Send + 
         alloc,
         &hub,
         &published,
+        &mut NoStore,
         &mut one,
         &mut reader,
         &mut writer,
@@ -101,6 +103,7 @@ fn tried_on<N: Naming + Ledger + Send + Sync, R: Threads + Wait + Copy + Send + 
         alloc,
         &hub,
         &published,
+        &mut NoStore,
         &mut two,
         other.as_bytes(),
         &mut next,

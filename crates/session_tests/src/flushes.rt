@@ -1,6 +1,7 @@
 ghost use Rattle.std.specs.Prelude.{◌≡◌};
 
 use crate::lines::{TWO_SUBSCRIBERS, TWO_SUBSCRIBERS_REPLIES};
+use change_keeping::keeper::NoStore;
 use hub_requests::limits::SessionOptions;
 use hub_sessions::conversation::session;
 use ingest_workers::hub::Hub;
@@ -68,6 +69,7 @@ fn two_subscribed<N: Naming + Ledger + Send + Sync, R: Threads + Wait + Abort + 
         alloc,
         &hub,
         &published,
+        &mut NoStore,
         &mut shares[0],
         TWO_SUBSCRIBERS.as_bytes(),
         &mut writer,

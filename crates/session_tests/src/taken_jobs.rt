@@ -1,6 +1,7 @@
 ghost use Rattle.std.specs.Prelude.{◌≡◌};
 
 use crate::lines::{TEN_VERSIONS, TEN_VERSIONS_REPLIES};
+use change_keeping::keeper::NoStore;
 use hub_requests::limits::SessionOptions;
 use hub_sessions::conversation::session;
 use ingest_workers::hub::Hub;
@@ -104,6 +105,7 @@ fn with_jobs_taken<'p, N: Naming + Ledger + Send + Sync, R: Threads + Wait + Cop
         alloc,
         hub,
         published,
+        &mut NoStore,
         share,
         &mut reader,
         out,

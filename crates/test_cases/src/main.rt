@@ -24,10 +24,13 @@
 
 use anyhow::{Context, Result, bail};
 use hub_program::command;
+use hub_program::system::InMemory;
 use std::alloc::Global;
+use std::fs::Files;
 use std::io;
 use std::io::{Read, Write};
 use std::net::{Net, TcpListener, TcpStream};
+use std::rt::Clock;
 use std::sync::Wait;
 use std::thread::Threads;
 
@@ -134,13 +137,29 @@ impl<'a> Case<'a> {
 
     /// Runs the command, and prints what it answers.
     fn answer<
-        H: Threads + Wait + Net<Listener = TcpListener, Stream = TcpStream> + Copy + Send + Sync,
+        H: Threads
+            + Wait
+            + Net<Listener = TcpListener, Stream = TcpStream>
+            + Files
+            + Clock
+            + Copy
+            + Send
+            + Sync,
         W: Write,
     >(&self, rt: &H, alloc: Global, writer: &mut W) -> Result<()> {
         let mut reader = self.input.as_slice();
         let mut printed = Vec::new(alloc);
         let mut said = Vec::new(alloc);
-        let status = command(rt, alloc, &self.words, &mut reader, &mut printed, &mut said);
+        let status = command(
+            rt,
+            alloc,
+            &InMemory { alloc },
+            &InMemory { alloc },
+            &self.words,
+            &mut reader,
+            &mut printed,
+            &mut said,
+        );
         writeln!(writer, "{}: {status}", self.name)?;
         if status == 2 {
             return Ok(());

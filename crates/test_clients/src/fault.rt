@@ -19,8 +19,6 @@ pub enum Fault {
     Versions,
     /// The subscribers' numbers aren't each number once.
     Subscribers,
-    /// A failed accept isn't told, or didn't use up its session.
-    Sessions,
     /// The items of this peer's subscriber aren't its part of the stream.
     Items(usize),
 }
@@ -53,9 +51,6 @@ impl Display for Fault {
             Fault::Reply => f.write_str("a wrong reply"),
             Fault::Versions => f.write_str("wrong numbers of versions"),
             Fault::Subscribers => f.write_str("wrong numbers of subscribers"),
-            Fault::Sessions => f.write_str(
-                "a failed accept that isn't told, or a session too many",
-            ),
             Fault::Items(peer) => write!(f, "wrong items of peer {peer}"),
         }
     }

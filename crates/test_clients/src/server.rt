@@ -1,8 +1,11 @@
 use crate::client::number_behind;
 use hub_program::command;
+use hub_program::system::InMemory;
 use std::alloc::Global;
+use std::fs::Files;
 use std::io;
 use std::net::{Net, TcpListener, TcpStream};
+use std::rt::Clock;
 use std::sync::{OnceLock, Wait};
 use std::thread::Threads;
 
@@ -39,7 +42,14 @@ impl io::Write for Printed<'_> {
 /// Serves sessions as these words of a command line ask for. Answers the exit status, and whether the line of the port
 /// was all that was printed.
 pub fn serve<
-    H: Threads + Wait + Net<Listener = TcpListener, Stream = TcpStream> + Copy + Send + Sync,
+    H: Threads
+        + Wait
+        + Net<Listener = TcpListener, Stream = TcpStream>
+        + Files
+        + Clock
+        + Copy
+        + Send
+        + Sync,
 >(rt: &H, alloc: Global, words: &[&str], port: &Port) -> (u8, bool) {
     let mut printed = Printed {
         bytes: Vec::new(alloc),
@@ -48,6 +58,8 @@ pub fn serve<
     let status = command(
         rt,
         alloc,
+        &InMemory { alloc },
+        &InMemory { alloc },
         words,
         &mut io::empty(),
         &mut printed,

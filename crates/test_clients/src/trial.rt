@@ -5,9 +5,12 @@ use crate::limited_clients::limited;
 use crate::many_clients::many;
 use crate::server::{Port, serve};
 use std::alloc::Global;
+use std::fs::Files;
 use std::net::{Net, TcpListener, TcpStream};
+use std::rt::Clock;
 use std::sync::{OnceLock, Wait};
-use std::thread::{Threads, join};
+use std::thread;
+use std::thread::Threads;
 
 /// A server and its clients.
 #[derive(Clone, Copy)]
@@ -123,13 +126,28 @@ impl Trial {
 
     /// Runs the server and its clients. Answers the server's exit status, and what went wrong with the clients.
     pub fn run<
-        H: Threads + Wait + Net<Listener = TcpListener, Stream = TcpStream> + Copy + Send + Sync,
+        H: Threads
+            + Wait
+            + Net<Listener = TcpListener, Stream = TcpStream>
+            + Files
+            + Clock
+            + Copy
+            + Send
+            + Sync,
     >(self, rt: &H, alloc: Global) -> (u8, Result<(), Fault>) {
-        let port = OnceLock::new();
-        let ((status, is_port_alone), told) = join(
+        let opened = OnceLock::new();
+        let port = &opened;
+        // Only the clients get a thread: what serves has bounds that hold for the calling thread alone.
+        let ((status, is_port_alone), told) = thread::scope(
+            thread::scope_env(),
             rt,
-            || serve(rt, alloc, self.words(), &port),
-            || self.clients_at(rt, alloc, &port),
+            move |scope| match scope.spawn(move || self.clients_at(rt, alloc, port)) {
+                Ok(clients) => {
+                    let served = serve(rt, alloc, self.words(), port);
+                    (served, clients.join(rt))
+                }
+                Err(_) => ((0, true), Err(Fault::Memory)),
+            },
         );
         match told {
             Ok(()) if !is_port_alone => (status, Err(Fault::Port)),

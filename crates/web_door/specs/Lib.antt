@@ -1,3 +1,4 @@
+pub mod Files
 pub mod Line
 pub mod Request
 pub mod Said

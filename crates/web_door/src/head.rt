@@ -22,7 +22,7 @@ const MAX_HEADERS: usize = 64;
 const HEAD_LIMIT: usize = 16_384;
 
 /// The most reads that a head takes, each of which may wait as long as the stream lets it.
-const HEAD_READS: u32 = 64;
+const HEAD_READS: u32 = 16;
 
 /// Why a request is refused.
 #[derive(Clone, Copy)]
@@ -280,6 +280,23 @@ pub fn write_accept<W: Write>(alloc: Global, writer: &mut W, accept: &[u8; 28]) 
     writer.flush()
 }
 
+/// Writes the head of an answer, which says that the connection is closed behind it.
+pub fn write_head<W: Write>(
+    writer: &mut W,
+    status: &str,
+    kind: &str,
+    length: u64,
+) -> io::Result<()> {
+    write!(
+        writer,
+        "HTTP/1.1 {status}\r\ncontent-type: {kind}\r\ncontent-length: {length}\r\n"
+    )?;
+    write!(
+        writer,
+        "x-content-type-options: nosniff\r\ncache-control: no-cache\r\nconnection: close\r\n\r\n"
+    )
+}
+
 /// Answers a request whole, and says that the connection is closed behind it.
 pub fn write_answer<W: Write>(
     writer: &mut W,
@@ -287,15 +304,7 @@ pub fn write_answer<W: Write>(
     kind: &str,
     body: &[u8],
 ) -> io::Result<()> {
-    let length = body.len();
-    write!(
-        writer,
-        "HTTP/1.1 {status}\r\ncontent-type: {kind}\r\ncontent-length: {length}\r\n"
-    )?;
-    write!(
-        writer,
-        "x-content-type-options: nosniff\r\nconnection: close\r\n\r\n"
-    )?;
+    write_head(writer, status, kind, body.len() as u64)?;
     writer.write_all(body)?;
     writer.flush()
 }

@@ -46,22 +46,26 @@ pub enum Ending {
 
 /// The text messages of a client one after another, each with a LF at its end. Pings and a close are answered. Where
 /// reads of the stream have a time limit, a silent client is pinged, and after three pings that nothing followed a read
-/// fails.
+/// fails; and after so many of these times without a text message the messages end.
 #[derive(Drop)]
 pub struct MessageReader<'e, S> {
     socket: WebSocket<S, NoMask>,
     ending: &'e Cell<Ending>,
     line: Line,
     silences: u32,
+    waits: u32,
+    most_waits: Option<u32>,
 }
 
 impl<'e, S: Read + Write + Drop> MessageReader<'e, S> {
-    /// Reads a stream whose handshake is done, behind bytes that were read of it already.
+    /// Reads a stream whose handshake is done, behind bytes that were read of it already. It waits for a text message
+    /// at most `most_waits` times as long as a read of the stream may.
     pub fn new(
         alloc: Global,
         stream: S,
         begun: Vec<u8>,
         ending: &'e Cell<Ending>,
+        most_waits: Option<u32>,
     ) -> MessageReader<'e, S> {
         let limits = Some(read_limits());
         let socket = WebSocket::from_partially_read(
@@ -77,6 +81,8 @@ impl<'e, S: Read + Write + Drop> MessageReader<'e, S> {
             ending,
             line: Line::empty(),
             silences: 0,
+            waits: 0,
+            most_waits,
         }
     }
 
@@ -86,11 +92,17 @@ impl<'e, S: Read + Write + Drop> MessageReader<'e, S> {
         None
     }
 
+    /// Counts a time of a read in which no text message came. Whether there were so many that the messages end.
+    fn waited(&mut self) -> bool {
+        self.waits = self.waits.saturating_add(1);
+        match self.most_waits {
+            Some(most) => self.waits >= most,
+            None => false,
+        }
+    }
+
     /// Asks a client that was silent for the time of a read whether it is there, a few times.
     fn ping(&mut self, error: io::Error) -> io::Result<()> {
-        if error.kind() != ErrorKind::WouldBlock {
-            return Err(error);
-        }
         if self.silences == SILENCES {
             self.ending.set(Ending::By(CloseCode::Policy));
             return Err(error);
@@ -100,6 +112,19 @@ impl<'e, S: Read + Write + Drop> MessageReader<'e, S> {
             Err(Error::Io(error)) => Err(error),
             _ => Ok(()),
         }
+    }
+
+    /// Whether the messages end after a read that failed: where it only waited for nothing, the client is asked whether
+    /// it is there, unless it was waited for often enough.
+    fn is_over(&mut self, error: io::Error) -> io::Result<bool> {
+        if error.kind() != ErrorKind::WouldBlock {
+            return Err(error);
+        }
+        if self.waited() {
+            return Ok(true);
+        }
+        self.ping(error)?;
+        Ok(false)
     }
 
     /// The next message of any kind.
@@ -123,7 +148,11 @@ impl<'e, S: Read + Write + Drop> MessageReader<'e, S> {
                 Ok(Message::Text(text)) => return Ok(Some(text)),
                 Ok(Message::Binary(_)) => return Ok(self.end(Ending::By(CloseCode::Unsupported))),
                 Ok(_) => {}
-                Err(Error::Io(error)) => self.ping(error)?,
+                Err(Error::Io(error)) => {
+                    if self.is_over(error)? {
+                        return Ok(self.end(Ending::By(CloseCode::Normal)));
+                    }
+                }
                 Err(Error::OutOfMemory) => return Err(io::Error::from(ErrorKind::OutOfMemory)),
                 Err(Error::Capacity(_)) => return Ok(self.end(Ending::By(CloseCode::Size))),
                 Err(Error::Utf8) => return Ok(self.end(Ending::By(CloseCode::Invalid))),
@@ -141,7 +170,10 @@ impl<'e, S: Read + Write + Drop> Read for MessageReader<'e, S> {
     fn read(&mut self, buf: &mut [u8]) -> io::Result<usize> {
         if self.line.is_empty() && !buf.is_empty() {
             match self.next_text()? {
-                Some(text) => self.line = Line::of(text),
+                Some(text) => {
+                    self.waits = 0;
+                    self.line = Line::of(text);
+                }
                 None => return Ok(0),
             }
         }

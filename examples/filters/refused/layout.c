@@ -1,5 +1,5 @@
-/* No loop, but clang lays out these tests with jumps back: 10 BackwardJump. compile.sh then adds an option that keeps blocks in
-   their order, unless STRAIGHT is empty. Accepted without it where the least place is tested first. */
+/* No loop, but clang lays out these tests with jumps back: 10 BackwardJump. compile.sh then has `hub straighten` lay them out
+   again, unless HUB is empty. Accepted without it where the least place is tested first. */
 #include "../span.h"
 
 u64 filter(const struct span *span) {

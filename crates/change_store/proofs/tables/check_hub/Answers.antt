@@ -1,5 +1,5 @@
 use Rattle.change_store.proofs.ReadingLemmas.{asks_only}
 use Rattle.change_store.proofs.tables.check_hub.Goals as goal
 
-pub returns-clause-same : goal.returns-clause-same
-returns-clause-same g c clean has = asks_only _ _ _ has (c.in_ok-rows.ensures.ok clean)
+pub returns-then-is_id-clause-same : goal.returns-then-is_id-clause-same
+returns-then-is_id-clause-same g c clean has = asks_only _ _ _ has (c.in_ok-rows.ensures.ok clean)

@@ -1,7 +1,7 @@
 use Rattle.std.proofs.Common.{sym, subst}
 use Rattle.std.specs.Prelude.{IfOk, IfErr}
 use Rattle.hub_requests.specs.declared.limits.SessionLimits.{SessionLimits}
-use Rattle.hub_sessions.specs.Submitting.{IsInReach, IsNotSubmitted}
+use Rattle.hub_sessions.specs.Submitting.{IsInReach, IsNotAdmitted}
 use Rattle.hub_sessions.proofs.submitting.check_counters.Goals as goal
 
 pub returns-in-None-clause-ok : goal.returns-in-None-clause-ok
@@ -16,5 +16,5 @@ pub returns-in-Some-clause-err : goal.returns-in-Some-clause-err
 returns-in-Some-clause-err g c =
     subst
     (λ jump. IfErr c.check_jump.result
-    (λ why. (left : SessionLimits) → IsNotSubmitted jump c.args.change.now left why))
+    (λ why. (left : SessionLimits) → IsNotAdmitted jump c.args.change.now left why))
     (sym c.in-Some.is) c.check_jump.ensures.err

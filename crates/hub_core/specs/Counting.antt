@@ -1,0 +1,36 @@
+-- How much there is of a hub.
+use Rattle.std.specs.Prelude.{◌≡◌, ℕ, ◌+◌, ◌-◌, ◌≤◌, max, Bool, not, if◌then◌else◌, List, [], ◌∷◌, length, count_by}
+use Rattle.change_ops.specs.Operations.{is_insert, is_mark}
+use Rattle.change_history.specs.Accepted.{operations_of}
+use Rattle.feeds.specs.Feed.{Subscriber}
+use Rattle.hub_core.specs.Machine.{Core}
+use Rattle.hub_core.specs.declared.counts.Counts.{Counts}
+
+abbrev pub is_open : {S : Type 0} → Subscriber S → Bool
+is_open a = not a.closed
+
+-- how many versions, the latest of which has this number, an open subscriber was not sent whole, those before its first
+-- one not counted; 0 of a closed one
+abbrev pub lag_of : {S : Type 0} → ℕ → Subscriber S → ℕ
+lag_of latest a = if a.closed then 0 else latest + 1 - a.cursor
+
+-- that of the slowest, 0 where there is none
+unfoldable pub greatest_lag : {S : Type 0} → ℕ → List (Subscriber S) → ℕ
+greatest_lag latest [] = 0
+greatest_lag latest (a ∷ more) = max (lag_of latest a) (greatest_lag latest more)
+
+-- the counts are those of this state
+pub record AreCounts {S : Type 0} (s : Core S) (counts : Counts) : Type 0 where
+  pub changes : counts.changes ≡ length s.changes
+  pub inserted : counts.inserted ≡ count_by is_insert (operations_of s.changes)
+  pub marks : counts.marks ≡ count_by is_mark (operations_of s.changes)
+  pub subscribers : counts.subscribers ≡ count_by is_open s.subscribers
+  pub subscribed : counts.subscribed ≡ length s.subscribers
+  pub lag : counts.lag ≡ greatest_lag (length s.changes) s.subscribers
+
+-- none is above its limit
+pub record AreWithinLimits (counts : Counts) : Type 0 where
+  pub changes : counts.changes ≤ 4096
+  pub inserted : counts.inserted ≤ 32768
+  pub marks : counts.marks ≤ 4096
+  pub subscribed : counts.subscribed ≤ 64

@@ -1,0 +1,17 @@
+//! Sessions over connections: over TCP, a socket file or a browser's WebSocket, all of them on one hub.
+#![tactic(auto)]
+
+mod accepting;
+pub mod door;
+mod ending;
+pub mod fault;
+mod file;
+mod house;
+pub mod journal;
+mod lines;
+mod link;
+pub mod server;
+pub mod socket_file;
+pub mod stream;
+mod tally;
+mod web;

@@ -1,0 +1,415 @@
+//! Sessions at doors, all of them on one hub.
+ghost use Rattle.std.specs.Prelude.{◌≡◌, ◌≤◌, ℕ, List};
+ghost use Rattle.hub_doors.specs.declared.server.ServeError.TheVariants as serve_error;
+
+use crate::accepting::accept_all;
+use crate::door::{Door, DoorKind, open};
+use crate::fault::ConnectionFault;
+use crate::house::{House, State};
+use crate::journal::Surroundings;
+use crate::socket_file::SocketFault;
+use change_keeping::desk::Desk;
+use change_keeping::keeping::Keeping;
+use change_keeping::serving::keep_all;
+use change_log::log::ChangeLog;
+use hub_requests::serving::{Doors, Terms};
+use hub_restoring::restoring::{NotRestored, restore};
+use ingest_workers::hub::Hub;
+use ingest_workers::share::Share;
+use lending_pool::Pool;
+use span_flatten::version::Version;
+use std::alloc::{AllocError, Global};
+use std::fs::Files;
+use std::io::Write;
+use std::marker::Brand;
+use std::net::{Net, TcpListener, TcpStream};
+use std::sync::Wait;
+use std::sync::ledger::{Blank, Ledger};
+use std::thread::Threads;
+use std::{io, thread};
+use stored_history::history::StoredHistory;
+use verifier::verify::Verified;
+use version_history::published::{Naming, Published};
+
+/// Why sessions were not served, or not all of them to their ends.
+#[derive(Drop)]
+pub enum ServeError {
+    /// The port of a door can't be bound, or its number can't be asked for.
+    Port(DoorKind, io::Error),
+    /// The socket file can't be had.
+    Socket(SocketFault),
+    /// The lines of the doors can't be written.
+    Output(io::Error),
+    /// An accept failed, or a session's read or write: the first that was noted.
+    Connection(ConnectionFault),
+    /// The log failed, or the hub didn't show what it keeps.
+    Kept,
+    /// No memory was found for the hub.
+    OutOfMemory,
+}
+
+impl From<AllocError> for ServeError {
+    ghost from_gives = { λ _ error. error ≡ serve_error.OutOfMemory };
+
+    fn from(_error: AllocError) -> ServeError {
+        ServeError::OutOfMemory
+    }
+}
+
+/// Where sessions come in, on what terms they are served, and what is told of them.
+#[derive(Drop)]
+pub struct Plan<'a, J> {
+    pub doors: &'a Doors,
+    pub terms: &'a Terms,
+    pub journal: &'a J,
+}
+
+/// How serving ended on a hub that a log keeps, and the log.
+#[derive(Drop)]
+pub struct Served<L: ChangeLog> {
+    pub log: L,
+    pub ended: Result<(), ServeError>,
+}
+
+/// Why nothing was served on a hub that a log keeps.
+#[derive(Drop)]
+pub enum NotServed<L: ChangeLog> {
+    /// What the log keeps wasn't accepted again.
+    NotRestored(NotRestored<L>),
+    /// No memory was found for the hub.
+    OutOfMemory(L),
+}
+
+/// As many places as this.
+fn places(alloc: Global, count: usize) -> Result<Pool<()>, AllocError> {
+    let mut places = Vec::with_capacity(alloc, count)?;
+    for _ in 0..count {
+        places.push(())?;
+    }
+    Pool::new(alloc, places)
+}
+
+/// Serves what comes in at each door, the first one's in this thread, until no session begins any more and all have
+/// ended.
+fn serve_doors<
+    N: Naming + Ledger + Keeping + Send + Sync,
+    R: Threads + Wait + Copy + Send + Sync,
+    J: Surroundings + Send + Sync,
+>(house: &House<'_, '_, '_, '_, N, R, J>) {
+    thread::scope(thread::scope_env(), &house.rt, move |scope| {
+        let Some((first, others)) = house.doors.split_first() else {
+            return;
+        };
+        for door in others {
+            if scope.spawn(move || accept_all(house, door)).is_err() {
+                let _ = house.state.fault.try_set(ConnectionFault::NoThread);
+                house.halt();
+            }
+        }
+        accept_all(house, first);
+    })
+}
+
+/// Serves at the doors in a thread of its own, and keeps in this one what the sessions leave at the desk.
+fn serve_and_keep<
+    N: Naming + Ledger + Keeping + Send + Sync,
+    R: Threads + Wait + Copy + Send + Sync,
+    J: Surroundings + Send + Sync,
+    L: ChangeLog,
+>(house: &House<'_, '_, '_, '_, N, R, J>, desk: &Desk<N>, stored: &mut StoredHistory<L>)
+    requires { (texts : List (List ℕ)) (log : L) → L.kept log texts → N.kept texts }
+{
+    thread::scope(
+        thread::scope_env(),
+        &house.rt,
+        move |scope|
+            requires { (texts : List (List ℕ)) (log : L) → L.kept log texts → N.kept texts }
+        {
+            let serving = move || {
+                serve_doors(house);
+                desk.close(&house.rt);
+            };
+            if scope.spawn(serving).is_err() {
+                let _ = house.state.fault.try_set(ConnectionFault::NoThread);
+                return;
+            }
+            let _ = keep_all(&house.rt, house.alloc, desk, stored, || house.halt());
+        },
+    )
+}
+
+/// What the threads of a server share, but for its doors and its hub.
+#[derive(Drop)]
+struct Common<N: Naming + Ledger> {
+    shares: Pool<Share<N>>,
+    handshakes: Pool<()>,
+    state: State,
+}
+
+impl<N: Naming + Ledger> Common<N> {
+    fn new(alloc: Global, shares: Vec<Share<N>>) -> Result<Common<N>, AllocError> {
+        let handshakes = places(alloc, shares.len())?;
+        Ok(Common {
+            shares: Pool::new(alloc, shares)?,
+            handshakes,
+            state: State::new(),
+        })
+    }
+
+    /// How serving ended, once all threads have.
+    fn ended(self) -> Result<(), ServeError> {
+        let Common {
+            shares: _,
+            handshakes: _,
+            state,
+        } = self;
+        match state.into_fault() {
+            Some(fault) => Err(ServeError::Connection(fault)),
+            None => Ok(()),
+        }
+    }
+}
+
+/// Takes the socket file away.
+fn leave<R: Files>(rt: &R, doors: &[Door]) {
+    for door in doors {
+        door.leave(rt);
+    }
+}
+
+/// Serves sessions on the hub `N`, which is made before the doors are opened.
+fn serve_on<
+    'p,
+    N: Naming + Ledger + Keeping + Send + Sync,
+    R: Threads
+        + Wait
+        + Net<Listener = TcpListener, Stream = TcpStream>
+        + Files
+        + Copy
+        + Send
+        + Sync,
+    J: Surroundings + Send + Sync,
+    W: Write,
+>(
+    rt: R,
+    alloc: Global,
+    blank: Blank,
+    versions: &'p boxcar::Vec<Version>,
+    programs: &'p boxcar::Vec<Verified>,
+    sessions: usize,
+    plan: &Plan<'_, J>,
+    writer: &mut W,
+) -> Result<(), ServeError>
+    requires named { (versions.now ≡ N.versions) × (programs.now ≡ N.programs) }
+    requires blank { (blank.name ≡ N.name) × (blank.parts ≡ N.parts) × (N.parts ≡ sessions) }
+    requires sessions { (1 ≤ sessions) × (sessions ≤ 64) }
+{
+    let published = Published::<N>::new(versions, programs);
+    let (hub, shares) = Hub::new(&rt, alloc, blank, &published, sessions)?;
+    let common = Common::new(alloc, shares)?;
+    let doors = open(&rt, alloc, plan.doors, writer)?;
+    serve_doors(&House {
+        rt,
+        alloc,
+        hub: &hub,
+        published: &published,
+        desk: None,
+        shares: &common.shares,
+        handshakes: &common.handshakes,
+        doors: &doors,
+        web: plan.doors.web.as_ref(),
+        terms: plan.terms,
+        journal: plan.journal,
+        state: &common.state,
+    });
+    leave(&rt, &doors);
+    common.ended()
+}
+
+/// Serves sessions at the doors that a plan names, all of them on one hub and each in a thread of its own, and returns
+/// when all have ended; or, where they are served without an end, at most so many at a time until the program is
+/// killed. First it writes a line for each door.
+pub fn serve<
+    R: Threads
+        + Wait
+        + Net<Listener = TcpListener, Stream = TcpStream>
+        + Files
+        + Copy
+        + Send
+        + Sync,
+    J: Surroundings + Send + Sync,
+    W: Write,
+>(rt: R, alloc: Global, plan: &Plan<'_, J>, writer: &mut W) -> Result<(), ServeError> {
+    let versions = boxcar::Vec::new(alloc)?;
+    let programs = boxcar::Vec::new(alloc)?;
+    let sessions = plan.terms.service.sessions();
+    serve_on::<Brand, _, _, _>(
+        rt,
+        alloc,
+        Blank::new(sessions.count() as u64),
+        &versions,
+        &programs,
+        sessions.count(),
+        plan,
+        writer,
+    )
+}
+
+/// Opens the doors and serves sessions on a hub, whose changes are kept.
+fn serve_stored<
+    'g,
+    'p,
+    N: Naming + Ledger + Keeping + Send + Sync,
+    R: Threads
+        + Wait
+        + Net<Listener = TcpListener, Stream = TcpStream>
+        + Files
+        + Copy
+        + Send
+        + Sync,
+    L: ChangeLog,
+    J: Surroundings + Send + Sync,
+    W: Write,
+>(
+    rt: R,
+    alloc: Global,
+    hub: &'g Hub<'p, N, R>,
+    published: &'g Published<'p, N>,
+    shares: Vec<Share<N>>,
+    stored: &mut StoredHistory<L>,
+    plan: &Plan<'_, J>,
+    writer: &mut W,
+) -> Result<(), ServeError>
+    requires { (texts : List (List ℕ)) (log : L) → L.kept log texts → N.kept texts }
+{
+    let common = Common::new(alloc, shares)?;
+    let desk = Desk::new(alloc)?;
+    let doors = open(&rt, alloc, plan.doors, writer)?;
+    let house = House {
+        rt,
+        alloc,
+        hub,
+        published,
+        desk: Some(&desk),
+        shares: &common.shares,
+        handshakes: &common.handshakes,
+        doors: &doors,
+        web: plan.doors.web.as_ref(),
+        terms: plan.terms,
+        journal: plan.journal,
+        state: &common.state,
+    };
+    serve_and_keep(&house, &desk, stored);
+    leave(&rt, &doors);
+    if desk.is_failed() {
+        return Err(ServeError::Kept);
+    }
+    common.ended()
+}
+
+/// Serves sessions on the hub `N`, whose changes a log keeps.
+fn serve_kept_on<
+    'p,
+    N: Naming + Ledger + Keeping + Send + Sync,
+    R: Threads
+        + Wait
+        + Net<Listener = TcpListener, Stream = TcpStream>
+        + Files
+        + Copy
+        + Send
+        + Sync,
+    L: ChangeLog,
+    P: FnMut(usize, usize),
+    J: Surroundings + Send + Sync,
+    W: Write,
+>(
+    rt: R,
+    alloc: Global,
+    blank: Blank,
+    versions: &'p boxcar::Vec<Version>,
+    programs: &'p boxcar::Vec<Verified>,
+    sessions: usize,
+    plan: &Plan<'_, J>,
+    log: L,
+    progress: P,
+    writer: &mut W,
+) -> Result<Served<L>, NotServed<L>>
+    requires named { (versions.now ≡ N.versions) × (programs.now ≡ N.programs) }
+    requires blank { (blank.name ≡ N.name) × (blank.parts ≡ N.parts) × (N.parts ≡ sessions) }
+    requires sessions { (1 ≤ sessions) × (sessions ≤ 64) }
+    requires log { (texts : List (List ℕ)) × L.kept log texts }
+    requires progress { P.IsAlwaysCallable progress }
+    requires kept { (texts : List (List ℕ)) (log : L) → L.kept log texts → N.kept texts }
+{
+    let published = Published::<N>::new(versions, programs);
+    let Ok((hub, mut shares)) = Hub::new(&rt, alloc, blank, &published, sessions) else {
+        return Err(NotServed::OutOfMemory(log));
+    };
+    let Some(share) = shares.last_mut() else {
+        unreachable!()
+    };
+    let mut stored = match restore(&rt, alloc, &hub, share, log, progress) {
+        Ok(stored) => stored,
+        Err(not) => return Err(NotServed::NotRestored(not)),
+    };
+    let ended = serve_stored(
+        rt,
+        alloc,
+        &hub,
+        &published,
+        shares,
+        &mut stored,
+        plan,
+        writer,
+    );
+    Ok(Served {
+        log: stored.into_log(),
+        ended,
+    })
+}
+
+/// As `serve`, on a hub whose changes a log keeps: first those that it keeps are accepted again, and `progress` is told
+/// how many of how many. Once the log fails all sessions end.
+pub fn serve_kept<
+    R: Threads
+        + Wait
+        + Net<Listener = TcpListener, Stream = TcpStream>
+        + Files
+        + Copy
+        + Send
+        + Sync,
+    L: ChangeLog,
+    P: FnMut(usize, usize),
+    J: Surroundings + Send + Sync,
+    W: Write,
+>(
+    rt: R,
+    alloc: Global,
+    plan: &Plan<'_, J>,
+    log: L,
+    progress: P,
+    writer: &mut W,
+) -> Result<Served<L>, NotServed<L>>
+    requires log { (texts : List (List ℕ)) × L.kept log texts }
+    requires progress { P.IsAlwaysCallable progress }
+{
+    let Ok(versions) = boxcar::Vec::new(alloc) else {
+        return Err(NotServed::OutOfMemory(log));
+    };
+    let Ok(programs) = boxcar::Vec::new(alloc) else {
+        return Err(NotServed::OutOfMemory(log));
+    };
+    let sessions = plan.terms.service.sessions();
+    serve_kept_on::<Brand, _, _, _, _, _>(
+        rt,
+        alloc,
+        Blank::new(sessions.count() as u64),
+        &versions,
+        &programs,
+        sessions.count(),
+        plan,
+        log,
+        progress,
+        writer,
+    )
+}

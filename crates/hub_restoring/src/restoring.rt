@@ -1,0 +1,97 @@
+//! The changes that a log keeps, accepted again when a hub starts.
+ghost use Rattle.std.specs.Prelude.{◌≡◌, ◌+◌, ℕ, List, Ok, length, map, IfOk, IfErr, OnOk};
+ghost use Rattle.change_ops.specs.Spelling.{change_text};
+ghost use Rattle.change_history.specs.Accepted.{AreAccepted};
+ghost use Rattle.stored_history.specs.Texts.{IsNotOpened};
+ghost use Rattle.ingest_workers.specs.Holdings.{InOneHolding, Ingests};
+ghost use Rattle.hub_restoring.specs.Restoring.{AreIngested};
+
+use change_log::log::ChangeLog;
+use change_ops::change::Change;
+use ingest_workers::hub::Hub;
+use ingest_workers::ingest::ingest_change;
+use ingest_workers::share::Share;
+use std::alloc::{AllocError, Global};
+use std::sync::Wait;
+use std::sync::ledger::Ledger;
+use stored_history::error::OpenError;
+use stored_history::history::{NotOpened, Opened, StoredHistory};
+use version_history::published::Naming;
+
+/// A log whose changes weren't accepted again, and why: as it keeps them, or by the hub for want of memory.
+#[derive(Drop)]
+pub struct NotRestored<L: ChangeLog> {
+    pub log: L,
+    pub error: OpenError,
+}
+
+/// Accepts a change in a hub of which this share had all changes accepted. A hub that has those before it accepts it,
+/// unless there is no memory for it.
+fn restore_one<N: Naming + Ledger, R: Wait + Copy>(
+    rt: &R,
+    hub: &Hub<'_, N, R>,
+    share: &mut Share<N>,
+    change: Change,
+) -> Result<(), AllocError>
+    ensures ok { OnOk result (InOneHolding (λ old new. Ingests old change (Ok share.new) new)) }
+    ensures share { OnOk result (share.new ≡ share.old + 1) }
+{
+    match ingest_change(rt, hub, share, change) {
+        Ok(number) if number == share.count() => Ok(()),
+        _ => Err(AllocError),
+    }
+}
+
+/// Accepts changes in a hub, in order, behind those of this share.
+fn restore_all<N: Naming + Ledger, R: Wait + Copy, P: FnMut(usize, usize)>(
+    rt: &R,
+    hub: &Hub<'_, N, R>,
+    share: &mut Share<N>,
+    changes: Vec<Change>,
+    progress: P,
+) -> Result<(), AllocError>
+    requires progress { P.IsAlwaysCallable progress }
+    ensures ok { OnOk result (AreIngested share.old changes.items) }
+    ensures share { OnOk result (share.new ≡ share.old + length changes.items) }
+{
+    let mut progress = progress;
+    let all = changes.len();
+    let mut done: usize = 0;
+    for change in changes {
+        restore_one(rt, hub, share, change)?;
+        done = done.saturating_add(1);
+        progress(done, all);
+    }
+    Ok(())
+}
+
+/// Accepts the changes whose texts a log keeps, in order, and then in a new hub, before any session. `progress` is told
+/// how many of how many.
+pub fn restore<N: Naming + Ledger, R: Wait + Copy, L: ChangeLog, P: FnMut(usize, usize)>(
+    rt: &R,
+    alloc: Global,
+    hub: &Hub<'_, N, R>,
+    share: &mut Share<N>,
+    log: L,
+    progress: P,
+) -> Result<StoredHistory<L>, NotRestored<L>>
+    requires log { (texts : List (List ℕ)) × L.kept log texts }
+    requires progress { P.IsAlwaysCallable progress }
+    ensures restored { IfOk result (λ stored. AreIngested share.old stored.changes × AreAccepted stored.changes
+        × L.kept stored.log (map change_text stored.changes)) }
+    ensures share { IfOk result (λ stored. share.new ≡ share.old + length stored.changes) }
+    ensures same { (texts : List (List ℕ)) → L.kept log texts → IfOk result (λ stored. L.kept stored.log texts) }
+    ensures err { IfErr result (λ left. IsNotOpened L.kept left.log left.error) }
+{
+    let Opened { stored, changes } = match StoredHistory::open(alloc, log) {
+        Ok(opened) => opened,
+        Err(NotOpened { log, error }) => return Err(NotRestored { log, error }),
+    };
+    match restore_all(rt, hub, share, changes, progress) {
+        Ok(()) => Ok(stored),
+        Err(AllocError) => Err(NotRestored {
+            log: stored.into_log(),
+            error: OpenError::OutOfMemory,
+        }),
+    }
+}

@@ -1,0 +1,7 @@
+use Rattle.hub_sessions.proofs.replaying.replay_kept.Given as goal
+
+abbrev pub ghosts-replay_kept_on-N-Naming : goal.ghosts-replay_kept_on-N-Naming
+ghosts-replay_kept_on-N-Naming g a = record { versions = a.versions.now; programs = a.programs.now }
+
+abbrev pub ghosts-replay_kept_on-N-Ledger : goal.ghosts-replay_kept_on-N-Ledger
+ghosts-replay_kept_on-N-Ledger g a = record { name = a.blank.name; parts = a.blank.parts }

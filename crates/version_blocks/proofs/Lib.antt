@@ -1,0 +1,9 @@
+pub mod Glyphs
+pub mod Contents
+pub mod Drafts
+pub mod Slices
+pub mod Texts
+pub mod Splicing
+pub mod Windows
+pub mod Meeting
+pub mod Iterating

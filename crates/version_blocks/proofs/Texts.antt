@@ -1,0 +1,47 @@
+-- Texts by their characters.
+use Rattle.std.proofs.Common.{◌≡◌, ℕ, ◌+◌, ◌-◌, ◌<◌, true, List, [], ◌∷◌, ◌++◌, Option, Some, length, take, drop, refl, sym, ap, subst, ◌∙◌, arith, length-append, IsUtf8, MatchOption, encode_utf8_all}
+use Rattle.std.specs.List.{slice_get, slice_range}
+use Rattle.std.specs.Str.{chars}
+use Rattle.std.specs.Char.{encode_utf8}
+use Rattle.std.proofs.Math.Utf8.{scalars, scalar}
+use Rattle.std.proofs.lemmas.Bool.{and_parts}
+use Rattle.std.proofs.lemmas.List.{append_cancel_left, take_at, drop_at}
+use Rattle.std.proofs.lemmas.Str.{encodes-chars, chars-encodes, chars-append}
+use Rattle.version_blocks.proofs.Contents.{scalars_of}
+
+-- a text without its first character
+pub record IsLess (r r' : List ℕ) : Type 0 where
+  pub character : ℕ
+  pub cut : r ≡ encode_utf8 character ++ r'
+  pub size : length (chars r) ≡ 1 + length (chars r')
+  pub utf8 : IsUtf8 r'
+
+pub one_less : (P : Type 0) (r r' : List ℕ) (o : Option ℕ) → IsUtf8 r → MatchOption o P (λ c. r ≡ encode_utf8 c ++ r') → o ≡ slice_get (chars r) 0 → 0 < length (chars r) → IsLess r r'
+one_less P r r' o utf8 step first some = from (chars r) refl
+  where
+    from : (cs : List ℕ) → cs ≡ chars r → IsLess r r'
+    from [] e = absurd (omega (arith, ap length e))
+    from (c ∷ cs) e =
+        let is : o ≡ Some c = first ∙ ap (λ l. slice_get l 0) (sym e) in
+        let cut : r ≡ encode_utf8 c ++ r' = subst (λ (z : Option ℕ). MatchOption z P (λ d. r ≡ encode_utf8 d ++ r')) is step in
+        let spelt : encode_utf8 c ++ encode_utf8_all cs ≡ r = ap encode_utf8_all e ∙ encodes-chars r utf8 in
+        let rest : encode_utf8_all cs ≡ r' = append_cancel_left (encode_utf8 c) (encode_utf8_all cs) r' (spelt ∙ cut) in
+        let good : scalars (c ∷ cs) ≡ true = ap scalars e ∙ scalars_of r utf8 in
+        let rest_good : scalars cs ≡ true = (and_parts (scalar c) (scalars cs) good).1 in
+        let fewer : cs ≡ chars r' = sym (chars-encodes cs rest_good) ∙ ap chars rest in
+        record {
+          character = c;
+          cut = cut;
+          size = let all : length (chars r) ≡ length (c ∷ cs) = ap length (sym e) in omega (arith, all, ap length fewer);
+          utf8 = (cs, (rest_good, rest));
+        }
+
+pub split_first : (text before rest first second : List ℕ) (count : ℕ) → text ≡ before ++ rest → second ≡ rest → first ≡ slice_range text 0 (length text - length second) → IsUtf8 first → length (chars rest) + count ≡ length (chars text) → (chars first ≡ take count (chars text)) × (chars second ≡ drop count (chars text))
+split_first text before rest first second count whole same cut utf8 counted =
+    let size : (length text - length second) - 0 ≡ length before = omega (arith, ap length whole, ap length same, length-append before rest) in
+    let front : first ≡ before = cut ∙ ap (λ n. take n text) size ∙ ap (take (length before)) whole ∙ take_at before rest (length before) refl in
+    let all : chars text ≡ chars first ++ chars second = ap chars (whole ∙ ap (λ l. l ++ rest) (sym front) ∙ ap (λ l. first ++ l) (sym same)) ∙ chars-append first second utf8 in
+    let many : count ≡ length (chars first) = omega (arith, ap length all, length-append (chars first) (chars second), ap length (ap chars same)) in (
+      sym (ap (take count) all ∙ ap (λ n. take n (chars first ++ chars second)) many ∙ take_at (chars first) (chars second) (length (chars first)) refl),
+      sym (ap (drop count) all ∙ ap (λ n. drop n (chars first ++ chars second)) many ∙ drop_at (chars first) (chars second) (length (chars first)) refl),
+    )

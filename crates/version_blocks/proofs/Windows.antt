@@ -1,0 +1,175 @@
+-- Blocks of a window, and spans by their blocks.
+use Rattle.std.proofs.Common.{◌≡◌, ℕ, zero, suc, ◌+◌, ◌-◌, ◌<◌, ◌≤◌, List, [], ◌∷◌, ◌++◌, Some, None, length, take, drop, get_or, refl, sym, ap, subst, ◌∙◌, arith, length-append, All}
+use Rattle.std.specs.List.{slice_get, slice_range}
+use Rattle.std.proofs.lemmas.Grind.{flat_map-append}
+use Rattle.std.proofs.lemmas.Option.{slice_get_past}
+use Rattle.std.proofs.lemmas.List.{take_all, take-append-drop, length-take-le, length-drop}
+use Rattle.std.proofs.lemmas.List.Folds.{drop_split}
+use Rattle.std.proofs.lemmas.List.Elements.{All-append, All-take, All-drop}
+use Rattle.mark_anchors.proofs.Lists.{item_at}
+use Rattle.span_flatten.specs.Spans.{Span}
+use Rattle.span_flatten.specs.Version.{Version, IsLayout, joined, rows_from, spans_of}
+use Rattle.span_flatten.proofs.Laying.{spans_back}
+use Rattle.version_laws.specs.Blocked.{in_blocks}
+use Rattle.version_laws.proofs.Blocks.{blocks-append}
+use Rattle.version_laws.proofs.Lists.{get_ahead, get_behind}
+use Rattle.version_blocks.specs.Blocked.{AreEnds, laid}
+use Rattle.version_blocks.specs.Blocks.{IsSized}
+use Rattle.version_blocks.specs.Glyphs.{Glyph, glyphs, glyphs_of, AreMaximal}
+use Rattle.version_blocks.proofs.Glyphs.{glyphs-append, some_characters}
+use Rattle.version_blocks.proofs.Drafts.{in_blocks-push}
+use Rattle.version_blocks.proofs.Slices.{take_next, blocks_parted, length-glyphs_of}
+use Rattle.version_blocks.proofs.Splicing.{replaced_glyphs, replaced_maximal}
+
+-- ---- what is seen of a version
+pub laid_spans : (number : ℕ) (spans : List Span) → spans_of (laid number spans) ≡ spans
+laid_spans number spans =
+    let layout : IsLayout spans (joined spans) (rows_from 0 spans) = record { whole = refl; end_to_end = refl } in
+    spans_back spans (joined spans) (rows_from 0 spans) layout
+
+pub laid_back : (version : Version) → IsLayout (spans_of version) version.text version.rows → laid version.number (spans_of version) ≡ version
+laid_back version layout = λ i. record { number = version.number; text = sym layout.whole i; rows = sym layout.end_to_end i }
+
+-- ---- counts
+pub spans_few : (spans : List Span) → AreMaximal spans → length spans ≤ length (glyphs spans)
+spans_few [] m = omega arith
+spans_few (x ∷ xs) m =
+    let first = some_characters x m.0 in
+    let rest = spans_few xs m.2 in
+    omega (arith, first, rest, length-append (glyphs_of x) (glyphs xs), length-glyphs_of x)
+
+pub block_spans : (blocks : List (List Span)) (i : ℕ) (b : List Span) → slice_get blocks i ≡ Some b → length (in_blocks (take i blocks)) + length b ≡ length (in_blocks (take (i + 1) blocks))
+block_spans blocks i b g =
+    let next = ap length (ap in_blocks (take_next blocks i b g) ∙ in_blocks-push (take i blocks) b) in
+    omega (arith, next, length-append (in_blocks (take i blocks)) b)
+
+pub spans_within : (blocks : List (List Span)) (i : ℕ) → AreMaximal (in_blocks blocks) → length (in_blocks (take i blocks)) ≤ length (glyphs (in_blocks blocks))
+spans_within blocks i m =
+    let parted = blocks_parted blocks i in
+    let few = spans_few (in_blocks blocks) m in
+    omega (arith, few, ap length parted, length-append (in_blocks (take i blocks)) (in_blocks (drop i blocks)))
+
+-- ---- a span by its block
+start_at : (blocks : List (List Span)) (ends : List ℕ) (at before : ℕ) → AreEnds blocks ends → at ≤ length blocks → (at ≡ 0 → before ≡ 0) → (0 < at → before ≡ get_or ends (at - 1) 0) → before ≡ length (in_blocks (take at blocks))
+start_at blocks ends zero before e le first later = first refl
+start_at blocks ends (suc at) before e le first later =
+    let less : (suc at) - 1 ≡ at = omega arith in
+    let next : at + 1 ≡ suc at = omega arith in
+    later (omega arith) ∙ ap (λ n. get_or ends n 0) less ∙ e.at at (omega arith) ∙ ap (λ n. length (in_blocks (take n blocks))) next
+
+pub block_at : (blocks : List (List Span)) (ends : List ℕ) (index at before : ℕ) (b : List Span) → AreEnds blocks ends → slice_get blocks at ≡ Some b → at < length blocks → before ≤ index → index < get_or ends at 0 → (at ≡ 0 → before ≡ 0) → (0 < at → before ≡ get_or ends (at - 1) 0) → slice_get b (index - before) ≡ slice_get (in_blocks blocks) index
+block_at blocks ends index at before b e g less low high first later =
+    let start : before ≡ length (in_blocks (take at blocks)) = start_at blocks ends at before e (omega arith) first later in
+    let front : List Span = in_blocks (take at blocks) in
+    let rest : List Span = in_blocks (drop (at + 1) blocks) in
+    let stop : get_or ends at 0 ≡ length (in_blocks (take (at + 1) blocks)) = e.at at less in
+    let size = block_spans blocks at b g in
+    let j : ℕ = index - before in
+    let within : j < length b = omega (arith, start, stop, size) in
+    let y = item_at b j within in
+    let whole : in_blocks blocks ≡ (front ++ b) ++ rest = blocks_parted blocks (at + 1) ∙ ap (λ l. l ++ rest) (ap in_blocks (take_next blocks at b g) ∙ in_blocks-push (take at blocks) b) in
+    let here : length front + j ≡ index = omega (arith, start) in
+    let there : slice_get (front ++ b) index ≡ Some y.0 = ap (slice_get (front ++ b)) (sym here) ∙ get_behind front b j ∙ y.1 in
+    y.1 ∙ sym (ap (λ l. slice_get l index) whole ∙ get_ahead (front ++ b) rest index y.0 there)
+
+pub low_start : (at before x index : ℕ) → (at ≡ 0 → before ≡ 0) → (0 < at → before ≡ x) → (0 < at → x ≤ index) → before ≤ index
+low_start zero before x index first later up_to = let none : before ≡ 0 = first refl in omega arith
+low_start (suc at) before x index first later up_to =
+    let same : before ≡ x = later (omega arith) in
+    let low : x ≤ index = up_to (omega arith) in
+    omega arith
+
+pub past_all : (blocks : List (List Span)) (ends : List ℕ) (index at : ℕ) → AreEnds blocks ends → length blocks ≤ at → at ≤ length ends → (0 < at → get_or ends (at - 1) 0 ≤ index) → slice_get (in_blocks blocks) index ≡ None
+past_all blocks ends index at e stop within up_to =
+    let size : at ≡ length blocks = let same = e.size in omega arith in
+    slice_get_past (in_blocks blocks) index (few at size up_to)
+  where
+    few : (k : ℕ) → k ≡ length blocks → (0 < k → get_or ends (k - 1) 0 ≤ index) → length (in_blocks blocks) ≤ index
+    few zero none up =
+        let gone : blocks ≡ take zero blocks = sym (take_all zero blocks (omega arith)) in
+        omega (arith, ap (λ l. length (in_blocks l)) gone)
+    few (suc k) all up =
+        let less : (suc k) - 1 ≡ k = omega arith in
+        let last : get_or ends k 0 ≡ length (in_blocks (take (k + 1) blocks)) = e.at k (omega arith) in
+        let whole : take (k + 1) blocks ≡ blocks = take_all (k + 1) blocks (omega arith) in
+        let low : get_or ends (suc k - 1) 0 ≤ index = up (omega arith) in
+        let same = ap (λ n. get_or ends n 0) less in
+        omega (arith, last, low, same, ap (λ l. length (in_blocks l)) whole)
+
+-- ---- a window of blocks
+take_split : {X : Type 0} (i j : ℕ) (xs : List X) → i ≤ j → take j xs ≡ take i xs ++ slice_range xs i j
+take_split zero j xs le = let same : j ≡ j - zero = omega arith in ap (λ n. take n xs) same
+take_split (suc i) zero xs le = absurd (omega arith)
+take_split (suc i) (suc j) [] le = sym (take_all (suc j - suc i) [] (omega arith))
+take_split (suc i) (suc j) (x ∷ xs) le =
+    let same : suc j - suc i ≡ j - i = omega arith in
+    ap (λ l. x ∷ l) (take_split i j xs (omega arith)) ∙ ap (λ n. x ∷ (take i xs ++ take n (drop i xs))) (sym same)
+
+pub window_parted : (blocks : List (List Span)) (i j : ℕ) → i ≤ j → in_blocks blocks ≡ in_blocks (take i blocks) ++ (in_blocks (slice_range blocks i j) ++ in_blocks (drop j blocks))
+window_parted blocks i j le =
+    ap in_blocks (sym (take-append-drop i blocks) ∙ ap (λ l. take i blocks ++ l) (drop_split blocks i j le)) ∙ blocks-append (take i blocks) (slice_range blocks i j) (drop j blocks)
+
+pub window_end : (blocks : List (List Span)) (i j : ℕ) → i ≤ j → length (glyphs (in_blocks (take j blocks))) ≡ length (glyphs (in_blocks (take i blocks))) + length (glyphs (in_blocks (slice_range blocks i j)))
+window_end blocks i j le =
+    let a : List Span = in_blocks (take i blocks) in
+    let m : List Span = in_blocks (slice_range blocks i j) in
+    ap (λ l. length (glyphs (in_blocks l))) (take_split i j blocks le)
+    ∙ ap (λ l. length (glyphs l)) (flat_map-append (λ (b : List Span). b) (take i blocks) (slice_range blocks i j))
+    ∙ ap length (glyphs-append a m) ∙ length-append (glyphs a) (glyphs m)
+
+pub window_all : (blocks : List (List Span)) (i j : ℕ) → i ≤ j → length (glyphs (in_blocks blocks)) ≡ length (glyphs (in_blocks (take j blocks))) + length (glyphs (in_blocks (drop j blocks)))
+window_all blocks i j le =
+    ap (λ l. length (glyphs l)) (blocks_parted blocks j) ∙ ap length (glyphs-append (in_blocks (take j blocks)) (in_blocks (drop j blocks)))
+    ∙ length-append (glyphs (in_blocks (take j blocks))) (glyphs (in_blocks (drop j blocks)))
+
+some_first : (blocks : List (List Span)) (i : ℕ) → 0 < length (in_blocks (take i blocks)) → 0 < i
+some_first blocks zero some = absurd (omega arith)
+some_first blocks (suc i) some = omega arith
+
+some_behind : (blocks : List (List Span)) (j : ℕ) → 0 < length (in_blocks (drop j blocks)) → j < length blocks
+some_behind [] zero some = absurd (omega arith)
+some_behind [] (suc j) some = absurd (omega arith)
+some_behind (b ∷ blocks) zero some = omega arith
+some_behind (b ∷ blocks) (suc j) some = let rest = some_behind blocks j some in omega (arith, rest)
+
+up_to_end : (after : List Span) (to end total : ℕ) → (0 < length after → to < end) → total ≡ end + length (glyphs after) → to ≤ total → to ≤ end
+up_to_end [] to end total room all le = omega arith
+up_to_end (x ∷ xs) to end total room all le = let less = room (omega arith) in omega (arith, less)
+
+-- the blocks with a window's replaced
+pub record AreReplaced (all : List (List Span)) (now : List Span) (from to : ℕ) (rows : List Glyph) : Type 0 where
+  pub maximal : AreMaximal (in_blocks all)
+  pub sized : All IsSized all
+  pub short : length (glyphs (in_blocks all)) ≤ 32768
+  pub spelt : glyphs (in_blocks all) ≡ take from (glyphs now) ++ (rows ++ drop to (glyphs now))
+
+pub replaced : (blocks made all : List (List Span)) (rows : List Glyph) (from to first last before end : ℕ) → AreMaximal (in_blocks blocks) → All IsSized blocks → first ≤ last → before ≡ length (glyphs (in_blocks (take first blocks))) → end ≡ length (glyphs (in_blocks (take last blocks))) → (0 < first → before < from) → before ≤ from → (last < length blocks → to < end) → from ≤ to → to ≤ length (glyphs (in_blocks blocks))
+    → (from + length rows) + (length (glyphs (in_blocks blocks)) - to) ≤ 32768 → AreMaximal (in_blocks made) → All IsSized made
+    → glyphs (in_blocks made) ≡ slice_range (glyphs (in_blocks (slice_range blocks first last))) 0 (from - before) ++ (rows ++ slice_range (glyphs (in_blocks (slice_range blocks first last))) (to - before) (end - before))
+    → all ≡ take first blocks ++ (made ++ drop last blocks) → AreReplaced all (in_blocks blocks) from to rows
+replaced blocks made all rows from to first last before end m sized order start stop room left room_behind window inside short n n_sized spelt is =
+    let a : List Span = in_blocks (take first blocks) in
+    let w : List Span = in_blocks (slice_range blocks first last) in
+    let z : List Span = in_blocks (drop last blocks) in
+    let f : List Span = in_blocks made in
+    let parted : in_blocks blocks ≡ a ++ (w ++ z) = window_parted blocks first last order in
+    let ended = window_end blocks first last order in
+    let total = window_all blocks first last order in
+    let k : ℕ = end - before in
+    let width : k ≡ length (glyphs w) = omega (arith, ended, start, stop) in
+    let same : before + k ≡ end = omega (arith, ended, start, stop) in
+    let behind : 0 < length z → to < before + k = λ some. let less = room_behind (some_behind blocks last some) in omega (arith, less, same) in
+    let right : to ≤ before + k = up_to_end z to (before + k) (length (glyphs (in_blocks blocks))) behind (omega (arith, total, stop, same)) inside in
+    let ahead : 0 < length a → before < from = λ some. room (some_first blocks first some) in
+    let whole : in_blocks all ≡ a ++ (f ++ z) = ap in_blocks is ∙ blocks-append (take first blocks) made (drop last blocks) in
+    let m' : AreMaximal (a ++ (w ++ z)) = subst AreMaximal parted m in
+    let gs : glyphs (in_blocks all) ≡ take from (glyphs (in_blocks blocks)) ++ (rows ++ drop to (glyphs (in_blocks blocks))) =
+    ap glyphs whole ∙ replaced_glyphs a w z f rows from to before k m' n start width window left right ahead behind spelt
+    ∙ ap (λ l. take from (glyphs l) ++ (rows ++ drop to (glyphs l))) (sym parted) in
+    let g : List Glyph = glyphs (in_blocks blocks) in
+    record {
+      maximal = subst AreMaximal (sym whole) (replaced_maximal a w z f rows from to before k m' n start width window left right ahead behind spelt);
+      sized = subst (All IsSized) (sym is) (All-append IsSized (take first blocks) (made ++ drop last blocks) (All-take IsSized first blocks sized) (All-append IsSized made (drop last blocks) n_sized (All-drop IsSized last blocks sized)));
+      short = omega (arith, ap length gs, length-append (take from g) (rows ++ drop to g), length-append rows (drop to g), length-take-le from g (omega arith), length-drop to g);
+      spelt = gs;
+    }

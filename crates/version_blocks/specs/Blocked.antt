@@ -1,0 +1,26 @@
+-- A version as blocks of spans.
+use Rattle.std.specs.Prelude.{◌≡◌, ◌<◌, ◌≤◌, ◌+◌, ℕ, List, length, take, get_or, All}
+use Rattle.span_flatten.specs.Spans.{Span}
+use Rattle.span_flatten.specs.Version.{Version, joined, rows_from}
+use Rattle.version_laws.specs.Blocked.{in_blocks}
+use Rattle.version_blocks.specs.Blocks.{IsSized}
+use Rattle.version_blocks.specs.Glyphs.{AreMaximal, glyphs}
+
+-- the version with these spans
+abbrev pub laid : ℕ → List Span → Version
+laid number spans = record { number = number; text = joined spans; rows = rows_from 0 spans }
+
+-- each number is how many spans the blocks have up to that one
+pub record AreEnds (blocks : List (List Span)) (ends : List ℕ) : Type 0 where
+  pub size : length ends ≡ length blocks
+  pub at : (i : ℕ) → i < length blocks → get_or ends i 0 ≡ length (in_blocks (take (i + 1) blocks))
+
+-- what the type keeps: the blocks' spans are maximal within each block and where blocks meet, a block has 1 to 64 of
+-- them, and there are at most 32,768 characters
+pub record IsBlocked (blocks : List (List Span)) (ends : List ℕ) (spans characters : ℕ) : Type 0 where
+  pub maximal : AreMaximal (in_blocks blocks)
+  pub sized : All IsSized blocks
+  pub ending : AreEnds blocks ends
+  pub spanned : spans ≡ length (in_blocks blocks)
+  pub counted : characters ≡ length (glyphs (in_blocks blocks))
+  pub short : characters ≤ 32768

@@ -1,0 +1,47 @@
+-- The characters of spans, each with its format, and spans that are as long as they can be.
+use Rattle.std.specs.Prelude.{◌≡◌, ◌≢◌, ◌<◌, ◌+◌, ℕ, List, [], ◌∷◌, Some, length, map, flat_map, slice_get, chars}
+use Rattle.std.specs.Str.{IsUtf8}
+use Rattle.mark_anchors.specs.Formatting.{Format}
+use Rattle.span_flatten.specs.Spans.{Shown, Span}
+use Rattle.version_laws.specs.Joints.{Apart}
+
+-- a character with its format
+pub record Glyph : Type 0 where
+  pub character : ℕ
+  pub format : Format
+
+-- characters that have one format
+abbrev pub with_format : Format → List ℕ → List Glyph
+with_format format characters = map (λ c. record { character = c; format = format }) characters
+
+abbrev pub glyphs_of : Span → List Glyph
+glyphs_of span = with_format span.format (chars span.text)
+
+-- the characters of the spans, one after another
+abbrev pub glyphs : List Span → List Glyph
+glyphs spans = flat_map glyphs_of spans
+
+-- what is seen of a shown character, but for its id
+abbrev pub glyph_of : Shown → Glyph
+glyph_of shown = record { character = shown.character; format = shown.format }
+
+-- a span has a character
+pub record IsSpan (span : Span) : Type 0 where
+  pub some : 0 < length span.text
+  pub utf8 : IsUtf8 span.text
+
+-- spans of which each has a character and another format than the next
+abbrev pub AreMaximal : List Span → Type 0
+AreMaximal [] = Unit {0}
+AreMaximal (span ∷ spans) = IsSpan span × Apart (span ∷ []) spans × AreMaximal spans
+
+-- the last of the first characters has another format than the first of the second ones, where there are both
+abbrev pub AreApart : List Glyph → List Glyph → Type 0
+AreApart before after =
+    (i : ℕ) (x y : Glyph) → i + 1 ≡ length before → slice_get before i ≡ Some x → slice_get after 0 ≡ Some y
+    → x.format ≢ y.format
+
+-- there is a last span, and it has the format
+pub record HasLast (spans : List Span) (format : Format) : Type 0 where
+  pub some : 0 < length spans
+  pub alike : (i : ℕ) (x : Span) → i + 1 ≡ length spans → slice_get spans i ≡ Some x → x.format ≡ format

@@ -1,0 +1,4 @@
+pub mod Glyphs
+pub mod Contents
+pub mod Blocks
+pub mod Blocked
