@@ -33,7 +33,9 @@ def try_case(hub, store, words, given, printed):
 
 def parts(hub, folder, times, rng):
     del times, rng
-    cases, changes = list(cases_of(ROOT / "crates" / "test_cases", "replay")), 0
+    # A hub with a store has an id, and the hub of the cases has none.
+    cases = [case for case in cases_of(ROOT / "crates" / "test_cases", "replay") if b"hub" not in case[2].splitlines()]
+    changes = 0
     expect(cases, "there are no cases")
     for name, words, given, printed in cases:
         with tempfile.TemporaryDirectory(dir=folder) as place:
