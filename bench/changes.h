@@ -1,4 +1,4 @@
-/* The text of changes (docs/CHANGES.md). */
+/* The text of changes (docs/CHANGE_FORMAT.md). */
 #ifndef CHANGES_H
 #define CHANGES_H
 

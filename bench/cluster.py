@@ -5,10 +5,10 @@ Changes a second through one gateway, and to a hub without one; what 60 subscrib
 a gateway with its hub, bound to a processor of its own; Redis and the clients have another one. Where other work is on these
 processors too, the clock says less than the processor time that each host took, so both are printed. Needs redis-server and
 python3-redis."""
-import asyncio
 import contextlib
 import os
 import pathlib
+import select
 import shutil
 import socket
 import statistics
@@ -22,18 +22,26 @@ import sessions
 
 ROOT = pathlib.Path(__file__).resolve().parent.parent
 GATEWAY = ROOT / "examples" / "cluster" / "gateway.py"
-CHANGES, SUBSCRIBERS, HOSTS = 1024, 60, 3
+CHANGES, SUBSCRIBERS, HOSTS, ROUNDS = 1024, 60, 3, 5
 # Versions that subscribers take, each with so many strong spans.
 VERSIONS, MARKS = 1024, 100
 TICKS = os.sysconf("SC_CLK_TCK")
+PROCESSORS = sorted(os.sched_getaffinity(0))
+AUTOGROUP = pathlib.Path("/proc/self/autogroup")
 
 
 class Process:
-    """A process bound to a processor, with all that it starts."""
+    """A process bound to a processor, with all that it starts, in a session of its own: Linux shares a processor out among sessions, so
+    that hosts take nothing from each other's share. Each goes before other work as far as this program does."""
 
     def __init__(self, words, processor, **options):
+        before = AUTOGROUP.read_text().split()[-1] if AUTOGROUP.exists() else "0"
+
         def bind():
             os.sched_setaffinity(0, {processor})
+            os.setsid()
+            if before != "0":
+                AUTOGROUP.write_text(before)
         self.child = subprocess.Popen([str(word) for word in words], preexec_fn=bind, **options)
 
     def seconds(self):
@@ -76,7 +84,7 @@ class Cluster:
             self.ports.append(free_port())
             words = ["redis-server", "--port", self.ports[-1], "--save", "", "--dir", self.folder, "--repl-diskless-sync-delay", "0"]
             words += ["--replicaof", "127.0.0.1", self.ports[0]] if number else []
-            self.running.append(Process(words, last_processor(), stdout=subprocess.DEVNULL))
+            self.running.append(Process(words, PROCESSORS[-1], stdout=subprocess.DEVNULL))
             wanted = b"master_link_status:up" if number else b"role:master"
             while wanted not in told(self.ports[-1]):
                 time.sleep(0.05)
@@ -95,12 +103,8 @@ class Cluster:
 
 
 def processor_of(number):
-    """Hosts have the processors from the first on."""
-    return sorted(os.sched_getaffinity(0))[number % len(os.sched_getaffinity(0))]
-
-
-def last_processor():
-    return max(os.sched_getaffinity(0))
+    """Hosts have the processors from the first on; Redis and the clients have the last one."""
+    return PROCESSORS[number % len(PROCESSORS)]
 
 
 def ask(port, request):
@@ -182,31 +186,47 @@ def measure_changes(hub):
 
 # Subscribers.
 
-async def subscriber(port, first, last):
-    """How many items one takes from a version on, up to the end of the last one."""
-    reader, writer = await asyncio.open_connection("127.0.0.1", port, limit=1 << 22)
-    writer.write(f"sub 1024 {sessions.STRONG} from {first}\n".encode())
-    pull = b"pull %s 1024\n" % (await reader.readline()).split()[2]
-    items, end = 0, b"end %d " % last
-    while True:
-        writer.write(pull)
-        piece, tail = b"", b""
-        while not tail.endswith(b"\n") or b"\nok items " not in b"\n" + tail:
-            piece = await reader.read(1 << 18)
-            items += piece.count(b"\n")
-            tail = (tail + piece)[-200:]
-        items -= 1
-        if end in tail:
-            writer.close()
-            return items
+class Subscriber:
+    """One that takes items up to the end of a version. There is little between it and its socket: all of them have one processor."""
+
+    def __init__(self, port, last):
+        self.link = socket.create_connection(("127.0.0.1", port))
+        self.link.sendall(f"sub 1024 {sessions.STRONG} from {last - VERSIONS}\n".encode())
+        self.request = b"pull %s 1024\n" % self.link.recv(100).split()[2]
+        self.end, self.items, self.tail = b"end %d " % last, 0, b"\n"
+
+    def ask(self):
+        self.tail = b"\n"
+        self.link.sendall(self.request)
+
+    def hear(self):
+        """Takes what has come, and asks for more. Returns whether all is there."""
+        piece = self.link.recv(1 << 18)
+        self.items += piece.count(b"\n")
+        self.tail = (self.tail + piece)[-200:]
+        if not self.tail.endswith(b"\n") or b"\nok items " not in self.tail:
+            return False
+        self.items -= 1
+        if self.end not in self.tail:
+            self.ask()
+            return False
+        self.link.close()
+        return True
 
 
 def take(ports, last):
     """What all subscribers take of these hosts, and how long that lasts."""
-    async def all_of_them():
-        return await asyncio.gather(*(subscriber(ports[at % len(ports)], last - VERSIONS, last) for at in range(SUBSCRIBERS)))
+    subscribers = [Subscriber(ports[at % len(ports)], last) for at in range(SUBSCRIBERS)]
+    waiting, poll = {each.link.fileno(): each for each in subscribers}, select.epoll()
     begun = time.perf_counter()
-    return sum(asyncio.run(all_of_them())), time.perf_counter() - begun
+    for place, each in waiting.items():
+        poll.register(place, select.EPOLLIN)
+        each.ask()
+    while waiting:
+        for place, _ in poll.poll():
+            if waiting[place].hear():
+                del waiting[place]
+    return sum(each.items for each in subscribers), time.perf_counter() - begun
 
 
 def wait_for(hosts, last):
@@ -231,9 +251,9 @@ def measure_subscribers(hub):
                 if not lines.readline().startswith(b"ok version "):
                     sys.exit("a change was refused")
         wait_for(hosts, len(changes))
-        os.sched_setaffinity(0, {last_processor()})
+        os.sched_setaffinity(0, {PROCESSORS[-1]})
         rates = {HOSTS: [], 1: []}
-        for count in [HOSTS, 1] * 3:
+        for count in [HOSTS, 1] * ROUNDS:
             # A hub takes 64 subscribers in its life, so each run has new hubs over the same stores.
             for process, _ in hosts:
                 process.end()
@@ -246,7 +266,7 @@ def measure_subscribers(hub):
             spent = max(process.seconds() - was for (process, _), was in zip(hosts, before))
             rates[count].append((items / took, items / spent))
         for count, found in rates.items():
-            sessions.row(f"{count} host(s), median of 3", statistics.median(rate for rate, _ in found), "items/s")
+            sessions.row(f"{count} host(s), median of {ROUNDS}", statistics.median(rate for rate, _ in found), "items/s")
             sessions.row("  by the processor time of the host that took most", statistics.median(rate for _, rate in found), "items/s")
         pairs = list(zip(rates[HOSTS], rates[1]))
         sessions.row("three hosts beside one, by the clock", statistics.median(three[0] / one[0] for three, one in pairs), "times")

@@ -1,8 +1,9 @@
 #!/usr/bin/env python3
 """Says which quotations of THEOREM.md don't stand where it says they do. Run it at the top of the repository.
 
-A quotation is an indented line. It stands in the file that the line `FILE` or `FILE: CALL, CALL` above it names, and there, where calls are
-named, in the contract of one of them, as one whole line or as several whole lines one after another."""
+A quotation is an indented line, with the lines below it that are indented by four more. It stands in the file that the
+line `FILE` or `FILE: CALL, CALL` above it names, and there, where calls are named, in the contract of one of them, as one
+whole line or as several whole lines one after another."""
 import pathlib
 import re
 import sys
@@ -23,11 +24,19 @@ def stands(text, lines):
     return any(text == " ".join(lines[start:end]) for start in range(len(lines)) for end in range(start + 1, start + 9))
 
 
+def quotations(document):
+    """The indented lines of a document with their numbers, each with those that go on with it."""
+    found = []
+    for number, line in enumerate(document.splitlines(), 1):
+        if line.startswith("        ") and found:
+            found[-1] = (found[-1][0], found[-1][1] + " " + line.strip())
+        elif line.startswith("    "):
+            found.append((number, line.strip()))
+    return found
+
+
 lines, quoted, wrong = [], 0, 0
-for number, line in enumerate(pathlib.Path("docs/THEOREM.md").read_text().splitlines(), 1):
-    if not line.startswith("    "):
-        continue
-    text = line.strip()
+for number, text in quotations(pathlib.Path("docs/THEOREM.md").read_text()):
     name, _, calls = text.partition(": ")
     if name.endswith((".rt", ".antt")) and " " not in name:
         lines = [it.strip() for it in pathlib.Path("crates", name).read_text().splitlines()]

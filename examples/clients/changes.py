@@ -32,7 +32,7 @@ def ask(lines, request):
             sys.exit("the hub is gone")
         reply.append(line.rstrip("\n"))
     if reply[-1].startswith("no"):
-        sys.exit(f"the hub answers: {reply[-1]}")
+        sys.exit(f"the hub answers: {reply[-1]}" + ("; it must be served with --read" if reply[-1].startswith("no 60 ") else ""))
     return reply
 
 

@@ -39,7 +39,7 @@ def stats_of(place):
         print("stats", file=lines, flush=True)
         words = lines.readline().split()
     if words[:2] != ["ok", "stats"]:
-        sys.exit(f"the hub answers: {' '.join(words) or 'nothing'}")
+        sys.exit(f"the hub answers: {' '.join(words) or 'nothing'}" + ("; it must be served with --read" if words[1:2] == ["60"] else ""))
     return {name: int(number) for name, number in zip(words[2::2], words[3::2])}
 
 

@@ -47,6 +47,27 @@ class Refused(Exception):
         self.number = int(line.split(" ")[1])
 
 
+class NoHub(Exception):
+    """What listens there answers as no hub does."""
+
+
+# How a line of any reply to a peer begins.
+KNOWN = re.compile(r"(ok|no|span|change2?|[idmur]) ")
+
+
+def meaning(why):
+    """What an error means for a person, behind its own words."""
+    if isinstance(why, Refused) and why.number == 60:
+        return "; the hub must be served with --read"
+    if isinstance(why, Refused) and why.number in (48, 49, 50):
+        return "; the text has reached a limit (docs/OPERATING.md, \"How long a hub lives\")"
+    if "no 69 " in str(why):
+        return "; as many sessions are there as the hub allows: try again later"
+    if isinstance(why, (ConnectionRefusedError, FileNotFoundError)):
+        return "; no hub listens there: start one with `hub serve --read`"
+    return ""
+
+
 class NoCounter(ValueError):
     """There is no counter above all that an operation must exceed."""
 
@@ -77,9 +98,11 @@ class Session:
     def ask(self, *request):
         """Sends the lines of a request. Returns the reply's lines but the last one, and that one's number: 3 of `ok version 3`."""
         self.socket.sendall("".join(line + "\n" for line in request).encode())
-        reply = [self.line()]
-        while not reply[-1].startswith(("ok ", "no ")):
+        reply = []
+        while not reply or not reply[-1].startswith(("ok ", "no ")):
             reply.append(self.line())
+            if not KNOWN.match(reply[-1]):
+                raise NoHub(f"what listens there is no hub: it answers `{reply[-1][:60]}`")
         last = reply.pop()
         if last.startswith(("no 66 ", "no 69 ")):
             raise ConnectionError(f"the hub ends this session: {last}")
@@ -646,8 +669,8 @@ def main():
             except ValueError as why:
                 said = [f"cannot: {why}"]
             print("".join(line + "\n" for line in said), end="", flush=True)
-    except (OSError, Refused) as why:
-        sys.exit(f"peer.py: {why}")
+    except (OSError, Refused, NoHub) as why:
+        sys.exit(f"peer.py: {why}{meaning(why)}")
 
 
 if __name__ == "__main__":

@@ -5,6 +5,7 @@ It begins with the hub's latest version, or with version N. Where the connection
 from the last version that it has whole, and goes on behind the last item that it printed: each item is printed once."""
 import argparse
 import itertools
+import re
 import signal
 import socket
 import sys
@@ -16,7 +17,15 @@ parser.add_argument("filter", help="a file with the program in hexadecimal")
 parser.add_argument("--from", dest="first", type=int, help="the first version")
 arguments = parser.parse_args()
 signal.signal(signal.SIGINT, signal.SIG_DFL)
-program = open(arguments.filter).read().strip()
+try:
+    program = open(arguments.filter).read().strip()
+except (OSError, UnicodeDecodeError) as error:
+    sys.exit(f"{arguments.filter} can't be read: {error}")
+if not re.fullmatch("([0-9a-fA-F]{2})+", program):
+    sys.exit(f"{arguments.filter} isn't one line of hexadecimal digits, as `hub asm | tr -d '\\n'` and filters/compile.sh print")
+# What a refusal of `sub` means; `hub check` prints the others.
+MEANINGS = {51: "all subscribers that a hub takes were used up, closed ones counted", 55: "the hub doesn't have that version yet",
+            60: "what listens there isn't a hub that takes this request", 69: "as many sessions are there as the hub allows: try again later"}
 
 
 def items_from(lines, first):
@@ -25,7 +34,9 @@ def items_from(lines, first):
     def line():
         text = lines.readline()
         if not text.endswith("\n"):
-            raise ConnectionError
+            raise ConnectionError("the session has ended")
+        if not re.match("(ok|no|hit|end) ", text):
+            sys.exit(f"what listens there is no hub: it answers `{text.strip()[:60]}`")
         return text.strip()
 
     def ask(request):
@@ -39,7 +50,8 @@ def items_from(lines, first):
     subscribed = ask(f"sub 64 {program}" + ("" if first is None else f" from {first}"))[0]
     print(subscribed, flush=True)
     if subscribed.startswith("no"):
-        sys.exit(1)
+        number = int(subscribed.split()[1])
+        sys.exit(MEANINGS.get(number, f"the hub refuses the program: `hub check --explain < {arguments.filter}` says why"))
     while True:
         yield from ask(f"pull {subscribed.split()[2]} 64")[:-1]
         time.sleep(0.2)
@@ -59,7 +71,9 @@ while tries < 30:
                 printed, part = printed + 1, part + 1
                 if kind == "end":
                     first, printed, part = int(version), part, 0
-    except OSError:
+    except OSError as error:
+        if tries == 0:
+            print(f"no session at port {arguments.port} ({error}): trying again for half a minute", file=sys.stderr, flush=True)
         tries += 1
         time.sleep(1)
-sys.exit("the connection is lost")
+sys.exit(f"no hub answers at port {arguments.port}")

@@ -21,6 +21,8 @@ CHANGES_AT_ONCE = 64
 FIRST_PAUSE, LONGEST_PAUSE = 0.05, 2.0
 # A hub takes so many subscribers, closed ones counted; and for how long one isn't started anew only to have new ones.
 SUBSCRIBERS, SECONDS_OF_A_HUB = 64, 20
+# After so many seconds a task that hasn't ended is cancelled again.
+CANCEL_SECONDS = 1
 
 
 class Lost(Exception):
@@ -30,6 +32,15 @@ class Lost(Exception):
 class Pending(NamedTuple):
     text: bytes
     reply: asyncio.Future
+
+
+async def cancel(tasks):
+    """Cancels tasks, and returns once all have ended. Up to Python 3.11 a task whose `asyncio.wait_for`, which the client of Redis
+    uses too, is just being answered loses a cancellation and goes on, so they are cancelled again."""
+    while running := [task for task in tasks if not task.done()]:
+        for task in running:
+            task.cancel()
+        await asyncio.wait(running, timeout=CANCEL_SECONDS)
 
 
 class Document:
@@ -137,10 +148,10 @@ class Document:
         try:
             await asyncio.wait(tasks, return_when=asyncio.FIRST_COMPLETED)
         finally:
-            for task in tasks:
-                task.cancel()
-            tasks += [self.applying] if self.applying else []
-            await asyncio.wait(tasks)
+            await cancel(tasks)
+            if self.applying:
+                await asyncio.wait([self.applying])
+                tasks.append(self.applying)
             self.applying = None
         reasons = [task.exception() for task in tasks if not task.cancelled() and task.exception()]
         of_hub = [reason for reason in reasons if isinstance(reason, HubEnded)]
@@ -290,9 +301,6 @@ class Document:
             self.hub.kill()
 
     async def end(self):
-        while not self.task.done():
-            # Again and again: a call that is just ending otherwise can lose one.
-            self.task.cancel()
-            await asyncio.wait([self.task], timeout=1)
+        await cancel([self.task])
         await self.hub.stop()
         self.kept.close()

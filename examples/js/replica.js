@@ -1,5 +1,5 @@
 // A replica of a hub's text: its characters and marks as docs/PERITEXT.md has them, and what makes operations of a
-// person's edits. docs/CHANGES.md has how a change is written.
+// person's edits. docs/CHANGE_FORMAT.md has how a change is written.
 
 export const OPERATIONS = 256, NONE = Object.freeze([]);
 const GREATEST = 2 ** 48 - 1, JOINED = 500;

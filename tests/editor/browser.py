@@ -4,11 +4,14 @@ import contextlib
 import json
 import re
 import subprocess
+import sys
 import time
 import urllib.error
 import urllib.request
 
 ELEMENT = "element-6066-11e4-a52e-4f735466cecf"
+# The longest time that the protocol has, in milliseconds.
+ENDLESS = (1 << 53) - 1
 # Chromium has no sandbox where it is run as root; it opens no page but the hub's.
 OPTIONS = ["--headless=new", "--no-sandbox", "--disable-dev-shm-usage", "--disable-gpu", "--disable-extensions",
            "--disable-background-networking", "--disable-background-timer-throttling", "--disable-renderer-backgrounding",
@@ -22,14 +25,14 @@ class Browser:
         self.driver = driver
         options = {"alwaysMatch": {"goog:chromeOptions": {"args": OPTIONS}}}
         self.session = self.call("POST", "", {"capabilities": options}, driver + "/session")
-        self.call("POST", "/timeouts", {"script": 300000})
+        self.call("POST", "/timeouts", {"script": None, "pageLoad": ENDLESS})
 
     def call(self, method, path, body=None, at=None):
         at = at or f"{self.driver}/session/{self.session['sessionId']}{path}"
         data = None if body is None else json.dumps(body).encode()
         request = urllib.request.Request(at, data, {"Content-Type": "application/json"}, method=method)
         try:
-            with urllib.request.urlopen(request, timeout=300) as reply:
+            with urllib.request.urlopen(request) as reply:
                 return json.loads(reply.read())["value"]
         except urllib.error.HTTPError as why:
             raise AssertionError(why.read().decode()[:400]) from why
@@ -69,12 +72,13 @@ class Browser:
 
 
 def until(holds, what):
-    """Waits until something holds; `what` says what doesn't hold, or makes the words."""
-    for _ in range(600):
-        if holds():
-            return
+    """Waits until something holds, however long that takes; a wait of a minute is told, by `what` doesn't hold, or makes the words."""
+    tries = 0
+    while not holds():
+        tries += 1
+        if tries % 600 == 0:
+            print(f"still waiting: {what() if callable(what) else what}", file=sys.stderr, flush=True)
         time.sleep(0.1)
-    raise AssertionError(what() if callable(what) else what)
 
 
 @contextlib.contextmanager

@@ -35,7 +35,7 @@ def step(editor, *keys):
     """Presses keys one by one: the page hears of a caret that moved only afterwards."""
     for one in keys:
         editor.keys(KEYBOARD, one)
-        editor.do("await pause(50)")
+        until(lambda: editor.do("return knowsCaret()"), "the page doesn't hear of the caret")
 
 
 def pictures():
@@ -340,9 +340,9 @@ def try_hits(here):
     editor.keys(KEYBOARD, BACK + "!")
     here.compare()
     until(lambda: shown(editor, ".hit", "one.title") == ["strong.hex"], lambda: editor.says("items"))
-    for _ in range(2):
+    for left in (1, 0):
         editor.click("#filters button")
-        editor.do("await pause(300)")
+        until(lambda: len(shown(editor, "#filters button", "1")) == left, lambda: editor.says("filters"))
     assert shown(editor, ".hit", "one.title") == [] and editor.says("filters") == ""
 
 
@@ -593,8 +593,8 @@ def measure(hub, editor):
         for _ in range(KEYS):
             tap(editor, "x")
         here.compare()
+        until(lambda: editor.do("return times.length") == KEYS, "a key isn't shown")
         times = sorted(editor.do("return times"))
-        assert len(times) == KEYS
         size = editor.run("return [hub.replica.characters.size, hub.replica.marks.length]")
         print(f"a key to the screen, {size[0]} characters, {size[1]} marks: median {statistics.median(times):.1f} ms, "
               f"99 of 100 within {times[len(times) * 99 // 100 - 1]:.1f} ms", flush=True)

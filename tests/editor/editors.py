@@ -30,8 +30,8 @@ class Editor(Browser):
 
     def do(self, script, *arguments):
         """Runs a script that uses what in_page.js has."""
-        return self.run("const {select, find, type, key, paste, drop, copy, press, link, round, unlike, cut, mend, watch, times, pause} = trial;"
-                        f"return (async () => {{ {script} }})()", *arguments)
+        return self.run("const {select, find, knowsCaret, type, key, paste, drop, copy, press, link, round, unlike, cut, mend, watch, times, "
+                        f"pause}} = trial; return (async () => {{ {script} }})()", *arguments)
 
     def lines(self):
         return self.run("return hub.replica.lines()")

@@ -36,6 +36,12 @@ window.trial = (() => {
     select(found, found + end);
   }
 
+  /** Whether the document's caret is where the browser has it. */
+  function knowsCaret() {
+    const { focusNode, focusOffset } = getSelection();
+    return view.posAtDOM(focusNode, focusOffset) === view.state.selection.head;
+  }
+
   /** Types as the browser does, into the document that it shows. Over several lines ProseMirror takes the key itself. */
   async function type(text) {
     const { $from, $to } = view.state.selection;
@@ -161,5 +167,5 @@ window.trial = (() => {
     }), true);
   }
 
-  return { select, find, type, key, paste, drop, copy, press, link, round, unlike, cut, mend, watch, times, pause };
+  return { select, find, knowsCaret, type, key, paste, drop, copy, press, link, round, unlike, cut, mend, watch, times, pause };
 })();

@@ -6,7 +6,8 @@ HUB is the executable, by default $HUB or `hub`; it serves the editor itself. It
 chromium-driver), and a built examples/editor. The parts: `cases`, each thing by itself: marks at their ends, undo, composition, paste, drag,
 limits, a hub that is gone; `store`, a hub that keeps its changes and is ended and started again; `rounds`, in which three editors and a
 peer of peer.py edit one text at random, one of the editors cut off for a while, after each of which all four show the hub's text; and
-`speed`, the time from a key to the screen in a full text, which is printed."""
+`speed`, the time from a key to the screen in a full text, which is printed. Nothing passes or fails by a time: what doesn't come is waited
+for, and told."""
 import argparse
 import os
 import pathlib

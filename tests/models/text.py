@@ -6,7 +6,7 @@
     text.py rows FOLDER..                compares folders of worked rows (NAME, NAME.args, NAME.stdout) with it
     text.py cases FOLDER                 writes random cases of both forms, FOLDER/text.stdin and FOLDER/text.stdout
 
-The rules are those of docs/CHANGES.md, docs/PERITEXT.md, docs/REFUSALS.md and docs/SESSIONS.md. Characters are a tree; a format is what
+The rules are those of docs/CHANGE_FORMAT.md, docs/PERITEXT.md, docs/REFUSALS.md and docs/SESSIONS.md. Characters are a tree; a format is what
 each key's last mark over a character says, looked for among all marks.
 """
 

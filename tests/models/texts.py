@@ -162,7 +162,7 @@ def sessions(cases, rng):
         cases.add(f"session-of-history-{at + 1}", ["replay"], want, lines=lines)
 
 
-# Lines of docs/CHANGES.md and what docs/REFUSALS.md says of them, found by hand: input, and what follows `refused`.
+# Lines of docs/CHANGE_FORMAT.md and what docs/REFUSALS.md says of them, found by hand: input, and what follows `refused`.
 FIRST_LINES = [
     ("change 1 1", "41 Truncated change 1"),
     ("change 1 1\n", "41 Truncated change 1"),
