@@ -1,0 +1,13 @@
+pub mod Words
+pub mod Machine
+pub mod Moved
+pub mod Held
+pub mod Naming
+pub mod Followed
+pub mod Below
+pub mod Empty
+pub mod Itself
+pub mod Taught
+pub mod Hearing
+pub mod Both
+pub mod Kept
