@@ -71,8 +71,9 @@ def page(name, about, text, version, others, files):
     made.append(".SH EXIT STATUS\n" + paragraphs("The exit status is " + body.strip()))
     if example:
         title, _, lines = example.partition(":\n\n")
-        made.append(".SH EXAMPLE\n" + (paragraphs(title.strip(" ,")[0].upper() + title.strip(" ,")[1:] + ":") + "\n" if title.strip(" ,") else "")
-                    + paragraphs(lines))
+        title = title.strip(" ,")
+        above = paragraphs(title[0].upper() + title[1:] + ":") + "\n" if title else ""
+        made.append(".SH EXAMPLE\n" + above + paragraphs(lines))
     if files:
         made.append(".SH FILES\n.PP\n" + escaped(files))
     made.append(".SH SEE ALSO\n" + ", ".join(f"\\fB{escaped(other)}\\fR(1)" for other in others))
@@ -89,7 +90,8 @@ def manual_pages(executable, version):
     description, _, rest = help_of(executable).partition("\nUsage: ")
     usage, _, rest = rest.partition("\n")
     listed = "\n".join(f"    hub-{name}(1)  {about}" for name, about in commands.items())
-    text = f"{description}\n\nThe commands, of which each has a page of its own:\n\n{listed}\n\nUsage: {usage}\n" + rest[rest.index("Options:"):]
+    text = (f"{description}\n\nThe commands, of which each has a page of its own:\n\n{listed}\n\nUsage: {usage}\n"
+            + rest[rest.index("Options:"):])
     about = "a hub for one shared rich text, with verdicts of BPF programs on its spans"
     pages["hub"] = page("hub", about, text, version, sorted(names), files)
     for name, (command, about) in names.items():
@@ -112,7 +114,8 @@ def completion(executable):
     commands = commands_of(executable)
     options = {name: options_of(executable, name) for name in commands}
     cases = "\n".join(f'        {name}) options="{" ".join(sorted(options[name]))}" ;;' for name in commands)
-    paths = sorted({option for known in options.values() for option, value in known.items() if value in ("FILE", "PATH")})
+    paths = sorted({option for known in options.values() for option, value in known.items()
+                    if value in ("FILE", "PATH")})
     folders = sorted({option for known in options.values() for option, value in known.items() if value == "FOLDER"})
     valued = sorted({option for known in options.values() for option, value in known.items()
                      if value not in (None, "FILE", "PATH", "FOLDER", "WHAT")})

@@ -9,7 +9,7 @@ LINE_LIMIT = 70_000
 # No line of a change that can be accepted is longer (a run of 256 characters is the longest).
 LONGEST_RIGHT_LINE = 2048
 HEADER = re.compile(rb"change2? ([1-9][0-9]{0,4}) ([1-9][0-9]{0,2})\n")
-SUBSCRIBES = re.compile(rb"sub2? ")
+SUBSCRIBES = re.compile(rb"sub[23]? ")
 
 
 class Request(NamedTuple):

@@ -513,7 +513,7 @@ class Session:
                 raise Refused(41)
             return self.change(line)
         number = "(0|[1-9][0-9]*)"
-        forms = [("sub2? %s ([^ ]+)(?: from %s)?" % (number, number), self.subscribe),
+        forms = [("sub[23]? %s ([^ ]+)(?: from %s)?" % (number, number), self.subscribe),
                  ("pull %s %s" % (number, number), self.pull), ("close %s" % number, self.close)]
         if self.reads:
             forms += [("latest", self.latest), ("left", self.left), ("stats", self.stats), ("show %s %s %s" % (number, number, number), self.show),

@@ -4,262 +4,45 @@ The verifier takes the slots once, in their order. Of each register, and of each
 either nothing or a pair: ("number", quantity); ("text", quantity) or ("link", quantity), an address so far behind the region's
 start; ("context", place) or ("stack", place), an address so far behind the context's start, or behind the stack's end. Of the text
 and of the link it knows how long they are at least. verifier_checks.py compares what is said here with what the hub must print.
+
+A profile says what a program may read, and which rules hold beside those that all profiles share. Each rule has a letter:
+
+    a   what is learned of a number or address holds of its copies, and of what a constant was added to (copies.py)
+    b   the difference of two addresses in the text, or of two in the link, is a number
+    c   a quotient by a constant, and what a constant shifts to the right, have the tail of what they are made from, and more of
+        one where they are less by that much for sure
+    d   a part of a field of the context that is a number may be loaded
+    e   where ways join, an address has at least the tail that the least length known on its own way gives it
+    f   a sum has the greater one of the tails that its two sides give it
 """
 
 from typing import NamedTuple
 
+import copies
 from machine import MASK, fields, kind_of, line_of, refusal, signed
+from quantities import (LIMITS, NEGATED, REGIONS, Dead, anything, constant, ending, greater, joined_quantity, less_tail, normal,
+                        only, told, transfer, up_to_end)
 
 REASONS = {10: "BackwardJump", 11: "JumpOut", 12: "JumpIntoWide", 13: "FallOff", 14: "WriteR10", 15: "UnsetRegister",
            16: "PointerArithmetic", 17: "PointerCompare", 18: "ContextField", 19: "StackBounds", 20: "StackUnset", 21: "TextBounds",
            22: "TextOffset", 23: "ReadOnlyStore", 24: "NotAnAddress", 25: "PointerStore", 26: "ReturnPointer"}
-# The regions that are lent, with the most bytes that each may have, and how far behind its start an address may lie.
-REGIONS = ("text", "link")
-LIMITS = (131072, 1024)
+# How far behind its region's start an address may lie.
 NEAR = 1 << 20
-# How many bytes of the context each profile lets a program read.
-CONTEXT_LENGTHS = {1: 56, 2: 72}
-NEGATED = {"jeq": "jne", "jne": "jeq", "jgt": "jle", "jle": "jgt", "jlt": "jge", "jge": "jlt"}
 
 
-class Dead(Exception):
-    """No run comes there."""
+class Profile(NamedTuple):
+    """How many bytes of the context a program may read, whether it may read the link, and which rules hold beside those that
+    all profiles share."""
+    context_length: int
+    lends_link: bool
+    rules: str = ""
+
+
+PROFILES = {1: Profile(56, False), 2: Profile(72, True), 3: Profile(72, True, "bcdef")}
 
 
 class Refused(Exception):
     """An instruction is refused, with this number."""
-
-
-# Quantities.
-
-class Quantity(NamedTuple):
-    """What is known of a number: which bits are 1 for sure, which ones are unknown, the interval, and for each region a tail, if
-    there is one: the number and the tail are together at most the region's length."""
-    ones: int
-    unknown: int
-    low: int
-    high: int
-    tails: tuple = (None, None)
-
-
-def constant(value):
-    return Quantity(value, 0, value, value)
-
-
-def anything(bits):
-    """Every number of `bits` bits."""
-    greatest = (1 << bits) - 1
-    return Quantity(0, greatest, 0, greatest)
-
-
-def up_to_end(bits, region):
-    """Every number of `bits` bits up to the region's length."""
-    return normal(anything(bits)._replace(tails=ending(region)))
-
-
-def ending(region):
-    return tuple(0 if name == region else None for name in REGIONS)
-
-
-def only(quantity):
-    """The one number, where there is one."""
-    return quantity.low if quantity.low == quantity.high else None
-
-
-def most_bits(quantity):
-    """The bits that may be 1."""
-    return quantity.ones | quantity.unknown
-
-
-def narrowed(quantity):
-    """The interval is cut to what the bits and the tails allow."""
-    low, high = max(quantity.low, quantity.ones), min(quantity.high, most_bits(quantity))
-    for tail, limit in zip(quantity.tails, LIMITS):
-        if tail is not None:
-            high = min(high, limit - tail)
-    if low > high:
-        raise Dead
-    return quantity._replace(low=low, high=high)
-
-
-def normal(quantity):
-    """The interval is narrowed, then the bits by what its ends have in common, then the interval once more."""
-    quantity = narrowed(quantity)
-    differing = (1 << (quantity.low ^ quantity.high).bit_length()) - 1
-    common = MASK[64] & ~differing
-    if (quantity.ones ^ quantity.low) & common & ~quantity.unknown:
-        raise Dead
-    ones = quantity.ones & differing | quantity.low & common
-    return narrowed(quantity._replace(ones=ones, unknown=quantity.unknown & differing))
-
-
-def cut(quantity):
-    """The low 32 bits."""
-    if quantity.high <= MASK[32]:
-        return normal(quantity)
-    ones, unknown = quantity.ones & MASK[32], quantity.unknown & MASK[32]
-    return normal(Quantity(ones, unknown, 0, MASK[32], quantity.tails))
-
-
-def greater(first, second):
-    """The greater one of two tails, or the one that is known."""
-    if first is None or second is None:
-        return second if first is None else first
-    return max(first, second)
-
-
-def lesser(first, second):
-    """The lesser one of two tails, if both are known."""
-    return None if first is None or second is None else min(first, second)
-
-
-def both_tails(choice, first, second):
-    return tuple(choice(*pair) for pair in zip(first, second))
-
-
-def raised(tails, by):
-    return tuple(None if tail is None else tail + by for tail in tails)
-
-
-def joined_quantity(first, second):
-    """What either may be."""
-    unknown = first.unknown | second.unknown | (first.ones ^ second.ones)
-    return normal(Quantity(first.ones & second.ones & ~unknown, unknown, min(first.low, second.low), max(first.high, second.high),
-                           both_tails(lesser, first.tails, second.tails)))
-
-
-# Operations on quantities of a width, in bits. Their results aren't normal yet.
-
-def in_width(bits, quantity, low, high):
-    """The quantity with this interval, or with all of the width where the interval leaves it."""
-    if high > MASK[bits]:
-        low, high = 0, MASK[bits]
-    return quantity._replace(low=low, high=high)
-
-
-def tail_of_sum(tail, high, other_tail, other_high):
-    """The tail of the sum of a number up to `high` with the one tail and of a number up to `other_high` with the other."""
-    if tail is not None and tail >= other_high:
-        return tail - other_high
-    if other_tail is not None and other_tail >= high:
-        return other_tail - high
-    return None
-
-
-def plain_sum(bits, first, second):
-    if most_bits(first) & most_bits(second) == 0:
-        ones, unknown = first.ones | second.ones, first.unknown | second.unknown
-    elif only(first) is not None and only(second) is not None:
-        ones, unknown = first.low + second.low & MASK[bits], 0
-    else:
-        ones, unknown = 0, MASK[bits]
-    tails = tuple(tail_of_sum(tail, first.high, other, second.high) for tail, other in zip(first.tails, second.tails))
-    return in_width(bits, Quantity(ones, unknown, 0, 0, tails), first.low + second.low, first.high + second.high)
-
-
-def plain_difference(bits, first, second):
-    if most_bits(second) & ~first.ones == 0:
-        unknown = first.unknown | second.unknown
-        ones = (first.ones ^ second.ones) & ~unknown
-    elif only(first) is not None and only(second) is not None:
-        ones, unknown = first.low - second.low & MASK[bits], 0
-    else:
-        ones, unknown = 0, MASK[bits]
-    if first.low < second.high:
-        return Quantity(ones, unknown, 0, MASK[bits])
-    return Quantity(ones, unknown, first.low - second.high, first.high - second.low, raised(first.tails, second.low))
-
-
-def complement(bits, quantity):
-    """What a constant whose sign bit is set lacks to the width, or nothing."""
-    value = only(quantity)
-    return None if value is None or value < 1 << bits - 1 else constant((1 << bits) - value)
-
-
-def added(bits, first, second):
-    """The sum; what a great constant lacks is taken away instead."""
-    lacking = complement(bits, second)
-    return plain_sum(bits, first, second) if lacking is None else plain_difference(bits, first, lacking)
-
-
-def taken_away(bits, first, second):
-    """The difference; what a great constant lacks is added instead."""
-    lacking = complement(bits, second)
-    return plain_difference(bits, first, second) if lacking is None else plain_sum(bits, first, lacking)
-
-
-def bits_of_both(_bits, first, second):
-    ones = first.ones & second.ones
-    unknown = most_bits(first) & most_bits(second) & ~ones
-    return Quantity(ones, unknown, 0, min(first.high, second.high), both_tails(greater, first.tails, second.tails))
-
-
-def bits_of_either(bits, first, second):
-    ones = first.ones | second.ones
-    return Quantity(ones, (first.unknown | second.unknown) & ~ones, 0, MASK[bits])
-
-
-def bits_of_one(bits, first, second):
-    unknown = first.unknown | second.unknown
-    return Quantity((first.ones ^ second.ones) & ~unknown, unknown, 0, MASK[bits])
-
-
-def product(bits, first, second):
-    return in_width(bits, anything(bits), first.low * second.low, first.high * second.high)
-
-
-def quotient(bits, first, second):
-    low, high = (first.low // second.high, first.high // second.low) if second.low > 0 else (0, first.high)
-    return Quantity(0, MASK[bits], low, high, first.tails)
-
-
-def remainder(bits, first, second):
-    high = min(first.high, second.high - 1) if second.low > 0 else first.high
-    return Quantity(0, MASK[bits], 0, high, first.tails)
-
-
-def shift_count(bits, quantity):
-    """The one number of places, where it is known."""
-    return only(normal(bits_of_both(bits, quantity, constant(bits - 1))))
-
-
-def shifted_left(bits, first, second):
-    count = shift_count(bits, second)
-    if count is None:
-        return anything(bits)
-    moved = Quantity(first.ones << count & MASK[bits], first.unknown << count & MASK[bits], 0, 0)
-    return in_width(bits, moved, first.low << count, first.high << count)
-
-
-def shifted_right(bits, first, second):
-    count = shift_count(bits, second)
-    if count is None:
-        return Quantity(0, MASK[bits], 0, first.high, first.tails)
-    return Quantity(first.ones >> count, first.unknown >> count, first.low >> count, first.high >> count, first.tails)
-
-
-def shifted_with_sign(bits, first, second):
-    if shift_count(bits, second) is None or first.high >= 1 << bits - 1:
-        return anything(bits)
-    return shifted_right(bits, first, second)
-
-
-def moved_over(_bits, _first, second):
-    return second
-
-
-OPERATIONS = {"add": added, "sub": taken_away, "mul": product, "div": quotient, "mod": remainder, "and": bits_of_both,
-              "or": bits_of_either, "xor": bits_of_one, "lsh": shifted_left, "rsh": shifted_right, "arsh": shifted_with_sign,
-              "mov": moved_over}
-
-
-def transfer(name, bits, offset, first, second):
-    """What an operation makes of two numbers; an offset makes it a division or a move with sign."""
-    if bits == 32:
-        first, second = cut(first), cut(second)
-    if offset:
-        return anything(bits)
-    return normal(OPERATIONS[name](bits, first, second))
 
 
 # What is known of the machine.
@@ -278,7 +61,7 @@ def moved_place(profile, name, known, by):
     if only(by) is None:
         raise Refused(16)
     place += signed(by.low, 64) if name == "add" else -signed(by.low, 64)
-    low, high = (0, CONTEXT_LENGTHS[profile]) if kind == "context" else (-512, 0)
+    low, high = (0, profile.context_length) if kind == "context" else (-512, 0)
     if not low <= place <= high:
         raise Refused(16)
     return kind, place
@@ -287,9 +70,11 @@ def moved_place(profile, name, known, by):
 def computed(profile, name, bits, offset, first, second):
     """What an operation other than a move makes of what is known of both sides."""
     if is_number(first) and is_number(second):
-        return number(transfer(name, bits, offset, first[1], second[1]))
+        return number(transfer(profile.rules, name, bits, offset, first[1], second[1]))
     if bits == 32 or name not in ("add", "sub"):
         raise Refused(16)
+    if "b" in profile.rules and name == "sub" and first[0] == second[0] and first[0] in REGIONS:
+        return number(transfer(profile.rules, name, 64, 0, first[1], second[1]))
     if first[0] in ("context", "stack") and is_number(second):
         return moved_place(profile, name, first, second[1])
     if first[0] in REGIONS and is_number(second):
@@ -298,7 +83,7 @@ def computed(profile, name, bits, offset, first, second):
         kind = second[0]
     else:
         raise Refused(16)
-    quantity = transfer(name, 64, 0, first[1], second[1])
+    quantity = transfer(profile.rules, name, 64, 0, first[1], second[1])
     if quantity.high > NEAR:
         raise Refused(22)
     return kind, quantity
@@ -310,7 +95,7 @@ def moved(bits, offset, known):
         return known if known[0] in ("context", "stack") else (known[0], normal(known[1]))
     if not is_number(known):
         raise Refused(16)
-    return number(transfer("mov", bits, offset, constant(0), known[1]))
+    return number(transfer("", "mov", bits, offset, constant(0), known[1]))
 
 
 def joined_known(first, second):
@@ -344,11 +129,11 @@ def joined_bytes(first, second):
 class State:
     """What is known of the machine before an instruction. A copy is changed; a state that waits at a slot never is."""
 
-    def __init__(self, registers, stack, lengths):
-        self.registers, self.stack, self.lengths = registers, stack, lengths
+    def __init__(self, registers, stack, lengths, marks=None):
+        self.registers, self.stack, self.lengths, self.marks = registers, stack, lengths, marks or {}
 
     def copy(self):
-        return State(list(self.registers), list(self.stack), list(self.lengths))
+        return State(list(self.registers), list(self.stack), list(self.lengths), dict(self.marks))
 
     def read(self, register):
         if self.registers[register] is None:
@@ -373,11 +158,32 @@ def start():
     return State(registers, [("marks", NONE_SET)] * 64, [0, 0])
 
 
-def joined(first, second):
+def placed(known, lengths):
+    """What is known of an address in a region, with the tail that the region's least length gives it, where that is more."""
+    kind, quantity = known
+    region = REGIONS.index(kind)
+    tails = list(quantity.tails)
+    tails[region] = greater(tails[region], less_tail(lengths[region], quantity.high))
+    return kind, quantity._replace(tails=tuple(tails))
+
+
+def with_tails(state):
+    """The state with the tails of all its addresses in a region, in registers and on the stack."""
+    after = state.copy()
+    after.registers = [placed(known, state.lengths) if known and known[0] in REGIONS else known for known in state.registers]
+    after.stack = [(form, placed(held, state.lengths)) if form == "spilled" and held[0] in REGIONS else (form, held)
+                   for form, held in state.stack]
+    return after
+
+
+def joined(rules, first, second):
     """What is known on either of two ways."""
+    if "e" in rules:
+        first, second = with_tails(first), with_tails(second)
     return State([joined_known(*pair) for pair in zip(first.registers, second.registers)],
                  [joined_bytes(*pair) for pair in zip(first.stack, second.stack)],
-                 [min(pair) for pair in zip(first.lengths, second.lengths)])
+                 [min(pair) for pair in zip(first.lengths, second.lengths)],
+                 dict(first.marks.items() & second.marks.items()))
 
 
 # Loads and stores.
@@ -386,17 +192,25 @@ def joined(first, second):
 STARTS, ENDS, LENGTHS = {0: "text", 56: "link"}, {8: "text", 64: "link"}, {16: "text", 32: "link"}
 
 
+def is_in_number(place, size):
+    """Whether the bytes stand in one field that is a number."""
+    begin, length = (48, 8) if place >= 48 else (place - place % 4, 4)
+    return 16 <= place and place + size <= begin + length
+
+
 def field(profile, place, size):
     """What a whole field of the context holds; by the first profile the link's length is a number of which nothing is known."""
-    if place + size > CONTEXT_LENGTHS[profile]:
+    if place + size > profile.context_length:
         raise Refused(18)
     if size == 8 and place in STARTS:
         return STARTS[place], constant(0)._replace(tails=ending(STARTS[place]))
     if size == 8 and place in ENDS:
         return ENDS[place], up_to_end(64, ENDS[place])
-    if size == 4 and place in LENGTHS and (profile == 2 or LENGTHS[place] == "text"):
+    if size == 4 and place in LENGTHS and (profile.lends_link or LENGTHS[place] == "text"):
         return number(up_to_end(32, LENGTHS[place]))
     if size == 8 and place == 48 or size == 4 and place in range(20, 48, 4):
+        return number(anything(8 * size))
+    if "d" in profile.rules and is_in_number(place, size):
         return number(anything(8 * size))
     raise Refused(18)
 
@@ -425,7 +239,9 @@ def loaded(profile, state, base, offset, size, is_signed):
         raise Refused(24)
     if kind == "context":
         if is_signed:
-            raise Refused(18)
+            if "d" not in profile.rules or not is_in_number(place + offset, size):
+                raise Refused(18)
+            return result
         return field(profile, place + offset, size)
     if kind in REGIONS:
         if not reaches(state, base, offset, size):
@@ -456,58 +272,9 @@ def store(state, base, offset, size, value):
         state.stack[byte // 8] = ("marks", tuple(marks))
 
 
-# Comparisons: what is known of both sides where they hold.
+# Comparisons.
 
-def ordered(left, right, by):
-    """Both sides where the left one and so much more is at most the right one."""
-    below = left._replace(high=min(left.high, right.high - by), tails=both_tails(greater, left.tails, raised(right.tails, by)))
-    above = right._replace(low=max(right.low, left.low + by))
-    return normal(below), normal(above)
-
-
-def equal(left, right):
-    if (left.ones ^ right.ones) & ~left.unknown & ~right.unknown:
-        raise Dead
-    unknown = left.unknown & right.unknown
-    both = normal(Quantity((left.ones | right.ones) & ~unknown, unknown, max(left.low, right.low), min(left.high, right.high),
-                           both_tails(greater, left.tails, right.tails)))
-    return both, both
-
-
-def apart(quantity, value):
-    """The quantity without a number, if that is one of its ends."""
-    low, high = quantity.low, quantity.high
-    if value is not None:
-        low, high = low + (low == value), high - (high == value)
-    return normal(quantity._replace(low=low, high=high))
-
-
-def related(name, left, right):
-    """Both sides where a comparison without sign holds."""
-    if name == "jeq":
-        return equal(left, right)
-    if name == "jne":
-        return apart(left, only(right)), apart(right, only(left))
-    by = 1 if name in ("jlt", "jgt") else 0
-    if name in ("jlt", "jle"):
-        return ordered(left, right, by)
-    right, left = ordered(right, left, by)
-    return left, right
-
-
-def told(name, bits, is_taken, left, right):
-    """Both sides on an edge; as they are where the comparison says nothing of such numbers."""
-    if name == "jset":
-        return left, right
-    is_signed = name.startswith("js")
-    reach = 1 << (bits - 1 if is_signed else bits)
-    if left.high >= reach or right.high >= reach:
-        return left, right
-    name = "j" + name[2:] if is_signed else name
-    return related(name if is_taken else NEGATED[name], left, right)
-
-
-def on_edge(before, instruction, is_taken):
+def on_edge(rules, before, instruction, is_taken):
     """What is known behind a comparison that holds, or doesn't."""
     opcode, dst, src, _, imm = instruction
     _, name, bits, is_register = kind_of(opcode)
@@ -521,6 +288,10 @@ def on_edge(before, instruction, is_taken):
             after.registers[src] = right_kind, right
     after.lengthen(left)
     after.lengthen(right)
+    if "a" in rules:
+        copies.tell(after, dst)
+        if is_register:
+            copies.tell(after, src)
     return after
 
 
@@ -603,6 +374,8 @@ def stepped(profile, before, data, at):
     else:
         base = before.read(dst)
         store(after, base, offset, kind[2], before.operand(kind[3], src, imm))
+    if "a" in profile.rules:
+        after.marks = copies.marks_after(before, data, at)
     return after
 
 
@@ -622,7 +395,7 @@ class Walk:
                 continue
             state = self.waiting[at][0]
             for other in self.waiting[at][1:]:
-                state = joined(state, other)
+                state = joined(self.profile.rules, state, other)
             self.states[at] = state
             try:
                 self.one_slot(at, state)
@@ -649,7 +422,7 @@ class Walk:
             check_sides(before, instruction)
             for is_taken, target in ((True, at + 1 + distance), (False, at + 1)):
                 try:
-                    self.wait(target, on_edge(before, instruction, is_taken))
+                    self.wait(target, on_edge(self.profile.rules, before, instruction, is_taken))
                 except Dead:
                     pass
         else:
@@ -688,7 +461,7 @@ def state_lines(state, profile):
         elif any(detail):
             lines.append(place + "".join("x" if is_set else "-" for is_set in detail))
     lines.append(f"  length >= {state.lengths[0]}")
-    return lines + [f"  link length >= {state.lengths[1]}"] * (profile == 2)
+    return lines + [f"  link length >= {state.lengths[1]}"] * profile.lends_link
 
 
 def known_lines(states, at, profile):

@@ -3,19 +3,26 @@
 
     verifier_checks.py                      compares with what the cases `check-..` and `explain-..` of crates/test_cases must print
     verifier_checks.py random COUNT SEED    tests that random programs which the first profile accepts are accepted by the second
-    verifier_checks.py hub HUB COUNT SEED   compares what HUB, a built program, prints of random programs, of which half are spoiled, in both
-                                            profiles: accepted, or which refusal at which slot, and what is known before each slot
+    verifier_checks.py third COUNT SEED     tests that those which the second accepts are accepted by the third, and that those
+                                            which the third alone accepts run without a fault, with the machine as is known
+    verifier_checks.py hub HUB COUNT SEED   compares what HUB, a built program, prints of random programs, of which half are
+                                            spoiled, by each profile (--profiles 12 leaves out the third): accepted, or which
+                                            refusal at which slot, and what is known before each slot
+
+`--rules` before these words says which rules the third profile has beside those of the second, each by its letter in verifier.py.
 """
 
+import argparse
 import random
 import re
 import subprocess
 import sys
 from pathlib import Path
 
-from machine import ARITHMETIC, JUMPS, LOADS, MASK, STORES, fields, slot
-from programs import EXIT, wide
-from verifier import LIMITS, Walk, answer, distance_of, starts
+from lent_runs import first_wrong
+from machine import fields
+from random_programs import FRONT, random_program, third_program
+from verifier import PROFILES, Walk, answer, distance_of, starts
 
 CASES = Path(__file__).resolve().parents[2] / "crates" / "test_cases"
 
@@ -63,13 +70,14 @@ def answer_to(words, given):
     """What the hub prints at these words and this input, with its exit status."""
     line = " ".join(words)
     is_once = all(line.count(option) <= 1 for option in ("--explain", "--context"))
-    if not is_once or not re.fullmatch(r"check( --explain(=slot|=all)?| --context[ =][12])*", line):
+    if not is_once or not re.fullmatch(r"check( --explain(=slot|=all)?| --context[ =][123])*", line):
         return 2, []
     digits = re.sub(r"[ \t\r\n]", "", given)
     if not re.fullmatch(r"([0-9a-fA-F]{2})*", digits):
         return 1, ["refused 63 BadHex"]
     detail = re.search("--explain(=all)?", line)
-    return answer(bytes.fromhex(digits), 2 if re.search("--context.2", line) else 1,
+    profile = re.search("--context.([123])", line)
+    return answer(bytes.fromhex(digits), PROFILES[int(profile.group(1)) if profile else 1],
                   detail and ("all" if detail.group(1) else "slot"))
 
 
@@ -94,171 +102,10 @@ def compare():
     return not differing
 
 
-# Random programs. r1 has the context, r2 and r3 the text's ends, r4 its length, r5 the link's length, r6 the color; r7 and r8 have
-# numbers of any origin, and r9 what is needed for a few slots. A comparison at whose offset END stands goes to the last `exit`.
-END = 0x7fff
-FRONT = (slot(0x79, 2, 1, 0) + slot(0x79, 3, 1, 8) + slot(0x61, 4, 1, 16) + slot(0x61, 5, 1, 32) + slot(0x61, 6, 1, 28)
-         + slot(0xb7, 0) + slot(0xbf, 7, 5) + slot(0xbf, 8, 6))
-NUMBERS = [4, 5, 5, 6, 7, 7, 8]
-SMALL = [0, 1, 2, 3, 4, 6, 7, 8, 15, 16, 31]
-IMMEDIATES = SMALL + [255, 1023, 1024, 1025, 2047, 2048, -2048, 4096, 65535, -1, -2, -8, (1 << 31) - 1, -(1 << 31)]
-WIDES = [1 << 63, 1 << 63, (1 << 63) + 1, (1 << 63) - 1, (1 << 63) + 4096, 1 << 31, 1 << 32, (1 << 31) + 8,
-         MASK[64], MASK[64] - 7, MASK[32]]
+# Random programs.
 
-
-def opcode_of(code, width, is_register):
-    """An opcode: its upper four bits are the operation, the lower ones its width, and whether its right side is a register."""
-    return code << 4 | width | (8 if is_register else 0)
-
-
-def arithmetic_piece(rng):
-    """An operation on numbers, or a change of sign or of bytes."""
-    dst, src, is_register = rng.choice(NUMBERS), rng.choice(NUMBERS), rng.random() < 0.4
-    if rng.random() < 0.04:
-        return rng.choice([slot(0x87, dst), slot(0x84, dst), slot(0xdc, dst, 0, 0, 16), slot(0xd4, dst, 0, 0, 32)])
-    code = rng.choice(list(ARITHMETIC) + [0, 0, 0, 1, 1, 4, 5, 5, 7, 7])
-    opcode = opcode_of(code, rng.choice([7, 7, 4]), is_register)
-    if is_register:
-        return slot(opcode, dst, src)
-    return slot(opcode, dst, 0, 0, rng.choice(SMALL + [11, 12] if code in (6, 7, 12) else IMMEDIATES))
-
-
-def constant_piece(rng):
-    return wide(rng.choice([7, 8, 8]), rng.choice(WIDES))
-
-
-def great_piece(rng):
-    """What a number has beyond the greatest length of a link; a sign bit of it; its sum with another. Some of these, or all."""
-    dst, data = rng.choice([5, 7]), b""
-    if rng.random() < 0.6:
-        name, imm = rng.choice([(7, 11), (7, 12), (7, 20), (5, 2048), (5, 4096), (5, -2048), (3, 1025), (3, 2048)])
-        data += slot(opcode_of(name, 7, False), dst, 0, 0, imm)
-    if rng.random() < 0.6:
-        is_wide, opcode = rng.random() < 0.5, rng.choice([0x47, 0x47, 0x07])
-        data += wide(8, rng.choice(WIDES)) + slot(opcode | 8, dst, 8) if is_wide else slot(opcode, dst, 0, 0, -(1 << 31))
-    if rng.random() < 0.6 or not data:
-        data += slot(rng.choice([0x0f, 0x0f, 0x0c, 0x1f, 0x1c]), rng.choice([4, 4, 6, 8]), dst)
-    return data
-
-
-def tail_piece(rng):
-    """A number is below the text's length by some bytes, behind a test that the text has these."""
-    bytes_less, dst = rng.choice([1, 2, 8, 16, 100, 1000]), rng.choice([4, 5, 6, 7])
-    data = slot(0x61, 8, 1, 16) + slot(0xa5, 8, 0, END, bytes_less) + slot(0x17, 8, 0, 0, bytes_less)
-    return data + slot(rng.choice([0x3d, 0x2d]), dst, 8, END)
-
-
-def comparison(rng, distance):
-    """A comparison of numbers, mostly without sign."""
-    name = rng.choice([1, 2, 2, 3, 3, 5, 10, 10, 11, 11] + list(JUMPS))
-    is_register = rng.random() < 0.4
-    opcode = opcode_of(name, rng.choice([5, 5, 5, 6]), is_register)
-    dst, src = rng.choice(NUMBERS), rng.choice(NUMBERS)
-    return slot(opcode, dst, src, distance) if is_register else slot(opcode, dst, 0, distance, rng.choice(IMMEDIATES))
-
-
-def guard_piece(rng):
-    return comparison(rng, END)
-
-
-def join_piece(rng):
-    """One of two ways, of which the second may do nothing."""
-    first = b"".join(rng.choice(STRAIGHT)(rng) for _ in range(rng.randrange(1, 3)))
-    second = b"".join(rng.choice(STRAIGHT)(rng) for _ in range(rng.randrange(0, 3)))
-    return comparison(rng, len(first) // 8 + 1) + first + slot(0x05, 0, 0, len(second) // 8) + second
-
-
-def stack_piece(rng):
-    """A number or an address goes to the stack and back; at times a part of it is stored over, or a number is stored beside it."""
-    place = rng.choice([-8, -16])
-    data = slot(0x7b, 10, rng.choice(NUMBERS + [2, 3]), place)
-    if rng.random() < 0.15:
-        opcode = rng.choice([opcode for opcode, (_, size) in STORES.items() if size < 8])
-        data += slot(opcode, 10, 7 if opcode & 1 else 0, place + rng.choice([0, 1, 4]), 0 if opcode & 1 else 5)
-    if rng.random() < 0.3:
-        data += slot(0x7b, 10, rng.choice(NUMBERS), -24 - place)
-    return data + (slot(0x79, rng.choice(NUMBERS), 10, place) if rng.random() < 0.8 else slot(0x61, 8, 10, place))
-
-
-def read_behind_a_test(rng, start_at, end_at):
-    """A few bytes behind the region's start, or before its end, behind a test that they are there."""
-    opcode = rng.choice(list(LOADS))
-    size, there = LOADS[opcode][1], rng.choice([1, 2, 4, 8, 9])
-    offset = max(0, there - size) + rng.choice([0] * 9 + [1])
-    test = slot(0xbf, 9, start_at) + slot(0x07, 9, 0, 0, there) + slot(0x2d, 9, end_at, END)
-    base = rng.choice([(start_at, offset), (9, offset - there), (end_at, -there)])
-    return test + slot(opcode, rng.choice([7, 8]), base[0], base[1])
-
-
-def text_piece(rng):
-    return read_behind_a_test(rng, 2, 3)
-
-
-def link_piece(rng):
-    """Bytes of the link; mostly where no run comes, as the text would have to be longer than it may be."""
-    data = slot(0x79, 7, 1, 56) + slot(0x79, 8, 1, 64) + read_behind_a_test(rng, 7, 8)
-    data += slot(0xb7, 7, 0, 0, 1) + slot(0xb7, 8, 0, 0, 2)
-    if rng.random() < 0.2:
-        return data
-    return slot(0x61, 9, 1, 16) + slot(0xb5, 9, 0, len(data) // 8, LIMITS[0]) + data
-
-
-STRAIGHT = [arithmetic_piece] * 6 + [great_piece] * 2 + [constant_piece, stack_piece]
-PIECES = STRAIGHT * 3 + [guard_piece] * 9 + [join_piece] * 4 + [tail_piece] * 4 + [text_piece] * 2 + [link_piece]
-
-
-def ended(data):
-    """The program with an `exit` behind it, to which the comparisons with END go."""
-    out = bytearray(data + EXIT)
-    for at in starts(data):
-        if distance_of(fields(data, at)) == END:
-            out[at * 8 + 2:at * 8 + 4] = (len(data) // 8 - at - 1).to_bytes(2, "little")
-    return bytes(out)
-
-
-def known_behind(data, register):
-    """What the first profile knows of a register behind the slots so far, if a run comes there."""
-    state = Walk(ended(data + EXIT), 1).states.get(len(data) // 8)
-    return state.registers[register] if state else None
-
-
-def test_of_length(register, length):
-    """The text has `length` bytes, or the run ends here."""
-    return slot(0x61, register, 1, 16) + slot(0xa5, register, 0, END, length)
-
-
-def exact_read(rng, data):
-    """A load that the first profile accepts and wouldn't if it knew less of some number, or of what an operation leaves of it: at
-    the number, by its tail or behind a test that the text is just long enough, or past the text's end, where the number would have
-    to be out of its interval."""
-    data += slot(0xbf, 9, rng.choice(NUMBERS))
-    if rng.random() < 0.5:
-        data += rng.choice([slot(0x57, 9, 0, 0, rng.choice([7, 15, 255, 4095])), slot(0x77, 9, 0, 0, rng.choice([1, 4, 60, 63]))])
-    kind, quantity = known_behind(data, 9) or (None, None)
-    if kind != "number":
-        return data
-    opcode = rng.choice([0x71, 0x71, 0x69, 0x79])
-    size, tail, way = LOADS[opcode][1], quantity.tails[0], rng.randrange(3)
-    if way == 0 and tail is not None and tail >= size:
-        return data + slot(0x0f, 9, 2) + slot(opcode, 0, 9, min(tail - size, END))
-    if way == 1 and quantity.high + size <= LIMITS[0]:
-        return data + test_of_length(0, quantity.high + size) + slot(0x0f, 9, 2) + slot(opcode, 0, 9, 0)
-    bound, is_in_bound = rng.choice([(quantity.low, 0x3d), (quantity.high, 0xbd)])
-    return data + wide(0, bound) + slot(is_in_bound, 9, 0, 1) + slot(opcode, 0, 3, 0)
-
-
-def random_program(rng):
-    """Pieces of any kind, and then up to three loads by what is known behind them."""
-    data = FRONT + (constant_piece(rng) if rng.random() < 0.5 else b"")
-    for _ in range(rng.randrange(2, 14)):
-        data += rng.choice(PIECES)(rng)
-    for _ in range(rng.randrange(1, 4)):
-        data = exact_read(rng, data)
-    return ended(data)
-
-
-def is_counterexample(data):
-    return answer(data, 1)[0] == 0 and answer(data, 2)[0] != 0
+def is_accepted(data, profile):
+    return answer(data, PROFILES[profile])[0] == 0
 
 
 def without(data, left_out):
@@ -272,30 +119,81 @@ def without(data, left_out):
     return bytes(out[:left_out * 8] + out[(left_out + slots) * 8:])
 
 
-def shortened(data):
-    """A counterexample from which no instruction can be left out."""
+def shortened(data, is_example):
+    """An example from which no instruction can be left out."""
     for at in starts(data):
-        if is_counterexample(without(data, at)):
-            return shortened(without(data, at))
+        if is_example(without(data, at)):
+            return shortened(without(data, at), is_example)
     return data
 
 
+def print_lost(found, profile):
+    """The first of the shortest programs that a profile accepts and the next one doesn't, without what it doesn't need."""
+    data = shortened(min(found, key=len), lambda data: is_accepted(data, profile) and not is_accepted(data, profile + 1))
+    print(data.hex())
+    for one in (profile, profile + 1):
+        print(f"by profile {one}: {answer(data, PROFILES[one])[1][0]}")
+
+
 def search(count, seed):
-    """Tests random programs. If one is a counterexample, the first of the shortest ones is printed, without what it doesn't need."""
+    """Tests that the second profile accepts what the first one does."""
     rng, accepted, found = random.Random(seed), 0, []
     for _ in range(count):
         data = random_program(rng)
-        if answer(data, 1)[0] == 0:
+        if is_accepted(data, 1):
             accepted += 1
-            if answer(data, 2)[0] != 0:
+            if not is_accepted(data, 2):
                 found.append(data)
     print(f"{count} programs tried, {accepted} accepted by the first profile, {len(found)} of these not by the second")
     if found:
-        data = shortened(min(found, key=len))
-        print(data.hex())
-        for profile in (1, 2):
-            print(f"by profile {profile}: {answer(data, profile)[1][0]}")
+        print_lost(found, 1)
     return not found
+
+
+def quantity_beside(known, other):
+    """Whether what is known is the same but for the tails, and no tail is less."""
+    if other is None or known is None or known[0] in ("context", "stack"):
+        return other is None or known == other
+    tails = zip(known[1].tails, other[1].tails)
+    return (known[0] == other[0] and known[1]._replace(tails=()) == other[1]._replace(tails=())
+            and all(less is None or tail is not None and tail >= less for tail, less in tails))
+
+
+def is_more_known(states, others):
+    """Whether the same slots are met, with the same kinds, bits and intervals before them, and no less tails and lengths."""
+    def eights(state):
+        return [held if form == "spilled" else None for form, held in state.stack]
+    return states.keys() == others.keys() and all(
+        all(map(quantity_beside, state.registers + eights(state), others[at].registers + eights(others[at])))
+        and all(length >= less for length, less in zip(state.lengths, others[at].lengths))
+        for at, state in states.items())
+
+
+def search_third(count, seed):
+    """Tests that the third profile accepts what the second one does, and that what it alone accepts runs without a fault, with the
+    machine as is known before each slot. Without the rule of copies no interval is known better, and each tail at least as well."""
+    rng, accepted, alone, lost, wrong = random.Random(seed), [0, 0], 0, [], 0
+    for number in range(count):
+        data = third_program(rng, PROFILES[3])
+        by_second, by_third = is_accepted(data, 2), Walk(data, PROFILES[3])
+        is_right = by_third.refused is None
+        accepted = [accepted[0] + by_second, accepted[1] + is_right]
+        if by_second and not is_right:
+            lost.append(data)
+        if by_second and "a" not in PROFILES[3].rules and not is_more_known(by_third.states, Walk(data, PROFILES[2]).states):
+            wrong += 1
+            print(f"less is known by the third profile: {data.hex()}")
+        if is_right and not by_second:
+            alone += 1
+            said = first_wrong(data, by_third.states, number)
+            if said:
+                wrong += 1
+                print(f"{said}: {data.hex()}")
+    print(f"{count} programs tried, {accepted[0]} accepted by the second profile, {len(lost)} of these not by the third,",
+          f"{accepted[1]} by the third, {alone} by the third alone; {wrong} wrong")
+    if lost:
+        print_lost(lost, 2)
+    return not lost and not wrong
 
 
 # Comparison with a built program.
@@ -313,36 +211,56 @@ def printed_by(hub, data, profile):
     return ran.returncode, modelled(ran.stdout.decode().splitlines())
 
 
-def against(hub, count, seed):
-    """Compares random programs, every second one spoiled, by both profiles."""
+def programs_for(rng, number):
+    """A random program; every second one is spoiled, and every second pair is of those for the third profile."""
+    data = random_program(rng) if number % 4 < 2 else third_program(rng, PROFILES[3])
+    return spoiled(rng, data) if number % 2 else data
+
+
+def against(hub, count, seed, profiles):
+    """Compares random programs, every second one spoiled, by these profiles."""
     rng, refused, differing = random.Random(seed), {}, 0
     for number in range(count):
-        data = random_program(rng)
-        if number % 2:
-            data = spoiled(rng, data)
-        for profile in (1, 2):
-            status, lines = answer(data, profile, "all")
+        data = programs_for(rng, number)
+        for profile in profiles:
+            status, lines = answer(data, PROFILES[profile], "all")
             if (status, lines) != printed_by(hub, data, profile):
                 differing += 1
                 print(f"by profile {profile} not as the model says: {data.hex()}")
             word = lines[0].split(" ")
             reason = word[1] if word[0] == "refused" else "accepted"
             refused[reason] = refused.get(reason, 0) + 1
-    print(f"{count} programs, {2 * count - differing} of {2 * count} answers alike;",
+    answers = len(profiles) * count
+    print(f"{count} programs, {answers - differing} of {answers} answers alike;",
           ", ".join(f"{reason}: {times}" for reason, times in sorted(refused.items())))
     return not differing
 
 
+def arguments():
+    parser = argparse.ArgumentParser(description=__doc__, formatter_class=argparse.RawDescriptionHelpFormatter)
+    parser.add_argument("--rules", default=PROFILES[3].rules, help="the rules that only the third profile has (%(default)s)")
+    ways = parser.add_subparsers(dest="way")
+    for name in ("random", "third", "hub"):
+        way = ways.add_parser(name)
+        if name == "hub":
+            way.add_argument("hub")
+            way.add_argument("--profiles", default="123")
+        way.add_argument("count", type=int)
+        way.add_argument("seed")
+    return parser.parse_args()
+
+
 def main():
-    words = sys.argv[1:]
-    if not words:
+    options = arguments()
+    PROFILES[3] = PROFILES[3]._replace(rules=options.rules)
+    if options.way is None:
         is_right = compare()
-    elif len(words) == 3 and words[0] == "random":
-        is_right = search(int(words[1]), int(words[2]))
-    elif len(words) == 4 and words[0] == "hub":
-        is_right = against(words[1], int(words[2]), int(words[3]))
+    elif options.way == "random":
+        is_right = search(options.count, int(options.seed))
+    elif options.way == "third":
+        is_right = search_third(options.count, options.seed)
     else:
-        sys.exit(__doc__)
+        is_right = against(options.hub, options.count, int(options.seed), [int(digit) for digit in options.profiles])
     sys.exit(0 if is_right else 1)
 
 

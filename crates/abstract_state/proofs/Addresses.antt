@@ -61,3 +61,8 @@ sum_lent Link x y = omega arith
 pub lent_moved : (region : Region) (w : Width) (n x : ℕ) → w ≡ Full → n ≡ base_of region + x → (base_of region + x % 2 ^ 64) % 2 ^ 64 ≡ cut w n
 lent_moved Text w n x is e = omega arith ∙ ap (λ (v : Width). cut v n) (sym is)
 lent_moved Link w n x is e = omega arith ∙ ap (λ (v : Width). cut v n) (sym is)
+
+-- the distance between two addresses in one lent region is that between their offsets
+pub lent_distance : (region : Region) (x y : ℕ) → base_of region + y < 2 ^ 64 → (x + (2 ^ 64 - y)) % 2 ^ 64 ≡ (base_of region + x + (2 ^ 64 - (base_of region + y) % 2 ^ 64)) % 2 ^ 64
+lent_distance Text x y h = omega arith
+lent_distance Link x y h = omega arith

@@ -17,6 +17,7 @@ pub mod Branches
 pub mod Edges
 pub mod KindLaws
 pub mod Joins
+pub mod BoundTails
 pub mod Exact
 pub mod Frames
 pub mod Unsets

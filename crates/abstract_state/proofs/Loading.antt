@@ -80,15 +80,15 @@ pub field_none : (n : ℕ) (z : Size) → ((f : ContextField) → offset_of f �
 field_none n z h = none_if (field_at n z) (λ f e. let is = field_sound n z f e in h f is.0 is.1)
 
 -- ---- loads
-pub loaded_else : (profile : Profile) (slots : Slots) (least : Least) (k : Known) (offset : ℕ) (size : Size) → ((p : ContextAddress) → k ≡ Context p → ⊥) → filled slots (content_of k) offset size ≡ None → loaded profile slots least (content_of k) offset size ≡ answer_of (a_number (any_of size)) (readable slots least (content_of k) offset (bytes_in size))
+pub loaded_else : (profile : Profile) (slots : Slots) (least : Least) (k : Known) (offset : ℕ) (size : Size) → ((p : ContextAddress) → k ≡ Context p → ⊥) → filled slots (content_of k) offset size ≡ None → loaded profile slots least (content_of k) offset size ≡ answer_of (a_number (any_of size)) (readable profile slots least (content_of k) offset (bytes_in size))
 unfolding loaded
 loaded_else profile slots least (Number q) offset size other e =
-    ap (λ (o : Option Content). option_map_or (λ whole. Ok (Some whole)) o (answer_of (a_number (any_of size)) (readable slots least (content_of (Number q)) offset (bytes_in size)))) e
+    ap (λ (o : Option Content). option_map_or (λ whole. Ok (Some whole)) o (answer_of (a_number (any_of size)) (readable profile slots least (content_of (Number q)) offset (bytes_in size)))) e
 loaded_else profile slots least (Context p) offset size other e = absurd (other p refl)
 loaded_else profile slots least (Stack p) offset size other e =
-    ap (λ (o : Option Content). option_map_or (λ whole. Ok (Some whole)) o (answer_of (a_number (any_of size)) (readable slots least (content_of (Stack p)) offset (bytes_in size)))) e
+    ap (λ (o : Option Content). option_map_or (λ whole. Ok (Some whole)) o (answer_of (a_number (any_of size)) (readable profile slots least (content_of (Stack p)) offset (bytes_in size)))) e
 loaded_else profile slots least (Lent p) offset size other e =
-    ap (λ (o : Option Content). option_map_or (λ whole. Ok (Some whole)) o (answer_of (a_number (any_of size)) (readable slots least (content_of (Lent p)) offset (bytes_in size)))) e
+    ap (λ (o : Option Content). option_map_or (λ whole. Ok (Some whole)) o (answer_of (a_number (any_of size)) (readable profile slots least (content_of (Lent p)) offset (bytes_in size)))) e
 
 -- ---- stores
 pub number_written : (slots : Slots) (k : Known) (offset count : ℕ) (v : Content) → IsNumber k → written slots (content_of k) offset count v ≡ Err refusal.NotAnAddress

@@ -1,13 +1,13 @@
 -- Loads and stores by what is known of the address.
-use Rattle.std.proofs.Common.{◌≡◌, ℕ, ◌+◌, ◌-◌, ◌/◌, ◌%◌, ◌^◌, ◌<◌, ◌≤◌, List, length, drop, get_or, Option, None, Ok, sym, ◌∙◌, ap, subst, ⊎_elim, arith}
+use Rattle.std.proofs.Common.{◌≡◌, ℕ, ◌+◌, ◌-◌, ◌/◌, ◌%◌, ◌^◌, ◌<◌, ◌≤◌, true, List, length, drop, get_or, Option, None, Ok, refl, sym, ◌∙◌, ap, subst, ⊎_elim, arith}
 use Rattle.std.proofs.lemmas.Bool.{cases_lt}
 use Rattle.std.proofs.lemmas.List.{get_or-drop}
 use Rattle.byteorder.specs.Endian.{little_number}
 use Rattle.byteorder.specs.Numbers.{little_from-lt}
-use Rattle.span_context.specs.Context.{context_base, text_base, link_base, SaysLink, LendsLink}
-use Rattle.span_context.specs.Profile.{context_length}
+use Rattle.span_context.specs.Context.{SpanBytes, context_base, text_base, link_base, SaysLink, LendsLink}
+use Rattle.span_context.specs.Profile.{context_length, lends_link}
 use Rattle.span_context.specs.declared.profile.Profile.{Profile}
-use Rattle.span_context.specs.declared.profile.Profile.TheVariants.{One, Two}
+use Rattle.span_context.specs.declared.profile.Profile.TheVariants.{One, Two, Three}
 use Rattle.span_context.specs.declared.size.Size.{Size}
 use Rattle.span_context.specs.declared.size.Size.TheVariants.{Double, Word}
 use Rattle.semantics.specs.State.{State}
@@ -18,13 +18,14 @@ use Rattle.abstract_state.specs.declared.region.Region.TheVariants.{Text, Link}
 use Rattle.abstract_state.specs.declared.bounds.Bounds.{Bounds}
 use Rattle.abstract_state.specs.declared.state.AbsReg.{AbsReg}
 use Rattle.abstract_state.specs.declared.state.AbsState.{AbsState}
-use Rattle.abstract_state.specs.Lent.{Lengths, base_of, length_of}
+use Rattle.abstract_state.specs.Lent.{Lengths, Lends, base_of, length_of}
 use Rattle.abstract_state.specs.State.{Span, lengths_of, IsLong, Contains, ContainsRegister, register_at, bytes_of, HasByte, HasNumber, ContainsStack, Spares, Fills, with_stack}
 use Rattle.abstract_state.proofs.Loads.{loads_context, loads_text, loads_link, loads_stack, number_set, number_back, stored_long, stored_before, stored_at, stored_after}
 
 context_within : (profile : Profile) → context_length profile ≤ 72
 context_within One = omega arith
 context_within Two = omega arith
+context_within Three = omega arith
 
 -- no context has more than 72 bytes
 context_short : (span : Span) → length span.bytes.context ≤ 72
@@ -123,18 +124,29 @@ pub field_count : (span : Span) (size : Size) (offset : ℕ) → size ≡ Word �
 field_count span size offset es ep = sym (read_as size Word offset 16 span.bytes.context es ep ∙ span.whole.fits.counts)
 
 -- what a context says of the link, where the profile lends it
-says_link : (span : Span) → span.profile ≡ Two → SaysLink span.bytes
-says_link span same = subst (λ (p : Profile). LendsLink p span.bytes) same span.whole.fits.link
+-- the link's text is lent to a program of the profile
+pub lent_link : (profile : Profile) → Lends Link profile → lends_link profile ≡ true
+lent_link One lends = absurd lends
+lent_link Two lends = refl
+lent_link Three lends = refl
 
-pub link_begin : (span : Span) (size : Size) (offset : ℕ) → span.profile ≡ Two → size ≡ Double → offset ≡ 56 → little_number (bytes_in size) (drop offset span.bytes.context) ≡ link_base + 0
+lends_fields : (profile : Profile) (bytes : SpanBytes) → lends_link profile ≡ true → LendsLink profile bytes → SaysLink bytes
+lends_fields One bytes lends link = absurd (cc)
+lends_fields Two bytes lends link = link
+lends_fields Three bytes lends link = link
+
+says_link : (span : Span) → lends_link span.profile ≡ true → SaysLink span.bytes
+says_link span lends = lends_fields span.profile span.bytes lends span.whole.fits.link
+
+pub link_begin : (span : Span) (size : Size) (offset : ℕ) → lends_link span.profile ≡ true → size ≡ Double → offset ≡ 56 → little_number (bytes_in size) (drop offset span.bytes.context) ≡ link_base + 0
 link_begin span size offset same es ep = read_as size Double offset 56 span.bytes.context es ep ∙ (says_link span same).begins ∙ omega arith
 
-pub link_end : (span : Span) (size : Size) (offset : ℕ) → span.profile ≡ Two → size ≡ Double → offset ≡ 64 → (base_of Link + length span.bytes.link) % 2 ^ 64 ≡ little_number (bytes_in size) (drop offset span.bytes.context)
+pub link_end : (span : Span) (size : Size) (offset : ℕ) → lends_link span.profile ≡ true → size ≡ Double → offset ≡ 64 → (base_of Link + length span.bytes.link) % 2 ^ 64 ≡ little_number (bytes_in size) (drop offset span.bytes.context)
 link_end span size offset same es ep =
     let is = read_as size Double offset 64 span.bytes.context es ep ∙ (says_link span same).ends in
     let limit = span.whole.fits.link_short in
     let small : (base_of Link + length span.bytes.link) % 2 ^ 64 ≡ link_base + length span.bytes.link = omega arith in
     small ∙ sym is
 
-pub link_count : (span : Span) (size : Size) (offset : ℕ) → span.profile ≡ Two → size ≡ Word → offset ≡ 32 → length span.bytes.link ≡ little_number (bytes_in size) (drop offset span.bytes.context)
+pub link_count : (span : Span) (size : Size) (offset : ℕ) → lends_link span.profile ≡ true → size ≡ Word → offset ≡ 32 → length span.bytes.link ≡ little_number (bytes_in size) (drop offset span.bytes.context)
 link_count span size offset same es ep = sym (read_as size Word offset 32 span.bytes.context es ep ∙ (says_link span same).counts)

@@ -19,10 +19,10 @@ use Rattle.abstract_state.specs.declared.known.Known.{Known}
 use Rattle.abstract_state.specs.declared.state.AbsState.{AbsState}
 use Rattle.abstract_state.specs.declared.step.Flow.{Flow}
 use Rattle.abstract_state.specs.declared.step.Flow.TheVariants.{Live}
-use Rattle.abstract_state.specs.Addresses.{Content, content_of, answer_of, then_answer, computed}
+use Rattle.abstract_state.specs.Addresses.{Content, content_of, answer_of, computed}
 use Rattle.abstract_state.specs.Stacks.{Slots, slots_of}
 use Rattle.abstract_state.specs.Loading.{Leaves, written}
-use Rattle.abstract_state.specs.Situation.{Situation, situation_of, registers_of, least_of, put, IsSituation, Flows, AnswersStep, read, operand_of}
+use Rattle.abstract_state.specs.Situation.{Situation, situation_of, registers_of, least_of, put, Flows, AnswersStep, read, operand_of}
 use Rattle.abstract_state.specs.Stepping.{into, made, compute, arithmetic, store, with_slots, exit, returned, stepped}
 
 pub out_is : {T : Type 0} (answer : Result T Refusal) (e : Refusal) → IsErrAnd answer (λ y. y ≡ e) → answer ≡ Err e

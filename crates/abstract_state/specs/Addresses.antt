@@ -2,7 +2,7 @@
 use Rattle.std.specs.Prelude.{ℕ, ◌+◌, ◌-◌, ◌%◌, ◌^◌, nat_le, nat_eq, if◌then◌else◌, Option, Some, None, Result, Ok, Err}
 use Rattle.std.specs.Prelude.{option_map, unwrap_or}
 use Rattle.span_context.specs.declared.profile.Profile.{Profile}
-use Rattle.span_context.specs.Profile.{context_length}
+use Rattle.span_context.specs.Profile.{context_length, has_more_rules}
 use Rattle.bpf_words.specs.declared.instruction.Arithmetic.{Arithmetic}
 use Rattle.bpf_words.specs.declared.instruction.Arithmetic.TheVariants as is
 use Rattle.bpf_words.specs.declared.instruction.Width.{Width}
@@ -68,22 +68,39 @@ unfoldable pub near : Region → Option Estimate → Result (Option Content) Ref
 near region None = Ok None
 near region (Some a) = if nat_le a.range.high (2 ^ 20) then Ok (Some (InRegion region a)) else Err TextOffset
 
-unfoldable pub from_region : Arithmetic → Width → Region → Estimate → Estimate → Result (Option Content) Refusal
-from_region is.Add Full region offset by = near region (added Full offset by)
-from_region is.Sub Full region offset by = near region (taken_away Full offset by)
-from_region operation width region offset by = Err PointerArithmetic
+unfoldable pub from_region : Profile → Arithmetic → Width → Region → Estimate → Estimate
+    → Result (Option Content) Refusal
+from_region profile is.Add Full region offset by = near region (added profile Full offset by)
+from_region profile is.Sub Full region offset by = near region (taken_away profile Full offset by)
+from_region profile operation width region offset by = Err PointerArithmetic
 
-unfoldable pub onto_region : Arithmetic → Width → Region → Estimate → Estimate → Result (Option Content) Refusal
-onto_region is.Add Full region by offset = near region (added Full by offset)
-onto_region operation width region by offset = Err PointerArithmetic
+unfoldable pub onto_region : Profile → Arithmetic → Width → Region → Estimate → Estimate
+    → Result (Option Content) Refusal
+onto_region profile is.Add Full region by offset = near region (added profile Full by offset)
+onto_region profile operation width region by offset = Err PointerArithmetic
+
+-- ---- by more rules, an address in a lent region is taken from another in the same region, by all 64 bits
+-- the difference is that of their offsets
+unfoldable pub distance : Profile → Arithmetic → Width → Region → Estimate → Region → Estimate
+    → Result (Option Content) Refusal
+distance profile is.Sub Full Text a Text b = Ok (option_map ANumber (taken_away profile Full a b))
+distance profile is.Sub Full Link a Link b = Ok (option_map ANumber (taken_away profile Full a b))
+distance profile operation width r a s b = Err PointerArithmetic
+
+unfoldable pub between : Profile → Arithmetic → Width → Region → Estimate → Region → Estimate
+    → Result (Option Content) Refusal
+between profile operation width r a s b =
+    if has_more_rules profile then distance profile operation width r a s b else Err PointerArithmetic
 
 -- ---- the operations with two sides but moves; where no run comes past, the answer holds nothing
 unfoldable pub computed : Profile → Arithmetic → Width → Content → Content → Result (Option Content) Refusal
-computed profile operation width (ANumber a) (ANumber b) = Ok (option_map ANumber (transferred operation width a b))
+computed profile operation width (ANumber a) (ANumber b) =
+    Ok (option_map ANumber (transferred profile operation width a b))
 computed profile operation width (InContext p) (ANumber b) = answer_of Some (from_context profile operation width p b)
 computed profile operation width (InStack p) (ANumber b) = answer_of Some (from_stack operation width p b)
-computed profile operation width (InRegion r a) (ANumber b) = from_region operation width r a b
-computed profile operation width (ANumber a) (InRegion r b) = onto_region operation width r a b
+computed profile operation width (InRegion r a) (ANumber b) = from_region profile operation width r a b
+computed profile operation width (ANumber a) (InRegion r b) = onto_region profile operation width r a b
+computed profile operation width (InRegion r a) (InRegion s b) = between profile operation width r a s b
 computed profile operation width a b = Err PointerArithmetic
 
 -- ---- a move: of an address all 64 bits

@@ -1,7 +1,7 @@
 -- The regions that a run is lent to read, and what a tail says of a number.
 use Rattle.std.specs.Prelude.{◌≡◌, ℕ, ◌+◌, ◌≤◌, Option, Some}
 use Rattle.span_context.specs.declared.profile.Profile.{Profile}
-use Rattle.span_context.specs.declared.profile.Profile.TheVariants.{One, Two}
+use Rattle.span_context.specs.declared.profile.Profile.TheVariants.{One, Two, Three}
 use Rattle.span_context.specs.Context.{text_base, text_limit, link_base, link_limit}
 use Rattle.intervals.specs.declared.Range.{Range}
 use Rattle.intervals.specs.Range as interval
@@ -39,11 +39,12 @@ abbrev pub end_field : Region → ℕ
 end_field Text = 8
 end_field Link = 64
 
--- the text is lent in both profiles, the link's text in the second
+-- the text is lent in each profile, the link's text in all but the first
 abbrev pub Lends : Region → Profile → Type 0
 Lends Text profile = Unit {0}
 Lends Link One = ⊥
 Lends Link Two = Unit {0}
+Lends Link Three = Unit {0}
 
 abbrev pub tail_of : Tails → Region → Option ℕ
 tail_of tails Text = tails.text

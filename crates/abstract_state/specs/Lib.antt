@@ -6,6 +6,7 @@ pub mod Relation
 pub mod State
 pub mod Steps
 pub mod Kinds
+pub mod Bounded
 pub mod Frame
 pub mod Exact
 pub mod Guard

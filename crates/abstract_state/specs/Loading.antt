@@ -1,11 +1,11 @@
 -- Loads and stores, by what the base holds: what they give, and when they are refused.
 use Rattle.std.specs.Prelude.{◌≡◌, ◌<◌}
-use Rattle.std.specs.Prelude.{ℕ, ◌+◌, ◌-◌, ◌/◌, ◌%◌, ◌^◌, nat_le, nat_eq, ◌&&◌, ◌||◌, if◌then◌else◌}
+use Rattle.std.specs.Prelude.{ℕ, ◌+◌, ◌-◌, ◌/◌, ◌%◌, ◌^◌, nat_le, nat_lt, nat_eq, ◌&&◌, ◌||◌, if◌then◌else◌}
 use Rattle.std.specs.Prelude.{Bool, false, [], ◌∷◌, find, Option, Some, None, Result, Ok, Err}
 use Rattle.std.specs.Prelude.{option_map, ⊤}
 use Rattle.std.specs.Option.{option_map_or}
 use Rattle.span_context.specs.declared.profile.Profile.{Profile}
-use Rattle.span_context.specs.declared.profile.Profile.TheVariants.{One, Two}
+use Rattle.span_context.specs.Profile.{lends_link, has_more_rules}
 use Rattle.span_context.specs.declared.size.Size.{Size}
 use Rattle.span_context.specs.declared.size.Size.TheVariants.{Word, Double}
 use Rattle.span_context.specs.declared.context_field.ContextField.{ContextField}
@@ -53,8 +53,7 @@ link_field field.LinkLength = Ok (option_map ANumber (up_to_end Link (2 ^ 32 - 1
 link_field f = text_field f
 
 unfoldable pub lent_field : Profile → ContextField → Result (Option Content) Refusal
-lent_field One f = text_field f
-lent_field Two f = link_field f
+lent_field profile f = if lends_link profile then link_field f else text_field f
 
 -- the field that begins there and has that size
 unfoldable pub field_at : ℕ → Size → Option ContextField
@@ -67,9 +66,25 @@ field_at n Word =
     ∷ field.Count ∷ [])
 field_at n size = None
 
--- a load takes a whole field
+-- count bytes from n on lie in one number of the context: from 16 to 48 stand numbers of four bytes, then the version
+unfoldable pub in_number : ℕ → ℕ → Bool
+in_number n count =
+    if nat_lt n 48 then nat_le 16 n && nat_le (n % 4 + count) 4 else nat_le (n + count) 56
+
+-- by the rules that the first two profiles leave out, bytes of one number may be loaded
+unfoldable pub part_of_number : Profile → ℕ → ℕ → Result ⊤ Refusal
+part_of_number profile n count =
+    if has_more_rules profile && in_number n count then Ok tt else Err refusal.ContextField
+
+abbrev pub a_number : Estimate → ⊤ → Option Content
+a_number a done = Some (ANumber a)
+
+unfoldable pub part_at : Profile → ℕ → Size → Result (Option Content) Refusal
+part_at profile n size = answer_of (a_number (any_of size)) (part_of_number profile n (bytes_in size))
+
+-- a load takes a whole field, or gives any number of its size
 unfoldable pub context_at : Profile → ℕ → Size → Result (Option Content) Refusal
-context_at profile n size = option_map_or (lent_field profile) (field_at n size) (Err refusal.ContextField)
+context_at profile n size = option_map_or (lent_field profile) (field_at n size) (part_at profile n size)
 
 -- ---- places
 -- an offset has 16 bits and a sign, and is added modulo 2^64: a sum that isn't below 0 is near where it was added
@@ -107,11 +122,13 @@ reaches least region a offset count =
 abbrev pub set_there : Slots → ℕ → ℕ → Result ⊤ Refusal
 set_there slots count n = if are_set slots n count then Ok tt else Err refusal.StackUnset
 
-unfoldable pub readable : Slots → Least → Content → ℕ → ℕ → Result ⊤ Refusal
-readable slots least (ANumber a) offset count = Err refusal.NotAnAddress
-readable slots least (InContext p) offset count = Err refusal.ContextField
-readable slots least (InStack p) offset count = then_answer (set_there slots count) (stack_place p offset count)
-readable slots least (InRegion r a) offset count =
+unfoldable pub readable : Profile → Slots → Least → Content → ℕ → ℕ → Result ⊤ Refusal
+readable profile slots least (ANumber a) offset count = Err refusal.NotAnAddress
+readable profile slots least (InContext p) offset count =
+    option_map_or (λ n. part_of_number profile n count) (place p offset) (Err refusal.ContextField)
+readable profile slots least (InStack p) offset count =
+    then_answer (set_there slots count) (stack_place p offset count)
+readable profile slots least (InRegion r a) offset count =
     if reaches (least_at least r) r a offset count then Ok tt else Err refusal.TextBounds
 
 -- what stands in a slot of the stack of which a load takes all eight bytes
@@ -123,14 +140,11 @@ unfoldable pub filled : Slots → Content → ℕ → Size → Option Content
 filled slots (InStack p) offset Double = whole_at slots (stack_place p offset 8)
 filled slots content offset size = None
 
-abbrev pub a_number : Estimate → ⊤ → Option Content
-a_number a done = Some (ANumber a)
-
 unfoldable pub loaded : Profile → Slots → Least → Content → ℕ → Size → Result (Option Content) Refusal
 loaded profile slots least (InContext p) offset size = context_field profile p offset size
 loaded profile slots least content offset size =
     option_map_or (λ whole. Ok (Some whole)) (filled slots content offset size)
-    (answer_of (a_number (any_of size)) (readable slots least content offset (bytes_in size)))
+    (answer_of (a_number (any_of size)) (readable profile slots least content offset (bytes_in size)))
 
 -- ---- stores, to the stack alone
 abbrev pub is_whole : ℕ → ℕ → Bool

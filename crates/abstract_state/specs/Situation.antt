@@ -1,12 +1,15 @@
 -- What is known of the machine before an instruction, as the rules take it: what each register and each slot of the
 -- stack holds, and how long each lent region is at least.
-use Rattle.std.specs.Prelude.{◌≡◌, ◌<◌, ℕ, ◌+◌, nat_le, nat_eq, min, max, if◌then◌else◌, Option, Some, None}
+use Rattle.std.specs.Prelude.{◌≡◌, ◌<◌, ℕ, ◌+◌, ◌-◌, nat_le, nat_eq, min, max, if◌then◌else◌, Option, Some, None}
 use Rattle.std.specs.Prelude.{Result, Ok, Err, List, option_map, option_and_then}
 use Rattle.std.specs.Int.{cast_unsigned, w64}
+use Rattle.span_context.specs.declared.profile.Profile.{Profile}
+use Rattle.span_context.specs.Profile.{has_more_rules}
 use Rattle.bpf_words.specs.declared.instruction.Operand.{Operand}
 use Rattle.bpf_words.specs.declared.instruction.Operand.TheVariants.{Immediate, Source}
 use Rattle.abstract_state.specs.declared.region.Region.{Region}
 use Rattle.abstract_state.specs.declared.region.Region.TheVariants.{Text, Link}
+use Rattle.abstract_state.specs.declared.region.Tails.{Tails}
 use Rattle.abstract_state.specs.declared.bounds.Bounds.{Bounds}
 use Rattle.abstract_state.specs.declared.refusal.Refusal.{Refusal}
 use Rattle.abstract_state.specs.declared.refusal.Refusal.TheVariants.{UnsetRegister}
@@ -17,9 +20,9 @@ use Rattle.abstract_state.specs.declared.step.Flow.{Flow}
 use Rattle.abstract_state.specs.declared.step.Flow.TheVariants.{Live, Dead}
 use Rattle.abstract_state.specs.Lent.{limit_of}
 use Rattle.abstract_state.specs.State.{register_at}
-use Rattle.abstract_state.specs.Estimate.{Estimate, constant}
-use Rattle.abstract_state.specs.Addresses.{Content, ANumber, InContext, InStack, content_of, either}
-use Rattle.abstract_state.specs.Stacks.{Slots, Marked, none_set, slots_of, either_eight}
+use Rattle.abstract_state.specs.Estimate.{Estimate, constant, greater_tail}
+use Rattle.abstract_state.specs.Addresses.{Content, ANumber, InContext, InStack, InRegion, content_of, either}
+use Rattle.abstract_state.specs.Stacks.{Eight, Slots, Marked, Whole, none_set, slots_of, either_eight}
 
 -- how many bytes each lent region has at least
 pub record Least : Type 0 where
@@ -119,6 +122,36 @@ with_least s least = record s { least = least }
 unfoldable pub lengthened : Estimate → Situation → Option Situation
 lengthened a s = option_map (with_least s) (longer a s.least)
 
+-- ---- tails of addresses by how long the lent regions are at least
+-- a number up to high with this tail ends at the bound, if it is not past it
+unfoldable pub tail_within : ℕ → ℕ → Option ℕ
+tail_within bound high = if nat_le high bound then Some (bound - high) else None
+
+-- one more tail for a region: the greater one is kept
+abbrev pub with_tail : Region → Option ℕ → Tails → Tails
+with_tail Text t tails = record { text = greater_tail tails.text t; link = tails.link }
+with_tail Link t tails = record { text = tails.text; link = greater_tail tails.link t }
+
+abbrev pub bounded_offset : Region → ℕ → Estimate → Estimate
+bounded_offset region least a = record a { tails = with_tail region (tail_within least a.range.high) a.tails }
+
+abbrev pub bounded : Least → Content → Content
+bounded least (ANumber a) = ANumber a
+bounded least (InContext p) = InContext p
+bounded least (InStack p) = InStack p
+bounded least (InRegion region a) = InRegion region (bounded_offset region (least_at least region) a)
+
+abbrev pub bounded_eight : Least → Eight → Eight
+bounded_eight least (Marked marks) = Marked marks
+bounded_eight least (Whole content) = Whole (bounded least content)
+
+abbrev pub bounded_all : Situation → Situation
+bounded_all s = record {
+  registers = λ i. option_map (bounded s.least) (s.registers i);
+  slots = λ i. bounded_eight s.least (s.slots i);
+  least = s.least;
+}
+
 -- ---- what either of two situations is
 abbrev pub either_register : Option Content → Option Content → Option Content
 either_register None b = None
@@ -128,9 +161,14 @@ either_register (Some a) (Some b) = either a b
 abbrev pub shorter : Least → Least → Least
 shorter a b = record { text = min a.text b.text; link = min a.link b.link }
 
-abbrev pub joined : Situation → Situation → Situation
-joined a b = record {
+abbrev pub either_situation : Situation → Situation → Situation
+either_situation a b = record {
   registers = λ i. either_register (a.registers i) (b.registers i);
   slots = λ i. either_eight (a.slots i) (b.slots i);
   least = shorter a.least b.least;
 }
+
+-- by the rules that the first two profiles leave out, addresses first take the tails that their side's bounds give them
+unfoldable pub joined : Profile → Situation → Situation → Situation
+joined profile a b =
+    if has_more_rules profile then either_situation (bounded_all a) (bounded_all b) else either_situation a b

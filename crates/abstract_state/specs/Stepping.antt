@@ -67,11 +67,11 @@ load profile size d base offset s =
     made d s (λ a. loaded profile s.slots s.least a (cast_unsigned w64 offset) size) (read (s.registers base))
 
 -- with the sign: any number
-abbrev pub load_signed : SignedSize → ℕ → ℕ → ℤ → Situation → Outcome
-load_signed size d base offset s =
+abbrev pub load_signed : Profile → SignedSize → ℕ → ℕ → ℤ → Situation → Outcome
+load_signed profile size d base offset s =
     made d s
     (λ a. answer_of (a_number (unknown Full))
-    (readable s.slots s.least a (cast_unsigned w64 offset) (bytes_in_signed size)))
+    (readable profile s.slots s.least a (cast_unsigned w64 offset) (bytes_in_signed size)))
     (read (s.registers base))
 
 abbrev pub load_wide : ℕ → ℕ → Situation → Situation
@@ -108,7 +108,7 @@ stepped profile (Jump distance) s = Ok (Some s)
 stepped profile (JumpLong distance) s = Ok (Some s)
 stepped profile (Branch width comparison left right distance) s = Ok None
 stepped profile (Load size d base offset) s = load profile size d base offset s
-stepped profile (LoadSigned size d base offset) s = load_signed size d base offset s
+stepped profile (LoadSigned size d base offset) s = load_signed profile size d base offset s
 stepped profile (Store size base offset value) s = store size base offset value s
 stepped profile (LoadWide d value) s = Ok (Some (load_wide d value s))
 stepped profile Exit s = answer_of (λ done. Some s) (exit s)

@@ -1,7 +1,9 @@
 -- What an operation makes of what is known of its operands.
-use Rattle.std.specs.Prelude.{ℕ, ◌+◌, ◌-◌, ◌*◌, ◌%◌, ◌^◌, nat_le, nat_lt, ◌&&◌, if◌then◌else◌, Option, Some, None}
+use Rattle.std.specs.Prelude.{ℕ, ◌+◌, ◌-◌, ◌*◌, ◌/◌, ◌%◌, ◌^◌, nat_le, nat_lt, ◌&&◌, if◌then◌else◌, Option, Some, None}
 use Rattle.std.specs.Prelude.{option_and_then}
 use Rattle.std.specs.Option.{option_map_or, option_or}
+use Rattle.span_context.specs.declared.profile.Profile.{Profile}
+use Rattle.span_context.specs.Profile.{has_more_rules}
 use Rattle.bpf_words.specs.declared.instruction.Arithmetic.{Arithmetic}
 use Rattle.bpf_words.specs.declared.instruction.Arithmetic.TheVariants as is
 use Rattle.bpf_words.specs.declared.instruction.Width.{Width}
@@ -29,14 +31,18 @@ sum_bits a b =
     then bits_of_either a.bits b.bits
     else folded (λ m n. (m + n) % 2 ^ 64) (only a) (only b)
 
--- the tail of the one number after the other, of at most so much, is added, or the other way round
-unfoldable pub sum_tail : ℕ → ℕ → Option ℕ → Option ℕ → Option ℕ
-sum_tail high added t u = option_or (tail_after t added) (tail_after u high)
+-- the tail of the one number after the other, of at most so much, is added, and the other way round: by more rules
+-- the greater of the two, else the first that there is
+unfoldable pub sum_tail : Profile → ℕ → ℕ → Option ℕ → Option ℕ → Option ℕ
+sum_tail profile high added t u =
+    if has_more_rules profile
+    then greater_tail (tail_after t added) (tail_after u high)
+    else option_or (tail_after t added) (tail_after u high)
 
-unfoldable pub sum : Width → Estimate → Estimate → Option Estimate
-sum width a b =
+unfoldable pub sum : Profile → Width → Estimate → Estimate → Option Estimate
+sum profile width a b =
     normal_cut width (sum_bits a b) (sum_between a.range b.range)
-    (both_tails (sum_tail a.range.high b.range.high) a.tails b.tails)
+    (both_tails (sum_tail profile a.range.high b.range.high) a.tails b.tails)
 
 unfoldable pub difference_bits : Estimate → Estimate → KnownBits
 difference_bits a b =
@@ -63,11 +69,13 @@ complement width b =
     (only b)
 
 -- a great constant is taken away as what it lacks, and the other way round
-unfoldable pub added : Width → Estimate → Estimate → Option Estimate
-added width a b = option_map_or (λ n. difference width a (constant n)) (complement width b) (sum width a b)
+unfoldable pub added : Profile → Width → Estimate → Estimate → Option Estimate
+added profile width a b =
+    option_map_or (λ n. difference width a (constant n)) (complement width b) (sum profile width a b)
 
-unfoldable pub taken_away : Width → Estimate → Estimate → Option Estimate
-taken_away width a b = option_map_or (λ n. sum width a (constant n)) (complement width b) (difference width a b)
+unfoldable pub taken_away : Profile → Width → Estimate → Estimate → Option Estimate
+taken_away profile width a b =
+    option_map_or (λ n. sum profile width a (constant n)) (complement width b) (difference width a b)
 
 -- ---- the others
 unfoldable pub of_both : Width → Estimate → Estimate → Option Estimate
@@ -84,8 +92,19 @@ of_one width a b = normal_cut width (bits_of_one a.bits b.bits) every_word no_ta
 unfoldable pub product : Width → Estimate → Estimate → Option Estimate
 product width a b = normal_cut width none_known (product_between a.range b.range) no_tails
 
-unfoldable pub divided : Width → Estimate → Estimate → Option Estimate
-divided width a b = normal_cut width none_known (quotient_between a.range b.range) a.tails
+-- by more rules, a number divided by n, not 0, is less by at least as much as its least one
+unfoldable pub tails_over : Profile → ℕ → Estimate → Tails
+tails_over profile n a =
+    if has_more_rules profile then each_tail (raised_tail (a.range.low - a.range.low / n)) a.tails else a.tails
+
+-- where the divisor is known
+unfoldable pub quotient_tails : Profile → Estimate → Estimate → Tails
+quotient_tails profile a b =
+    option_map_or (λ n. if nat_lt 0 n then tails_over profile n a else a.tails) (only b) a.tails
+
+unfoldable pub divided : Profile → Width → Estimate → Estimate → Option Estimate
+divided profile width a b =
+    normal_cut width none_known (quotient_between a.range b.range) (quotient_tails profile a b)
 
 unfoldable pub remaining : Width → Estimate → Estimate → Option Estimate
 remaining width a b = normal_cut width none_known (remainder_between a.range b.range) a.tails
@@ -102,9 +121,9 @@ unfoldable pub shifted_left_by : Width → Estimate → ℕ → Option Estimate
 shifted_left_by width a n =
     normal_cut width (bits_shifted_left n a.bits) (shifted_left_between n a.range) no_tails
 
-unfoldable pub shifted_right_by : Width → Estimate → ℕ → Option Estimate
-shifted_right_by width a n =
-    normal_cut width (bits_shifted_right n a.bits) (shifted_right_between n a.range) a.tails
+unfoldable pub shifted_right_by : Profile → Width → Estimate → ℕ → Option Estimate
+shifted_right_by profile width a n =
+    normal_cut width (bits_shifted_right n a.bits) (shifted_right_between n a.range) (tails_over profile (2 ^ n) a)
 
 -- a shift to the right by a count that isn't known makes a number no greater
 unfoldable pub shrunk : Width → Estimate → Option Estimate
@@ -113,34 +132,37 @@ shrunk width a = normal_cut width none_known (from_to 0 a.range.high) a.tails
 unfoldable pub shifted_left : Width → Estimate → Estimate → Option Estimate
 shifted_left width a b = by_count (shifted_left_by width a) (Some (unknown width)) width b
 
-unfoldable pub shifted_right : Width → Estimate → Estimate → Option Estimate
-shifted_right width a b = by_count (shifted_right_by width a) (shrunk width a) width b
+unfoldable pub shifted_right : Profile → Width → Estimate → Estimate → Option Estimate
+shifted_right profile width a b = by_count (shifted_right_by profile width a) (shrunk width a) width b
 
 -- with the sign: known where the sign bit is 0
-unfoldable pub shifted_signed : Width → Estimate → Estimate → Option Estimate
-shifted_signed width a b =
+unfoldable pub shifted_signed : Profile → Width → Estimate → Estimate → Option Estimate
+shifted_signed profile width a b =
     by_count
-    (λ n. if nat_lt (2 * a.range.high) (2 ^ bits_of width) then shifted_right_by width a n else Some (unknown width))
+    (λ n. if nat_lt (2 * a.range.high) (2 ^ bits_of width)
+    then shifted_right_by profile width a n
+    else Some (unknown width))
     (Some (unknown width)) width b
 
 -- ---- the table
-unfoldable pub applied : Arithmetic → Width → Estimate → Estimate → Option Estimate
-applied is.Add width a b = added width a b
-applied is.Sub width a b = taken_away width a b
-applied is.Mul width a b = product width a b
-applied is.Div width a b = divided width a b
-applied is.Or width a b = of_either width a b
-applied is.And width a b = of_both width a b
-applied is.Lsh width a b = shifted_left width a b
-applied is.Rsh width a b = shifted_right width a b
-applied is.Mod width a b = remaining width a b
-applied is.Xor width a b = of_one width a b
-applied is.Mov width a b = normal_cut width b.bits b.range b.tails
-applied is.Arsh width a b = shifted_signed width a b
-applied is.SignedDiv width a b = Some (unknown width)
-applied is.SignedMod width a b = Some (unknown width)
+unfoldable pub applied : Profile → Arithmetic → Width → Estimate → Estimate → Option Estimate
+applied profile is.Add width a b = added profile width a b
+applied profile is.Sub width a b = taken_away profile width a b
+applied profile is.Mul width a b = product width a b
+applied profile is.Div width a b = divided profile width a b
+applied profile is.Or width a b = of_either width a b
+applied profile is.And width a b = of_both width a b
+applied profile is.Lsh width a b = shifted_left width a b
+applied profile is.Rsh width a b = shifted_right profile width a b
+applied profile is.Mod width a b = remaining width a b
+applied profile is.Xor width a b = of_one width a b
+applied profile is.Mov width a b = normal_cut width b.bits b.range b.tails
+applied profile is.Arsh width a b = shifted_signed profile width a b
+applied profile is.SignedDiv width a b = Some (unknown width)
+applied profile is.SignedMod width a b = Some (unknown width)
 
 -- an operation of 32 bits cuts its operands
-unfoldable pub transferred : Arithmetic → Width → Estimate → Estimate → Option Estimate
-transferred operation width a b =
-    option_and_then (λ x. option_and_then (applied operation width x) (operand_cut width b)) (operand_cut width a)
+unfoldable pub transferred : Profile → Arithmetic → Width → Estimate → Estimate → Option Estimate
+transferred profile operation width a b =
+    option_and_then (λ x. option_and_then (applied profile operation width x) (operand_cut width b))
+    (operand_cut width a)

@@ -11,6 +11,7 @@ ghost use Rattle.abstract_state.specs.Situation.{registers_of, situation_of, lea
 use crate::bounds::Bounds;
 use crate::stack::join_slots;
 use crate::state::{AbsReg, AbsState};
+use span_context::profile::Profile;
 
 /// What either register holds.
 fn join_register(a: AbsReg, b: AbsReg) -> AbsReg
@@ -62,8 +63,8 @@ impl Bounds {
 }
 
 impl AbsState {
-    /// Takes in what another state contains.
-    pub fn join(&mut self, other: &AbsState)
+    /// Takes in what another state contains, by what both say.
+    fn take_in(&mut self, other: &AbsState)
         ensures left { (lengths : Lengths) (s : State) → Contains self.old lengths s → Contains self.new lengths s }
         ensures right { (lengths : Lengths) (s : State) → Contains other.now lengths s → Contains self.new lengths s }
         ensures kinds { (i : ℕ) → i < 11 → JoinsReg (register_at self.old.registers i)
@@ -72,10 +73,53 @@ impl AbsState {
             (slot_at self.new.stack i) }
         ensures bounds { (region : Region) → bound_of self.new.bounds region
             ≡ min (bound_of self.old.bounds region) (bound_of other.now.bounds region) }
-        ensures rule { rules.IsSituation self.new (rules.joined (situation_of self.old) (situation_of other.now)) }
+        ensures rule { rules.IsSituation self.new
+            (rules.either_situation (situation_of self.old) (situation_of other.now)) }
     {
         join_registers(&mut self.registers, &other.registers);
         join_slots(&mut self.stack, &other.stack);
         self.bounds = self.bounds.join(other.bounds);
+    }
+
+    /// Takes in what another state contains. By the rules that the first two profiles leave out, an address in a lent
+    /// region first takes the tail that its own state's bounds give it, since the bounds that are left are the lesser.
+    #[tactic(auto, unfolding(crate::specs::Situation::joined))]
+    pub fn join(&mut self, profile: Profile, other: &AbsState)
+        ensures left { (lengths : Lengths) (s : State) → Contains self.old lengths s → Contains self.new lengths s }
+        ensures right { (lengths : Lengths) (s : State) → Contains other.now lengths s → Contains self.new lengths s }
+        ensures kinds { (i : ℕ) → i < 11 → JoinsReg (register_at self.old.registers i)
+            (register_at other.now.registers i) (register_at self.new.registers i) }
+        ensures slots { (i : ℕ) → i < 64 → JoinsSlot (slot_at self.old.stack i) (slot_at other.now.stack i)
+            (slot_at self.new.stack i) }
+        ensures bounds { (region : Region) → bound_of self.new.bounds region
+            ≡ min (bound_of self.old.bounds region) (bound_of other.now.bounds region) }
+        ensures rule { rules.IsSituation self.new
+            (rules.joined profile (situation_of self.old) (situation_of other.now)) }
+    {
+        if profile.has_more_rules() {
+            self.join_bounded(other);
+        } else {
+            self.take_in(other);
+        }
+    }
+
+    /// Takes in what another state contains, after the addresses of both have the tails that their bounds give them.
+    /// The states that this makes are large: kept out of `join`, they cost nothing under the first two profiles.
+    #[inline(never)]
+    fn join_bounded(&mut self, other: &AbsState)
+        ensures left { (lengths : Lengths) (s : State) → Contains self.old lengths s → Contains self.new lengths s }
+        ensures right { (lengths : Lengths) (s : State) → Contains other.now lengths s → Contains self.new lengths s }
+        ensures kinds { (i : ℕ) → i < 11 → JoinsReg (register_at self.old.registers i)
+            (register_at other.now.registers i) (register_at self.new.registers i) }
+        ensures slots { (i : ℕ) → i < 64 → JoinsSlot (slot_at self.old.stack i) (slot_at other.now.stack i)
+            (slot_at self.new.stack i) }
+        ensures bounds { (region : Region) → bound_of self.new.bounds region
+            ≡ min (bound_of self.old.bounds region) (bound_of other.now.bounds region) }
+        ensures rule { rules.IsSituation self.new (rules.either_situation
+            (rules.bounded_all (situation_of self.old)) (rules.bounded_all (situation_of other.now))) }
+    {
+        let other = other.bounded();
+        *self = self.bounded();
+        self.take_in(&other);
     }
 }

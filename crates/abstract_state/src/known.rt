@@ -129,6 +129,7 @@ fn from_stack(
 
 #[tactic(auto, unfolding(crate::specs::Addresses::from_region))]
 fn from_lent(
+    profile: Profile,
     operation: Arithmetic,
     width: Width,
     address: LentAddress,
@@ -141,17 +142,24 @@ fn from_lent(
         → IsOk result × IfOk result (λ o. IfSome o (λ k. IsLentIn at (m + n) (m + n) (tail_after t n) k)) }
     ensures not_unset { IfErr result (λ e. e ≢ Refusal.UnsetRegister) }
     ensures rule { answer_of (option_map content_of) result
-        ≡ rules.from_region operation width address.region (estimate_of address.offset) (estimate_of by) }
+        ≡ rules.from_region profile operation width address.region (estimate_of address.offset) (estimate_of by) }
 {
     match (width, operation) {
-        (Width::Full, Arithmetic::Add) => lent(address.region, address.offset.add(by, Width::Full)),
-        (Width::Full, Arithmetic::Sub) => lent(address.region, address.offset.sub(by, Width::Full)),
+        (Width::Full, Arithmetic::Add) => lent(
+            address.region,
+            address.offset.add(profile, by, Width::Full),
+        ),
+        (Width::Full, Arithmetic::Sub) => lent(
+            address.region,
+            address.offset.sub(profile, by, Width::Full),
+        ),
         _ => Err(Refusal::PointerArithmetic),
     }
 }
 
 #[tactic(auto, unfolding(crate::specs::Addresses::onto_region))]
 fn onto_lent(
+    profile: Profile,
     operation: Arithmetic,
     width: Width,
     by: Quantity,
@@ -162,10 +170,38 @@ fn onto_lent(
         → WithinKnown o lengths (value_of operation width (cut width x) (cut width y))) }
     ensures not_unset { IfErr result (λ e. e ≢ Refusal.UnsetRegister) }
     ensures rule { answer_of (option_map content_of) result
-        ≡ rules.onto_region operation width address.region (estimate_of by) (estimate_of address.offset) }
+        ≡ rules.onto_region profile operation width address.region (estimate_of by) (estimate_of address.offset) }
 {
     match (width, operation) {
-        (Width::Full, Arithmetic::Add) => lent(address.region, by.add(address.offset, Width::Full)),
+        (Width::Full, Arithmetic::Add) => lent(
+            address.region,
+            by.add(profile, address.offset, Width::Full),
+        ),
+        _ => Err(Refusal::PointerArithmetic),
+    }
+}
+
+/// The distance from one address in a lent region to another in the same one, where the profile has more rules.
+#[tactic(auto, unfolding(crate::specs::Addresses::between, crate::specs::Addresses::distance))]
+fn distance(
+    profile: Profile,
+    operation: Arithmetic,
+    width: Width,
+    a: LentAddress,
+    b: LentAddress,
+) -> Result<Option<Known>, Refusal>
+    ensures sound { IfOk result (λ o. (lengths : Lengths) (x y : ℕ) → ContainsKnown (Known.Lent a) lengths x
+        → ContainsKnown (Known.Lent b) lengths y
+        → WithinKnown o lengths (value_of operation width (cut width x) (cut width y))) }
+    ensures not_unset { IfErr result (λ e. e ≢ Refusal.UnsetRegister) }
+    ensures rule { answer_of (option_map content_of) result
+        ≡ rules.between profile operation width a.region (estimate_of a.offset) b.region (estimate_of b.offset) }
+{
+    if !profile.has_more_rules() || a.region != b.region {
+        return Err(Refusal::PointerArithmetic);
+    }
+    match (width, operation) {
+        (Width::Full, Arithmetic::Sub) => Ok(number(a.offset.sub(profile, b.offset, Width::Full))),
         _ => Err(Refusal::PointerArithmetic),
     }
 }
@@ -209,13 +245,16 @@ impl Known {
             ≡ rules.computed profile operation width (content_of self) (content_of other) }
     {
         match (self, other) {
-            (Known::Number(a), Known::Number(b)) => Ok(number(transfer(operation, width, a, b))),
+            (Known::Number(a), Known::Number(b)) => {
+                Ok(number(transfer(profile, operation, width, a, b)))
+            }
             (Known::Context(a), Known::Number(b)) => Ok(Some(from_context(
                 profile, operation, width, a, b,
             )?)),
             (Known::Stack(a), Known::Number(b)) => Ok(Some(from_stack(operation, width, a, b)?)),
-            (Known::Lent(a), Known::Number(b)) => from_lent(operation, width, a, b),
-            (Known::Number(a), Known::Lent(b)) => onto_lent(operation, width, a, b),
+            (Known::Lent(a), Known::Number(b)) => from_lent(profile, operation, width, a, b),
+            (Known::Number(a), Known::Lent(b)) => onto_lent(profile, operation, width, a, b),
+            (Known::Lent(a), Known::Lent(b)) => distance(profile, operation, width, a, b),
             _ => Err(Refusal::PointerArithmetic),
         }
     }

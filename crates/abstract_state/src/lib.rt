@@ -7,6 +7,7 @@
 #![tactic(auto)]
 
 pub mod address;
+mod bounded;
 pub mod bounds;
 pub mod branch;
 mod join;

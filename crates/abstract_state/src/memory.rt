@@ -1,6 +1,6 @@
 //! Loads and stores.
 ghost use Rattle.std.specs.Prelude.{◌≡◌, ◌≢◌, IfErr, ℕ, ◌+◌, ◌-◌, ◌*◌, ◌/◌, ◌%◌, ◌^◌, ◌<◌, ◌≤◌, Option, Some, Ok};
-ghost use Rattle.std.specs.Prelude.{IfSome, IfOk, IsOk, IsTrue, ◌↔◌, List, length, drop};
+ghost use Rattle.std.specs.Prelude.{IfSome, IfOk, IsOk, IsTrue, ◌↔◌, true, List, length, drop};
 ghost use Rattle.byteorder.specs.Endian.{little_number};
 ghost use Rattle.semantics.specs.State.{State};
 ghost use Rattle.semantics.specs.Memory.{address_of, bytes_in, bytes_in_signed, load as load_of, store as store_of};
@@ -16,14 +16,14 @@ ghost use Rattle.abstract_state.specs.Frame.{IsStackByte, AreMarked, StoresSlots
 ghost use Rattle.abstract_state.specs.declared.slot.Slot.{Slot};
 ghost use Rattle.abstract_state.specs.declared.state.AbsReg.TheVariants as TheRegs;
 ghost use Rattle.span_context.specs.ContextField.{offset_of, size_of};
-ghost use Rattle.span_context.specs.Profile.{context_length};
-ghost use Rattle.span_context.specs.declared.profile.Profile.TheVariants.{Two};
+ghost use Rattle.span_context.specs.Context.{context_base};
+ghost use Rattle.span_context.specs.Profile.{context_length, lends_link};
 ghost use Rattle.abstract_state.specs.State.{Span, lengths_of, IsLong, Contains, LoadsAs, LoadsIn, StoresAs, slot_at};
 ghost use Rattle.std.specs.Prelude.{option_map};
 ghost use Rattle.abstract_state.specs.Estimate.{estimate_of};
 ghost use Rattle.abstract_state.specs.Addresses.{content_of, answer_of};
-ghost use Rattle.abstract_state.specs.Stacks.{slots_of};
-ghost use Rattle.abstract_state.specs.Situation.{least_of, least_at};
+ghost use Rattle.abstract_state.specs.Stacks.{Slots, slots_of};
+ghost use Rattle.abstract_state.specs.Situation.{Least, least_of, least_at};
 ghost use Rattle.abstract_state.specs.Loading as rules;
 
 use crate::address::{ContextAddress, LentAddress, StackAddress};
@@ -111,7 +111,7 @@ fn text_field(field: ContextField) -> Result<Option<Known>, Refusal>
 #[tactic(auto, unfolding(crate::specs::Loading::link_field))]
 fn link_field(field: ContextField) -> Result<Option<Known>, Refusal>
     ensures within { IfOk result (λ _. offset_of field + bytes_in (size_of field) ≤ 72) }
-    ensures sound { IfOk result (λ o. (span : Span) → span.profile ≡ Two
+    ensures sound { IfOk result (λ o. (span : Span) → lends_link span.profile ≡ true
         → WithinKnown o (lengths_of span)
         (little_number (bytes_in (size_of field)) (drop (offset_of field) span.bytes.context))) }
     ensures begin { offset_of field ≡ 0 → IsOk result
@@ -154,15 +154,62 @@ fn lent_field(profile: Profile, field: ContextField) -> Result<Option<Known>, Re
     ensures not_unset { IfErr result (λ e. e ≢ Refusal.UnsetRegister) }
     ensures rule { answer_of (option_map content_of) result ≡ rules.lent_field profile field }
 {
-    match profile {
-        Profile::One => text_field(field),
-        Profile::Two => link_field(field),
+    if profile.lends_link() {
+        link_field(field)
+    } else {
+        text_field(field)
     }
 }
 
-/// What the context holds at an offset, where that is a field of that size that a program of the profile may read.
+/// Whether `count` bytes of the context lie in one of its numbers: of four bytes each, and behind them the version.
+#[tactic(auto, unfolding(crate::specs::Loading::in_number))]
+fn in_number(offset: u64, count: usize) -> bool
+    requires count { count ≤ 8 }
+    requires offset { offset ≤ 2 ^ 17 }
+    ensures within { IsTrue result → offset + count ≤ 56 }
+    ensures behind { IsTrue result → 16 ≤ offset }
+    ensures rule { result ≡ rules.in_number offset count }
+{
+    if offset < 48 {
+        return 16 <= offset && offset % 4 + count as u64 <= 4;
+    }
+    offset + count as u64 <= 56
+}
+
+/// Checks that `count` bytes of the context are part of a number, which the first two profiles refuse.
+#[tactic(auto, unfolding(crate::specs::Loading::part_of_number))]
+fn part_of_number(profile: Profile, offset: u64, count: usize) -> Result<(), Refusal>
+    requires count { count ≤ 8 }
+    requires offset { offset ≤ 2 ^ 17 }
+    ensures within { IfOk result (λ _. offset + count ≤ context_length profile) }
+    ensures not_unset { IfErr result (λ e. e ≢ Refusal.UnsetRegister) }
+    ensures rule { result ≡ rules.part_of_number profile offset count }
+{
+    if profile.has_more_rules() && in_number(offset, count) {
+        return Ok(());
+    }
+    Err(Refusal::ContextField)
+}
+
+/// What the context holds at an offset where no field of that size begins.
+#[tactic(auto, unfolding(crate::specs::Loading::part_at))]
+fn part(profile: Profile, offset: u64, size: Size) -> Result<Option<Known>, Refusal>
+    requires { offset ≤ 2 ^ 17 }
+    ensures within { IfOk result (λ _. offset + bytes_in size ≤ context_length profile) }
+    ensures sound { IfOk result (λ o. (span : Span)
+        → WithinKnown o (lengths_of span) (little_number (bytes_in size) (drop offset span.bytes.context))) }
+    ensures numbers { IfOk result (λ o. AreNumbers o) }
+    ensures not_unset { IfErr result (λ e. e ≢ Refusal.UnsetRegister) }
+    ensures rule { answer_of (option_map content_of) result ≡ rules.part_at profile offset size }
+{
+    part_of_number(profile, offset, count(size))?;
+    Ok(Some(Known::Number(loaded(size))))
+}
+
+/// What the context holds at an offset: a field of that size that a program of the profile may read, or part of one.
 #[tactic(auto, unfolding(crate::specs::Loading::context_at))]
 fn field(profile: Profile, offset: u64, size: Size) -> Result<Option<Known>, Refusal>
+    requires { offset ≤ 2 ^ 17 }
     ensures within { IfOk result (λ _. offset + bytes_in size ≤ context_length profile) }
     ensures sound { IfOk result (λ o. (span : Span) → span.profile ≡ profile
         → WithinKnown o (lengths_of span) (little_number (bytes_in size) (drop offset span.bytes.context))) }
@@ -177,8 +224,30 @@ fn field(profile: Profile, offset: u64, size: Size) -> Result<Option<Known>, Ref
 {
     match ContextField::at(offset, size) {
         Some(field) => lent_field(profile, field),
-        None => Err(Refusal::ContextField),
+        None => part(profile, offset, size),
     }
+}
+
+/// Checks that `count` bytes at an offset from an address in the context are part of a number.
+#[tactic(auto, unfolding(crate::specs::Loading::readable))]
+fn part_of_context(
+    profile: Profile,
+    address: ContextAddress,
+    offset: u64,
+    count: usize,
+) -> Result<(), Refusal>
+    requires { count ≤ 8 }
+    ensures sound { IfOk result (λ _. (span : Span) (n : ℕ) → span.profile ≡ profile
+        → ContainsKnown (Known.Context address) (lengths_of span) n
+        → (p : ℕ) × ((n + offset) % 2 ^ 64 ≡ context_base + p) × (p + count ≤ context_length profile)) }
+    ensures not_unset { IfErr result (λ e. e ≢ Refusal.UnsetRegister) }
+    ensures rule { (slots : Slots) (least : Least) → result
+        ≡ rules.readable profile slots least (content_of (Known.Context address)) offset count }
+{
+    let Some(p) = moved(address.offset, offset) else {
+        return Err(Refusal::ContextField);
+    };
+    part_of_number(profile, p, count)
 }
 
 /// Whether `count` bytes at an offset from an address in a lent region lie in it.
@@ -234,20 +303,22 @@ fn offset_in_stack(address: StackAddress, offset: u64, count: usize) -> Result<u
 impl AbsState {
     /// Checks that `count` bytes can be loaded as a number.
     #[tactic(auto, unfolding(crate::specs::Loading::readable))]
-    fn bytes(&self, base: Known, offset: u64, count: usize) -> Result<(), Refusal>
+    fn bytes(&self, profile: Profile, base: Known, offset: u64, count: usize) -> Result<(), Refusal>
         requires { count ≤ 8 }
-        ensures sound { IfOk result (λ _. LoadsAs self.now base offset count (λ lengths v. v < 256 ^ count)) }
+        ensures sound { IfOk result (λ _. LoadsIn profile self.now base offset count
+            (λ lengths v. v < 256 ^ count)) }
         ensures lent { (at : TheRegion) (p : LentAddress) → base ≡ Known.Lent p → p.region ≡ at → offset ≤ 2 ^ 15
             → p.offset.range.high + offset + count ≤ bound_of self.now.bounds at → IsOk result }
         ensures stack { (p : ℕ) → IsStackByte p offset (TheRegs.Set base) → AreMarked self.now.stack p count
             → IsOk result }
         ensures not_unset { IfErr result (λ e. e ≢ Refusal.UnsetRegister) }
         ensures rule { result
-            ≡ rules.readable (slots_of self.now.stack) (least_of self.now.bounds) (content_of base) offset count }
+            ≡ rules.readable profile (slots_of self.now.stack) (least_of self.now.bounds) (content_of base) offset
+            count }
     {
         match base {
             Known::Number(_) => Err(Refusal::NotAnAddress),
-            Known::Context(_) => Err(Refusal::ContextField),
+            Known::Context(address) => part_of_context(profile, address, offset, count),
             Known::Lent(address) => {
                 if reaches(self.bounds, address, offset, count) {
                     Ok(())
@@ -357,23 +428,30 @@ impl AbsState {
         if let Some(known) = self.fill(base, offset, size) {
             return Ok(Some(known));
         }
-        self.bytes(base, offset, count(size))?;
+        self.bytes(profile, base, offset, count(size))?;
         Ok(Some(Known::Number(loaded(size))))
     }
 
     /// Checks that a sign-extending load finds its bytes.
-    pub fn load_signed(&self, base: Known, offset: u64, size: SignedSize) -> Result<(), Refusal>
-        ensures sound { IfOk result (λ _. LoadsAs self.now base offset (bytes_in_signed size)
+    pub fn load_signed(
+        &self,
+        profile: Profile,
+        base: Known,
+        offset: u64,
+        size: SignedSize,
+    ) -> Result<(), Refusal>
+        ensures sound { IfOk result (λ _. LoadsIn profile self.now base offset (bytes_in_signed size)
             (λ lengths v. v < 256 ^ bytes_in_signed size)) }
         ensures lent { (at : TheRegion) (p : LentAddress) → base ≡ Known.Lent p → p.region ≡ at → offset ≤ 2 ^ 15
             → p.offset.range.high + offset + bytes_in_signed size ≤ bound_of self.now.bounds at → IsOk result }
         ensures marked { (p : ℕ) → IsStackByte p offset (TheRegs.Set base)
             → AreMarked self.now.stack p (bytes_in_signed size) → IsOk result }
         ensures not_unset { IfErr result (λ e. e ≢ Refusal.UnsetRegister) }
-        ensures rule { result ≡ rules.readable (slots_of self.now.stack) (least_of self.now.bounds) (content_of base)
-            offset (bytes_in_signed size) }
+        ensures rule { result
+            ≡ rules.readable profile (slots_of self.now.stack) (least_of self.now.bounds) (content_of base) offset
+            (bytes_in_signed size) }
     {
-        self.bytes(base, offset, count_signed(size))
+        self.bytes(profile, base, offset, count_signed(size))
     }
 
     /// Stores a number.

@@ -11,6 +11,7 @@ ghost use Rattle.abstract_state.specs.Exact.{tail_after};
 use crate::tail;
 use intervals::Range;
 use span_context::context::{LINK, LINK_LIMIT, TEXT, TEXT_LIMIT};
+use span_context::profile::Profile;
 
 /// Memory that a run is lent to read, of a length that differs from run to run.
 #[derive(Clone, Copy)]
@@ -108,16 +109,16 @@ impl Tails {
 
     /// The tails of the sum of a number with these tails and one with the others, where the others' number is
     /// up to `added`, and this number is up to `high`.
-    pub fn sum(self, high: u64, other: Tails, added: u64) -> Tails
+    pub fn sum(self, profile: Profile, high: u64, other: Tails, added: u64) -> Tails
         ensures contains { (lengths : Lengths) (x y : ℕ) → HasTails self lengths x → x ≤ high
             → HasTails other lengths y → y ≤ added → HasTails result lengths (x + y) }
         ensures alone { (region : TheRegion) → tail_of other region ≡ None
             → tail_of result region ≡ tail_after (tail_of self region) added }
-        ensures rule { result ≡ both_tails (sum_tail high added) self other }
+        ensures rule { result ≡ both_tails (sum_tail profile high added) self other }
     {
         Tails {
-            text: tail::sum(self.text, high, other.text, added),
-            link: tail::sum(self.link, high, other.link, added),
+            text: tail::sum(profile, self.text, high, other.text, added),
+            link: tail::sum(profile, self.link, high, other.link, added),
         }
     }
 

@@ -180,24 +180,26 @@ impl AbsState {
 
     fn load_signed_into(
         &mut self,
+        profile: Profile,
         size: SignedSize,
         destination: Register,
         base: Register,
         offset: i16,
     ) -> Result<Flow, Refusal>
         requires { destination ≢ 10 }
-        ensures performs { Performs StepsBy self.old (Insn.LoadSigned size destination base offset) result self.new }
+        ensures performs { Performs (StepsIn profile) self.old (Insn.LoadSigned size destination base offset) result
+            self.new }
         ensures lent { (o : ℕ) (p : LentAddress) → offset ≡ pos o → o < 2 ^ 15
             → register_at self.old.registers base ≡ Set (Known.Lent p)
             → p.offset.range.high + o + bytes_in_signed size ≤ bound_of self.old.bounds p.region
             → Keeps result self.new destination Fact.AnyNumber }
         ensures stack { (p : ℕ) → IsStackByte p (cast_unsigned w64 offset) (register_at self.old.registers base)
             → AreMarked self.old.stack p (bytes_in_signed size) → Keeps result self.new destination Fact.AnyNumber }
-        ensures rule { AnswersStep (rules.load_signed size destination base offset (situation_of self.old)) result
-            self.new }
+        ensures rule { AnswersStep (rules.load_signed profile size destination base offset (situation_of self.old))
+            result self.new }
     {
         let a = self.read(base)?;
-        self.load_signed(a, displacement(offset), size)?;
+        self.load_signed(profile, a, displacement(offset), size)?;
         let known = Known::Number(Quantity::unknown(Width::Full));
         Ok(self.write(destination, Some(known)))
     }
@@ -336,7 +338,7 @@ impl AbsState {
                 destination,
                 base,
                 offset,
-            } => self.load_signed_into(size, destination, base, offset),
+            } => self.load_signed_into(profile, size, destination, base, offset),
             Insn::Store {
                 size,
                 base,

@@ -7,6 +7,7 @@ ghost use Rattle.abstract_state.specs.Lent.{HasTail, InRange, InRanges};
 ghost use Rattle.abstract_state.specs.Exact.{tail_after};
 
 use intervals::Range;
+use span_context::profile::Profile;
 
 /// The interval cut to what the tail allows, where lengths are up to `limit`.
 #[tactic(auto, unfolding(crate::specs::Estimate::under_tail))]
@@ -37,17 +38,27 @@ pub fn after(tail: Option<u32>, added: u64) -> Option<u32>
     }
 }
 
-/// The tail of the sum of a number up to `high` with this tail and of a number up to `added` with the other.
+/// The tail of the sum of a number up to `high` with this tail and of a number up to `added` with the other: where the
+/// profile has more rules the greater of what the two give, else the first that there is.
 #[tactic(auto, unfolding(crate::specs::Transfer::sum_tail))]
-pub fn sum(tail: Option<u32>, high: u64, other: Option<u32>, added: u64) -> Option<u32>
+pub fn sum(
+    profile: Profile,
+    tail: Option<u32>,
+    high: u64,
+    other: Option<u32>,
+    added: u64,
+) -> Option<u32>
     ensures contains { (long x y : ℕ) → HasTail tail long x → x ≤ high → HasTail other long y → y ≤ added
         → HasTail result long (x + y) }
     ensures alone { other ≡ None → result ≡ tail_after tail added }
-    ensures rule { result ≡ sum_tail high added tail other }
+    ensures rule { result ≡ sum_tail profile high added tail other }
 {
-    match after(tail, added) {
-        Some(t) => Some(t),
-        None => after(other, high),
+    let own = after(tail, added);
+    let others = after(other, high);
+    if profile.has_more_rules() {
+        greater(own, others)
+    } else {
+        own.or(others)
     }
 }
 

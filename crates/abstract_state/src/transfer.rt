@@ -3,6 +3,7 @@ ghost use Rattle.std.specs.Prelude.{◌≡◌, ℕ, ◌+◌, ◌-◌, ◌*◌, �
 ghost use Rattle.std.specs.Prelude.{bit_and, bit_or, bit_xor, option_map};
 ghost use Rattle.known_bits.specs.KnownBits.{known_of};
 ghost use Rattle.intervals.specs.Interval.{interval_of};
+ghost use Rattle.intervals.specs.Range.{quotient};
 ghost use Rattle.abstract_state.specs.Estimate.{estimate_of, operand_cut, normal_cut, constant, unknown, only};
 ghost use Rattle.abstract_state.specs.Transfer as rules;
 ghost use Rattle.abstract_state.specs.Lent.{Lengths, HasTails, InRange, InRanges};
@@ -16,6 +17,7 @@ use crate::region::Tails;
 use bpf_words::instruction::{Arithmetic, Width};
 use intervals::Range;
 use known_bits::Bits;
+use span_context::profile::Profile;
 
 /// The greatest number of the width.
 pub fn greatest(width: Width) -> u64
@@ -105,19 +107,19 @@ impl Quantity {
 
     /// The sum: bits, interval, tails.
     #[tactic(auto, unfolding(crate::specs::Transfer::sum))]
-    fn plus(self, other: Quantity, width: Width) -> Option<Quantity>
+    fn plus(self, profile: Profile, other: Quantity, width: Width) -> Option<Quantity>
         ensures contains { MapsBoth width self other result (λ x y. value_of Arithmetic.Add width x y) }
         ensures constants { (region : Region) → width ≡ Width.Full → (m n : ℕ) (t : Option ℕ) → IsIn region self m m t
             → IsIn region other n n None → m + n < 2 ^ 64
             → IfSome result (λ q. IsIn region q (m + n) (m + n) (tail_after t n)) }
-        ensures rule { option_map estimate_of result ≡ rules.sum width (estimate_of self) (estimate_of other) }
+        ensures rule { option_map estimate_of result ≡ rules.sum profile width (estimate_of self) (estimate_of other) }
     {
         Quantity::finish(
             width,
             self.sum_bits(other),
             self.range.add(other.range),
             self.tails
-                .sum(self.range.high, other.tails, other.range.high),
+                .sum(profile, self.range.high, other.tails, other.range.high),
         )
     }
 
@@ -184,27 +186,29 @@ impl Quantity {
 
     /// The sum; a great constant is taken away as what it lacks to the width, so that the interval stays.
     #[tactic(auto, unfolding(crate::specs::Transfer::added))]
-    pub fn add(self, other: Quantity, width: Width) -> Option<Quantity>
+    pub fn add(self, profile: Profile, other: Quantity, width: Width) -> Option<Quantity>
         ensures contains { MapsBoth width self other result (λ x y. value_of Arithmetic.Add width x y) }
         ensures constants { (region : Region) → width ≡ Width.Full → (m n : ℕ) (t : Option ℕ) → IsIn region self m m t
             → IsIn region other n n None → m < 2 ^ 62 → n < 2 ^ 62
             → IfSome result (λ q. IsIn region q (m + n) (m + n) (tail_after t n)) }
-        ensures rule { option_map estimate_of result ≡ rules.added width (estimate_of self) (estimate_of other) }
+        ensures rule { option_map estimate_of result
+            ≡ rules.added profile width (estimate_of self) (estimate_of other) }
     {
         match other.complement(width) {
             Some(taken) => self.minus(taken, width),
-            None => self.plus(other, width),
+            None => self.plus(profile, other, width),
         }
     }
 
     /// The difference; a great constant is added as what it lacks to the width, so that the interval stays.
     #[tactic(auto, unfolding(crate::specs::Transfer::taken_away))]
-    pub fn sub(self, other: Quantity, width: Width) -> Option<Quantity>
+    pub fn sub(self, profile: Profile, other: Quantity, width: Width) -> Option<Quantity>
         ensures contains { MapsBoth width self other result (λ x y. value_of Arithmetic.Sub width x y) }
-        ensures rule { option_map estimate_of result ≡ rules.taken_away width (estimate_of self) (estimate_of other) }
+        ensures rule { option_map estimate_of result
+            ≡ rules.taken_away profile width (estimate_of self) (estimate_of other) }
     {
         match other.complement(width) {
-            Some(added) => self.plus(added, width),
+            Some(added) => self.plus(profile, added, width),
             None => self.minus(other, width),
         }
     }
@@ -272,17 +276,46 @@ impl Quantity {
         )
     }
 
+    /// The tails of the quotient by so much: each number loses at least what the least one loses.
+    #[tactic(auto, unfolding(crate::specs::Transfer::tails_over))]
+    fn tails_over(self, profile: Profile, divisor: u64) -> Tails
+        requires { 0 < divisor }
+        ensures contains { (lengths : Lengths) (x : ℕ) → Contains self lengths x
+            → HasTails result lengths (x / divisor) }
+        ensures rule { result ≡ rules.tails_over profile divisor (estimate_of self) }
+    {
+        if !profile.has_more_rules() {
+            return self.tails;
+        }
+        let low = self.range.low;
+        self.tails.raised(low - low / divisor)
+    }
+
+    /// The tails of the quotient, which is 0 where the divisor is 0.
+    #[tactic(auto, unfolding(crate::specs::Transfer::quotient_tails))]
+    fn quotient_tails(self, profile: Profile, other: Quantity) -> Tails
+        ensures contains { (lengths : Lengths) (x y : ℕ) → Contains self lengths x → Contains other lengths y
+            → HasTails result lengths (quotient x y) }
+        ensures rule { result ≡ rules.quotient_tails profile (estimate_of self) (estimate_of other) }
+    {
+        match other.only() {
+            Some(divisor) if divisor > 0 => self.tails_over(profile, divisor),
+            _ => self.tails,
+        }
+    }
+
     /// The quotient, which is 0 where the divisor is 0.
     #[tactic(auto, unfolding(crate::specs::Transfer::divided))]
-    pub fn div(self, other: Quantity, width: Width) -> Option<Quantity>
+    pub fn div(self, profile: Profile, other: Quantity, width: Width) -> Option<Quantity>
         ensures contains { MapsBoth width self other result (λ x y. value_of Arithmetic.Div width x y) }
-        ensures rule { option_map estimate_of result ≡ rules.divided width (estimate_of self) (estimate_of other) }
+        ensures rule { option_map estimate_of result
+            ≡ rules.divided profile width (estimate_of self) (estimate_of other) }
     {
         Quantity::finish(
             width,
             Bits::unknown(),
             self.range.div(other.range),
-            self.tails,
+            self.quotient_tails(profile, other),
         )
     }
 
@@ -327,16 +360,16 @@ impl Quantity {
 
     /// A shift to the right by so much.
     #[tactic(auto, unfolding(crate::specs::Transfer::shifted_right_by))]
-    fn shr_by(self, count: u64, width: Width) -> Option<Quantity>
+    fn shr_by(self, profile: Profile, count: u64, width: Width) -> Option<Quantity>
         requires { count < bits_of width }
         ensures contains { Maps width self result (λ x. x / 2 ^ count) }
-        ensures rule { option_map estimate_of result ≡ rules.shifted_right_by width (estimate_of self) count }
+        ensures rule { option_map estimate_of result ≡ rules.shifted_right_by profile width (estimate_of self) count }
     {
         Quantity::finish(
             width,
             self.bits.shr(count),
             self.range.shr(count),
-            self.tails,
+            self.tails_over(profile, power(count % 64)),
         )
     }
 
@@ -369,31 +402,31 @@ impl Quantity {
 
     /// The shift to the right without sign.
     #[tactic(auto, unfolding(crate::specs::Transfer::shifted_right))]
-    pub fn shr(self, other: Quantity, width: Width) -> Option<Quantity>
+    pub fn shr(self, profile: Profile, other: Quantity, width: Width) -> Option<Quantity>
         ensures contains { MapsBoth width self other result (λ x y. value_of Arithmetic.Rsh width x y) }
         ensures rule { option_map estimate_of result
-            ≡ rules.shifted_right width (estimate_of self) (estimate_of other) }
+            ≡ rules.shifted_right profile width (estimate_of self) (estimate_of other) }
     {
         let count = other.count(width)?;
         let Some(n) = count.only() else {
             return self.shrunk(width);
         };
-        self.shr_by(n, width)
+        self.shr_by(profile, n, width)
     }
 
     /// The shift to the right with the sign, known where the sign bit is 0 and the count is known.
     #[tactic(auto, unfolding(crate::specs::Transfer::shifted_signed))]
-    pub fn arsh(self, other: Quantity, width: Width) -> Option<Quantity>
+    pub fn arsh(self, profile: Profile, other: Quantity, width: Width) -> Option<Quantity>
         ensures contains { MapsBoth width self other result (λ x y. value_of Arithmetic.Arsh width x y) }
         ensures rule { option_map estimate_of result
-            ≡ rules.shifted_signed width (estimate_of self) (estimate_of other) }
+            ≡ rules.shifted_signed profile width (estimate_of self) (estimate_of other) }
     {
         let count = other.count(width)?;
         let Some(n) = count.only() else {
             return Some(Quantity::unknown(width));
         };
         if self.range.high < half(width) {
-            self.shr_by(n, width)
+            self.shr_by(profile, n, width)
         } else {
             Some(Quantity::unknown(width))
         }
@@ -410,28 +443,44 @@ fn mask(width: Width) -> u64
     }
 }
 
+/// A power of 2.
+fn power(exponent: u64) -> u64
+    requires { exponent < 64 }
+    ensures positive { 0 < result }
+    ensures value { result ≡ 2 ^ exponent }
+{
+    1_u64 << exponent
+}
+
 /// What an operation gives on operands of the width.
 #[tactic(auto, unfolding(crate::specs::Transfer::applied))]
-fn apply(operation: Arithmetic, width: Width, a: Quantity, b: Quantity) -> Option<Quantity>
+fn apply(
+    profile: Profile,
+    operation: Arithmetic,
+    width: Width,
+    a: Quantity,
+    b: Quantity,
+) -> Option<Quantity>
     ensures contains { MapsBoth width a b result (λ x y. value_of operation width x y) }
     ensures constants { (region : Region) → width ≡ Width.Full → (m n : ℕ) → Folds operation m n
         → IsConstant region a m → IsConstant region b n
         → IfSome result (λ q. IsConstant region q (value_of operation Width.Full m n)) }
-    ensures rule { option_map estimate_of result ≡ rules.applied operation width (estimate_of a) (estimate_of b) }
+    ensures rule { option_map estimate_of result
+        ≡ rules.applied profile operation width (estimate_of a) (estimate_of b) }
 {
     match operation {
-        Arithmetic::Add => a.add(b, width),
-        Arithmetic::Sub => a.sub(b, width),
+        Arithmetic::Add => a.add(profile, b, width),
+        Arithmetic::Sub => a.sub(profile, b, width),
         Arithmetic::Mul => a.mul(b, width),
-        Arithmetic::Div => a.div(b, width),
+        Arithmetic::Div => a.div(profile, b, width),
         Arithmetic::Or => a.or(b, width),
         Arithmetic::And => a.and(b, width),
         Arithmetic::Lsh => a.shl(b, width),
-        Arithmetic::Rsh => a.shr(b, width),
+        Arithmetic::Rsh => a.shr(profile, b, width),
         Arithmetic::Mod => a.rem(b, width),
         Arithmetic::Xor => a.xor(b, width),
         Arithmetic::Mov => b.moved(width),
-        Arithmetic::Arsh => a.arsh(b, width),
+        Arithmetic::Arsh => a.arsh(profile, b, width),
         Arithmetic::SignedDiv => Some(Quantity::unknown(width)),
         Arithmetic::SignedMod => Some(Quantity::unknown(width)),
     }
@@ -439,16 +488,22 @@ fn apply(operation: Arithmetic, width: Width, a: Quantity, b: Quantity) -> Optio
 
 /// What an operation gives of two registers' numbers.
 #[tactic(auto, unfolding(crate::specs::Transfer::transferred))]
-pub fn transfer(operation: Arithmetic, width: Width, a: Quantity, b: Quantity) -> Option<Quantity>
+pub fn transfer(
+    profile: Profile,
+    operation: Arithmetic,
+    width: Width,
+    a: Quantity,
+    b: Quantity,
+) -> Option<Quantity>
     ensures contains { (lengths : Lengths) (x y : ℕ) → Contains a lengths x → Contains b lengths y
         → Within result lengths (value_of operation width (cut width x) (cut width y)) }
     ensures constants { (region : Region) → width ≡ Width.Full → (m n : ℕ) → Folds operation m n
         → IsConstant region a m → IsConstant region b n
         → IfSome result (λ q. IsConstant region q (value_of operation Width.Full m n)) }
     ensures rule { option_map estimate_of result
-        ≡ rules.transferred operation width (estimate_of a) (estimate_of b) }
+        ≡ rules.transferred profile operation width (estimate_of a) (estimate_of b) }
 {
     let a = a.cut_to(width)?;
     let b = b.cut_to(width)?;
-    apply(operation, width, a, b)
+    apply(profile, operation, width, a, b)
 }

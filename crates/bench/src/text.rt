@@ -39,7 +39,7 @@ fn take_changes<'a>(
 /// How many spans the version of a history has; 0 where there was no memory for it.
 fn spans_of(alloc: Global, history: &History) -> u64 {
     match history.version(alloc) {
-        Ok(version) => version.rows().len() as u64,
+        Ok(version) => version.span_count() as u64,
         Err(_) => 0,
     }
 }

@@ -15,7 +15,6 @@ use Rattle.char_sequence.specs.Tree.{Present}
 use Rattle.char_sequence.specs.Order.{Shows, IsAt}
 use Rattle.char_sequence.specs.Held.{Holds}
 use Rattle.mark_anchors.specs.Marks.{AreMarks}
-use Rattle.span_flatten.specs.Version.{Version, IsVersion}
 use Rattle.change_history.specs.declared.parts.Parts.{Parts}
 use Rattle.change_history.specs.Accepted.{IsMarkTooMany}
 use Rattle.change_history.specs.Kept.{Keeps}
@@ -87,7 +86,3 @@ placed ops es id place found shows here told =
     let at : IsAt es id place = subst (λ (r : Option ℕ). MatchOption r (Present ops id → ⊥) (λ k. IsAt es id k)) here told in
     let inserted = shows.text.inserted place at.0 at.1 in
     (inserted.0, (at.0.character, subst (λ (x : OpId). Contains ops (Insert x inserted.0 at.0.character)) at.2 inserted.1))
-
-pub version_kept : {E : Type 0} (r : Result Version E) (parts : Parts) (number : ℕ) → IfOk r (λ v. (ops : List Op) → Shows parts.sequence.elements ops → AreMarks ops parts.marks → IsVersion ops number v) → IfOk r (λ v. (ops : List Op) → Keeps ops parts → IsVersion ops number v)
-version_kept (Ok v) parts number h = λ ops k. h ops k.shows (are_marks ops parts.marks k.marks)
-version_kept (Err e) parts number h = tt

@@ -4,3 +4,4 @@ pub mod Keeping
 pub mod AlikeLaws
 pub mod Counting
 pub mod Running
+pub mod Following

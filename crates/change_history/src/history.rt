@@ -25,11 +25,11 @@ use change_ops::line::Line;
 use change_ops::run::Run;
 use char_sequence::runs::later;
 use mark_anchors::format::Format;
-use span_flatten::version::Version;
 use std::alloc::{AllocError, Global};
 use std::collections::LinkedList;
 use std::marker::Model;
 use std::mem::replace;
+use version_blocks::version::BlockVersion;
 
 /// The most changes that are accepted.
 pub const CHANGE_LIMIT: usize = 4096;
@@ -151,6 +151,17 @@ pub struct Draft {
     parts: Parts,
 }
 
+/// The lines of a draft's change.
+fn lines_of(draft: &Draft) -> &[Line]
+    requires { (change : Change) × (draft.now.added ≡ change ∷ []) }
+    ensures { (change : Change) → draft.now.added ≡ change ∷ [] → result.now ≡ change.lines }
+{
+    match draft.added.front() {
+        Some(change) => change.lines(),
+        None => unreachable!(),
+    }
+}
+
 /// A list of the change alone.
 fn alone(alloc: Global, change: Change) -> Result<LinkedList<Change>, AllocError>
     ensures { IfOk result (λ list. list ≡ change ∷ []) }
@@ -252,17 +263,28 @@ impl History {
         Ok(())
     }
 
-    /// The version that the changes make with the one of a draft.
-    pub fn draft_version(&self, alloc: Global, draft: &Draft) -> Result<Version, AllocError>
-        requires { (change : Change) × IsDraft self.now change draft.now }
+    /// The version that the changes make with the one of a draft, from the version before it.
+    pub fn next_version(
+        &self,
+        alloc: Global,
+        previous: &BlockVersion,
+        draft: &Draft,
+    ) -> Result<BlockVersion, AllocError>
+        requires drafted { (change : Change) × IsDraft self.now change draft.now }
+        requires previous { (number : ℕ) × IsVersion (operations_of self.now) number previous.now }
         ensures { IfOk result (λ version. (change : Change) → IsDraft self.now change draft.now
             → IsVersion (operations_of (self.now ++ change ∷ [])) (length self.now + 1) version) }
     {
-        draft.parts.version(alloc, self.len() as u64 + 1)
+        // The type keeps that these are the parts of the changes, which the proof needs.
+        let _parts = &self.parts;
+        let lines = lines_of(draft);
+        let number = self.len() as u64 + 1;
+        let version = draft.parts.next_version(alloc, previous, lines, number)?;
+        Ok(version)
     }
 
     /// The version that the changes make: its number is how many they are.
-    pub fn version(&self, alloc: Global) -> Result<Version, AllocError>
+    pub fn version(&self, alloc: Global) -> Result<BlockVersion, AllocError>
         ensures { IfOk result (IsVersion (operations_of self.now) (length self.now)) }
     {
         self.parts.version(alloc, self.len() as u64)

@@ -1,5 +1,6 @@
 ghost use Rattle.std.specs.Prelude.{◌≡◌, ◌↔◌, ◌<◌, ℕ, List, [], ◌++◌, ◌∷◌, true, false, length, Contains, Some, IsTrue};
 ghost use Rattle.std.specs.Prelude.{MatchResult, MatchOption, IfOk, ◌≤◌, ◌+◌, ◌^◌, take, count_by};
+ghost use Rattle.change_ops.specs.Lines.{ops_of_lines};
 ghost use Rattle.change_ops.specs.Operations.{id_of, is_insert, is_mark, Names};
 ghost use Rattle.change_ops.specs.Runs.{inserts_from};
 ghost use Rattle.change_ops.specs.declared.operation.Op.{Op};
@@ -13,12 +14,14 @@ ghost use Rattle.span_flatten.specs.Version.{IsVersion};
 ghost use Rattle.change_history.specs.Accepted.{MayFollow, MayNotFollow};
 ghost use Rattle.char_sequence.specs.Acceptance.{IsUnknown};
 ghost use Rattle.change_history.specs.Kept.{Keeps};
+ghost use Rattle.change_history.specs.Next.{AreNextParts};
 ghost use Rattle.change_history.specs.Tally.{IsTally, AreNext, Admits};
 
 use crate::refusal::{ApplyError, Refusal};
 use crate::tally::Tally;
 use change_ops::character::Character;
 use change_ops::id::OpId;
+use change_ops::line::Line;
 use change_ops::operation::{Named, Op};
 use char_sequence::newest::Newest;
 use char_sequence::runs::later;
@@ -26,8 +29,9 @@ use char_sequence::sequence::Sequence;
 use mark_anchors::format::Format;
 use mark_anchors::marks::{Marks, MarksError};
 use span_flatten::flatten::{flatten, same_set_same_spans};
-use span_flatten::version::Version;
 use std::alloc::{AllocError, Global};
+use version_blocks::version::BlockVersion;
+use version_windows::step::next_version;
 
 /// What is kept of the operations that were applied.
 #[derive(Clone)]
@@ -188,11 +192,30 @@ impl Parts {
     }
 
     /// The version of the operations that were applied, with this number.
-    pub fn version(&self, alloc: Global, number: u64) -> Result<Version, AllocError>
+    pub fn version(&self, alloc: Global, number: u64) -> Result<BlockVersion, AllocError>
         requires { (ops : List Op) × Keeps ops self.now }
         ensures { IfOk result (λ version. (ops : List Op) → Keeps ops self.now → IsVersion ops number version) }
     {
-        flatten(alloc, &self.sequence, &self.marks, number)
+        let whole = flatten(alloc, &self.sequence, &self.marks, number)?;
+        // Its contract bounds the characters, which the proof needs.
+        let _count = self.sequence.len();
+        let version = BlockVersion::from_version(alloc, &whole)?;
+        Ok(version)
+    }
+
+    /// The version of the operations that were applied, with this number, from the one before those of the lines.
+    pub fn next_version(
+        &self,
+        alloc: Global,
+        previous: &BlockVersion,
+        lines: &[Line],
+        number: u64,
+    ) -> Result<BlockVersion, AllocError>
+        requires { (ops : List Op) × AreNextParts ops previous.now lines.now self.now }
+        ensures { IfOk result (λ next. (ops : List Op) → AreNextParts ops previous.now lines.now self.now
+            → IsVersion (ops ++ ops_of_lines lines.now) number next) }
+    {
+        next_version(alloc, previous, &self.sequence, &self.marks, lines, number)
     }
 
     /// The format of a character, a removed one too, if it is there.

@@ -1,8 +1,9 @@
 ghost use Rattle.std.specs.Prelude.{◌≡◌, ℕ, ◌<◌, ◌≤◌, ◌*◌, ◌==◌, ◌++◌, ◌∷◌, [], List, true, false, IsTrue, ◌↔◌, length};
 ghost use Rattle.std.specs.Prelude.{slice_get, slice_range, string_bytes, MatchOption, IfOk, IfErr, OnOk, OnErr, Some};
-ghost use Rattle.std.specs.Prelude.{◌+◌, ◌^◌, Contains, insert, take};
+ghost use Rattle.std.specs.Prelude.{◌+◌, ◌^◌, Contains, insert, take, drop};
 
 use crate::chunk_list::ChunkList;
+use crate::counting::count_before;
 use crate::elements::Elements;
 use crate::newest::Newest;
 use crate::place_table::PlaceTable;
@@ -78,7 +79,7 @@ ghost use Rattle.char_sequence.specs.Newest.{IsNewest};
 ghost use Rattle.char_sequence.specs.Held.{Holds};
 ghost use Rattle.char_sequence.specs.Index.{HasId};
 ghost use Rattle.char_sequence.specs.Chunks.{joined, AreInChunks};
-ghost use Rattle.char_sequence.specs.Visible.{visible_text};
+ghost use Rattle.char_sequence.specs.Visible.{visible_text, visible_count};
 ghost use Rattle.char_sequence.specs.RunElements.{AcceptsRun};
 
 /// Whether the counter of a named character, if there is one, is below this one's.
@@ -300,6 +301,22 @@ impl Sequence {
             chunks: self.elements.as_slice(),
             read: 0,
         }
+    }
+
+    /// The characters from a place on, to read the visible ones of them piece after piece.
+    pub fn visible_from(&self, place: usize) -> VisibleCursor<'_>
+        requires { place ≤ length self.now.elements }
+        ensures { result ≡ drop place self.now.elements }
+    {
+        VisibleCursor::at(self.elements.as_slice(), place)
+    }
+
+    /// The number of visible characters before a place.
+    pub fn visible_before(&self, place: usize) -> usize
+        requires { place ≤ length self.now.elements }
+        ensures { result ≡ visible_count (take place self.now.elements) }
+    {
+        count_before(self.elements.as_slice(), place)
     }
 
     /// The number of chunks that the characters are kept in, and the length of the longest.

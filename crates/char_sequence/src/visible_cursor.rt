@@ -32,7 +32,7 @@ impl<'a> Model for VisibleCursor<'a> {
 }
 
 /// The chunk that a place is in, or the end of the chunks.
-fn chunk_at(chunks: &[Chunk], place: usize) -> ChunkStart
+pub(crate) fn chunk_at(chunks: &[Chunk], place: usize) -> ChunkStart
     requires few { length (joined chunks.now) ≤ CHARACTER_LIMIT }
     ensures { IsChunkAt chunks.now place result }
 {
@@ -47,6 +47,22 @@ fn chunk_at(chunks: &[Chunk], place: usize) -> ChunkStart
     ChunkStart {
         position: chunks.len(),
         start,
+    }
+}
+
+impl<'a> VisibleCursor<'a> {
+    /// The characters from a place on.
+    pub(crate) fn at(chunks: &'a [Chunk], place: usize) -> VisibleCursor<'a>
+        requires within { place ≤ length (joined chunks.now) }
+        requires few { length (joined chunks.now) ≤ CHARACTER_LIMIT }
+        ensures { result ≡ drop place (joined chunks.now) }
+    {
+        let first = chunk_at(chunks, place);
+        let (_, rest) = chunks.split_at(first.position);
+        VisibleCursor {
+            chunks: rest,
+            read: place - first.start,
+        }
     }
 }
 

@@ -88,6 +88,7 @@ const AFTER_REPLAY: &str = "Lines of a session, and what answers each:
     the lines of a change            ok version <n>
     sub <capacity> <hex> [from <n>]  ok sub <id>
     sub2 <capacity> <hex> ..         the same; the program may read the link
+    sub3 <capacity> <hex> ..         the same, and more programs are accepted
     pull <id> <k>                    hit <version> <span> <verdict>,
                                      end <version> <spans>, ..; ok items <m>
     close <id>                       ok closed <id>
@@ -113,6 +114,7 @@ const AFTER_SERVE: &str = "Lines of a session, and what answers each:
     the lines of a change            ok version <n>
     sub <capacity> <hex> [from <n>]  ok sub <id>
     sub2 <capacity> <hex> ..         the same; the program may read the link
+    sub3 <capacity> <hex> ..         the same, and more programs are accepted
     pull <id> <k>                    hit <version> <span> <verdict>,
                                      end <version> <spans>, ..; ok items <m>
     close <id>                       ok closed <id>
@@ -208,6 +210,7 @@ the register or the bytes of the stack that it wrote, and the number that they h
         .long("link-text")
         .value_name("TEXT")
         .action(ArgAction::Set)
+        .allow_hyphen_values(true)
         .help("The link: 1 to 1024 characters of ASCII from `!` to `~`");
     let version = Arg::new(alloc, "number")
         .long("number")
@@ -250,10 +253,10 @@ fn check<'a>(alloc: Global) -> Result<Command<'a>, AllocError> {
         .long("context")
         .value_name("NUMBER")
         .action(ArgAction::Set)
-        .value_parser(value_parser!(u32).range(1..=2))
+        .value_parser(value_parser!(u32).range(1..=3))
         .default_value("1")
         .help(
-            "1: the program may read the first 56 bytes of the context, and the text; 2: also the link",
+            "1: the program may read the first 56 bytes of the context, and the text; 2: also the link; 3: the same as 2, and more programs are accepted",
         );
     Command::new(alloc, "check")
         .about("Says whether a program is accepted")
@@ -268,7 +271,7 @@ steps, the fields of the context that it can read, and the bytes of the text and
 of the link. Of one that is refused with 10 to 26: the instruction at that slot,
 and from 15 on what is known before it, a line for each register and each eight
 bytes of the stack that are set, and one for the least length of the text, with
---context 2 one for that of the link (docs/PROGRAMS.md).
+--context 2 or 3 one for that of the link (docs/PROGRAMS.md).
 
 With --explain=all the same is printed of each slot: behind the other lines of an
 accepted program, and up to the slot at which one is refused.",
@@ -534,7 +537,7 @@ keeps its changes.",
 /// The command line of the program.
 pub fn hub<'a>(alloc: Global) -> Result<Command<'a>, AllocError> {
     Command::new(alloc, "hub")
-        .version("0.1.0")
+        .version("0.2.0 (rattle-kit-13f)")
         .about("A hub for one shared rich text, with verdicts of BPF programs on its spans")
         .long_about(
             "A hub for one shared rich text, with verdicts of BPF programs on its spans. Each
@@ -543,6 +546,7 @@ command but `serve` reads standard input, in the form that its own help tells (a
         )
         .after_help(STATUSES)
         .subcommand_required(true)
+        .arg_required_else_help(true)
         .subcommand(asm(alloc))?
         .subcommand(check(alloc)?)?
         .subcommand(dis(alloc))?

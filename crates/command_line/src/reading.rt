@@ -92,12 +92,12 @@ fn span_options(alloc: Global, matches: &ArgMatches<'_>) -> Result<SpanOptions, 
     })
 }
 
-/// What the program that is checked may read, by the number of its context.
+/// What the program that is checked may read, and by which rules it is, by the number of its context.
 fn profile(matches: &ArgMatches<'_>) -> Profile {
-    if number(matches, "context") == 2 {
-        Profile::Two
-    } else {
-        Profile::One
+    match number(matches, "context") {
+        2 => Profile::Two,
+        3 => Profile::Three,
+        _ => Profile::One,
     }
 }
 

@@ -10,12 +10,12 @@ ghost use Rattle.feeds.specs.Verdicts.{verdict_on, verdicts_of};
 
 use crate::item::{Finding, Item, Job};
 use interpreter::run::run;
-use span_flatten::version::Version;
 use span_view::context::{context, link};
 use span_view::view::{SpanView, spans};
 use std::alloc::{AllocError, Global};
 use std::marker::Model;
 use verifier::verify::Verified;
+use version_blocks::version::BlockVersion;
 use version_history::published::{Naming, Published};
 
 /// A job with the items of its program on its version.
@@ -52,10 +52,14 @@ pub fn verdict(program: &Verified, span: &SpanView<'_>) -> u64
 }
 
 /// The verdicts of a program on all spans of a version, in order.
-fn verdicts(alloc: Global, program: &Verified, version: &Version) -> Result<Vec<u64>, AllocError>
+fn verdicts(
+    alloc: Global,
+    program: &Verified,
+    version: &BlockVersion,
+) -> Result<Vec<u64>, AllocError>
     ensures { IfOk result (λ found. found.items ≡ verdicts_of program.now version.now) }
 {
-    let mut found = Vec::with_capacity(alloc, version.rows().len())?;
+    let mut found = Vec::with_capacity(alloc, version.span_count())?;
     for span in spans(version) {
         found.push(verdict(program, &span))?;
     }
@@ -133,7 +137,7 @@ impl<N: Naming> Batch<N> {
     {
         let version = published.look(&job.version);
         let number = version.number();
-        let spans = version.rows().len();
+        let spans = version.span_count();
         let mut items = Vec::new(alloc);
         for (span, verdict) in verdicts.iter().enumerate() {
             push_hit(&mut items, job, number, span, *verdict)?;

@@ -5,10 +5,10 @@ ghost use Rattle.span_view.specs.ContextOf.{bytes_of, link_of};
 ghost use Rattle.feeds.specs.Kept.{IsAlike, AlikeAt, AreFormattedAlike};
 
 use mark_anchors::format::Format;
-use span_flatten::version::Version;
 use span_view::context::link;
 use span_view::view::{SpanView, view};
 use std::marker::Model;
+use version_blocks::version::BlockVersion;
 use version_history::published::{Naming, Published, VersionToken};
 
 /// The law that a program may be run on a span, of which these are the text and the link's text.
@@ -45,7 +45,7 @@ fn is_alike(older: &SpanView<'_>, newer: &SpanView<'_>) -> bool
 }
 
 /// Whether the spans at these two indices are there and alike.
-fn is_alike_at(older: &Version, i: usize, newer: &Version, j: usize) -> bool
+fn is_alike_at(older: &BlockVersion, i: usize, newer: &BlockVersion, j: usize) -> bool
     ensures { IsTrue result → AlikeAt older.now i newer.now j }
 {
     match (view(older, i), view(newer, j)) {
@@ -55,7 +55,7 @@ fn is_alike_at(older: &Version, i: usize, newer: &Version, j: usize) -> bool
 }
 
 /// How many spans from the first on are alike, `most` at most.
-fn alike_front(older: &Version, newer: &Version, most: usize) -> usize
+fn alike_front(older: &BlockVersion, newer: &BlockVersion, most: usize) -> usize
     ensures few { result ≤ most }
     ensures alike { (i : ℕ) → i < result → AlikeAt older.now i newer.now i }
 {
@@ -68,9 +68,9 @@ fn alike_front(older: &Version, newer: &Version, most: usize) -> usize
 
 /// How many spans up to the last are alike, `most` at most, where the versions have `older_end` and `newer_end` spans.
 fn alike_back(
-    older: &Version,
+    older: &BlockVersion,
     older_end: usize,
-    newer: &Version,
+    newer: &BlockVersion,
     newer_end: usize,
     most: usize,
 ) -> usize
@@ -129,8 +129,8 @@ impl<N: Naming> Stretch<N> {
     {
         let before = published.look(older);
         let after = published.look(newer);
-        let before_end = before.rows().len();
-        let after_end = after.rows().len();
+        let before_end = before.span_count();
+        let after_end = after.span_count();
         let most = before_end.min(after_end);
         let front = alike_front(before, after, most);
         let back = alike_back(before, before_end, after, after_end, most - front);

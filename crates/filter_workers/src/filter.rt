@@ -10,11 +10,11 @@ use feeds::item::Job;
 use feeds::kept::{KeptVerdicts, Known};
 use feeds::stretch::Stretch;
 use rayon::prelude::*;
-use span_flatten::version::Version;
 use span_view::view::view;
 use std::alloc::{AllocError, Global};
 use std::thread::Threads;
 use verifier::verify::Verified;
+use version_blocks::version::BlockVersion;
 use version_history::published::{Naming, Published};
 
 /// How much work, in steps of a program, justifies a further thread: about half a millisecond.
@@ -32,7 +32,7 @@ fn spans_per_thread(workers: usize, steps: usize) -> usize
 }
 
 /// The verdict on the span at an index, or 0 past the last one.
-fn verdict_at(program: &Verified, version: &Version, index: usize) -> u64
+fn verdict_at(program: &Verified, version: &BlockVersion, index: usize) -> u64
     ensures { result ≡ option_map_or (verdict_on program.now) (view_at version.now index) 0 }
 {
     match view(version, index) {
@@ -47,7 +47,7 @@ fn verdicts_between<R: Threads + Sync>(
     rt: &R,
     alloc: Global,
     program: &Verified,
-    version: &Version,
+    version: &BlockVersion,
     from: usize,
     to: usize,
     least: usize,
@@ -72,7 +72,7 @@ pub(crate) fn is_short<N: Naming>(published: &Published<'_, N>, job: &Job<N>, mo
     ensures { IsTrue result ↔ (most_steps job.now ≤ most) }
 {
     let slots = published.program(&job.program).words().len();
-    let spans = published.look(&job.version).rows().len();
+    let spans = published.look(&job.version).span_count();
     spans.saturating_mul(slots + STEPS_TO_BEGIN) <= most
 }
 
@@ -93,7 +93,7 @@ pub(crate) fn verdicts<N: Naming, R: Threads + Sync>(
     let program = published.program(&job.program);
     let version = published.look(&job.version);
     let least = spans_per_thread(workers, program.words().len());
-    let count = version.rows().len();
+    let count = version.span_count();
     match known {
         None => verdicts_between(rt, alloc, program, version, 0, count, least),
         Some(known) => {

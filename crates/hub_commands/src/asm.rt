@@ -1,13 +1,13 @@
 ghost use Rattle.std.specs.Prelude.{◌≡◌, IfOk, IfSome};
 ghost use Rattle.hub_commands.specs.Answers.{IsAnswered};
-ghost use Rattle.hub_commands.specs.Hints.{text_hint};
+ghost use Rattle.hub_commands.specs.Hints.{source_hint};
 ghost use Rattle.hub_commands.specs.Programs.{IsAsmReply};
 
 use crate::answer::Answer;
 use crate::ended::Ended;
 use crate::failure::Failure;
 use crate::hexadecimal::slot_lines;
-use crate::hint::text_hint;
+use crate::hint::source_hint;
 use crate::input::read_input;
 use crate::output::write_answer;
 use assembler::assembly::assemble;
@@ -36,13 +36,13 @@ pub fn asm<R: Read, W: Write>(
 ) -> Result<Ended, Failure>
     ensures answered { IfOk result (λ ended. IsAnswered IsAsmReply (R.remaining reader.old)
         (W.contents writer.old) (W.contents writer.new) ended.status) }
-    ensures hinted { IfOk result (λ ended. IfSome (R.remaining reader.old) (λ input. ended.hint ≡ text_hint input)) }
+    ensures hinted { IfOk result (λ ended. IfSome (R.remaining reader.old) (λ input. ended.hint ≡ source_hint input)) }
 {
     let input = read_input(alloc, reader)?;
     let answer = asm_answer(alloc, &input)?;
     let status = write_answer(writer, &answer)?;
     Ok(Ended {
         status,
-        hint: text_hint(&input),
+        hint: source_hint(&input),
     })
 }

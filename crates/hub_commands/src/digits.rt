@@ -3,8 +3,10 @@ ghost use Rattle.std.specs.Prelude.{◌≡◌, ◌++◌, ◌∷◌, List, ℕ, [
 ghost use Rattle.hex.specs.Hex.{decode_of, is_hex_digit};
 ghost use Rattle.hex.specs.declared.error.FromHexError.{FromHexError};
 ghost use Rattle.hub_commands.specs.Digits.{AreDigits, StandFor};
+ghost use Rattle.hub_commands.specs.Hints.{pairs_hint};
 
 use crate::hexadecimal::decode_hex;
+use crate::hint::Hint;
 use std::alloc::{AllocError, Global};
 
 /// As many digits as are kept: two more than the longest program has, so that a longer one is seen to be too long.
@@ -58,6 +60,19 @@ impl Digits {
         self.is_odd = !self.is_odd;
         self.are_right &= is_digit(byte);
         Ok(())
+    }
+
+    /// The hint to the digits.
+    pub fn hint(&self) -> Option<Hint>
+        ensures { (digits : List ℕ) → AreDigits digits self.now → result ≡ pairs_hint digits }
+    {
+        if !self.are_right {
+            Some(Hint::OtherSigns)
+        } else if self.is_odd {
+            Some(Hint::HalfByte)
+        } else {
+            None
+        }
     }
 
     /// The bytes that pairs of digits stand for, where they do; of more than a program may have the first.

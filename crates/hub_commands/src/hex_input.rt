@@ -57,7 +57,7 @@ impl HexInput {
         if begins_with_mark(&self.front) {
             Some(Hint::ByteOrderMark)
         } else if self.are_printable {
-            None
+            self.digits.hint()
         } else {
             Some(Hint::Binary)
         }

@@ -1,6 +1,9 @@
 //! What is wrong with the form of an input, where it is easily put right.
 ghost use Rattle.std.specs.Prelude.{◌≡◌};
-ghost use Rattle.hub_commands.specs.Hints.{begins_with_mark, is_printable, text_hint};
+ghost use Rattle.std.specs.List.{list_all};
+ghost use Rattle.hex.specs.Hex.{is_hex_digit};
+ghost use Rattle.hub_commands.specs.Hints.{begins_with_mark, is_printable, pairs_hint};
+ghost use Rattle.hub_commands.specs.Hints.{source_hint, text_hint};
 
 use crate::hexadecimal::is_blank;
 use std::fmt;
@@ -16,6 +19,12 @@ pub enum Hint {
     ByteOrderMark,
     /// It has bytes that aren't printable, where hexadecimal digits are wanted.
     Binary,
+    /// It has other signs between the hexadecimal digits, as `0x` or a comma.
+    OtherSigns,
+    /// A byte is two digits, and their number is odd.
+    HalfByte,
+    /// It has a NUL byte, where assembler text is wanted.
+    Nul,
 }
 
 impl Display for Hint {
@@ -23,6 +32,10 @@ impl Display for Hint {
         f.pad(match self {
             Hint::ByteOrderMark => "the input begins with a byte order mark",
             Hint::Binary => "the program is wanted in hexadecimal digits; try xxd -p",
+            Hint::OtherSigns =>
+                "the program is wanted in hexadecimal digits alone; leave out 0x and commas",
+            Hint::HalfByte => "two hexadecimal digits are a byte, and the number of digits is odd",
+            Hint::Nul => "the input has a NUL byte; assembler text is wanted, in UTF-8",
         })
     }
 }
@@ -46,6 +59,39 @@ pub fn text_hint(input: &[u8]) -> Option<Hint>
 {
     if begins_with_mark(input) {
         Some(Hint::ByteOrderMark)
+    } else {
+        None
+    }
+}
+
+#[tactic(auto, unfolding(crate::specs::Hints::source_hint))]
+/// The hint to an input that is assembler text.
+pub fn source_hint(input: &[u8]) -> Option<Hint>
+    ensures { result ≡ source_hint input.now }
+{
+    if begins_with_mark(input) {
+        Some(Hint::ByteOrderMark)
+    } else if input.contains(&0) {
+        Some(Hint::Nul)
+    } else {
+        None
+    }
+}
+
+fn are_digits(text: &[u8]) -> bool
+    ensures { result ≡ list_all is_hex_digit text.now }
+{
+    text.iter().all(|byte| byte.is_ascii_hexdigit())
+}
+
+/// The hint to hexadecimal digits without blanks.
+pub fn pairs_hint(digits: &[u8]) -> Option<Hint>
+    ensures { result ≡ pairs_hint digits.now }
+{
+    if !are_digits(digits) {
+        Some(Hint::OtherSigns)
+    } else if digits.len() % 2 == 1 {
+        Some(Hint::HalfByte)
     } else {
         None
     }

@@ -114,8 +114,8 @@ pub fn push_state(text: &mut String, profile: Profile, state: &AbsState) -> Resu
         push_slot(text, index, state.stack[index])?;
     }
     writeln!(text, "  length >= {}", state.bounds.text)?;
-    match profile {
-        Profile::One => Ok(()),
-        Profile::Two => writeln!(text, "  link length >= {}", state.bounds.link),
+    if profile.lends_link() {
+        writeln!(text, "  link length >= {}", state.bounds.link)?;
     }
+    Ok(())
 }

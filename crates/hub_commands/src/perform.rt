@@ -9,6 +9,7 @@ use crate::dis::dis;
 use crate::ended::Ended;
 use crate::explain::explain;
 use crate::failure::Failure;
+use crate::hint::pairs_hint;
 use crate::join::join;
 use crate::run::run;
 use crate::spans::spans;
@@ -44,7 +45,7 @@ pub fn perform<R: Read, W: Write>(
             options,
         } => Ok(Ended {
             status: run(alloc, digits.as_bytes(), options, *shown, reader, writer)?,
-            hint: None,
+            hint: pairs_hint(digits.as_bytes()),
         }),
         Command::Spans => spans(alloc, reader, writer),
         Command::Straighten => straighten(alloc, reader, writer),

@@ -1,5 +1,5 @@
 -- The greatest lag so far, with that of those that are left.
-use Rattle.std.proofs.Common.{◌≡◌, ℕ, ◌+◌, ◌<◌, ◌≤◌, max, List, [], ◌∷◌, length, get_or, drop, drop-cons, add-one, refl, ap, arith}
+use Rattle.std.proofs.Common.{◌≡◌, ℕ, ◌+◌, ◌<◌, ◌≤◌, max, List, ◌∷◌, length, get_or, drop, drop-cons, add-one, refl, ap, arith}
 use Rattle.std.proofs.lemmas.List.{drop_all}
 use Rattle.feeds.specs.Feed.{Subscriber}
 use Rattle.hub_core.specs.Counting.{lag_of, greatest_lag}

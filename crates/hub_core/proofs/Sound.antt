@@ -17,7 +17,7 @@ use Rattle.change_history.specs.Accepted.{AreAccepted, operations_of}
 use Rattle.hub_core.specs.declared.error.CommitError.TheVariants.{Stale}
 use Rattle.change_history.specs.VersionAt.{IsVersionAt}
 use Rattle.change_history.specs.declared.refusal.SubmitError.{SubmitError}
-use Rattle.hub_core.specs.Accepting.{Accepts}
+use Rattle.hub_core.specs.Accepting.{Accepts, HasLatest}
 use Rattle.hub_core.specs.Machine.{Core, IsOpen, HasNone, Submits, Commits, Pumps, Reissues, Closes, TakesJob, Misses, FindsAt, IsSound}
 
 -- the version of all changes
@@ -29,7 +29,18 @@ version_of_all changes c v is =
 pub version_along : (changes others : List Change) (c : Change) (v : Version) → changes ≡ others → IsVersion (operations_of (changes ++ c ∷ [])) (length changes + 1) v → IsVersion (operations_of (others ++ c ∷ [])) (length others + 1) v
 version_along changes others c v same is = subst (λ (l : List Change). IsVersion (operations_of (l ++ c ∷ [])) (length l + 1) v) same is
 
+token_at : (versions : List (Token Version)) (n : ℕ) → n < length versions → (token : Token Version) × (slice_get versions n ≡ Some token)
+token_at [] n within = absurd (omega arith)
+token_at (token ∷ versions) zero within = (token, refl)
+token_at (token ∷ versions) (suc n) within = token_at versions n (omega arith)
+
 module _ {S : Type 0} (sent : S → List Item) (full : S → Type 0) where
+  -- the token of the version of all changes
+  pub has_latest : (s : Core S) → IsSound sent full s → HasLatest s.changes s.versions
+  has_latest s sound =
+      let r = token_at s.versions (length s.changes) (omega (arith, sound.named)) in
+      (r.0, r.1, sound.versions_are (length s.changes) r.0 r.1)
+
   -- the tokens are of all versions of the changes
   pub of_changes : (s : Core S) → IsSound sent full s → AreAccepted s.changes → AreOfChanges s.versions
   of_changes s sound accepted = record { changes = s.changes; accepted = accepted; all = sound.named; are = sound.versions_are }

@@ -13,7 +13,7 @@ ghost use Rattle.feeds.specs.Promise.{Suits};
 ghost use Rattle.hub_core.specs.Consistent.{IsConsistent};
 ghost use Rattle.hub_core.specs.Counting.{AreCounts, AreWithinLimits};
 ghost use Rattle.hub_core.specs.Runs.{CommitsJob};
-ghost use Rattle.hub_core.specs.Accepting.{Accepts};
+ghost use Rattle.hub_core.specs.Accepting.{Accepts, HasLatest};
 ghost use Rattle.hub_core.specs.Machine.{IsStart, Submits, Subscribes, Commits, Pumps, Reissues, Closes, TakesJob};
 ghost use Rattle.hub_core.specs.Machine.{Misses, FindsAt, FindsJob};
 
@@ -74,7 +74,8 @@ impl<'p, N: Naming, S: Sink<Item<N>>> Model for Core<'p, N, S> {
         (record { changes = c.history; versions = c.versions.items; subscribers = c.subscribers.items }) };
 }
 
-/// Publishes the version that the changes make with the one of a draft, once there is room for one token more.
+/// Publishes the version that the changes make with the one of a draft, made from the latest one, once there is room
+/// for one token more.
 fn publish_draft<N: Naming, R: Wait>(
     rt: &R,
     alloc: Global,
@@ -83,13 +84,15 @@ fn publish_draft<N: Naming, R: Wait>(
     draft: &Draft,
     versions: &mut Vec<VersionToken<N>>,
 ) -> Result<VersionToken<N>, AllocError>
-    requires { (change : Change) × IsDraft history.now change draft.now }
+    requires drafted { (change : Change) × IsDraft history.now change draft.now }
+    requires published { HasLatest history.now versions.old.items }
     ensures token { IfOk result (λ token. (change : Change) → IsDraft history.now change draft.now
         → IsVersion (operations_of (history.now ++ change ∷ [])) (length history.now + 1) token.value) }
     ensures room { OnOk result (vec_len versions.new < vec_capacity versions.new) }
     ensures same { versions.new.items ≡ versions.old.items }
 {
-    let version = history.draft_version(alloc, draft)?;
+    let previous = published.look(&versions[history.len()]);
+    let version = history.next_version(alloc, previous, draft)?;
     versions.reserve(1)?;
     match published.publish(rt, version) {
         Ok(token) => Ok(token),
@@ -108,6 +111,7 @@ fn accept<N: Naming, R: Wait>(
     versions: &mut Vec<VersionToken<N>>,
     change: Change,
 ) -> Result<VersionToken<N>, SubmitError>
+    requires { HasLatest history.old versions.old.items }
     ensures { Accepts history.old versions.old.items change result history.new versions.new.items }
 {
     let draft = history.draft(change)?;

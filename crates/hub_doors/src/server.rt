@@ -17,7 +17,6 @@ use hub_restoring::restoring::{NotRestored, restore};
 use ingest_workers::hub::Hub;
 use ingest_workers::share::Share;
 use lending_pool::Pool;
-use span_flatten::version::Version;
 use std::alloc::{AllocError, Global};
 use std::fs::Files;
 use std::io::Write;
@@ -29,6 +28,7 @@ use std::thread::Threads;
 use std::{io, thread};
 use stored_history::history::StoredHistory;
 use verifier::verify::Verified;
+use version_blocks::version::BlockVersion;
 use version_history::published::{Naming, Published};
 
 /// Why sessions were not served, or not all of them to their ends.
@@ -194,7 +194,7 @@ fn serve_on<
     rt: R,
     alloc: Global,
     blank: Blank,
-    versions: &'p boxcar::Vec<Version>,
+    versions: &'p boxcar::Vec<BlockVersion>,
     programs: &'p boxcar::Vec<Verified>,
     sessions: usize,
     plan: &Plan<'_, J>,
@@ -326,7 +326,7 @@ fn serve_kept_on<
     rt: R,
     alloc: Global,
     blank: Blank,
-    versions: &'p boxcar::Vec<Version>,
+    versions: &'p boxcar::Vec<BlockVersion>,
     programs: &'p boxcar::Vec<Verified>,
     sessions: usize,
     plan: &Plan<'_, J>,

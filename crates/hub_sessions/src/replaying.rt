@@ -10,7 +10,6 @@ use change_log::log::ChangeLog;
 use hub_requests::limits::SessionOptions;
 use hub_restoring::restoring::{NotRestored, restore};
 use ingest_workers::hub::Hub;
-use span_flatten::version::Version;
 use std::alloc::{AllocError, Global};
 use std::io::{Read, Write};
 use std::marker::Brand;
@@ -18,6 +17,7 @@ use std::sync::Wait;
 use std::sync::ledger::{Blank, Ledger};
 use std::thread::Threads;
 use verifier::verify::Verified;
+use version_blocks::version::BlockVersion;
 use version_history::published::{Naming, Published};
 
 /// Why a session on a hub of its own did not come to its end.
@@ -47,7 +47,7 @@ fn replay_on<
     rt: &R,
     alloc: Global,
     blank: Blank,
-    versions: &boxcar::Vec<Version>,
+    versions: &boxcar::Vec<BlockVersion>,
     programs: &boxcar::Vec<Verified>,
     reader: I,
     writer: &mut O,
@@ -138,7 +138,7 @@ fn replay_kept_on<
     rt: &R,
     alloc: Global,
     blank: Blank,
-    versions: &boxcar::Vec<Version>,
+    versions: &boxcar::Vec<BlockVersion>,
     programs: &boxcar::Vec<Verified>,
     log: L,
     progress: P,

@@ -2,12 +2,12 @@ use change_history::history::History;
 use change_ops::change::read_change;
 use change_ops::id::OpId;
 use change_ops::writing::write_change;
-use span_flatten::version::Version;
 use span_view::context::context;
 use span_view::view::{SpanView, spans, view};
 use std::alloc::Global;
 use std::test::Fail;
 use test_inputs::lines::lines;
+use version_blocks::version::BlockVersion;
 
 /// `abc` with strong from before a to before c, and then strong taken off from before b on.
 static CHANGES: [&str; 2] = [
@@ -33,7 +33,7 @@ fn history_of(alloc: Global, texts: &[&'static str]) -> Result<History, Fail> {
 }
 
 /// The version that `CHANGES` make.
-fn version(alloc: Global) -> Result<Version, Fail> {
+fn version(alloc: Global) -> Result<BlockVersion, Fail> {
     let history = history_of(alloc, &CHANGES)?;
     let version = history.version(alloc)?;
     Ok(version)
@@ -66,7 +66,7 @@ fn parts(span: SpanView<'_>) -> (&str, bool, usize, usize, u64) {
 
 /// Whether a walk of the version of `CHANGES` gives the first span from the front, the second from the back, and no
 /// more from either end.
-fn is_walked_from_both_ends(version: &Version) -> bool {
+fn is_walked_from_both_ends(version: &BlockVersion) -> bool {
     let mut walk = spans(version);
     let first = walk.next().map(parts);
     let last = walk.next_back().map(parts);

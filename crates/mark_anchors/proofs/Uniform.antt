@@ -19,7 +19,7 @@ use Rattle.mark_anchors.specs.Formatting.{Format}
 use Rattle.mark_anchors.specs.Marks.{AreMarks}
 use Rattle.mark_anchors.specs.MarkRange.{IsRangeOf}
 use Rattle.mark_anchors.specs.Places.{IsBoundary, Lies}
-use Rattle.mark_anchors.specs.Ranges.{IsReached, AreCuts, IsUniform}
+use Rattle.mark_anchors.specs.Ranges.{IsReached, AreCuts, IsCutAt, IsUniform}
 use Rattle.mark_anchors.specs.declared.mark_range.MarkRange.{MarkRange}
 use Rattle.mark_anchors.proofs.Commenting.{rises}
 use Rattle.mark_anchors.proofs.Deciding.{touches_from_place, place_from_touches, of_key_from_touches, mark_from_key}
@@ -113,7 +113,7 @@ boundary_within es (AfterCharacter x) n (k, (e, at, id), next) = let within : k 
 boundary_within es TextEnd n is = let at : n ≡ length es = is in omega arith
 
 -- ---- cuts
-module _ (es : List Element) (marks : List Op) (cuts : List ℕ) (are : AreCuts es marks cuts) where
+module _ (es : List Element) (marks : List Op) (low high : ℕ) (cuts : List ℕ) (are : AreCuts es marks low high cuts) where
   upto : (i j x y : ℕ) → slice_get cuts i ≡ Some x → slice_get cuts j ≡ Some y → i ≤ j → x ≤ y
   upto i j x y g h le =
       ⊎_elim
@@ -121,37 +121,72 @@ module _ (es : List Element) (marks : List Op) (cuts : List ℕ) (are : AreCuts 
       (λ (ge : j ≤ i). let same : i ≡ j = omega arith in let one : x ≡ y = same_Some x y (sym g ∙ ap (slice_get cuts) same ∙ h) in omega arith)
       (cases_lt i j)
 
-  before_or_after : (k from to : ℕ) → IsReached cuts k from → slice_get cuts k ≡ Some to → (c : ℕ) → Contains cuts c → (c ≤ from) ⊎ (to ≤ c)
-  before_or_after k from to reached at c held =
+  from_low : (k from : ℕ) → IsReached cuts low k from → low ≤ from
+  from_low k from reached =
+      ⊎_elim
+      (λ (start : (k ≡ 0) × (from ≡ low)). let first : from ≡ low = start.1 in omega arith)
+      (λ (r : (j : ℕ) × (k ≡ j + 1) × (slice_get cuts j ≡ Some from)). let behind : low < from = (are.within from (contains_from cuts r.0 from r.2)).0 in omega arith)
+      reached
+
+  cut_side : (k from to : ℕ) → IsReached cuts low k from → slice_get cuts k ≡ Some to → (c : ℕ) → Contains cuts c → (c ≤ from) ⊎ (to ≤ c)
+  cut_side k from to reached at c held =
       let i = contains_at cuts c held in
       ⊎_elim
       (λ (less : i.0 < k).
       ⊎_elim
-      (λ (start : (k ≡ 0) × (from ≡ 0)). let zero : k ≡ 0 = start.0 in absurd (omega arith))
+      (λ (start : (k ≡ 0) × (from ≡ low)). let zero : k ≡ 0 = start.0 in absurd (omega arith))
       (λ (r : (j : ℕ) × (k ≡ j + 1) × (slice_get cuts j ≡ Some from)). let next : k ≡ r.0 + 1 = r.1 in inl (upto i.0 r.0 c from i.1 r.2 (omega arith)))
       reached)
       (λ (ge : k ≤ i.0). inr (upto k i.0 to c at i.1 ge))
       (cases_lt i.0 k)
 
-  pub next_cut : (k from to : ℕ) → IsReached cuts k from → slice_get cuts k ≡ Some to → (from ≤ to) × (to ≤ length es) × IsUniform es marks from to
+  before_or_after : (k from to : ℕ) → IsReached cuts low k from → slice_get cuts k ≡ Some to → (c : ℕ) → IsCutAt low high cuts c → (c ≤ from) ⊎ (to ≤ c)
+  before_or_after k from to reached at c cut =
+      let first : low ≤ from = from_low k from reached in
+      let last : to ≤ high = (are.within to (contains_from cuts k to at)).1 in
+      ⊎_elim
+      (λ (behind : low < c).
+      ⊎_elim
+      (λ (past : high < c). inr (omega arith))
+      (λ (upto : c ≤ high). cut_side k from to reached at c (cut behind upto))
+      (cases_lt high c))
+      (λ (before : c ≤ low). inl (omega arith))
+      (cases_lt low c)
+
+  pub next_cut : (k from to : ℕ) → IsReached cuts low k from → slice_get cuts k ≡ Some to → (from ≤ to) × (to ≤ high) × IsUniform es marks from to
   next_cut k from to reached at = (
     ⊎_elim
-        (λ (start : (k ≡ 0) × (from ≡ 0)). let zero : from ≡ 0 = start.1 in omega arith)
+        (λ (start : (k ≡ 0) × (from ≡ low)). let first : from ≡ low = start.1 in let behind : low < to = (are.within to (contains_from cuts k to at)).0 in omega arith)
         (λ (r : (j : ℕ) × (k ≡ j + 1) × (slice_get cuts j ≡ Some from)). let next : k ≡ r.0 + 1 = r.1 in upto r.0 k from to r.2 at (omega arith))
         reached,
-    are.within to (contains_from cuts k to at),
+    (are.within to (contains_from cuts k to at)).1,
     λ o held. let cut = are.every o held in (cut.0, (cut.1.0, cut.1.1, before_or_after k from to reached at cut.0 cut.1.2, before_or_after k from to reached at cut.1.0 cut.1.3)),
   )
 
-  pub all_reached : (k from : ℕ) → k ≡ length cuts → IsReached cuts k from → from ≡ length es
-  all_reached k from whole reached =
-      let i = contains_at cuts (length es) are.end in
-      let within : i.0 < length cuts = slice_get_within cuts i.0 (length es) i.1 in
+  some_reached : (k from : ℕ) → k ≡ length cuts → IsReached cuts low k from → from ≤ high → low < high → from ≡ high
+  some_reached k from whole reached most less =
+      let i = contains_at cuts high (are.end less) in
+      let within : i.0 < length cuts = slice_get_within cuts i.0 high i.1 in
       ⊎_elim
-      (λ (start : (k ≡ 0) × (from ≡ 0)). let zero : k ≡ 0 = start.0 in absurd (omega arith))
+      (λ (start : (k ≡ 0) × (from ≡ low)). let zero : k ≡ 0 = start.0 in absurd (omega arith))
       (λ (r : (j : ℕ) × (k ≡ j + 1) × (slice_get cuts j ≡ Some from)).
       let next : k ≡ r.0 + 1 = r.1 in
-      let low : length es ≤ from = upto i.0 r.0 (length es) from i.1 r.2 (omega arith) in
-      let high : from ≤ length es = are.within from (contains_from cuts r.0 from r.2) in
+      let least : high ≤ from = upto i.0 r.0 high from i.1 r.2 (omega arith) in
       omega arith)
       reached
+
+  upto_high : (k from : ℕ) → low ≤ high → IsReached cuts low k from → from ≤ high
+  upto_high k from order reached =
+      ⊎_elim
+      (λ (start : (k ≡ 0) × (from ≡ low)). let first : from ≡ low = start.1 in omega arith)
+      (λ (r : (j : ℕ) × (k ≡ j + 1) × (slice_get cuts j ≡ Some from)). (are.within from (contains_from cuts r.0 from r.2)).1)
+      reached
+
+  pub all_reached : (k from : ℕ) → low ≤ high → k ≡ length cuts → IsReached cuts low k from → from ≡ high
+  all_reached k from order whole reached =
+      let first : low ≤ from = from_low k from reached in
+      let most : from ≤ high = upto_high k from order reached in
+      ⊎_elim
+      (λ (less : low < high). some_reached k from whole reached most less)
+      (λ (none : high ≤ low). omega arith)
+      (cases_lt low high)

@@ -160,7 +160,7 @@ pub(crate) fn in_order(mut places: Vec<usize>) -> Vec<usize>
 }
 
 /// The places at which the marks begin and end.
-pub(crate) fn places_of(alloc: Global, marks: &[PlacedMark]) -> Result<Vec<usize>, AllocError>
+fn places_of(alloc: Global, marks: &[PlacedMark]) -> Result<Vec<usize>, AllocError>
     ensures begins { IfOk result (λ places. (m : PlacedMark) → Contains marks.now m → Contains places.items m.start) }
     ensures ends { IfOk result (λ places. (m : PlacedMark) → Contains marks.now m → Contains places.items m.end) }
     ensures no_other { IfOk result (λ places. (c : ℕ) → Contains places.items c → IsEndOf marks.now c) }

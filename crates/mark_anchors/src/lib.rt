@@ -7,6 +7,7 @@ pub mod comment_list;
 mod comment_runs;
 mod comment_table;
 mod comments;
+mod cut_places;
 pub mod format;
 pub mod format_sweep;
 mod key_marks;

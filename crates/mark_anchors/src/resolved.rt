@@ -13,9 +13,10 @@ ghost use Rattle.mark_anchors.specs.Ranges.{AreCuts, IsFormatAt};
 use crate::comment_runs::comment_runs;
 use crate::comment_table::{CommentTable, RunCounts};
 use crate::comments::comment_marks;
+use crate::cut_places::{places_within, push_within};
 use crate::format::Format;
 use crate::format_sweep::FormatSweep;
-use crate::key_marks::{KeyMarks, in_order, places_of};
+use crate::key_marks::{KeyMarks, in_order};
 use crate::marks::Marks;
 use crate::placed::{PlacedMark, color_at, holds_at, link_at, marks_in, marks_of};
 use change_ops::attribute::{Color, Key, Link};
@@ -156,14 +157,15 @@ impl Marks {
 }
 
 impl ResolvedMarks<'_> {
-    /// The places at which marks begin and end, and the end of the text.
+    /// The places behind `low`, up to `high`, at which marks begin and end, and `high` itself. There are none where
+    /// `high` is not behind `low`.
     ///
     /// `alloc` is for the places.
-    pub fn cuts(&self, alloc: Global) -> Result<Vec<usize>, AllocError>
-        ensures { IfOk result (λ cuts. AreCuts self.now.elements self.now.marks cuts.items) }
+    pub fn cuts(&self, alloc: Global, low: usize, high: usize) -> Result<Vec<usize>, AllocError>
+        ensures { IfOk result (λ cuts. AreCuts self.now.elements self.now.marks low high cuts.items) }
     {
-        let mut cuts = places_of(alloc, &self.marks)?;
-        cuts.push(self.sequence.len())?;
+        let mut cuts = places_within(alloc, &self.marks, low, high)?;
+        push_within(&mut cuts, high, low, high)?;
         Ok(in_order(cuts))
     }
 
@@ -242,11 +244,19 @@ impl ResolvedMarks<'_> {
         ensures resolution { result.resolution ≡ self.now }
         ensures start { result.place ≡ 0 }
     {
+        self.sweep_from(0)
+    }
+
+    /// The formats of the characters, from a place on.
+    pub fn sweep_from(&self, place: usize) -> FormatSweep<'_>
+        ensures resolution { result.resolution ≡ self.now }
+        ensures start { result.place ≡ place }
+    {
         let mut near = Near::start();
-        let decided = self.decided_at(0, &mut near);
+        let decided = self.decided_at(place, &mut near);
         FormatSweep {
             resolved: self,
-            place: 0,
+            place,
             decided,
             near,
         }

@@ -5,7 +5,7 @@ use Rattle.std.proofs.lemmas.List.{get_or-take, get_or-drop, length-take-le}
 use Rattle.byteorder.specs.Endian.{little_number, little_from}
 use Rattle.span_context.specs.Context.{context_base, text_base, link_base, SpanBytes, narrowed}
 use Rattle.span_context.specs.declared.profile.Profile.{Profile}
-use Rattle.span_context.specs.declared.profile.Profile.TheVariants.{One, Two}
+use Rattle.span_context.specs.declared.profile.Profile.TheVariants.{One, Two, Three}
 use Rattle.semantics.specs.declared.FaultKind.TheVariants.{BadAddress}
 use Rattle.semantics.specs.State.{start}
 use Rattle.semantics.specs.Memory.{load, lies_in, in_context, in_text, in_link, in_stack, stack_base, or_unset, stack_number}
@@ -14,7 +14,7 @@ use Rattle.semantics.specs.Outcomes.{outcome}
 use Rattle.semantics.specs.Safe.{SafeIn}
 use Rattle.semantics.specs.declared.Outcome.TheVariants.{Done}
 use Rattle.semantics.proofs.Witness.{both}
-use Rattle.semantics.proofs.More.{Extends, runs_more, narrow_span}
+use Rattle.semantics.proofs.More.{Extends, runs_more, narrow_span, third_span}
 use Rattle.program_reads.specs.declared.reads.Reads.{Reads}
 use Rattle.program_reads.specs.Reads.{AgreesOn, Determines}
 use Rattle.program_reads.specs.Loads.{CoversRuns}
@@ -117,3 +117,4 @@ whole_spans reads One program safe covers a b sa sb agrees =
     let same : outcome program (narrowed a) ≡ outcome program (narrowed b) = determines reads One program safe covers (narrowed a) (narrowed b) na nb (narrow_agrees reads a b agrees) in
     more ∙ sym first.1 ∙ same ∙ second.1 ∙ sym other
 whole_spans reads Two program safe covers a b sa sb agrees = determines reads Two program safe covers a b sa sb agrees
+whole_spans reads Three program safe covers a b sa sb agrees = determines reads Three program safe covers a b (third_span a sa) (third_span b sb) agrees

@@ -7,7 +7,7 @@ use Rattle.std.specs.List.{slice_get}
 use Rattle.byteorder.specs.Endian.{little_number, little_from}
 use Rattle.span_context.specs.Context.{context_base, text_base, text_limit, link_base, link_limit, SpanBytes}
 use Rattle.span_context.specs.declared.profile.Profile.{Profile}
-use Rattle.span_context.specs.declared.profile.Profile.TheVariants.{One, Two}
+use Rattle.span_context.specs.declared.profile.Profile.TheVariants.{One, Two, Three}
 use Rattle.span_context.specs.declared.size.Size.{Size}
 use Rattle.span_context.specs.declared.size.Size.TheVariants.{Byte, Half, Word, Double}
 use Rattle.bpf_words.specs.declared.instruction.SignedSize.{SignedSize}
@@ -269,6 +269,7 @@ some_signed SignedWord = omega arith
 lends : (profile : Profile) (a : SpanBytes) → IsSpanIn profile a → Lends a
 lends One a span = record { context = let long = span.fits.long in omega arith; text = span.fits.short; link = span.fits.link_short }
 lends Two a span = record { context = let long = span.fits.long in omega arith; text = span.fits.short; link = span.fits.link_short }
+lends Three a span = record { context = let long = span.fits.long in omega arith; text = span.fits.short; link = span.fits.link_short }
 
 alike_load : (profile : Profile) (reads : Reads) (a b : Span) → IsSpanIn profile a.bytes → IsSpanIn profile b.bytes → AgreesOn reads a.bytes b.bytes → (s : State) (insn : Insn) → CoversLoad reads s insn → AlikeInsn a.bytes b.bytes s insn
 alike_load profile reads a b sa sb agrees s (Compute width operation destination operand) covers = tt

@@ -5,7 +5,7 @@ use Rattle.std.specs.List.{join_by}
 use Rattle.span_context.specs.declared.context_field.ContextField.{ContextField}
 use Rattle.span_context.specs.ContextField.{name_of, every_field}
 use Rattle.span_context.specs.declared.profile.Profile.{Profile}
-use Rattle.span_context.specs.declared.profile.Profile.TheVariants.{One, Two}
+use Rattle.span_context.specs.declared.profile.Profile.TheVariants.{One, Two, Three}
 use Rattle.program_reads.specs.declared.reads.Reads.{Reads}
 use Rattle.program_reads.specs.Positions.{marked, positions_in}
 
@@ -30,10 +30,11 @@ fields_line fields = codes "context: " ++ names_text (marked fields every_field)
 abbrev pub bytes_line : List ℕ → ℕ → List ℕ
 bytes_line name count = name ++ codes ": " ++ bytes_text count ++ 10 ∷ []
 
--- the link's text is lent in the second profile alone
+-- the link's text is lent in the second profile and the third
 abbrev pub link_line : Profile → Reads → List ℕ
 link_line One reads = []
 link_line Two reads = bytes_line (codes "link") reads.link
+link_line Three reads = bytes_line (codes "link") reads.link
 
 -- the spans on which the verdict is found again in the next version: those that change, or all where their positions
 -- are read

@@ -91,7 +91,7 @@ pub fn push_reads(text: &mut String, reads: &Reads, profile: Profile) -> Result<
 {
     push_fields(text, &reads.fields)?;
     push_bytes(text, "text", reads.text)?;
-    if let Profile::Two = profile {
+    if profile.lends_link() {
         push_bytes(text, "link", reads.link)?;
     }
     push_runs(text, &reads.fields)

@@ -6,7 +6,7 @@ use Rattle.std.specs.List.{slice_get}
 use Rattle.byteorder.specs.Endian.{little_number, little_from}
 use Rattle.span_context.specs.Context.{context_base, text_base, link_base, SpanBytes, narrowed}
 use Rattle.span_context.specs.declared.profile.Profile.{Profile}
-use Rattle.span_context.specs.declared.profile.Profile.TheVariants.{One, Two}
+use Rattle.span_context.specs.declared.profile.Profile.TheVariants.{One, Two, Three}
 use Rattle.span_context.specs.declared.size.Size.{Size}
 use Rattle.span_context.specs.declared.size.Size.TheVariants.{Byte, Half, Word, Double}
 use Rattle.bpf_words.specs.declared.instruction.SignedSize.{SignedSize}
@@ -192,12 +192,31 @@ narrow_extends bytes long stack address count value some e =
         simp (apart, eb, above, ed) e
     go false false false false ea eb ec ed e = absurd (cc)
 
+-- the third profile lends what the second lends
+pub third_span : (bytes : SpanBytes) → IsSpan bytes → IsSpanIn Three bytes
+third_span bytes span =
+    record {
+      fits = record {
+        long = span.fits.long;
+        short = span.fits.short;
+        begins = span.fits.begins;
+        ends = span.fits.ends;
+        counts = span.fits.counts;
+        link_short = span.fits.link_short;
+        link = span.fits.link;
+      };
+      context_bytes = span.context_bytes;
+      text_bytes = span.text_bytes;
+      link_bytes = span.link_bytes;
+    }
+
 -- a program that is safe by what a profile lends is safe on every span
 pub seen_safe : (profile : Profile) (program : Program) → SafeIn profile program → Safe program
 seen_safe One program safe = λ bytes span.
     let run = safe (narrowed bytes) (narrow_span bytes span) in
     (run.0, runs_more program (narrowed bytes) bytes (narrow_extends bytes span.fits.long) (length program) run.0 start run.1)
 seen_safe Two program safe = safe
+seen_safe Three program safe = λ bytes span. safe bytes (third_span bytes span)
 
 -- and by the first profile its verdict depends on nothing but that part
 pub one_verdict : (program : Program) → SafeIn One program → IsBlindToLink program

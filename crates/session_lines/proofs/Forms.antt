@@ -13,7 +13,7 @@ use Rattle.change_ops.proofs.Phrases.{same_bytes}
 use Rattle.change_ops.proofs.Keys.{lacks_all}
 use Rattle.change_ops.proofs.NumeralForms.{number_takes, number_again}
 use Rattle.span_context.specs.declared.profile.Profile.{Profile}
-use Rattle.span_context.specs.declared.profile.Profile.TheVariants.{One, Two}
+use Rattle.span_context.specs.declared.profile.Profile.TheVariants.{One, Two, Three}
 use Rattle.session_lines.specs.Commands.{Command, name_of, subscribe, pull, close, read, Number, IsCount, Count, IsFewChanges, FewChanges, OneWord, CommandForm, Grants, IsAsked}
 use Rattle.session_lines.specs.Reading.{is_count, is_few_changes, is_one_word, from_at, program_at, subscribe_at, pull_at, close_at, show_at, changes_at, newest_at, query_at, words_at, alone_at, either_of, command_at}
 use Rattle.session_lines.specs.declared.query.Query.{Query}
@@ -246,21 +246,22 @@ query_form line name fields c whole e = go (bytes_eq name (codes "show")) (bytes
 words_form : (line : List ℕ) (c : Command) → words_at line ≡ Some c → CommandForm c line
 unfolding words_at
 words_form line c e =
-    let a = bind_some (split 32 line) (λ parts. if bytes_eq parts.0 (codes "sub") then subscribe_at One parts.1 else if bytes_eq parts.0 (codes "sub2") then subscribe_at Two parts.1 else if bytes_eq parts.0 (codes "pull") then pull_at parts.1 else if bytes_eq parts.0 (codes "close") then close_at parts.1 else query_at parts.0 parts.1) c e in
+    let a = bind_some (split 32 line) (λ parts. if bytes_eq parts.0 (codes "sub") then subscribe_at One parts.1 else if bytes_eq parts.0 (codes "sub2") then subscribe_at Two parts.1 else if bytes_eq parts.0 (codes "sub3") then subscribe_at Three parts.1 else if bytes_eq parts.0 (codes "pull") then pull_at parts.1 else if bytes_eq parts.0 (codes "close") then close_at parts.1 else query_at parts.0 parts.1) c e in
     kinds a.0.0 a.0.1 (split_takes 32 line a.0.0 a.0.1 a.1).0 a.2
   where
-    kinds : (name fields : List ℕ) → line ≡ name ␣ fields → (if bytes_eq name (codes "sub") then subscribe_at One fields else if bytes_eq name (codes "sub2") then subscribe_at Two fields else if bytes_eq name (codes "pull") then pull_at fields else if bytes_eq name (codes "close") then close_at fields else query_at name fields) ≡ Some c → CommandForm c line
-    kinds name fields whole e = go (bytes_eq name (codes "sub")) (bytes_eq name (codes "sub2")) (bytes_eq name (codes "pull")) (bytes_eq name (codes "close")) refl refl refl refl e where
+    kinds : (name fields : List ℕ) → line ≡ name ␣ fields → (if bytes_eq name (codes "sub") then subscribe_at One fields else if bytes_eq name (codes "sub2") then subscribe_at Two fields else if bytes_eq name (codes "sub3") then subscribe_at Three fields else if bytes_eq name (codes "pull") then pull_at fields else if bytes_eq name (codes "close") then close_at fields else query_at name fields) ≡ Some c → CommandForm c line
+    kinds name fields whole e = go (bytes_eq name (codes "sub")) (bytes_eq name (codes "sub2")) (bytes_eq name (codes "sub3")) (bytes_eq name (codes "pull")) (bytes_eq name (codes "close")) refl refl refl refl refl e where
       named : (word : List ℕ) → bytes_eq name word ≡ true → line ≡ word ␣ fields
       named word f = whole ∙ ap (λ (x : List ℕ). x ␣ fields) (same_bytes name word f)
 
-      go : (s t p q : Bool) → bytes_eq name (codes "sub") ≡ s → bytes_eq name (codes "sub2") ≡ t → bytes_eq name (codes "pull") ≡ p → bytes_eq name (codes "close") ≡ q
-          → cond s (subscribe_at One fields) (cond t (subscribe_at Two fields) (cond p (pull_at fields) (cond q (close_at fields) (query_at name fields)))) ≡ Some c → CommandForm c line
-      go true t p q f1 f2 f3 f4 e = subscribe_form line fields One c (named (codes "sub") f1) e
-      go false true p q f1 f2 f3 f4 e = subscribe_form line fields Two c (named (codes "sub2") f2) e
-      go false false true q f1 f2 f3 f4 e = pull_form line fields c (named (codes "pull") f3) e
-      go false false false true f1 f2 f3 f4 e = close_form line fields c (named (codes "close") f4) e
-      go false false false false f1 f2 f3 f4 e = query_form line name fields c whole e
+      go : (s t u p q : Bool) → bytes_eq name (codes "sub") ≡ s → bytes_eq name (codes "sub2") ≡ t → bytes_eq name (codes "sub3") ≡ u → bytes_eq name (codes "pull") ≡ p → bytes_eq name (codes "close") ≡ q
+          → cond s (subscribe_at One fields) (cond t (subscribe_at Two fields) (cond u (subscribe_at Three fields) (cond p (pull_at fields) (cond q (close_at fields) (query_at name fields))))) ≡ Some c → CommandForm c line
+      go true t u p q f1 f2 f3 f4 f5 e = subscribe_form line fields One c (named (codes "sub") f1) e
+      go false true u p q f1 f2 f3 f4 f5 e = subscribe_form line fields Two c (named (codes "sub2") f2) e
+      go false false true p q f1 f2 f3 f4 f5 e = subscribe_form line fields Three c (named (codes "sub3") f3) e
+      go false false false true q f1 f2 f3 f4 f5 e = pull_form line fields c (named (codes "pull") f4) e
+      go false false false false true f1 f2 f3 f4 f5 e = close_form line fields c (named (codes "close") f5) e
+      go false false false false false f1 f2 f3 f4 f5 e = query_form line name fields c whole e
 
 -- a line of several words is none of one word
 not_word : (word line : List ℕ) (parts : List ℕ × List ℕ) → split 32 word ≡ None → split 32 line ≡ Some parts → bytes_eq line word ≡ false
@@ -279,7 +280,7 @@ not_alone line parts e =
 spoken : (line : List ℕ) (c : Command) → words_at line ≡ Some c → command_at line ≡ Some c
 unfolding command_at words_at
 spoken line c w =
-    let a = bind_some (split 32 line) (λ parts. if bytes_eq parts.0 (codes "sub") then subscribe_at One parts.1 else if bytes_eq parts.0 (codes "sub2") then subscribe_at Two parts.1 else if bytes_eq parts.0 (codes "pull") then pull_at parts.1 else if bytes_eq parts.0 (codes "close") then close_at parts.1 else query_at parts.0 parts.1) c w in
+    let a = bind_some (split 32 line) (λ parts. if bytes_eq parts.0 (codes "sub") then subscribe_at One parts.1 else if bytes_eq parts.0 (codes "sub2") then subscribe_at Two parts.1 else if bytes_eq parts.0 (codes "sub3") then subscribe_at Three parts.1 else if bytes_eq parts.0 (codes "pull") then pull_at parts.1 else if bytes_eq parts.0 (codes "close") then close_at parts.1 else query_at parts.0 parts.1) c w in
     rw (not_alone line a.0 a.1) w
 
 -- one of one word is just that
@@ -317,6 +318,8 @@ words_read line (subscribe One capacity digits None) n j = rw (named_line (codes
 words_read line (subscribe One capacity digits (Some first)) n j = rw (named_line (codes "sub") line j (lacks_all 32 (codes "sub") refl), subscribe_from_read j.second One capacity first digits j.after) refl
 words_read line (subscribe Two capacity digits None) n j = rw (named_line (codes "sub2") line j (lacks_all 32 (codes "sub2") refl), subscribe_read j.second Two capacity digits j.after) refl
 words_read line (subscribe Two capacity digits (Some first)) n j = rw (named_line (codes "sub2") line j (lacks_all 32 (codes "sub2") refl), subscribe_from_read j.second Two capacity first digits j.after) refl
+words_read line (subscribe Three capacity digits None) n j = rw (named_line (codes "sub3") line j (lacks_all 32 (codes "sub3") refl), subscribe_read j.second Three capacity digits j.after) refl
+words_read line (subscribe Three capacity digits (Some first)) n j = rw (named_line (codes "sub3") line j (lacks_all 32 (codes "sub3") refl), subscribe_from_read j.second Three capacity first digits j.after) refl
 words_read line (pull subscriber count) n j = rw (named_line (codes "pull") line j (lacks_all 32 (codes "pull") refl), pull_read j.second subscriber count j.after) refl
 words_read line (close subscriber) n j = rw (named_line (codes "close") line j (lacks_all 32 (codes "close") refl), close_read j.second subscriber j.after) refl
 words_read line (read Latest) n j = absurd n

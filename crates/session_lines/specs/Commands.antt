@@ -4,7 +4,7 @@ use Rattle.std.specs.List.{AllByRecursion}
 use Rattle.hex.specs.Hex.{decode_of}
 use Rattle.hex.specs.declared.error.FromHexError.{FromHexError}
 use Rattle.span_context.specs.declared.profile.Profile.{Profile}
-use Rattle.span_context.specs.declared.profile.Profile.TheVariants.{One, Two}
+use Rattle.span_context.specs.declared.profile.Profile.TheVariants.{One, Two, Three}
 use Rattle.change_ops.specs.Forms.{Numeral, Word, ◌⎵◌}
 use Rattle.session_lines.specs.declared.request.SessionRequest.{SessionRequest}
 use Rattle.session_lines.specs.declared.request.SessionRequest.TheVariants.{Subscribe, Pull, Close, Read}
@@ -54,6 +54,7 @@ pub record OneWord (digits word : List ℕ) : Type 0 where
 abbrev pub name_of : Profile → List ℕ
 name_of One = codes "sub"
 name_of Two = codes "sub2"
+name_of Three = codes "sub3"
 
 -- a line, without its LF
 abbrev pub CommandForm : Command → List ℕ → Type 0

@@ -4,7 +4,7 @@ use Rattle.std.specs.Prelude.{codes, Option, Some, None}
 use Rattle.std.specs.List.{list_all}
 use Rattle.std.specs.Str.{bytes_eq}
 use Rattle.span_context.specs.declared.profile.Profile.{Profile}
-use Rattle.span_context.specs.declared.profile.Profile.TheVariants.{One, Two}
+use Rattle.span_context.specs.declared.profile.Profile.TheVariants.{One, Two, Three}
 use Rattle.change_ops.specs.Words.{split, number_in, small}
 use Rattle.change_ops.specs.Reading.{◌>>=◌}
 use Rattle.session_lines.specs.Commands.{Command, subscribe, pull, close, read}
@@ -92,6 +92,7 @@ words_at line = do
   parts ← split 32 line
   if bytes_eq parts.0 (codes "sub") then subscribe_at One parts.1 else
       if bytes_eq parts.0 (codes "sub2") then subscribe_at Two parts.1 else
+      if bytes_eq parts.0 (codes "sub3") then subscribe_at Three parts.1 else
       if bytes_eq parts.0 (codes "pull") then pull_at parts.1 else
       if bytes_eq parts.0 (codes "close") then close_at parts.1 else query_at parts.0 parts.1
 

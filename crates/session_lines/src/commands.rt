@@ -21,6 +21,8 @@ const SUBSCRIBE: &[u8] = b"sub";
 
 const SUBSCRIBE_TWO: &[u8] = b"sub2";
 
+const SUBSCRIBE_THREE: &[u8] = b"sub3";
+
 const FROM: &[u8] = b"from";
 
 const PULL: &[u8] = b"pull";
@@ -108,7 +110,7 @@ fn program_in(profile: Profile, capacity: u64, text: &[u8]) -> Option<LentComman
     from_in(profile, capacity, text)
 }
 
-/// What follows `sub` or `sub2`.
+/// What follows `sub`, `sub2` or `sub3`.
 #[tactic(auto, unfolding(crate::specs::Reading::subscribe_at))]
 fn subscribe_in(profile: Profile, fields: &[u8]) -> Option<LentCommand<'_>>
     ensures { option_map said result ≡ subscribe_at profile fields.now }
@@ -209,6 +211,8 @@ fn words_in(line: &[u8]) -> Option<LentCommand<'_>>
         subscribe_in(Profile::One, fields)
     } else if name == SUBSCRIBE_TWO {
         subscribe_in(Profile::Two, fields)
+    } else if name == SUBSCRIBE_THREE {
+        subscribe_in(Profile::Three, fields)
     } else if name == PULL {
         pull_in(fields)
     } else if name == CLOSE {

@@ -1,5 +1,5 @@
 //! How much there is of a hub, and how much it still takes.
-ghost use Rattle.std.specs.Prelude.{◌≡◌, ◌<◌, ◌≤◌, chars, length};
+ghost use Rattle.std.specs.Prelude.{◌≡◌, ◌<◌, ◌≤◌};
 ghost use Rattle.hub_core.specs.Counting.{AreWithinLimits};
 ghost use Rattle.session_reads.specs.Counting.{used_of, used_by, left_of, IsLeft, AreStats, stats_of};
 ghost use Rattle.session_reads.specs.Reads.{WasSo};
@@ -11,9 +11,9 @@ use hub_core::hub::SUBSCRIBER_LIMIT;
 use ingest_workers::hub::Hub;
 use mark_anchors::marks::MARK_LIMIT;
 use session_lines::stats::{PerLimit, Stats};
-use span_flatten::version::Version;
 use std::sync::Wait;
 use std::sync::ledger::Ledger;
+use version_blocks::version::BlockVersion;
 use version_history::published::{Naming, Published};
 
 /// How much of a limit is used, in parts of a thousand, rounded down.
@@ -51,20 +51,12 @@ fn left_of(counts: Counts) -> PerLimit
     }
 }
 
-/// How many characters a text has.
-fn character_count(text: &str) -> u64
-    ensures { result ≡ length (chars text.now) }
-{
-    text.chars().count() as u64
-}
-
 /// What is told of a hub with so much in it, of its latest version, and with so many sessions.
-fn stats_of(counts: Counts, version: &Version, sessions: u64) -> Stats
+fn stats_of(counts: Counts, version: &BlockVersion, sessions: u64) -> Stats
     requires { AreWithinLimits counts }
     ensures { result ≡ stats_of counts version.now sessions }
 {
-    let text = version.text();
-    let characters = character_count(text);
+    let characters = version.character_count() as u64;
     Stats {
         versions: counts.changes,
         characters,
@@ -73,7 +65,7 @@ fn stats_of(counts: Counts, version: &Version, sessions: u64) -> Stats
         subscribers: counts.subscribers,
         subscribed: counts.subscribed,
         sessions,
-        bytes: text.len() as u64,
+        bytes: version.byte_count() as u64,
         lag: counts.lag,
         used: used_by(counts),
     }

@@ -39,7 +39,7 @@ fn show<'a, N: Naming + Ledger, R: Wait + Copy>(
     };
     Answer {
         found: Found::Spans(spans),
-        reply: Reply::Spans(version.rows().len()),
+        reply: Reply::Spans(version.span_count()),
     }
 }
 

@@ -5,7 +5,6 @@ use change_keeping::keeper::NoStore;
 use hub_requests::limits::SessionOptions;
 use hub_sessions::conversation::{SessionFault, session};
 use ingest_workers::hub::Hub;
-use span_flatten::version::Version;
 use std::alloc::Global;
 use std::marker::Brand;
 use std::sync::Wait;
@@ -14,6 +13,7 @@ use std::test::Fail;
 use std::thread::Threads;
 use test_inputs::devices::{FailingReader, FailingWriter};
 use verifier::verify::Verified;
+use version_blocks::version::BlockVersion;
 use version_history::published::{Naming, Published};
 
 /// How a session went whose reader and writer failed after some reads and writes, and what the hub was left at.
@@ -57,7 +57,7 @@ fn tried_on<N: Naming + Ledger + Send + Sync, R: Threads + Wait + Copy + Send + 
     rt: &R,
     alloc: Global,
     blank: Blank,
-    versions: &boxcar::Vec<Version>,
+    versions: &boxcar::Vec<BlockVersion>,
     programs: &boxcar::Vec<Verified>,
     reads: usize,
     writes: usize,

@@ -5,7 +5,6 @@ use change_keeping::keeper::NoStore;
 use hub_requests::limits::SessionOptions;
 use hub_sessions::conversation::session;
 use ingest_workers::hub::Hub;
-use span_flatten::version::Version;
 use std::alloc::Global;
 use std::io;
 use std::marker::Brand;
@@ -15,6 +14,7 @@ use std::sync::ledger::{Blank, Ledger};
 use std::test::*;
 use std::thread::Threads;
 use verifier::verify::Verified;
+use version_blocks::version::BlockVersion;
 use version_history::published::{Naming, Published};
 
 /// After how many bytes each of the answers to `TWO_SUBSCRIBERS` ends.
@@ -52,7 +52,7 @@ fn two_subscribed<N: Naming + Ledger + Send + Sync, R: Threads + Wait + Abort + 
     rt: &R,
     alloc: Global,
     blank: Blank,
-    versions: &boxcar::Vec<Version>,
+    versions: &boxcar::Vec<BlockVersion>,
     programs: &boxcar::Vec<Verified>,
 ) -> Result<(), Fail>
     requires named { (versions.now ≡ N.versions) × (programs.now ≡ N.programs) }

@@ -6,7 +6,6 @@ use hub_requests::limits::SessionOptions;
 use hub_sessions::conversation::session;
 use ingest_workers::hub::Hub;
 use ingest_workers::share::Share;
-use span_flatten::version::Version;
 use std::alloc::Global;
 use std::io;
 use std::marker::Brand;
@@ -16,6 +15,7 @@ use std::sync::ledger::{Blank, Ledger};
 use std::test::*;
 use std::thread::Threads;
 use verifier::verify::Verified;
+use version_blocks::version::BlockVersion;
 use version_history::published::{Naming, Published};
 
 /// A reader that gives one line a read. Before each it takes all jobs of the hub and drops them, as workers of other
@@ -70,7 +70,7 @@ fn taken<N: Naming + Ledger + Send + Sync, R: Threads + Wait + Abort + Copy + Se
     rt: R,
     alloc: Global,
     blank: Blank,
-    versions: &boxcar::Vec<Version>,
+    versions: &boxcar::Vec<BlockVersion>,
     programs: &boxcar::Vec<Verified>,
 ) -> Result<(), Fail>
     requires named { (versions.now ≡ N.versions) × (programs.now ≡ N.programs) }

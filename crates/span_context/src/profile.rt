@@ -1,14 +1,16 @@
-//! Which part of what a span lends a program is verified to read.
+//! Which part of what a span lends a program is verified to read, and by which rules.
 ghost use Rattle.std.specs.Prelude.{◌≡◌, ◌≤◌};
-ghost use Rattle.span_context.specs.Profile.{context_length};
+ghost use Rattle.span_context.specs.Profile.{context_length, has_more_rules, lends_link};
 
-/// What a program may read of a span.
+/// What a program may read of a span, and the rules by which it is verified.
 #[derive(Clone, Copy)]
 pub enum Profile {
     /// The first 56 bytes of the context, and the text.
     One,
     /// The whole context, the text, and the text of the link.
     Two,
+    /// The same as the second, by more rules: more programs are accepted.
+    Three,
 }
 
 impl Profile {
@@ -19,7 +21,27 @@ impl Profile {
     {
         match self {
             Profile::One => 56,
-            Profile::Two => 72,
+            Profile::Two | Profile::Three => 72,
+        }
+    }
+
+    /// Whether the link's text is lent.
+    pub fn lends_link(self) -> bool
+        ensures { result ≡ lends_link self }
+    {
+        match self {
+            Profile::One => false,
+            Profile::Two | Profile::Three => true,
+        }
+    }
+
+    /// Whether a program is verified by the rules that the first two profiles leave out.
+    pub fn has_more_rules(self) -> bool
+        ensures { result ≡ has_more_rules self }
+    {
+        match self {
+            Profile::One | Profile::Two => false,
+            Profile::Three => true,
         }
     }
 }

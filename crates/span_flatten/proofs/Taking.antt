@@ -1,12 +1,12 @@
 -- The text is taken in range after range.
 use Rattle.std.proofs.Common.{◌≡◌, ℕ, zero, suc, ◌+◌, ◌-◌, ◌*◌, ◌<◌, ◌≤◌, Bool, true, false, cond, List, [], ◌∷◌, ◌++◌, Some, length, map, take, drop, get_or, refl, sym, ap, subst, ◌∙◌, arith, zero-add, append-nil, length-append, All, IsUtf8, encode_utf8_all, ⊎_elim}
-use Rattle.std.specs.List.{filter, slice_get, slice_range}
+use Rattle.std.specs.List.{filter, slice_get, slice_range, Contains}
 use Rattle.std.specs.Str.{IsCharBoundary, chars}
 use Rattle.std.proofs.lemmas.Bool.{cases_Bool, cases_lt}
 use Rattle.std.proofs.lemmas.Option.{none-some, slice_get-get_or}
-use Rattle.std.proofs.lemmas.List.{map-append, take_all, drop_at, take_at}
+use Rattle.std.proofs.lemmas.List.{map-append, take_all, drop-drop, drop_at, take_at}
 use Rattle.std.proofs.lemmas.List.Sums.{length-filter}
-use Rattle.std.proofs.lemmas.List.Elements.{All-append, All-cons, filter-append}
+use Rattle.std.proofs.lemmas.List.Elements.{All-append, All-cons, All-contains, filter-append}
 use Rattle.std.proofs.lemmas.Str.{length-encode, len_utf8_bounds, length-le-encodes, chars_from_encodes, IsUtf8-drop, IsCharBoundary-from_take}
 use Rattle.std.specs.Char.{encode_utf8}
 use Rattle.change_ops.specs.declared.operation.Op.{Op}
@@ -20,10 +20,11 @@ use Rattle.mark_anchors.specs.Ranges.{IsFormatAt, IsUniform}
 use Rattle.mark_anchors.proofs.Uniform.{one_format_between}
 use Rattle.span_flatten.specs.declared.version.Row.{Row}
 use Rattle.span_flatten.specs.Spans.{Shown, Cuts}
-use Rattle.span_flatten.specs.Taken.{element_of, is_visible, IsLastFormat, IsTaken}
+use Rattle.span_flatten.specs.Taken.{element_of, is_visible, AreDrawn, IsLastFormat, IsTaken}
 use Rattle.span_flatten.specs.Version.{rows_from, IsPiece, IsDraft, IsWhole, IsVersion}
+use Rattle.span_flatten.specs.Window.{IsFlattened}
 use Rattle.span_flatten.proofs.Laying.{spans_back, layout_back, rows_ordered, cut_starts, cut_ends, cut_counts, counts_few}
-use Rattle.span_flatten.proofs.Showing.{filter_from, shown_visible}
+use Rattle.span_flatten.proofs.Showing.{contains_at, filter_from, shown_visible}
 
 -- characters side by side, removed ones too, that have one format: those at the places from `from` up to `to`, which is not one of them
 pub record FormattedRange : Type 0 where
@@ -43,13 +44,20 @@ uniform_range es marks from to format some within uniform is ops place e shows h
     let here : slice_get es from ≡ Some first = slice_get-get_or es from e (omega arith) in
     one_format_between ops es marks from to place first e shows held uniform here at low high format (is ops first shows held here)
 
+all_contained : {X : Type 0} (P : X → Type 0) (xs : List X) → ((x : X) → Contains xs x → P x) → All P xs
+all_contained P xs each k d within = each (get_or xs k d) (contains_at xs k (get_or xs k d) (slice_get-get_or xs k d within))
+
 none : {X : Type 0} (P : X → Type 0) → All P []
 none P k d h = absurd (omega arith)
 
-pub taken_none : (elements : List Element) (marks : List Op) → IsTaken elements marks 0 [] []
-taken_none elements marks = record {
+range_none : (es : List Element) (low : ℕ) → slice_range es low low ≡ []
+range_none es low = let none : low - low ≡ 0 = omega arith in ap (λ n. take n (drop low es)) none
+
+pub taken_none : (elements : List Element) (marks : List Op) (low : ℕ) → IsTaken elements marks low low [] []
+taken_none elements marks low = record {
+  order = omega arith;
   shown = [];
-  drawn = refl;
+  drawn = ap (filter is_visible) (sym (range_none elements low));
   formatted = λ ops h m. none (λ s. IsFormat ops s.id s.format);
   draft = record { spans = []; cut = refl; layout = record { whole = refl; end_to_end = refl }; texts = none (λ s. IsUtf8 s.text) };
   short = omega arith;
@@ -72,6 +80,15 @@ take_range : {X : Type 0} (xs : List X) (from to : ℕ) → from ≤ to → take
 take_range xs from to le =
     let sum : to ≡ from + (to - from) = omega arith in
     ap (λ k. take k xs) sum ∙ take_on from (to - from) xs
+
+-- a range, and the one that begins where it ends
+range_on : (es : List Element) (low from to : ℕ) → low ≤ from → from ≤ to → slice_range es low to ≡ slice_range es low from ++ slice_range es from to
+range_on es low from to first order =
+    let left : (to - low) - (from - low) ≡ to - from = omega arith in
+    let there : low + (from - low) ≡ from = omega arith in
+    take_range (drop low es) (from - low) (to - low) (omega arith)
+    ∙ ap (λ n. slice_range es low from ++ take n (drop (from - low) (drop low es))) left
+    ∙ ap (λ l. slice_range es low from ++ take (to - from) l) (drop-drop (from - low) low es ∙ ap (λ n. drop n es) there)
 
 in_take : {X : Type 0} (n : ℕ) (xs : List X) (m : ℕ) (x : X) → slice_get (take n xs) m ≡ Some x → (m < n) × (slice_get xs m ≡ Some x)
 in_take zero xs m x g = absurd (none-some x g)
@@ -197,27 +214,29 @@ range_short es from to = length_take_le (to - from) (drop from es)
     length_take_le (suc n) (x ∷ xs) = let rest : length (take n xs) ≤ n = length_take_le n xs in omega arith
 
 -- ---- one range more
-drawn_range : (es : List Element) (f : Format) (shown : List Shown) (from to : ℕ) → from ≤ to → map element_of shown ≡ filter is_visible (take from es) → map element_of (shown ++ more_of f (slice_range es from to)) ≡ filter is_visible (take to es)
-drawn_range es f shown from to le drawn =
+drawn_range : (es : List Element) (f : Format) (shown : List Shown) (low from to : ℕ) → low ≤ from → from ≤ to → AreDrawn (slice_range es low from) shown → AreDrawn (slice_range es low to) (shown ++ more_of f (slice_range es from to))
+drawn_range es f shown low from to first le drawn =
     map-append element_of shown (more_of f (slice_range es from to))
     ∙ ap (λ l. l ++ map element_of (more_of f (slice_range es from to))) drawn
-    ∙ ap (λ l. filter is_visible (take from es) ++ l) (drawn_more f (slice_range es from to))
-    ∙ sym (filter-append is_visible (take from es) (slice_range es from to))
-    ∙ ap (filter is_visible) (sym (take_range es from to le))
+    ∙ ap (λ l. filter is_visible (slice_range es low from) ++ l) (drawn_more f (slice_range es from to))
+    ∙ sym (filter-append is_visible (slice_range es low from) (slice_range es from to))
+    ∙ ap (filter is_visible) (sym (range_on es low from to first le))
 
 -- where the text didn't grow there is nothing to see
-pub taken_empty : (es : List Element) (marks : List Op) (from to : ℕ) (text text' : List ℕ) (rows : List Row) → from ≤ to → text' ≡ text ++ visible_text (slice_range es from to) → length text ≡ length text' → IsTaken es marks from text rows → IsTaken es marks to text' rows
-taken_empty es marks from to text text' rows order grown same t =
+pub taken_empty : (es : List Element) (marks : List Op) (low from to : ℕ) (text text' : List ℕ) (rows : List Row) → from ≤ to → text' ≡ text ++ visible_text (slice_range es from to) → length text ≡ length text' → IsTaken es marks low from text rows → IsTaken es marks low to text' rows
+taken_empty es marks low from to text text' rows order grown same t =
     let none_shown : length (visible_text (slice_range es from to)) ≡ 0 = omega (arith, ap length grown, length-append text (visible_text (slice_range es from to))) in
     let hidden : filter is_visible (slice_range es from to) ≡ [] = empty_more (slice_range es from to) none_shown in
     let kept : text' ≡ text = grown ∙ ap (λ l. text ++ l) (nil_bytes (visible_text (slice_range es from to)) none_shown) ∙ append-nil text in
-    let short : length text ≤ 4 * from = t.short in
-    let few : length rows ≤ from = t.few in
+    let first : low ≤ from = t.order in
+    let short : length text ≤ 4 * (from - low) = t.short in
+    let few : length rows ≤ from - low = t.few in
     record {
+      order = omega arith;
       shown = t.shown;
       drawn =
-          t.drawn ∙ sym (append-nil (filter is_visible (take from es))) ∙ ap (λ l. filter is_visible (take from es) ++ l) (sym hidden)
-          ∙ sym (filter-append is_visible (take from es) (slice_range es from to)) ∙ ap (filter is_visible) (sym (take_range es from to order));
+          t.drawn ∙ sym (append-nil (filter is_visible (slice_range es low from))) ∙ ap (λ l. filter is_visible (slice_range es low from) ++ l) (sym hidden)
+          ∙ sym (filter-append is_visible (slice_range es low from) (slice_range es from to)) ∙ ap (filter is_visible) (sym (range_on es low from to first order));
       formatted = t.formatted;
       draft = subst (λ l. IsDraft t.shown l rows) (sym kept) t.draft;
       short = omega (arith, ap length kept);
@@ -240,7 +259,7 @@ some_between left from to text text' order grown grew =
     absurd (grew (omega (arith, ap length grown, length-append text (visible_text (take (to - from) left)), bytes, size))))
     (cases_lt from to)
 
-module _ (es : List Element) (marks : List Op) (r : FormattedRange) (text text' : List ℕ) (rows : List Row) (some : r.from < r.to) (of : IsOfFormat es marks r) (grown : text' ≡ text ++ visible_text (slice_range es r.from r.to)) (t : IsTaken es marks r.from text rows) where
+module _ (es : List Element) (marks : List Op) (r : FormattedRange) (text text' : List ℕ) (rows : List Row) (some : r.from < r.to) (of : IsOfFormat es marks r) (grown : text' ≡ text ++ visible_text (slice_range es r.from r.to)) (low : ℕ) (t : IsTaken es marks low r.from text rows) where
   pub piece_more : (length text ≡ length text' → ⊥) → IsUtf8 text → IsUtf8 text' → IsPiece (more_of r.format (slice_range es r.from r.to)) (record { text = visible_text (slice_range es r.from r.to); format = r.format })
   piece_more grew utf8 utf8' = record {
     some = some_of (filter is_visible (slice_range es r.from r.to)) (λ e. grew (omega (arith, ap length grown, length-append text (visible_text (slice_range es r.from r.to)), shown_none (slice_range es r.from r.to) e)));
@@ -257,15 +276,17 @@ module _ (es : List Element) (marks : List Op) (r : FormattedRange) (text text' 
       some_of [] not = absurd (not refl)
       some_of (x ∷ xs) not = omega arith
 
-  pub taken_more : (rows' : List Row) → IsDraft (t.shown ++ more_of r.format (slice_range es r.from r.to)) text' rows' → length rows' ≤ length rows + 1 → IsTaken es marks r.to text' rows'
+  pub taken_more : (rows' : List Row) → IsDraft (t.shown ++ more_of r.format (slice_range es r.from r.to)) text' rows' → length rows' ≤ length rows + 1 → IsTaken es marks low r.to text' rows'
   taken_more rows' draft count =
-      let short : length text ≤ 4 * r.from = t.short in
-      let few : length rows ≤ r.from = t.few in
+      let first : low ≤ r.from = t.order in
+      let short : length text ≤ 4 * (r.from - low) = t.short in
+      let few : length rows ≤ r.from - low = t.few in
       let bytes : length (visible_text (slice_range es r.from r.to)) ≤ 4 * length (slice_range es r.from r.to) = visible_short (slice_range es r.from r.to) in
       let size : length (slice_range es r.from r.to) ≤ r.to - r.from = range_short es r.from r.to in
       record {
+        order = omega arith;
         shown = t.shown ++ more_of r.format (slice_range es r.from r.to);
-        drawn = drawn_range es r.format t.shown r.from r.to (omega arith) t.drawn;
+        drawn = drawn_range es r.format t.shown low r.from r.to first (omega arith) t.drawn;
         formatted =
             λ ops h m.
             All-append (λ s. IsFormat ops s.id s.format) t.shown (more_of r.format (slice_range es r.from r.to)) (t.formatted ops h m)
@@ -280,11 +301,11 @@ module _ (es : List Element) (marks : List Op) (r : FormattedRange) (text text' 
       }
 
 -- ---- the whole
-pub taken_whole : (elements : List Element) (marks : List Op) (place : ℕ) (text : List ℕ) (rows : List Row) → place ≤ 32768 → IsTaken elements marks place text rows → IsWhole text rows
-taken_whole elements marks place text rows limit t =
+pub taken_whole : (elements : List Element) (marks : List Op) (low place : ℕ) (text : List ℕ) (rows : List Row) → place ≤ 32768 → IsTaken elements marks low place text rows → IsWhole text rows
+taken_whole elements marks low place text rows limit t =
     let d = t.draft in
-    let short : length text ≤ 4 * place = t.short in
-    let few : length rows ≤ place = t.few in
+    let short : length text ≤ 4 * (place - low) = t.short in
+    let few : length rows ≤ place - low = t.few in
     record {
       layout = layout_back d.spans text rows d.layout;
       limits = record {
@@ -303,19 +324,31 @@ taken_whole elements marks place text rows limit t =
           (subst (λ x. All (λ row. row.characters ≡ length (chars (slice_range x row.start row.end))) (rows_from 0 d.spans)) (sym d.layout.whole) (cut_counts d.spans));
     }
 
-pub taken_version : (elements : List Element) (marks : List Op) (place number : ℕ) (text : List ℕ) (rows : List Row) → length elements ≤ place → IsTaken elements marks place text rows → (ops : List Op) → Shows elements ops → AreMarks ops marks → IsVersion ops number (record { number = number; text = text; rows = rows })
-taken_version elements marks place number text rows end t ops h m =
+pub taken_window : (elements : List Element) (marks : List Op) (low place high : ℕ) (text : List ℕ) (rows : List Row) → place ≡ high → IsTaken elements marks low place text rows → IsFlattened elements marks low high (record { text = text; rows = rows })
+taken_window elements marks low place high text rows end t =
     let d = t.draft in
-    let drawn : map element_of t.shown ≡ filter is_visible elements = t.drawn ∙ ap (filter is_visible) (take_all place elements end) in
+    record {
+      shown = t.shown;
+      drawn = subst (λ n. AreDrawn (slice_range elements low n) t.shown) end t.drawn;
+      formatted = λ ops h m s held. All-contains (λ z. IsFormat ops z.id z.format) t.shown s (t.formatted ops h m) held;
+      cut = subst (λ s. Cuts t.shown s) (sym (spans_back d.spans text rows d.layout)) d.cut;
+    }
+
+-- the window of all places is a version
+pub window_version : (elements : List Element) (marks : List Op) (high number : ℕ) (text : List ℕ) (rows : List Row) → high ≡ length elements → IsWhole text rows → IsFlattened elements marks 0 high (record { text = text; rows = rows }) → (ops : List Op) → Shows elements ops → AreMarks ops marks → IsVersion ops number (record { number = number; text = text; rows = rows })
+window_version elements marks high number text rows end whole is ops h m =
+    let upto : high - 0 ≡ high = omega arith in
+    let all : slice_range elements 0 high ≡ elements = ap (λ n. take n elements) upto ∙ take_all high elements (omega (arith, end)) in
+    let drawn : AreDrawn elements is.shown = subst (λ l. AreDrawn l is.shown) all is.drawn in
     record {
       numbered = refl;
-      spans = (t.shown, shown_visible ops elements t.shown h.text drawn (t.formatted ops h m), subst (λ s. Cuts t.shown s) (sym (spans_back d.spans text rows d.layout)) d.cut);
-      layout = layout_back d.spans text rows d.layout;
+      spans = (is.shown, shown_visible ops elements is.shown h.text drawn (all_contained (λ s. IsFormat ops s.id s.format) is.shown (is.formatted ops h m)), is.cut);
+      layout = whole.layout;
     }
 
 -- the same of equal elements and marks
-pub taken_along : (es fs : List Element) (marks held : List Op) (place : ℕ) (text : List ℕ) (rows : List Row) → fs ≡ es → held ≡ marks → IsTaken es marks place text rows → IsTaken fs held place text rows
-taken_along es fs marks held place text rows along same t = subst (λ (l : List Element). IsTaken l held place text rows) (sym along) (subst (λ (ms : List Op). IsTaken es ms place text rows) (sym same) t)
+pub taken_along : (es fs : List Element) (marks held : List Op) (low place : ℕ) (text : List ℕ) (rows : List Row) → fs ≡ es → held ≡ marks → IsTaken es marks low place text rows → IsTaken fs held low place text rows
+taken_along es fs marks held low place text rows along same t = subst (λ (l : List Element). IsTaken l held low place text rows) (sym along) (subst (λ (ms : List Op). IsTaken es ms low place text rows) (sym same) t)
 
 pub last_along : (es fs : List Element) (marks held : List Op) (place : ℕ) (rows : List Row) → fs ≡ es → held ≡ marks → IsLastFormat es marks place rows → IsLastFormat fs held place rows
 last_along es fs marks held place rows along same t = subst (λ (l : List Element). IsLastFormat l held place rows) (sym along) (subst (λ (ms : List Op). IsLastFormat es ms place rows) (sym same) t)

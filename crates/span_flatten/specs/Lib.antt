@@ -1,3 +1,4 @@
 pub mod Spans
 pub mod Version
 pub mod Taken
+pub mod Window

@@ -1,5 +1,6 @@
 -- What of a text is laid out already.
-use Rattle.std.specs.Prelude.{◌≡◌, ◌<◌, ◌≤◌, ◌-◌, ◌*◌, ℕ, Bool, true, List, length, map, take, slice_index_or, All}
+use Rattle.std.specs.Prelude.{◌≡◌, ◌<◌, ◌≤◌, ◌-◌, ◌*◌, ℕ, Bool, true, List, length, map}
+use Rattle.std.specs.Prelude.{slice_index_or, slice_range, All}
 use Rattle.std.specs.List.{filter}
 use Rattle.change_ops.specs.declared.operation.Op.{Op}
 use Rattle.char_sequence.specs.declared.sequence.Element.{Element}
@@ -18,16 +19,21 @@ element_of s = record { id = s.id; character = s.character; visible = true }
 abbrev pub is_visible : Element → Bool
 is_visible e = e.visible
 
--- what of the first elements is visible is laid out
-pub record IsTaken (elements : List Element) (marks : List Op) (place : ℕ) (text : List ℕ) (rows : List Row) : Type 0
-  where
-    pub shown : List Shown
-    pub drawn : map element_of shown ≡ filter is_visible (take place elements)
-    pub formatted : (ops : List Op) → Shows elements ops → AreMarks ops marks
-        → All (λ s. IsFormat ops s.id s.format) shown
-    pub draft : IsDraft shown text rows
-    pub short : length text ≤ 4 * place
-    pub few : length rows ≤ place
+-- the characters are the visible elements, in order
+abbrev pub AreDrawn : List Element → List Shown → Type 0
+AreDrawn es shown = map element_of shown ≡ filter is_visible es
+
+-- what of the elements from place `low` up to this one is visible is laid out
+pub record IsTaken (elements : List Element) (marks : List Op) (low place : ℕ) (text : List ℕ)
+    (rows : List Row) : Type 0 where
+  pub order : low ≤ place
+  pub shown : List Shown
+  pub drawn : AreDrawn (slice_range elements low place) shown
+  pub formatted : (ops : List Op) → Shows elements ops → AreMarks ops marks
+      → All (λ s. IsFormat ops s.id s.format) shown
+  pub draft : IsDraft shown text rows
+  pub short : length text ≤ 4 * (place - low)
+  pub few : length rows ≤ place - low
 
 -- the last row has the format of the character at the place
 abbrev pub IsLastFormat : List Element → List Op → ℕ → List Row → Type 0

@@ -9,8 +9,10 @@ ghost use Rattle.mark_anchors.specs.Ranges.{IsFormatAt, IsUniform};
 ghost use Rattle.span_flatten.specs.Spans.{Shown, Span, AreSpans};
 ghost use Rattle.span_flatten.specs.Taken.{IsLastFormat, IsTaken};
 ghost use Rattle.span_flatten.specs.Version.{IsPiece, IsDraft, IsVersion};
+ghost use Rattle.span_flatten.specs.Window.{IsFlattened};
 
 use crate::version::{Row, Version};
+use crate::window::Window;
 use char_sequence::sequence::Sequence;
 use char_sequence::visible_cursor::VisibleCursor;
 use mark_anchors::format_sweep::FormatSweep;
@@ -102,10 +104,10 @@ fn take_in(
     requires formatted { IsLastFormat sweep.old.resolution.elements sweep.old.resolution.marks sweep.old.place
         rows.old.items }
     requires counted { All (λ row. row.characters ≤ length (string_bytes text.old)) rows.old.items }
-    ensures taken { IsTaken sweep.old.resolution.elements sweep.old.resolution.marks from (string_bytes text.old)
-        rows.old.items
+    ensures taken { (low : ℕ) → IsTaken sweep.old.resolution.elements sweep.old.resolution.marks low from
+        (string_bytes text.old) rows.old.items
         → IfOk result
-        (λ _. IsTaken sweep.old.resolution.elements sweep.old.resolution.marks to (string_bytes text.new)
+        (λ _. IsTaken sweep.old.resolution.elements sweep.old.resolution.marks low to (string_bytes text.new)
         rows.new.items) }
     ensures at { IfOk result (λ _. cursor.new ≡ drop to sweep.old.resolution.elements) }
     ensures formatted { IfOk result (λ _. IsLastFormat sweep.old.resolution.elements sweep.old.resolution.marks
@@ -128,6 +130,37 @@ fn take_in(
     Ok(())
 }
 
+/// What is visible of the characters from the place `low` up to `high`, cut into spans.
+///
+/// `alloc` is for the window.
+pub fn flatten_window(
+    alloc: Global,
+    sequence: &Sequence,
+    marks: &Marks,
+    low: usize,
+    high: usize,
+) -> Result<Window, AllocError>
+    requires text { (ops : List Op) × Shows sequence.now.elements ops × AreMarks ops marks.now }
+    requires order { low ≤ high }
+    requires within { high ≤ length sequence.now.elements }
+    ensures { IfOk result (λ window. IsFlattened sequence.now.elements marks.now low high window) }
+{
+    let resolved = marks.resolve(alloc, sequence)?;
+    let cuts = resolved.cuts(alloc, low, high)?;
+    let mut text = String::new(alloc);
+    let mut rows = Vec::new(alloc);
+    let mut cursor = sequence.visible_from(low);
+    // Its contract bounds the characters, and so the spans, which the proof needs.
+    let _count = sequence.len();
+    let mut sweep = resolved.sweep_from(low);
+    let mut from = low;
+    for cut in &cuts {
+        take_in(&mut text, &mut rows, &mut cursor, &mut sweep, from, *cut)?;
+        from = *cut;
+    }
+    Ok(Window { text, rows })
+}
+
 /// The version with this number of the text and its marks.
 pub fn flatten(
     alloc: Global,
@@ -139,20 +172,8 @@ pub fn flatten(
     ensures { IfOk result (λ version. (ops : List Op) → Shows sequence.now.elements ops → AreMarks ops marks.now
         → IsVersion ops number version) }
 {
-    let resolved = marks.resolve(alloc, sequence)?;
-    let cuts = resolved.cuts(alloc)?;
-    let mut text = String::new(alloc);
-    let mut rows = Vec::new(alloc);
-    let mut cursor = sequence.visible_from_start();
-    // Its contract bounds the characters, and so the spans, which the proof needs.
-    let _count = sequence.len();
-    let mut sweep = resolved.sweep();
-    let mut from = 0;
-    for cut in &cuts {
-        take_in(&mut text, &mut rows, &mut cursor, &mut sweep, from, *cut)?;
-        from = *cut;
-    }
-    Ok(Version { number, text, rows })
+    let window = flatten_window(alloc, sequence, marks, 0, sequence.len())?;
+    Ok(window.into_version(number))
 }
 
 /// The law that replicas converge: versions with one number of one set of operations are equal,

@@ -8,11 +8,11 @@ ghost use Rattle.span_lines.specs.SpanLines.{escaped, lent_line, some_lines, spa
 
 use change_ops::attribute::{Color, Link};
 use mark_anchors::format::Format;
-use span_flatten::version::Version;
 use span_view::view::{SpanView, spans as spans_of, view};
 use std::alloc::{AllocError, Global};
 use std::fmt;
 use std::fmt::Write as _;
+use version_blocks::version::BlockVersion;
 
 /// What stands before a key: a comma behind another key.
 #[derive(Clone, Copy)]
@@ -182,7 +182,7 @@ impl fmt::Display for SpanLine<'_> {
 }
 
 /// A line for each span of the version: its index, format and text.
-pub fn lines_of(alloc: Global, version: &Version) -> Result<String, AllocError>
+pub fn lines_of(alloc: Global, version: &BlockVersion) -> Result<String, AllocError>
     ensures { IfOk result (λ lines. string_bytes lines ≡ span_lines (spans_in version.now)) }
 {
     let mut out = String::new(alloc);
@@ -196,7 +196,7 @@ pub fn lines_of(alloc: Global, version: &Version) -> Result<String, AllocError>
 /// what [`lines_of`] has.
 #[derive(Clone, Copy)]
 pub struct SomeSpans<'a> {
-    pub version: &'a Version,
+    pub version: &'a BlockVersion,
     pub first: usize,
     pub most: usize,
 }
@@ -205,7 +205,7 @@ impl fmt::Display for SomeSpans<'_> {
     ghost output = { λ some. Some (some_lines some.first some.most some.version.now) };
 
     fn fmt<W: fmt::Write>(&self, f: &mut fmt::Formatter<W>) -> fmt::Result {
-        let left = self.version.rows().len().saturating_sub(self.first);
+        let left = self.version.span_count().saturating_sub(self.first);
         let end = self.first + left.min(self.most);
         for index in self.first..end {
             let Some(span) = view(self.version, index) else {

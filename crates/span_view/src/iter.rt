@@ -2,28 +2,34 @@ ghost use Rattle.std.specs.Prelude.{◌≡◌, IfSome, Some, length};
 ghost use Rattle.std.specs.Iterator.{UpTo, YieldsFirst, YieldsLast, item_count};
 ghost use Rattle.std.specs.Iterator.SizeHint.{IsWithinCount};
 
-use crate::view::{SpanView, view};
-use span_flatten::version::Version;
+use crate::view::{SpanView, lent, view};
 use std::iter::FusedIterator;
 use std::marker::Model;
+use version_blocks::iter::SpanTexts;
+use version_blocks::version::BlockVersion;
 
-/// The spans of a version that are left, seen as their list.
+/// The spans of a version that are left, seen as their list. From the front one is read after the other; one from the
+/// back is searched for.
 #[derive(Drop)]
 pub struct Spans<'a> {
-    pub(crate) version: &'a Version,
+    pub(crate) version: &'a BlockVersion,
+    /// Those from `front` on.
+    pub(crate) texts: SpanTexts<'a>,
     pub(crate) front: usize,
     pub(crate) back: usize,
 }
 
 impl<'a> Model for Spans<'a> {
-    ghost use Rattle.std.specs.Prelude.{List, slice_range, length, ◌≤◌};
+    ghost use Rattle.std.specs.Prelude.{◌≡◌, ◌≤◌, List, drop, length, slice_range};
+    ghost use Rattle.span_flatten.specs.Version.{spans_of};
     ghost use Rattle.span_view.specs.Views.{SpanView, views};
 
     ghost Value = { List SpanView };
 
     ghost view = { λ s. slice_range (views s.version.now) s.front s.back };
 
-    ghost invariant = { λ s. (s.front ≤ s.back) × (s.back ≤ length s.version.now.rows) };
+    ghost invariant = { λ s. (s.front ≤ s.back) × (s.back ≤ length s.version.now.rows)
+        × (s.texts ≡ drop s.front (spans_of s.version.now)) };
 }
 
 impl<'a> Iterator for Spans<'a> {
@@ -37,9 +43,10 @@ impl<'a> Iterator for Spans<'a> {
         if self.front == self.back {
             return None;
         }
-        let span = view(self.version, self.front);
+        let text = self.texts.next()?;
+        let span = lent(self.version, self.front, text);
         self.front += 1;
-        span
+        Some(span)
     }
 
     fn size_hint(&self) -> (usize, Option<usize>)

@@ -1,10 +1,13 @@
-ghost use Rattle.std.specs.Prelude.{◌≡◌};
+ghost use Rattle.std.specs.Prelude.{◌≡◌, Some, slice_get};
+ghost use Rattle.span_flatten.specs.Version.{spans_of};
 ghost use Rattle.span_view.specs.Views.{view_at, views};
 
 use crate::iter::Spans;
 use mark_anchors::format::Format;
-use span_flatten::version::Version;
 use std::marker::Model;
+use version_blocks::iter::spans_from;
+use version_blocks::span_text::SpanText;
+use version_blocks::version::BlockVersion;
 
 /// A span of a version, lent from it.
 #[derive(Drop)]
@@ -40,30 +43,37 @@ impl<'a> Model for SpanView<'a> {
         × (v.characters ≡ length (chars v.text.now)) };
 }
 
+/// A span of the version, which has this index there.
+pub(crate) fn lent<'a>(version: &'a BlockVersion, index: usize, span: SpanText<'a>) -> SpanView<'a>
+    requires { slice_get (spans_of version.now) index ≡ Some span }
+    ensures { view_at version.now index ≡ Some result }
+{
+    SpanView {
+        text: span.text,
+        characters: span.characters,
+        format: span.format,
+        index,
+        count: version.span_count(),
+        version: version.number(),
+    }
+}
+
 /// The span with this index in the version, if there is one.
-pub fn view<'a>(version: &'a Version, index: usize) -> Option<SpanView<'a>>
+pub fn view<'a>(version: &'a BlockVersion, index: usize) -> Option<SpanView<'a>>
     ensures { result ≡ view_at version.now index }
 {
-    let rows = version.rows();
-    let row = rows.get(index)?;
-    let text = &version.text()[row.start..row.end];
-    Some(SpanView {
-        text,
-        characters: row.characters,
-        format: &row.format,
-        index,
-        count: rows.len(),
-        version: version.number(),
-    })
+    let span = version.span(index)?;
+    Some(lent(version, index, span))
 }
 
 /// The spans of the version, in order.
-pub fn spans<'a>(version: &'a Version) -> Spans<'a>
+pub fn spans<'a>(version: &'a BlockVersion) -> Spans<'a>
     ensures { result ≡ views version.now }
 {
     Spans {
         version,
+        texts: spans_from(version, 0),
         front: 0,
-        back: version.rows().len(),
+        back: version.span_count(),
     }
 }

@@ -14,11 +14,11 @@ use hub_core::error::{CommitError, NoSubscriber, SubscribeError};
 use hub_core::hub::Core;
 use hub_core::run::{Event, Reply, run_events};
 use ingest_workers::ingest::HubError;
-use span_flatten::version::Version;
 use std::alloc::{AllocError, Global};
 use std::marker::Brand;
 use std::sync::Wait;
 use verifier::verify::Verified;
+use version_blocks::version::BlockVersion;
 use version_history::published::{Naming, ProgramToken, Published, VersionToken};
 
 type Asked<N> = Event<ProgramToken<N>, ListSink<N>>;
@@ -41,7 +41,7 @@ pub fn play_core<R: Wait>(
 fn on_lists<N: Naming, R: Wait>(
     rt: &R,
     alloc: Global,
-    versions: &boxcar::Vec<Version>,
+    versions: &boxcar::Vec<BlockVersion>,
     programs: &boxcar::Vec<Verified>,
     lines: String,
     told: &mut String,

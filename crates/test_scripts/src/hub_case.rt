@@ -8,7 +8,6 @@ use crate::tricks::Trick;
 use ingest_workers::hub::Hub;
 use ingest_workers::ingest::settle;
 use ingest_workers::share::Share;
-use span_flatten::version::Version;
 use std::alloc::{AllocError, Global};
 use std::marker::Brand;
 use std::sync::Wait;
@@ -16,6 +15,7 @@ use std::sync::ledger::{Blank, Ledger};
 use std::thread::Threads;
 use subscriber_queues::ends::Subscription;
 use verifier::verify::Verified;
+use version_blocks::version::BlockVersion;
 use version_history::published::{Naming, Published};
 
 /// Plays a case on a new hub with `shares` shares.
@@ -46,7 +46,7 @@ fn on_lists<N: Naming + Ledger + Send + Sync, R: Threads + Wait + Copy + Send + 
     rt: R,
     alloc: Global,
     blank: Blank,
-    versions: &boxcar::Vec<Version>,
+    versions: &boxcar::Vec<BlockVersion>,
     programs: &boxcar::Vec<Verified>,
     shares: usize,
     lines: String,

@@ -3,13 +3,13 @@ ghost use Rattle.std.specs.Prelude.{◌≡◌};
 use ingest_workers::hub::Hub;
 use ingest_workers::ingest::{ingest, settle};
 use ingest_workers::share::Share;
-use span_flatten::version::Version;
 use std::alloc::{AllocError, Global};
 use std::marker::Brand;
 use std::sync::Wait;
 use std::sync::ledger::{Blank, Ledger};
 use std::thread::{Threads, join};
 use verifier::verify::Verified;
+use version_blocks::version::BlockVersion;
 use version_history::published::{Naming, Published};
 
 /// Has two threads, each with a share and a peer of its own, ingest `changes` changes on a new hub. It tells what each
@@ -68,7 +68,7 @@ fn on_lists<'p, N: Naming + Ledger + Send + Sync, R: Threads + Wait + Copy + Sen
     rt: &R,
     alloc: Global,
     blank: Blank,
-    versions: &'p boxcar::Vec<Version>,
+    versions: &'p boxcar::Vec<BlockVersion>,
     programs: &'p boxcar::Vec<Verified>,
     changes: u64,
     told: &mut String,

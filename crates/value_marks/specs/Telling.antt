@@ -1,6 +1,7 @@
 -- What a comparison that tells of one value tells of all that bear a mark of its origin.
 use Rattle.std.specs.Prelude.{ℕ, zero, suc, ◌^◌, nat_eq, nat_lt, ◌&&◌, if◌then◌else◌, true, Option, Some, None}
 use Rattle.std.specs.Prelude.{option_map, option_and_then}
+use Rattle.span_context.specs.declared.profile.Profile.TheVariants.{Three}
 use Rattle.bpf_words.specs.declared.instruction.Width.{Width}
 use Rattle.bpf_words.specs.declared.instruction.Width.TheVariants.{Full}
 use Rattle.bpf_words.specs.declared.instruction.Operand.{Operand}
@@ -31,7 +32,9 @@ left_of t = t.left
 unfoldable pub told : Width → ℕ → Estimate → Estimate → Option Estimate
 told width ahead x y =
     if nat_lt x.range.high (2 ^ bits_of width) && nat_lt y.range.high (2 ^ bits_of width)
-    then option_and_then (λ sum. option_map left_of (told_on Full Equal true y sum)) (added width x (constant ahead))
+    then
+    option_and_then (λ sum. option_map left_of (told_on Full Equal true y sum))
+    (added Three width x (constant ahead))
     else Some y
 
 -- of two numbers, or of two addresses in one region; none where no run comes there

@@ -32,6 +32,7 @@ use abstract_state::step::Flow;
 use abstract_state::transfer::greatest;
 use bpf_words::instruction::{Comparison, Operand, Width};
 use bpf_words::register::Register;
+use span_context::profile::Profile;
 
 /// What is known of a number that is so far ahead of another, modulo the width.
 #[tactic(auto, unfolding(crate::specs::Telling::told))]
@@ -46,7 +47,7 @@ fn told(width: Width, ahead: u64, x: Quantity, y: Quantity) -> Option<Quantity>
     if x.range.high > greatest || y.range.high > greatest {
         return Some(y);
     }
-    let Some(sum) = x.add(Quantity::constant(ahead), width) else {
+    let Some(sum) = x.add(Profile::Three, Quantity::constant(ahead), width) else {
         return None;
     };
     let Some(sides) = edge(Width::Full, Comparison::Equal, true, y, sum) else {

@@ -27,16 +27,16 @@ trimmed_in : (o : Option AbsState) (x : Option Situation) → IsSituationIn o x 
 trimmed_in o None is = is
 trimmed_in o (Some s) (a, there, is) = (a, there, trimmed_is a s is)
 
-pub arrives_at : (a : AbsState) (falling here : Option Situation) → ((s : Situation) → IsSituation a s → trimmed s ≡ situation_of a) → IsSituationIn (Some a) (either_way falling here) → arrived falling here ≡ Some (situation_of a)
-arrives_at a falling here whole is =
-    let (s, same, one) = some_is a (either_way falling here) is in
+pub arrives_at : (profile : Profile) (a : AbsState) (falling here : Option Situation) → ((s : Situation) → IsSituation a s → trimmed s ≡ situation_of a) → IsSituationIn (Some a) (either_way profile falling here) → arrived profile falling here ≡ Some (situation_of a)
+arrives_at profile a falling here whole is =
+    let (s, same, one) = some_is a (either_way profile falling here) is in
     ap (option_map trimmed) same ∙ ap (λ (t : Situation). Some t) (whole s one)
 
-pub arrives_nowhere : (falling here : Option Situation) → IsSituationIn None (either_way falling here) → arrived falling here ≡ None
-arrives_nowhere falling here is = ap (option_map trimmed) (none_is (either_way falling here) is)
+pub arrives_nowhere : (profile : Profile) (falling here : Option Situation) → IsSituationIn None (either_way profile falling here) → arrived profile falling here ≡ None
+arrives_nowhere profile falling here is = ap (option_map trimmed) (none_is (either_way profile falling here) is)
 
-pub arrived_once : (falling here : Option Situation) → arrived (either_way falling here) None ≡ arrived falling here
-arrived_once falling here = ap (option_map trimmed) (either_none (either_way falling here))
+pub arrived_once : (profile : Profile) (falling here : Option Situation) → arrived profile (either_way profile falling here) None ≡ arrived profile falling here
+arrived_once profile falling here = ap (option_map trimmed) (either_none profile (either_way profile falling here))
 
 -- what waits beyond a slot is as it was
 pub waits_beyond : (old new : Waiting) (slot : ℕ) (w : Waits) → ((other : ℕ) → other ≢ slot → waiting_at new other ≡ waiting_at old other) → WaitsFrom (slot + 1) old w → WaitsFrom (slot + 1) new w
@@ -71,7 +71,7 @@ pub sound_first : (profile : Profile) (program : Program) → IsStructured progr
 sound_first profile program structured = record { structured = structured; below = λ slot fault few. absurd (omega (arith, few)) }
 
 pub awaits_over : (profile : Profile) (program : Program) (slot : ℕ) (insn : Insn) (o : Option AbsState) (waiting : Waiting) → StartsAt program slot insn
-    → (let a = awaited_at profile program slot in Passes profile slot insn (arrived a.falling (a.waiting slot)) a.waiting o waiting → Awaits (slot + 1) o waiting (awaited_at profile program (slot + 1)))
+    → (let a = awaited_at profile program slot in Passes profile slot insn (arrived profile a.falling (a.waiting slot)) a.waiting o waiting → Awaits (slot + 1) o waiting (awaited_at profile program (slot + 1)))
 unfolding awaited_at stepped_over
 awaits_over profile program slot insn o waiting starts passes =
     let next = passes.awaits in
@@ -101,7 +101,7 @@ sound_more profile program slot sound here = record {
 }
 
 pub sound_over : (profile : Profile) (program : Program) (slot : ℕ) (insn : Insn) (o : Option AbsState) (waiting : Waiting) → StartsAt program slot insn → IsAllowedBelow profile program slot
-    → (let a = awaited_at profile program slot in Passes profile slot insn (arrived a.falling (a.waiting slot)) a.waiting o waiting → IsAllowedBelow profile program (slot + 1))
+    → (let a = awaited_at profile program slot in Passes profile slot insn (arrived profile a.falling (a.waiting slot)) a.waiting o waiting → IsAllowedBelow profile program (slot + 1))
 unfolding known_before
 sound_over profile program slot insn o waiting starts sound passes =
     sound_more profile program slot sound (λ fault bad. passes.allowed fault (refused_there profile program slot insn fault starts bad))
@@ -111,18 +111,18 @@ sound_second profile program slot second sound =
     sound_more profile program slot sound (λ fault bad. let starts = bad.starts in absurd (cc (second, starts)))
 
 pub names_first : (profile : Profile) (program : Program) (slot : ℕ) (insn : Insn) (e : VerifyError) → StartsAt program slot insn → IsAllowedBelow profile program slot
-    → (let a = awaited_at profile program slot in NamesSlot profile slot insn (arrived a.falling (a.waiting slot)) e → NamesFirst profile program e)
+    → (let a = awaited_at profile program slot in NamesSlot profile slot insn (arrived profile a.falling (a.waiting slot)) e → NamesFirst profile program e)
 unfolding known_before
 names_first profile program slot insn e starts sound names at fault is =
     let (same, bad) = names at fault is in
     subst (λ k. FirstRefusal profile program k fault) (sym same)
     (record { before = sound; here = record { insn = insn; starts = starts; refused = bad } })
 
-pub known_is : (profile : Profile) (program : Program) (slot : ℕ) (o : Option AbsState) → (let a = awaited_at profile program slot in IsSituationIn o (either_way a.falling (a.waiting slot)) → IsSituationIn o (known_before profile program slot))
+pub known_is : (profile : Profile) (program : Program) (slot : ℕ) (o : Option AbsState) → (let a = awaited_at profile program slot in IsSituationIn o (either_way profile a.falling (a.waiting slot)) → IsSituationIn o (known_before profile program slot))
 unfolding known_before
 known_is profile program slot o is =
     let a = awaited_at profile program slot in
-    trimmed_in o (either_way a.falling (a.waiting slot)) is
+    trimmed_in o (either_way profile a.falling (a.waiting slot)) is
 
 -- ---- what is known before each slot, in a list
 abbrev pub KnownBelow : Profile → Program → ℕ → List (Option AbsState) → Type 0

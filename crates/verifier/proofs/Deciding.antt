@@ -9,6 +9,7 @@ use Rattle.std.proofs.lemmas.Bool.{cases_eq, cases_lt}
 use Rattle.std.proofs.lemmas.Bool.Decides.{nat_tests}
 use Rattle.std.specs.declared.alloc.Global.{Global}
 use Rattle.span_context.specs.declared.profile.Profile.{Profile}
+use Rattle.span_context.specs.declared.profile.Profile.TheVariants.{One, Two, Three}
 use Rattle.bpf_words.specs.declared.instruction.Insn.{Insn}
 use Rattle.bpf_words.specs.declared.instruction.Insn.TheVariants.{Compute, Negate, Extend, Convert, Jump, JumpLong, Branch, Load, LoadSigned, Store, LoadWide, Exit}
 use Rattle.bpf_words.specs.declared.instruction.Width.{Width}
@@ -23,7 +24,7 @@ use Rattle.abstract_state.specs.declared.step.Flow.{Flow}
 use Rattle.abstract_state.specs.Steps.{after}
 use Rattle.abstract_state.specs.Addresses.{answer_of}
 use Rattle.abstract_state.specs.Stacks.{Slots, slots_of}
-use Rattle.abstract_state.specs.Situation.{Situation, Least, Registers, IsSituation, IsSituationIn, Flows, AnswersStep, situation_of, registers_of, least_of, joined}
+use Rattle.abstract_state.specs.Situation.{Situation, Least, Registers, IsSituation, IsSituationIn, Flows, AnswersStep, situation_of, registers_of, least_of, joined, either_situation, bounded_all}
 use Rattle.abstract_state.specs.Stepping.{stepped, exit}
 use Rattle.abstract_state.specs.declared.branch.Edges.{Edges}
 use Rattle.abstract_state.specs.Edges.{Ways, ways, branched, AnswersBranch}
@@ -75,12 +76,25 @@ pub own : (a : AbsState) → IsSituation a (situation_of a)
 own a = record { registers = λ i few. refl; slots = λ i few. refl; least = refl }
 
 -- ---- joined situations
-pub joins : (a b c : AbsState) (s t : Situation) → IsSituation a s → IsSituation b t → IsSituation c (joined (situation_of a) (situation_of b)) → IsSituation c (joined s t)
-joins a b c s t one other is = record {
+joins_either : (a b c : AbsState) (s t : Situation) → IsSituation a s → IsSituation b t → IsSituation c (either_situation (situation_of a) (situation_of b)) → IsSituation c (either_situation s t)
+joins_either a b c s t one other is = record {
   registers = λ i few. rw (← one.registers i few, ← other.registers i few) (is.registers i few);
   slots = λ i few. rw (← one.slots i few, ← other.slots i few) (is.slots i few);
   least = rw (← one.least, ← other.least) is.least;
 }
+
+joins_bounded : (a b c : AbsState) (s t : Situation) → IsSituation a s → IsSituation b t → IsSituation c (either_situation (bounded_all (situation_of a)) (bounded_all (situation_of b))) → IsSituation c (either_situation (bounded_all s) (bounded_all t))
+joins_bounded a b c s t one other is = record {
+  registers = λ i few. rw (← one.registers i few, ← other.registers i few, ← one.least, ← other.least) (is.registers i few);
+  slots = λ i few. rw (← one.slots i few, ← other.slots i few, ← one.least, ← other.least) (is.slots i few);
+  least = rw (← one.least, ← other.least) is.least;
+}
+
+pub joins : (profile : Profile) (a b c : AbsState) (s t : Situation) → IsSituation a s → IsSituation b t → IsSituation c (joined profile (situation_of a) (situation_of b)) → IsSituation c (joined profile s t)
+unfolding joined
+joins One a b c s t one other is = joins_either a b c s t one other is
+joins Two a b c s t one other is = joins_either a b c s t one other is
+joins Three a b c s t one other is = joins_bounded a b c s t one other is
 
 -- ---- a state that may be there
 pub none_is : (o : Option Situation) → IsSituationIn None o → o ≡ None
@@ -91,71 +105,71 @@ pub some_is : (a : AbsState) (o : Option Situation) → IsSituationIn (Some a) o
 some_is a None is = absurd (cc (is))
 some_is a (Some s) (b, there, is) = (s, refl, subst (λ x. IsSituation x s) (sym (same_Some a b there)) is)
 
-pub either_none : (o : Option Situation) → either_way o None ≡ o
-either_none None = refl
-either_none (Some s) = refl
+pub either_none : (profile : Profile) (o : Option Situation) → either_way profile o None ≡ o
+either_none profile None = refl
+either_none profile (Some s) = refl
 
 -- one more is joined to what waited
-pub joined_in : (before : Option AbsState) (a b c : AbsState) (o : Option Situation) (s : Situation) → before ≡ Some a → IsSituationIn before o → IsSituation b s → IsSituation c (joined (situation_of a) (situation_of b)) → IsSituationIn (Some c) (either_way o (Some s))
-joined_in before a b c None s there is one both = absurd (cc (there, is))
-joined_in before a b c (Some t) s there (x, at, is) one both =
+pub joined_in : (profile : Profile) (before : Option AbsState) (a b c : AbsState) (o : Option Situation) (s : Situation) → before ≡ Some a → IsSituationIn before o → IsSituation b s → IsSituation c (joined profile (situation_of a) (situation_of b)) → IsSituationIn (Some c) (either_way profile o (Some s))
+joined_in profile before a b c None s there is one both = absurd (cc (there, is))
+joined_in profile before a b c (Some t) s there (x, at, is) one both =
     let same : x ≡ a = same_Some x a (sym at ∙ there) in
-    (c, refl, joins a b c t s (subst (λ y. IsSituation y t) same is) one both)
+    (c, refl, joins profile a b c t s (subst (λ y. IsSituation y t) same is) one both)
 
-pub first_in : (before : Option AbsState) (c b : AbsState) (o : Option Situation) (s : Situation) → before ≡ None → c ≡ b → IsSituationIn before o → IsSituation b s → IsSituationIn (Some c) (either_way o (Some s))
-first_in before c b None s none same is one = (c, refl, subst (λ y. IsSituation y s) (sym same) one)
-first_in before c b (Some t) s none same (x, at, is) one = absurd (cc (none, at))
+pub first_in : (profile : Profile) (before : Option AbsState) (c b : AbsState) (o : Option Situation) (s : Situation) → before ≡ None → c ≡ b → IsSituationIn before o → IsSituation b s → IsSituationIn (Some c) (either_way profile o (Some s))
+first_in profile before c b None s none same is one = (c, refl, subst (λ y. IsSituation y s) (sym same) one)
+first_in profile before c b (Some t) s none same (x, at, is) one = absurd (cc (none, at))
 
 -- ---- what waits at a slot is joined to what falls into it
-pub arrives_both : (before flowing : Option AbsState) (a b c : AbsState) (falling here : Option Situation) → before ≡ Some b → flowing ≡ Some a → IsSituationIn before here → IsSituationIn flowing falling → IsSituation c (joined (situation_of a) (situation_of b)) → IsSituationIn (Some c) (either_way falling here)
-arrives_both before flowing a b c None here there live waits falls both = absurd (cc (live, falls))
-arrives_both before flowing a b c (Some s) None there live waits falls both = absurd (cc (there, waits))
-arrives_both before flowing a b c (Some s) (Some t) there live (y, at, waits) (x, on, falls) both =
+pub arrives_both : (profile : Profile) (before flowing : Option AbsState) (a b c : AbsState) (falling here : Option Situation) → before ≡ Some b → flowing ≡ Some a → IsSituationIn before here → IsSituationIn flowing falling → IsSituation c (joined profile (situation_of a) (situation_of b)) → IsSituationIn (Some c) (either_way profile falling here)
+arrives_both profile before flowing a b c None here there live waits falls both = absurd (cc (live, falls))
+arrives_both profile before flowing a b c (Some s) None there live waits falls both = absurd (cc (there, waits))
+arrives_both profile before flowing a b c (Some s) (Some t) there live (y, at, waits) (x, on, falls) both =
     let same : x ≡ a = same_Some x a (sym on ∙ live) in
     let other : y ≡ b = same_Some y b (sym at ∙ there) in
-    (c, refl, joins a b c s t (subst (λ z. IsSituation z s) same falls) (subst (λ z. IsSituation z t) other waits) both)
+    (c, refl, joins profile a b c s t (subst (λ z. IsSituation z s) same falls) (subst (λ z. IsSituation z t) other waits) both)
 
-pub arrives_alone : (before flowing : Option AbsState) (b c : AbsState) (falling here : Option Situation) → before ≡ Some b → flowing ≡ None → c ≡ b → IsSituationIn before here → IsSituationIn flowing falling → IsSituationIn (Some c) (either_way falling here)
-arrives_alone before flowing b c (Some s) here there dead same waits (x, on, falls) = absurd (cc (dead, on))
-arrives_alone before flowing b c None here there dead same waits falls =
+pub arrives_alone : (profile : Profile) (before flowing : Option AbsState) (b c : AbsState) (falling here : Option Situation) → before ≡ Some b → flowing ≡ None → c ≡ b → IsSituationIn before here → IsSituationIn flowing falling → IsSituationIn (Some c) (either_way profile falling here)
+arrives_alone profile before flowing b c (Some s) here there dead same waits (x, on, falls) = absurd (cc (dead, on))
+arrives_alone profile before flowing b c None here there dead same waits falls =
     subst (λ x. IsSituationIn (Some x) here) (sym same) (subst (λ x. IsSituationIn x here) there waits)
 
-pub arrives_none : (before flowing : Option AbsState) (falling here : Option Situation) → before ≡ None → IsSituationIn before here → IsSituationIn flowing falling → IsSituationIn flowing (either_way falling here)
-arrives_none before flowing falling here none waits falls =
+pub arrives_none : (profile : Profile) (before flowing : Option AbsState) (falling here : Option Situation) → before ≡ None → IsSituationIn before here → IsSituationIn flowing falling → IsSituationIn flowing (either_way profile falling here)
+arrives_none profile before flowing falling here none waits falls =
     let nothing : here ≡ None = none_is here (subst (λ x. IsSituationIn x here) none waits) in
-    rw nothing (rw (either_none falling) falls)
+    rw nothing (rw (either_none profile falling) falls)
 
 -- ---- what waits, where a jump's state is joined to it
-pub jumped : (old new : Waiting) (slot from : ℕ) (o : Option Situation) (w : Waits) → WaitsFrom from old w → IsSituationIn (waiting_at new slot) (either_way (w slot) o) → ((other : ℕ) → other ≢ slot → waiting_at new other ≡ waiting_at old other) → WaitsFrom from new (with_jump slot o w)
-jumped old new slot from o w waits there others at on =
+pub jumped : (profile : Profile) (old new : Waiting) (slot from : ℕ) (o : Option Situation) (w : Waits) → WaitsFrom from old w → IsSituationIn (waiting_at new slot) (either_way profile (w slot) o) → ((other : ℕ) → other ≢ slot → waiting_at new other ≡ waiting_at old other) → WaitsFrom from new (with_jump profile slot o w)
+jumped profile old new slot from o w waits there others at on =
     ⊎_elim
     (λ (here : at ≡ slot).
     let yes : nat_eq at slot ≡ true = grind (arith, nat_tests) in
-    rw yes (subst (λ n. IsSituationIn (waiting_at new n) (either_way (w n) o)) (sym here) there))
+    rw yes (subst (λ n. IsSituationIn (waiting_at new n) (either_way profile (w n) o)) (sym here) there))
     (λ (apart : at ≡ slot → ⊥).
     let no : nat_eq at slot ≡ false = grind (arith, nat_tests) in
     rw no (subst (λ x. IsSituationIn x (w at)) (sym (others at apart)) (waits at on)))
     (cases_eq at slot)
 
-pub waits_added : (states : Waiting) (slot from : ℕ) (empty : Option (Box AbsState Global)) (boxed : Box AbsState Global) (s : Situation) (w : Waits) → slot < length states → WaitsFrom from states w → IsSituationIn (Some boxed.value) (either_way (w slot) (Some s)) → WaitsFrom from (set (set states slot empty) slot (Some boxed)) (with_jump slot (Some s) w)
-waits_added states slot from empty boxed s w within waits there =
-    jumped states (set (set states slot empty) slot (Some boxed)) slot from (Some s) w waits
-    (subst (λ x. IsSituationIn x (either_way (w slot) (Some s))) (sym (set_twice states slot empty boxed within)) there)
+pub waits_added : (profile : Profile) (states : Waiting) (slot from : ℕ) (empty : Option (Box AbsState Global)) (boxed : Box AbsState Global) (s : Situation) (w : Waits) → slot < length states → WaitsFrom from states w → IsSituationIn (Some boxed.value) (either_way profile (w slot) (Some s)) → WaitsFrom from (set (set states slot empty) slot (Some boxed)) (with_jump profile slot (Some s) w)
+waits_added profile states slot from empty boxed s w within waits there =
+    jumped profile states (set (set states slot empty) slot (Some boxed)) slot from (Some s) w waits
+    (subst (λ x. IsSituationIn x (either_way profile (w slot) (Some s))) (sym (set_twice states slot empty boxed within)) there)
     (λ other apart. waiting-set_other (set states slot empty) slot other (Some boxed) apart ∙ waiting-set_other states slot other empty apart)
 
 -- no jump, or one that no run takes
-pub unjumped : (waiting : Waiting) (slot from : ℕ) (o : Option Situation) (w : Waits) → o ≡ None → WaitsFrom from waiting w → WaitsFrom from waiting (with_jump slot o w)
-unjumped waiting slot from o w none waits at on =
+pub unjumped : (profile : Profile) (waiting : Waiting) (slot from : ℕ) (o : Option Situation) (w : Waits) → o ≡ None → WaitsFrom from waiting w → WaitsFrom from waiting (with_jump profile slot o w)
+unjumped profile waiting slot from o w none waits at on =
     rw none
     (⊎_elim
     (λ (here : at ≡ slot).
     let yes : nat_eq at slot ≡ true = grind (arith, nat_tests) in
-    rw yes (subst (λ x. IsSituationIn (waiting_at waiting at) x) (sym (either_none (w at))) (waits at on)))
+    rw yes (subst (λ x. IsSituationIn (waiting_at waiting at) x) (sym (either_none profile (w at))) (waits at on)))
     (λ (apart : at ≡ slot → ⊥). let no : nat_eq at slot ≡ false = grind (arith, nat_tests) in rw no (waits at on))
     (cases_eq at slot))
 
 -- ---- an instruction that isn't refused
-pub passes : (profile : Profile) (slot : ℕ) (insn : Insn) (s : Situation) (w : Waits) (ways : Ways) (o : Option AbsState) (waiting : Waiting) → led profile insn s ≡ Ok ways → IsSituationIn o ways.untaken → WaitsFrom (slot + 1) waiting (with_jump (jump_target slot (jump_of insn)) ways.taken w) → Passes profile slot insn (Some s) w o waiting
+pub passes : (profile : Profile) (slot : ℕ) (insn : Insn) (s : Situation) (w : Waits) (ways : Ways) (o : Option AbsState) (waiting : Waiting) → led profile insn s ≡ Ok ways → IsSituationIn o ways.untaken → WaitsFrom (slot + 1) waiting (with_jump profile (jump_target slot (jump_of insn)) ways.taken w) → Passes profile slot insn (Some s) w o waiting
 unfolding passed
 passes profile slot insn s w ways o waiting leads falls waits = record {
   allowed = λ fault bad. absurd (cc (leads, bad));
@@ -165,10 +179,10 @@ passes profile slot insn s w ways o waiting leads falls waits = record {
 pub target_is : (slot n target : ℕ) (insn : Insn) (distance : ℤ) → jump_of insn ≡ Some distance → distance ≡ pos n → target ≡ slot + 1 + n → target ≡ jump_target slot (jump_of insn)
 target_is slot n target insn distance jumps is to = to ∙ sym (ap (jump_target slot) (jumps ∙ ap Some is))
 
-pub passes_jump : (profile : Profile) (slot n target : ℕ) (insn : Insn) (distance : ℤ) (s : Situation) (w : Waits) (waiting : Waiting) → led profile insn s ≡ Ok (ways (Some s) None) → jump_of insn ≡ Some distance → distance ≡ pos n → target ≡ slot + 1 + n → WaitsFrom (slot + 1) waiting (with_jump target (Some s) w) → Passes profile slot insn (Some s) w None waiting
+pub passes_jump : (profile : Profile) (slot n target : ℕ) (insn : Insn) (distance : ℤ) (s : Situation) (w : Waits) (waiting : Waiting) → led profile insn s ≡ Ok (ways (Some s) None) → jump_of insn ≡ Some distance → distance ≡ pos n → target ≡ slot + 1 + n → WaitsFrom (slot + 1) waiting (with_jump profile target (Some s) w) → Passes profile slot insn (Some s) w None waiting
 passes_jump profile slot n target insn distance s w waiting leads jumps is to waits =
     passes profile slot insn s w (ways (Some s) None) None waiting leads refl
-    (subst (λ k. WaitsFrom (slot + 1) waiting (with_jump k (Some s) w)) (target_is slot n target insn distance jumps is to) waits)
+    (subst (λ k. WaitsFrom (slot + 1) waiting (with_jump profile k (Some s) w)) (target_is slot n target insn distance jumps is to) waits)
 
 pub leads_jump : (profile : Profile) (insn : Insn) (distance : ℤ) (s : Situation) → insn ≡ Jump distance → led profile insn s ≡ Ok (ways (Some s) None)
 unfolding led
@@ -185,7 +199,7 @@ leads_exit profile insn s is = rw is refl
 pub passes_exit : (profile : Profile) (slot : ℕ) (insn : Insn) (done : ⊤) (s : Situation) (w : Waits) (waiting : Waiting) → insn ≡ Exit → exit s ≡ Ok done → WaitsFrom (slot + 1) waiting w → Passes profile slot insn (Some s) w None waiting
 passes_exit profile slot insn done s w waiting is ends waits =
     passes profile slot insn s w (ways None None) None waiting (leads_exit profile insn s is ∙ ap (answer_of (λ d. ways None None)) ends) refl
-    (unjumped waiting (jump_target slot (jump_of insn)) (slot + 1) None w refl waits)
+    (unjumped profile waiting (jump_target slot (jump_of insn)) (slot + 1) None w refl waits)
 
 -- an instruction that is no jump and no exit
 pub leads_straight : (profile : Profile) (insn : Insn) (s : Situation) → IsStraight insn → led profile insn s ≡ answer_of (ways None) (stepped profile insn s)
@@ -217,7 +231,7 @@ pub passes_straight : (profile : Profile) (slot : ℕ) (insn : Insn) (s : Situat
 passes_straight profile slot insn s w answer flow a waiting is ok answers waits =
     let (o, rule, there) = step_in (stepped profile insn s) answer flow a ok answers in
     passes profile slot insn s w (ways None o) (after flow a) waiting (leads_straight profile insn s is ∙ ap (answer_of (ways None)) rule) there
-    (unjumped waiting (jump_target slot (jump_of insn)) (slot + 1) None w refl waits)
+    (unjumped profile waiting (jump_target slot (jump_of insn)) (slot + 1) None w refl waits)
 
 refused_by : (rule : Result (Option Situation) Refusal) (answer : Result Flow Refusal) (fault : Refusal) (a : AbsState) → answer ≡ Err fault → AnswersStep rule answer a → rule ≡ Err fault
 refused_by (Ok o) answer fault a bad (f, was, flows) = absurd (cc (bad, was))
@@ -242,7 +256,7 @@ pub leads_branch : (profile : Profile) (insn : Insn) (width : Width) (comparison
 unfolding led
 leads_branch profile insn width comparison left right distance s is = rw is refl
 
-pub passes_branch : (profile : Profile) (slot n target : ℕ) (insn : Insn) (distance : ℤ) (s : Situation) (w : Waits) (ways : Ways) (o : Option AbsState) (waiting : Waiting) → led profile insn s ≡ Ok ways → jump_of insn ≡ Some distance → distance ≡ pos n → target ≡ slot + 1 + n → IsSituationIn o ways.untaken → WaitsFrom (slot + 1) waiting (with_jump target ways.taken w) → Passes profile slot insn (Some s) w o waiting
+pub passes_branch : (profile : Profile) (slot n target : ℕ) (insn : Insn) (distance : ℤ) (s : Situation) (w : Waits) (ways : Ways) (o : Option AbsState) (waiting : Waiting) → led profile insn s ≡ Ok ways → jump_of insn ≡ Some distance → distance ≡ pos n → target ≡ slot + 1 + n → IsSituationIn o ways.untaken → WaitsFrom (slot + 1) waiting (with_jump profile target ways.taken w) → Passes profile slot insn (Some s) w o waiting
 passes_branch profile slot n target insn distance s w ways o waiting leads jumps is to falls waits =
     passes profile slot insn s w ways o waiting leads falls
-    (subst (λ k. WaitsFrom (slot + 1) waiting (with_jump k ways.taken w)) (target_is slot n target insn distance jumps is to) waits)
+    (subst (λ k. WaitsFrom (slot + 1) waiting (with_jump profile k ways.taken w)) (target_is slot n target insn distance jumps is to) waits)

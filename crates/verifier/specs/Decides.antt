@@ -33,10 +33,10 @@ jump_target slot None = slot
 
 -- ---- what is known before a slot, from all edges into it
 -- nothing where no run comes
-abbrev pub either_way : Option Situation → Option Situation → Option Situation
-either_way None b = b
-either_way (Some a) None = Some a
-either_way (Some a) (Some b) = Some (joined a b)
+abbrev pub either_way : Profile → Option Situation → Option Situation → Option Situation
+either_way profile None b = b
+either_way profile (Some a) None = Some a
+either_way profile (Some a) (Some b) = Some (joined profile a b)
 
 -- of the eleven registers and the 64 slots of the stack alone, since the machine has no others
 abbrev pub trimmed : Situation → Situation
@@ -46,8 +46,8 @@ trimmed s = record {
   least = s.least;
 }
 
-abbrev pub arrived : Option Situation → Option Situation → Option Situation
-arrived falling waiting = option_map trimmed (either_way falling waiting)
+abbrev pub arrived : Profile → Option Situation → Option Situation → Option Situation
+arrived profile falling waiting = option_map trimmed (either_way profile falling waiting)
 
 -- what jumps lead to each slot
 abbrev pub Waits : Type 0
@@ -62,21 +62,24 @@ abbrev pub awaited : Option Situation → Waits → Awaited
 awaited falling waiting = record { falling = falling; waiting = waiting }
 
 -- what a jump leads to its target is joined to what the jumps before it led there
-abbrev pub with_jump : ℕ → Option Situation → Waits → Waits
-with_jump target taken waiting slot = if nat_eq slot target then either_way (waiting slot) taken else waiting slot
+abbrev pub with_jump : Profile → ℕ → Option Situation → Waits → Waits
+with_jump profile target taken waiting slot =
+    if nat_eq slot target then either_way profile (waiting slot) taken else waiting slot
 
 -- beyond an instruction; one that is refused leads nothing on
-abbrev pub led_on : ℕ → Insn → Waits → Result Ways Refusal → Awaited
-led_on slot insn waiting (Ok w) = awaited w.untaken (with_jump (jump_target slot (jump_of insn)) w.taken waiting)
-led_on slot insn waiting (Err fault) = awaited None waiting
+abbrev pub led_on : Profile → ℕ → Insn → Waits → Result Ways Refusal → Awaited
+led_on profile slot insn waiting (Ok w) =
+    awaited w.untaken (with_jump profile (jump_target slot (jump_of insn)) w.taken waiting)
+led_on profile slot insn waiting (Err fault) = awaited None waiting
 
 unfoldable pub passed : Profile → ℕ → Insn → Option Situation → Waits → Awaited
 passed profile slot insn None waiting = awaited None waiting
-passed profile slot insn (Some s) waiting = led_on slot insn waiting (led profile insn s)
+passed profile slot insn (Some s) waiting = led_on profile slot insn waiting (led profile insn s)
 
 -- beyond a slot; at the second one of a wide load stands no instruction
 unfoldable pub stepped_over : Profile → ℕ → Option (Option Insn) → Awaited → Awaited
-stepped_over profile slot (Some (Some insn)) a = passed profile slot insn (arrived a.falling (a.waiting slot)) a.waiting
+stepped_over profile slot (Some (Some insn)) a =
+    passed profile slot insn (arrived profile a.falling (a.waiting slot)) a.waiting
 stepped_over profile slot place a = a
 
 unfoldable pub awaited_at : Profile → Program → ℕ → Awaited
@@ -87,7 +90,7 @@ awaited_at profile program (suc slot) =
 unfoldable pub known_before : Profile → Program → ℕ → Option Situation
 known_before profile program slot =
     let a = awaited_at profile program slot in
-    arrived a.falling (a.waiting slot)
+    arrived profile a.falling (a.waiting slot)
 
 -- ---- the verifier's decision
 -- the rules refuse an instruction where a run may come

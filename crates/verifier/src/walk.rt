@@ -73,22 +73,27 @@ fn target(slot: usize, insn: &Insn) -> usize
 }
 
 /// Records the edge of a comparison that holds, where it is live.
-fn record(target: usize, edge: &Option<AbsState>, waiting: &mut Waiting) -> Result<(), AllocError>
+fn record(
+    profile: Profile,
+    target: usize,
+    edge: &Option<AbsState>,
+    waiting: &mut Waiting,
+) -> Result<(), AllocError>
     requires { target < length waiting.old }
     ensures size { length waiting.new ≡ length waiting.old }
     ensures kept { IfOk result (λ _. Keeps waiting.old waiting.new) }
     ensures added { IfOk result (λ _. (lengths : Lengths) (s : State) → WithinState edge.now lengths s
         → WithinState (waiting_at waiting.new target) lengths s) }
-    ensures arises { (profile : TheProfile) (program : Program) → AllArise profile program waiting.old
-        → IsTarget program target → ArisesAt profile program target edge.now
-        → IfOk result (λ _. AllArise profile program waiting.new) }
+    ensures arises { (lent : TheProfile) (program : Program) → AllArise lent program waiting.old
+        → IsTarget program target → ArisesAt lent program target edge.now
+        → IfOk result (λ _. AllArise lent program waiting.new) }
     ensures rule { (from : ℕ) (w : Waits) (o : Option Situation) → WaitsFrom from waiting.old w → from ≤ target
-        → IsSituationIn edge.now o → IfOk result (λ _. WaitsFrom from waiting.new (with_jump target o w)) }
+        → IsSituationIn edge.now o → IfOk result (λ _. WaitsFrom from waiting.new (with_jump profile target o w)) }
 {
     let Some(state) = edge else {
         return Ok(());
     };
-    waiting.add(target, state)
+    waiting.add(profile, target, state)
 }
 
 /// Goes on with what is known, if a run can come there.
@@ -154,7 +159,7 @@ fn compare(
         unreachable!()
     };
     let edges = state.branch(width, comparison, left, &right)?;
-    record(target(slot, insn), &edges.taken, waiting)?;
+    record(profile, target(slot, insn), &edges.taken, waiting)?;
     Ok(go_on(state, &edges.untaken))
 }
 
@@ -189,11 +194,11 @@ fn pass(
 {
     match *insn {
         Insn::Jump { .. } => {
-            waiting.add(target(slot, insn), state)?;
+            waiting.add(profile, target(slot, insn), state)?;
             Ok(Flow::Dead)
         }
         Insn::JumpLong { .. } => {
-            waiting.add(target(slot, insn), state)?;
+            waiting.add(profile, target(slot, insn), state)?;
             Ok(Flow::Dead)
         }
         Insn::Branch { .. } => compare(profile, slot, insn, state, waiting),
@@ -247,10 +252,11 @@ fn visit(
         × FallsAs profile program (slot + 1) (after next state.new)) }
     ensures rule { (falling here : Option Situation) (w : Waits) → IsSituationIn (after flow state.old) falling
         → IsSituationIn (waiting_at waiting.old slot) here → WaitsFrom (slot + 1) waiting.old w
-        → IfOk result (λ next. Passes profile slot insn.now (arrived falling here) w (after next state.new) waiting.new)
-        × IfErr result (NamesSlot profile slot insn.now (arrived falling here)) }
+        → IfOk result (λ next. Passes profile slot insn.now (arrived profile falling here) w (after next state.new)
+        waiting.new)
+        × IfErr result (NamesSlot profile slot insn.now (arrived profile falling here)) }
 {
-    let Flow::Live = waiting.arrive(slot, flow, state) else {
+    let Flow::Live = waiting.arrive(profile, slot, flow, state) else {
         return Ok(Flow::Dead);
     };
     is_whole(state);
@@ -361,7 +367,7 @@ pub fn walk_before(
         mut waiting,
         reads: _,
     } = walk_to(alloc, words, profile, slot)?;
-    match waiting.arrive(slot, flow, &mut state) {
+    match waiting.arrive(profile, slot, flow, &mut state) {
         Flow::Live => Ok(Some(state)),
         Flow::Dead => Ok(None),
     }
@@ -389,7 +395,7 @@ pub fn walk_each(
     let mut flow = Flow::Live;
     let mut reads = Reads::nothing();
     for slot in 0..words.len() {
-        flow = waiting.arrive(slot, flow, &mut state);
+        flow = waiting.arrive(profile, slot, flow, &mut state);
         states.push(live(flow, &state))?;
         if let Some(insn) = words.insn(slot) {
             flow = visit(

@@ -7,7 +7,7 @@ use Rattle.std.proofs.lemmas.Bool.{and_parts}
 use Rattle.std.proofs.lemmas.Option.{none-some, same_Some, slice_get-get_or}
 use Rattle.std.proofs.lemmas.List.{map-append, length-map, append-nil}
 use Rattle.std.proofs.lemmas.List.Elements.{All-cons, All-head, All-tail}
-use Rattle.std.proofs.lemmas.Str.{encodes-chars, chars-encodes, length-le-encodes}
+use Rattle.std.proofs.lemmas.Str.{chars_from_encodes, encodes-chars, chars-encodes, length-le-encodes}
 use Rattle.mark_anchors.specs.Formatting.{Format}
 use Rattle.span_flatten.specs.declared.version.Row.{Row}
 use Rattle.span_flatten.specs.Spans.{Shown, Span, Cuts}
@@ -40,11 +40,22 @@ characters_with f (c ∷ cs) = ap (λ l. c ∷ l) (characters_with f cs)
 pub scalars_of : (text : List ℕ) → IsUtf8 text → scalars (chars text) ≡ true
 scalars_of text utf8 = subst (λ l. scalars l ≡ true) (sym (chars-encodes utf8.0 utf8.1.0) ∙ ap chars utf8.1.1) utf8.1.0
 
-scalars-append : (xs ys : List ℕ) → scalars xs ≡ true → scalars ys ≡ true → scalars (xs ++ ys) ≡ true
+pub scalars-append : (xs ys : List ℕ) → scalars xs ≡ true → scalars ys ≡ true → scalars (xs ++ ys) ≡ true
 scalars-append [] ys e f = f
 scalars-append (x ∷ xs) ys e f =
     let r = and_parts (scalar x) (scalars xs) e in
     ap (λ b. b && scalars (xs ++ ys)) r.0 ∙ scalars-append xs ys r.1 f
+
+-- the characters of spans that are texts are scalar values
+pub scalars_cut : (spans : List Span) (shown : List Shown) → All (λ s. IsUtf8 s.text) spans → Cuts shown spans → scalars (map (λ s. s.character) shown) ≡ true
+scalars_cut [] shown texts c = ap (λ (l : List Shown). scalars (map (λ s. s.character) l)) c
+scalars_cut (x ∷ xs) shown texts c =
+    let front : List ℕ = map (λ s. s.character) c.0 in
+    let rest : List ℕ = map (λ s. s.character) c.1.0 in
+    let utf8 : IsUtf8 x.text = All-head (λ s. IsUtf8 s.text) x xs texts in
+    let read : front ≡ chars x.text = chars_from_encodes front x.text utf8 (sym c.1.2.spelt) in
+    ap (λ (l : List Shown). scalars (map (λ s. s.character) l)) c.1.1 ∙ ap scalars (map-append (λ (s : Shown). s.character) c.0 c.1.0)
+    ∙ scalars-append front rest (ap scalars read ∙ scalars_of x.text utf8) (scalars_cut xs c.1.0 (All-tail (λ s. IsUtf8 s.text) x xs texts) c.1.3)
 
 pub texts_of : (spans : List Span) → AreMaximal spans → All (λ s. IsUtf8 s.text) spans
 texts_of [] m = λ k d h. absurd (omega arith)

@@ -5,5 +5,7 @@ pub mod Slices
 pub mod Texts
 pub mod Splicing
 pub mod Windows
+pub mod Wholes
 pub mod Meeting
 pub mod Iterating
+pub mod Made

@@ -1,9 +1,6 @@
 -- A version that was made from the one before it is a version of all operations.
-use Rattle.std.proofs.Common.{◌≡◌, ◌+◌, ◌&&◌, ℕ, true, false, cond, List, [], ◌∷◌, ◌++◌, length, map, take, drop, refl, sym, ap, subst, ◌∙◌, arith, append_assoc, length-append, ⊎_elim}
-use Rattle.std.specs.List.{Contains, count_by, filter}
-use Rattle.std.specs.Str.{all_scalars}
-use Rattle.std.proofs.Math.Utf8.{scalars, scalar}
-use Rattle.std.proofs.lemmas.Bool.{cases_Bool, and_parts}
+use Rattle.std.proofs.Common.{◌≡◌, ◌+◌, ℕ, List, ◌++◌, length, map, take, drop, refl, sym, ap, subst, ◌∙◌, arith, append_assoc, length-append, ⊎_elim, All, IsUtf8}
+use Rattle.std.specs.List.{Contains, count_by}
 use Rattle.std.proofs.lemmas.List.{map-append, length-map, take_at, drop_at}
 use Rattle.std.proofs.lemmas.List.Elements.{Contains-append_left, Contains-append_right, Contains-append_cases}
 use Rattle.change_ops.specs.declared.operation.Op.{Op}
@@ -11,42 +8,27 @@ use Rattle.char_sequence.specs.declared.sequence.Element.{Element}
 use Rattle.char_sequence.specs.Acceptance.{AcceptsAll}
 use Rattle.char_sequence.specs.Order.{Shows}
 use Rattle.mark_anchors.specs.Format.{IsFormat}
-use Rattle.span_flatten.specs.Spans.{Shown, Span, AreVisible, AreSpans}
-use Rattle.span_flatten.specs.Taken.{element_of, is_visible}
+use Rattle.span_flatten.specs.Spans.{Shown, Span, AreVisible, AreSpans, Cuts}
+use Rattle.span_flatten.specs.Taken.{is_visible}
 use Rattle.version_laws.specs.Characters.{AreDrawn}
-use Rattle.version_laws.specs.Counts.{AreScalars}
 use Rattle.version_laws.specs.Windows.{IsWithinWindow}
 use Rattle.version_laws.proofs.DrawnKept.{drawn_append, drawn_count, drawn_parted, drawn_visible}
 use Rattle.version_laws.proofs.DrawnBack.{visible_drawn}
 use Rattle.version_laws.proofs.WindowKept.{format_front, format_back}
 use Rattle.version_blocks.specs.Glyphs.{Glyph, glyph_of, glyphs, AreMaximal}
-use Rattle.version_blocks.proofs.Contents.{texts_of}
+use Rattle.version_blocks.proofs.Contents.{scalars_cut, texts_of}
 use Rattle.version_blocks.proofs.Glyphs.{cuts_from_maximal, maximal_from_cuts}
 
--- ---- shown characters are scalar values
-scalars_all : (xs : List ℕ) → all_scalars xs ≡ true → scalars xs ≡ true
-scalars_all [] e = refl
-scalars_all (x ∷ xs) e =
-    let r = and_parts (scalar x) (all_scalars xs) e in
-    ap (λ b. b && scalars xs) r.0 ∙ scalars_all xs r.1
+-- ---- spans have as many characters as are visible
+-- the shown characters are those of their spans
+pub seen_glyphs : (shown : List Shown) (spans : List Span) → All (λ s. IsUtf8 s.text) spans → Cuts shown spans → glyphs spans ≡ map glyph_of shown
+seen_glyphs shown spans texts cuts = (maximal_from_cuts spans shown texts (scalars_cut spans shown texts cuts) cuts).1
 
-scalars_filter : (es : List Element) → scalars (map (λ e. e.character) es) ≡ true → scalars (map (λ e. e.character) (filter is_visible es)) ≡ true
-scalars_filter [] ok = refl
-scalars_filter (e ∷ es) ok =
-    let r = and_parts (scalar e.character) (scalars (map (λ e. e.character) es)) ok in
-    let rest = scalars_filter es r.1 in
-    ⊎_elim
-    (λ (yes : e.visible ≡ true). ap (λ b. scalars (map (λ e. e.character) (cond b (e ∷ filter is_visible es) (filter is_visible es)))) yes ∙ ap (λ b. b && scalars (map (λ e. e.character) (filter is_visible es))) r.0 ∙ rest)
-    (λ (no : e.visible ≡ false). ap (λ b. scalars (map (λ e. e.character) (cond b (e ∷ filter is_visible es) (filter is_visible es)))) no ∙ rest)
-    (cases_Bool e.visible)
+pub glyphs_drawn : (es : List Element) (shown : List Shown) (spans : List Span) → All (λ s. IsUtf8 s.text) spans → AreDrawn es shown → Cuts shown spans → length (glyphs spans) ≡ count_by is_visible es
+glyphs_drawn es shown spans texts drawn cuts = ap length (seen_glyphs shown spans texts cuts) ∙ length-map shown glyph_of ∙ drawn_count es shown drawn
 
-characters_of_elements : (shown : List Shown) → map (λ e. e.character) (map element_of shown) ≡ map (λ s. s.character) shown
-characters_of_elements [] = refl
-characters_of_elements (s ∷ shown) = ap (λ l. s.character ∷ l) (characters_of_elements shown)
-
-shown_scalars : (es : List Element) (shown : List Shown) → AreScalars es → AreDrawn es shown → scalars (map (λ s. s.character) shown) ≡ true
-shown_scalars es shown ok drawn =
-    ap scalars (sym (characters_of_elements shown) ∙ ap (λ (l : List Element). map (λ e. e.character) l) drawn) ∙ scalars_filter es (scalars_all (map (λ e. e.character) es) ok)
+pub glyphs_counted : (ops : List Op) (es : List Element) → Shows es ops → (spans : List Span) → AreMaximal spans → AreSpans ops spans → length (glyphs spans) ≡ count_by is_visible es
+glyphs_counted ops es shows spans m all = glyphs_drawn es all.0 spans (texts_of spans m) (visible_drawn ops es all.0 shows all.1) all.2
 
 -- ---- the window's place among characters
 taken_front : (xs ys zs gs : List Glyph) (n : ℕ) → gs ≡ xs ++ (ys ++ zs) → n ≡ length xs → take n gs ≡ xs
@@ -58,12 +40,12 @@ dropped_back xs ys zs gs n whole size =
 
 -- The elements were `first`, `middle` and `last`, and are `first`, `changed` and `last`; each mark of the change lies within the window. Then
 -- maximal spans of the characters before the window, of those that are shown in it, and of those behind it are the spans of all operations.
-pub spans_met : (ops added : List Op) (first middle changed last : List Element) → AreScalars (first ++ (middle ++ last)) → Shows (first ++ (middle ++ last)) ops → AcceptsAll ops added → Shows (first ++ (changed ++ last)) (ops ++ added)
+pub spans_met : (ops added : List Op) (first middle changed last : List Element) → Shows (first ++ (middle ++ last)) ops → AcceptsAll ops added → Shows (first ++ (changed ++ last)) (ops ++ added)
     → ((o : Op) → Contains added o → IsWithinWindow (first ++ (changed ++ last)) (length first) (length first + length changed) o)
     → (now next rows : List Span) → AreMaximal now → AreSpans ops now → (window : List Shown) → AreDrawn changed window → ((s : Shown) → Contains window s → IsFormat (ops ++ added) s.id s.format) → glyphs rows ≡ map glyph_of window
     → AreMaximal next → glyphs next ≡ take (count_by is_visible first) (glyphs now) ++ (glyphs rows ++ drop (count_by is_visible first + count_by is_visible middle) (glyphs now))
     → AreSpans (ops ++ added) next
-spans_met ops added first middle changed last ok shows all later marks now next rows m spans window drawn formats made maximal same =
+spans_met ops added first middle changed last shows all later marks now next rows m spans window drawn formats made maximal same =
     let shown : List Shown = spans.0 in
     let v : AreVisible ops shown = spans.1 in
     let whole : AreDrawn (first ++ (middle ++ last)) shown = visible_drawn ops (first ++ (middle ++ last)) shown shows v in
@@ -74,9 +56,8 @@ spans_met ops added first middle changed last ok shows all later marks now next 
     let mid : List Shown = inner.0 in
     let back : List Shown = inner.1.0 in
     let parts : shown ≡ front ++ (mid ++ back) = outer.1.1 ∙ ap (λ l. front ++ l) inner.1.1 in
-    let good : scalars (map (λ s. s.character) shown) ≡ true = shown_scalars (first ++ (middle ++ last)) shown ok whole in
     let seen : glyphs now ≡ map glyph_of front ++ (map glyph_of mid ++ map glyph_of back) =
-    (maximal_from_cuts now shown (texts_of now m) good spans.2).1 ∙ ap (λ l. map glyph_of l) parts ∙ map-append glyph_of front (mid ++ back)
+    seen_glyphs shown now (texts_of now m) spans.2 ∙ ap (λ l. map glyph_of l) parts ∙ map-append glyph_of front (mid ++ back)
     ∙ ap (λ l. map glyph_of front ++ l) (map-append glyph_of mid back) in
     let size_front : count_by is_visible first ≡ length (map glyph_of front) = sym (drawn_count first front outer.1.2) ∙ sym (length-map front glyph_of) in
     let size_mid : count_by is_visible middle ≡ length (map glyph_of mid) = sym (drawn_count middle mid inner.1.2) ∙ sym (length-map mid glyph_of) in

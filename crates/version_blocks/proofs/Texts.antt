@@ -1,13 +1,13 @@
 -- Texts by their characters.
 use Rattle.std.proofs.Common.{◌≡◌, ℕ, ◌+◌, ◌-◌, ◌<◌, true, List, [], ◌∷◌, ◌++◌, Option, Some, length, take, drop, refl, sym, ap, subst, ◌∙◌, arith, length-append, IsUtf8, MatchOption, encode_utf8_all}
 use Rattle.std.specs.List.{slice_get, slice_range}
-use Rattle.std.specs.Str.{chars}
+use Rattle.std.specs.Str.{chars, IsCharBoundary}
 use Rattle.std.specs.Char.{encode_utf8}
 use Rattle.std.proofs.Math.Utf8.{scalars, scalar}
 use Rattle.std.proofs.lemmas.Bool.{and_parts}
-use Rattle.std.proofs.lemmas.List.{append_cancel_left, take_at, drop_at}
-use Rattle.std.proofs.lemmas.Str.{encodes-chars, chars-encodes, chars-append}
-use Rattle.version_blocks.proofs.Contents.{scalars_of}
+use Rattle.std.proofs.lemmas.List.{append_cancel_left, take-append-drop, take_at, drop_at}
+use Rattle.std.proofs.lemmas.Str.{encodes-chars, chars-encodes, chars-append, IsUtf8-take, IsUtf8-drop}
+use Rattle.version_blocks.proofs.Contents.{scalars_of, chars_few}
 
 -- a text without its first character
 pub record IsLess (r r' : List ℕ) : Type 0 where
@@ -42,6 +42,18 @@ split_first text before rest first second count whole same cut utf8 counted =
     let front : first ≡ before = cut ∙ ap (λ n. take n text) size ∙ ap (take (length before)) whole ∙ take_at before rest (length before) refl in
     let all : chars text ≡ chars first ++ chars second = ap chars (whole ∙ ap (λ l. l ++ rest) (sym front) ∙ ap (λ l. first ++ l) (sym same)) ∙ chars-append first second utf8 in
     let many : count ≡ length (chars first) = omega (arith, ap length all, length-append (chars first) (chars second), ap length (ap chars same)) in (
+      sym (ap (take count) all ∙ ap (λ n. take n (chars first ++ chars second)) many ∙ take_at (chars first) (chars second) (length (chars first)) refl),
+      sym (ap (drop count) all ∙ ap (λ n. drop n (chars first ++ chars second)) many ∙ drop_at (chars first) (chars second) (length (chars first)) refl),
+    )
+
+-- a text of as many characters as bytes is cut by bytes
+pub split_bytes : (text first second : List ℕ) (count : ℕ) → IsUtf8 text → length (chars text) ≡ length text → IsCharBoundary text count → first ≡ take count text → second ≡ drop count text → length first ≡ count → (chars first ≡ take count (chars text)) × (chars second ≡ drop count (chars text))
+split_bytes text first second count utf8 narrow boundary front back size =
+    let utf8_first : IsUtf8 first = subst IsUtf8 (sym front) (IsUtf8-take text count utf8 boundary) in
+    let utf8_second : IsUtf8 second = subst IsUtf8 (sym back) (IsUtf8-drop text count utf8 boundary) in
+    let whole : text ≡ first ++ second = sym (take-append-drop count text) ∙ ap (λ l. l ++ drop count text) (sym front) ∙ ap (λ l. first ++ l) (sym back) in
+    let all : chars text ≡ chars first ++ chars second = ap chars whole ∙ chars-append first second utf8_first in
+    let many : count ≡ length (chars first) = omega (arith, narrow, size, ap length whole, length-append first second, ap length all, length-append (chars first) (chars second), chars_few first utf8_first, chars_few second utf8_second) in (
       sym (ap (take count) all ∙ ap (λ n. take n (chars first ++ chars second)) many ∙ take_at (chars first) (chars second) (length (chars first)) refl),
       sym (ap (drop count) all ∙ ap (λ n. drop n (chars first ++ chars second)) many ∙ drop_at (chars first) (chars second) (length (chars first)) refl),
     )

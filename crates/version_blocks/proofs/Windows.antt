@@ -1,24 +1,22 @@
 -- Blocks of a window, and spans by their blocks.
-use Rattle.std.proofs.Common.{◌≡◌, ℕ, zero, suc, ◌+◌, ◌-◌, ◌<◌, ◌≤◌, List, [], ◌∷◌, ◌++◌, Some, None, length, take, drop, get_or, refl, sym, ap, subst, ◌∙◌, arith, length-append, All}
+use Rattle.std.proofs.Common.{◌≡◌, ℕ, zero, suc, ◌+◌, ◌-◌, ◌<◌, ◌≤◌, List, [], ◌∷◌, ◌++◌, Some, length, take, drop, get_or, refl, sym, ap, subst, ◌∙◌, arith, length-append, All}
 use Rattle.std.specs.List.{slice_get, slice_range}
 use Rattle.std.proofs.lemmas.Grind.{flat_map-append}
-use Rattle.std.proofs.lemmas.Option.{slice_get_past}
-use Rattle.std.proofs.lemmas.List.{take_all, take-append-drop, length-take-le, length-drop}
+use Rattle.std.proofs.lemmas.Option.{slice_get_within}
+use Rattle.std.proofs.lemmas.List.{take_all, drop_all, take-append-drop, length-take-le, length-drop}
 use Rattle.std.proofs.lemmas.List.Folds.{drop_split}
 use Rattle.std.proofs.lemmas.List.Elements.{All-append, All-take, All-drop}
-use Rattle.mark_anchors.proofs.Lists.{item_at}
 use Rattle.span_flatten.specs.Spans.{Span}
 use Rattle.span_flatten.specs.Version.{Version, IsLayout, joined, rows_from, spans_of}
 use Rattle.span_flatten.proofs.Laying.{spans_back}
 use Rattle.version_laws.specs.Blocked.{in_blocks}
 use Rattle.version_laws.proofs.Blocks.{blocks-append}
-use Rattle.version_laws.proofs.Lists.{get_ahead, get_behind}
-use Rattle.version_blocks.specs.Blocked.{AreEnds, laid}
+use Rattle.version_blocks.specs.Blocked.{AreEnds, IsAtRow, laid}
 use Rattle.version_blocks.specs.Blocks.{IsSized}
 use Rattle.version_blocks.specs.Glyphs.{Glyph, glyphs, glyphs_of, AreMaximal}
 use Rattle.version_blocks.proofs.Glyphs.{glyphs-append, some_characters}
 use Rattle.version_blocks.proofs.Drafts.{in_blocks-push}
-use Rattle.version_blocks.proofs.Slices.{take_next, blocks_parted, length-glyphs_of}
+use Rattle.version_blocks.proofs.Slices.{take_next, drop_append, blocks_parted, length-glyphs_of}
 use Rattle.version_blocks.proofs.Splicing.{replaced_glyphs, replaced_maximal}
 
 -- ---- what is seen of a version
@@ -57,20 +55,42 @@ start_at blocks ends (suc at) before e le first later =
     let next : at + 1 ≡ suc at = omega arith in
     later (omega arith) ∙ ap (λ n. get_or ends n 0) less ∙ e.at at (omega arith) ∙ ap (λ n. length (in_blocks (take n blocks))) next
 
-pub block_at : (blocks : List (List Span)) (ends : List ℕ) (index at before : ℕ) (b : List Span) → AreEnds blocks ends → slice_get blocks at ≡ Some b → at < length blocks → before ≤ index → index < get_or ends at 0 → (at ≡ 0 → before ≡ 0) → (0 < at → before ≡ get_or ends (at - 1) 0) → slice_get b (index - before) ≡ slice_get (in_blocks blocks) index
-block_at blocks ends index at before b e g less low high first later =
-    let start : before ≡ length (in_blocks (take at blocks)) = start_at blocks ends at before e (omega arith) first later in
+left_all : {X : Type 0} (xs : List X) (i : ℕ) → take (length xs - i) (drop i xs) ≡ drop i xs
+left_all xs i = take_all (length xs - i) (drop i xs) (omega (arith, length-drop i xs))
+
+pub first_left : {X : Type 0} (xs : List X) (i : ℕ) → slice_get (drop i xs) 0 ≡ slice_get xs i
+first_left [] zero = refl
+first_left [] (suc i) = refl
+first_left (x ∷ xs) zero = refl
+first_left (x ∷ xs) (suc i) = first_left xs i
+
+-- the blocks from one on, and a place in the first of them
+pub from_block : (blocks rest : List (List Span)) (ends : List ℕ) (index at before : ℕ) → AreEnds blocks ends → at ≤ length blocks → before ≤ index → rest ≡ take (length blocks - at) (drop at blocks) → (at ≡ 0 → before ≡ 0) → (0 < at → before ≡ get_or ends (at - 1) 0)
+    → drop (index - before) (in_blocks rest) ≡ drop index (in_blocks blocks)
+from_block blocks rest ends index at before e le low is first later =
+    let start : before ≡ length (in_blocks (take at blocks)) = start_at blocks ends at before e le first later in
     let front : List Span = in_blocks (take at blocks) in
-    let rest : List Span = in_blocks (drop (at + 1) blocks) in
-    let stop : get_or ends at 0 ≡ length (in_blocks (take (at + 1) blocks)) = e.at at less in
-    let size = block_spans blocks at b g in
-    let j : ℕ = index - before in
-    let within : j < length b = omega (arith, start, stop, size) in
-    let y = item_at b j within in
-    let whole : in_blocks blocks ≡ (front ++ b) ++ rest = blocks_parted blocks (at + 1) ∙ ap (λ l. l ++ rest) (ap in_blocks (take_next blocks at b g) ∙ in_blocks-push (take at blocks) b) in
-    let here : length front + j ≡ index = omega (arith, start) in
-    let there : slice_get (front ++ b) index ≡ Some y.0 = ap (slice_get (front ++ b)) (sym here) ∙ get_behind front b j ∙ y.1 in
-    y.1 ∙ sym (ap (λ l. slice_get l index) whole ∙ get_ahead (front ++ b) rest index y.0 there)
+    let behind : List Span = in_blocks (drop at blocks) in
+    let n : index - before ≡ index - length front = omega (arith, start) in
+    let passed : drop index front ≡ [] = drop_all index front (omega (arith, start)) in
+    ap (λ l. drop (index - before) (in_blocks l)) (is ∙ left_all blocks at) ∙ ap (λ k. drop k behind) n
+    ∙ sym (ap (drop index) (blocks_parted blocks at) ∙ drop_append index front behind ∙ ap (λ l. l ++ drop (index - length front) behind) passed)
+
+pub at_block : (blocks rest : List (List Span)) (ends : List ℕ) (index at before : ℕ) → All IsSized blocks → AreEnds blocks ends → at ≤ length blocks → before ≤ index → rest ≡ take (length blocks - at) (drop at blocks) → (at ≡ 0 → before ≡ 0) → (0 < at → before ≡ get_or ends (at - 1) 0) → (at < length ends → index < get_or ends at 0)
+    → IsAtRow rest (index - before)
+at_block blocks rest ends index at before sized e le low is first later beyond =
+    let here : IsAtRow (drop at blocks) (index - before) = record {
+      sized = All-drop IsSized at blocks sized;
+      within = λ b g.
+          let there : slice_get blocks at ≡ Some b = sym (first_left blocks at) ∙ g in
+          let less : at < length blocks = slice_get_within blocks at b there in
+          let start : before ≡ length (in_blocks (take at blocks)) = start_at blocks ends at before e le first later in
+          let stop : get_or ends at 0 ≡ length (in_blocks (take (at + 1) blocks)) = e.at at less in
+          let many : length ends ≡ length blocks = e.size in
+          let high : index < get_or ends at 0 = beyond (omega arith) in
+          omega (arith, start, stop, high, block_spans blocks at b there);
+    } in
+    subst (λ (l : List (List Span)). IsAtRow l (index - before)) (sym (is ∙ left_all blocks at)) here
 
 pub low_start : (at before x index : ℕ) → (at ≡ 0 → before ≡ 0) → (0 < at → before ≡ x) → (0 < at → x ≤ index) → before ≤ index
 low_start zero before x index first later up_to = let none : before ≡ 0 = first refl in omega arith
@@ -78,23 +98,6 @@ low_start (suc at) before x index first later up_to =
     let same : before ≡ x = later (omega arith) in
     let low : x ≤ index = up_to (omega arith) in
     omega arith
-
-pub past_all : (blocks : List (List Span)) (ends : List ℕ) (index at : ℕ) → AreEnds blocks ends → length blocks ≤ at → at ≤ length ends → (0 < at → get_or ends (at - 1) 0 ≤ index) → slice_get (in_blocks blocks) index ≡ None
-past_all blocks ends index at e stop within up_to =
-    let size : at ≡ length blocks = let same = e.size in omega arith in
-    slice_get_past (in_blocks blocks) index (few at size up_to)
-  where
-    few : (k : ℕ) → k ≡ length blocks → (0 < k → get_or ends (k - 1) 0 ≤ index) → length (in_blocks blocks) ≤ index
-    few zero none up =
-        let gone : blocks ≡ take zero blocks = sym (take_all zero blocks (omega arith)) in
-        omega (arith, ap (λ l. length (in_blocks l)) gone)
-    few (suc k) all up =
-        let less : (suc k) - 1 ≡ k = omega arith in
-        let last : get_or ends k 0 ≡ length (in_blocks (take (k + 1) blocks)) = e.at k (omega arith) in
-        let whole : take (k + 1) blocks ≡ blocks = take_all (k + 1) blocks (omega arith) in
-        let low : get_or ends (suc k - 1) 0 ≤ index = up (omega arith) in
-        let same = ap (λ n. get_or ends n 0) less in
-        omega (arith, last, low, same, ap (λ l. length (in_blocks l)) whole)
 
 -- ---- a window of blocks
 take_split : {X : Type 0} (i j : ℕ) (xs : List X) → i ≤ j → take j xs ≡ take i xs ++ slice_range xs i j

@@ -1,5 +1,5 @@
 -- A version as blocks of spans.
-use Rattle.std.specs.Prelude.{◌≡◌, ◌<◌, ◌≤◌, ◌+◌, ℕ, List, length, take, get_or, All}
+use Rattle.std.specs.Prelude.{◌≡◌, ◌<◌, ◌≤◌, ◌+◌, ℕ, List, Some, length, take, get_or, slice_get, All}
 use Rattle.span_flatten.specs.Spans.{Span}
 use Rattle.span_flatten.specs.Version.{Version, joined, rows_from}
 use Rattle.version_laws.specs.Blocked.{in_blocks}
@@ -17,10 +17,16 @@ pub record AreEnds (blocks : List (List Span)) (ends : List ℕ) : Type 0 where
 
 -- what the type keeps: the blocks' spans are maximal within each block and where blocks meet, a block has 1 to 64 of
 -- them, and there are at most 32,768 characters
-pub record IsBlocked (blocks : List (List Span)) (ends : List ℕ) (spans characters : ℕ) : Type 0 where
+pub record IsBlocked (blocks : List (List Span)) (ends : List ℕ) (spans characters bytes : ℕ) : Type 0 where
   pub maximal : AreMaximal (in_blocks blocks)
   pub sized : All IsSized blocks
   pub ending : AreEnds blocks ends
   pub spanned : spans ≡ length (in_blocks blocks)
   pub counted : characters ≡ length (glyphs (in_blocks blocks))
   pub short : characters ≤ 32768
+  pub measured : bytes ≡ length (joined (in_blocks blocks))
+
+-- where a walk over the spans of blocks stands: at a span of the first block, or behind the last block
+pub record IsAtRow (blocks : List (List Span)) (row : ℕ) : Type 0 where
+  pub sized : All IsSized blocks
+  pub within : (block : List Span) → slice_get blocks 0 ≡ Some block → row < length block

@@ -2,3 +2,4 @@ pub mod Glyphs
 pub mod Contents
 pub mod Blocks
 pub mod Blocked
+pub mod Made

@@ -1,6 +1,7 @@
 //! What a block holds.
 ghost use Rattle.std.specs.Prelude.{◌≡◌, ◌<◌, ◌≤◌, ◌+◌, ◌∷◌, ◌++◌, [], IfOk, length, slice_get, true, false};
 ghost use Rattle.span_flatten.specs.Spans.{Span};
+ghost use Rattle.span_flatten.specs.Version.{joined};
 ghost use Rattle.version_laws.specs.Joints.{Apart};
 ghost use Rattle.version_blocks.specs.Glyphs.{AreMaximal, IsSpan, HasLast, glyphs, glyphs_of};
 
@@ -67,6 +68,13 @@ impl Content {
         ensures { result ≡ length (glyphs self.now) }
     {
         self.characters
+    }
+
+    /// How many bytes the spans' texts have.
+    pub fn byte_count(&self) -> usize
+        ensures { result ≡ length (joined self.now) }
+    {
+        self.text.len()
     }
 
     /// The span with this index, if there is one.

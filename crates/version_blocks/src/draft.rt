@@ -85,7 +85,7 @@ impl Draft {
             return Ok(self);
         }
         let part = SpanText {
-            text: characters_between(span.text, from, end),
+            text: characters_between(span.text, span.characters, from, end),
             characters: end - from,
             format: span.format,
         };

@@ -9,7 +9,6 @@ ghost use Rattle.span_flatten.specs.Spans.{Shown, Span};
 ghost use Rattle.span_flatten.specs.Taken.{is_visible};
 ghost use Rattle.span_flatten.specs.Version.{IsVersion, spans_of};
 ghost use Rattle.version_laws.specs.Characters.{AreDrawn};
-ghost use Rattle.version_laws.specs.Counts.{AreScalars};
 ghost use Rattle.version_laws.specs.Windows.{IsWithinWindow};
 ghost use Rattle.version_blocks.specs.Glyphs.{AreMaximal, glyph_of, glyphs};
 
@@ -20,7 +19,7 @@ use crate::version::BlockVersion;
 /// shown in it after the change.
 pub fn window_is_version(now: &BlockVersion, next: &BlockVersion)
     ensures { (ops added : List Op) (first middle changed last : List Element) (number : ℕ) (window : List Shown)
-        (rows : List Span) → AreScalars (first ++ (middle ++ last)) → Shows (first ++ (middle ++ last)) ops
+        (rows : List Span) → Shows (first ++ (middle ++ last)) ops
         → AcceptsAll ops added → Shows (first ++ (changed ++ last)) (ops ++ added)
         → ((o : Op) → Contains added o
         → IsWithinWindow (first ++ (changed ++ last)) (length first) (length first + length changed) o)

@@ -1,11 +1,12 @@
 //! A version as blocks.
-ghost use Rattle.std.specs.Prelude.{◌≡◌, ◌<◌, ◌≤◌, ◌+◌, ◌-◌, ◌++◌, IfOk, All, drop, get_or, length, slice_get};
+ghost use Rattle.std.specs.Prelude.{◌≡◌, ◌<◌, ◌≤◌, ◌+◌, ◌-◌, ◌++◌, IfOk, All, chars, drop, get_or, length, slice_get};
 ghost use Rattle.std.specs.Prelude.{slice_range, take};
-ghost use Rattle.span_flatten.specs.Version.{IsWhole, spans_in, spans_of};
+ghost use Rattle.span_flatten.specs.Version.{IsWhole, joined, spans_in, spans_of};
 ghost use Rattle.version_laws.specs.Blocked.{in_blocks};
-ghost use Rattle.version_blocks.specs.Blocked.{AreEnds, laid};
+ghost use Rattle.version_blocks.specs.Blocked.{AreEnds, IsAtRow, laid};
 ghost use Rattle.version_blocks.specs.Blocks.{IsSized};
 ghost use Rattle.version_blocks.specs.Glyphs.{AreMaximal, glyphs};
+ghost use Rattle.version_blocks.specs.Made.{IsMade};
 
 use crate::block::{Block, share_all};
 use crate::draft::Draft;
@@ -22,6 +23,7 @@ pub struct BlockVersion {
     ends: Vec<usize>,
     spans: usize,
     characters: usize,
+    bytes: usize,
 }
 
 impl Drop for BlockVersion {
@@ -32,6 +34,7 @@ impl Drop for BlockVersion {
             ends: _,
             spans: _,
             characters: _,
+            bytes: _,
         } = self;
     }
 }
@@ -45,38 +48,43 @@ impl Model for BlockVersion {
 
     ghost view = { λ v. laid v.number (in_blocks v.blocks.items) };
 
-    ghost invariant = { λ v. IsBlocked v.blocks.items v.ends.items v.spans v.characters };
+    ghost invariant = { λ v. IsBlocked v.blocks.items v.ends.items v.spans v.characters v.bytes };
 }
 
-/// How many spans there are up to each block's end, and how many spans and characters in all.
+/// How many spans there are up to each block's end, and how many spans, characters and bytes in all.
 #[derive(Drop)]
 struct Counts {
     ends: Vec<usize>,
     spans: usize,
     characters: usize,
+    bytes: usize,
 }
 
-/// Counts the blocks' spans and characters.
+/// Counts the blocks' spans, their characters and their bytes.
 fn counted(alloc: Global, blocks: &[Block]) -> Result<Counts, AllocError>
     requires maximal { AreMaximal (in_blocks blocks.now) }
     requires short { length (glyphs (in_blocks blocks.now)) ≤ 32768 }
     ensures ends { IfOk result (λ m. AreEnds blocks.now m.ends.items) }
     ensures spans { IfOk result (λ m. m.spans ≡ length (in_blocks blocks.now)) }
     ensures characters { IfOk result (λ m. m.characters ≡ length (glyphs (in_blocks blocks.now))) }
+    ensures bytes { IfOk result (λ m. m.bytes ≡ length (joined (in_blocks blocks.now))) }
 {
     let mut ends = Vec::new(alloc);
     let mut spans: usize = 0;
     let mut characters: usize = 0;
+    let mut bytes: usize = 0;
     for block in blocks {
         let content = block.content();
         spans += content.count();
         characters += content.characters();
+        bytes += content.byte_count();
         ends.push(spans)?;
     }
     Ok(Counts {
         ends,
         spans,
         characters,
+        bytes,
     })
 }
 
@@ -248,6 +256,7 @@ impl BlockVersion {
             ends,
             spans,
             characters,
+            bytes,
         } = counted(alloc, blocks.as_slice())?;
         Ok(BlockVersion {
             number,
@@ -255,13 +264,13 @@ impl BlockVersion {
             ends,
             spans,
             characters,
+            bytes,
         })
     }
 
     /// A version in blocks.
     pub fn from_version(alloc: Global, version: &Version) -> Result<BlockVersion, AllocError>
-        requires maximal { AreMaximal (spans_of version.now) }
-        requires short { length (glyphs (spans_of version.now)) ≤ 32768 }
+        requires { IsMade version.now }
         ensures { IfOk result (λ made. made ≡ version.now) }
     {
         let rows = version.rows();
@@ -289,32 +298,47 @@ impl BlockVersion {
 
     /// How many spans there are.
     pub fn span_count(&self) -> usize
-        ensures { result ≡ length self.now.rows }
+        ensures value { result ≡ length self.now.rows }
+        ensures whole { IsWhole self.now.text self.now.rows }
     {
         self.spans
     }
 
     /// How many characters there are.
     pub fn character_count(&self) -> usize
-        ensures { result ≡ length (glyphs (spans_of self.now)) }
+        ensures glyphs { result ≡ length (glyphs (spans_of self.now)) }
+        ensures text { result ≡ length (chars self.now.text) }
     {
         self.characters
+    }
+
+    /// How many bytes the text has.
+    pub fn byte_count(&self) -> usize
+        ensures { result ≡ length self.now.text }
+    {
+        self.bytes
+    }
+
+    /// The blocks from that of the span with this index on, and the span's place in the first of them. There is no
+    /// block where there is no such span.
+    pub(crate) fn blocks_from(&self, index: usize) -> (&[Block], usize)
+        ensures spans { drop result.1 (in_blocks result.0.now) ≡ drop index (spans_of self.now) }
+        ensures at { IsAtRow result.0.now result.1 }
+    {
+        let ends = self.ends.as_slice();
+        let at = first_beyond(ends, index);
+        let before = start_of(ends, at);
+        let blocks = self.blocks.as_slice();
+        (&blocks[at..], index - before)
     }
 
     /// The span with this index, if there is one.
     pub fn span(&self, index: usize) -> Option<SpanText<'_>>
         ensures { result ≡ slice_get (spans_of self.now) index }
     {
-        let blocks = self.blocks.as_slice();
-        let at = first_beyond(self.ends.as_slice(), index);
-        let count = blocks.len();
-        if at >= count {
-            return None;
-        }
-        let before = start_of(self.ends.as_slice(), at);
-        let block = &blocks[at];
-        let content = block.content();
-        content.span(index - before)
+        let (blocks, row) = self.blocks_from(index);
+        let (block, _) = blocks.split_first()?;
+        block.content().span(row)
     }
 
     /// The version with this number in which the rows stand in place of the characters from `from` up to `to`. A row

@@ -1,10 +1,10 @@
 ghost use Rattle.std.specs.Prelude.{◌≡◌, ◌↔◌, IfOk, IfErr, IsTrue};
 
 use boxcar::Pushed;
-use span_flatten::version::Version;
 use std::marker::{Brand, Model, PhantomData};
 use std::sync::Wait;
 use verifier::verify::Verified;
+use version_blocks::version::BlockVersion;
 
 /// Which two lists a hub publishes in. A program picks them once for each hub.
 pub trait Naming {
@@ -25,7 +25,7 @@ impl Naming for Brand {
 
 /// Shows that a version is in the list of the hub `N`, at its index, for good.
 pub struct VersionToken<N: Naming> {
-    at: Pushed<Version>,
+    at: Pushed<BlockVersion>,
     of: PhantomData<N>,
 }
 
@@ -109,7 +109,7 @@ impl<N: Naming> ProgramToken<N> {
 /// The two lists of the hub `N`, which any thread reads and pushes to.
 #[derive(Drop)]
 pub struct Published<'p, N: Naming> {
-    versions: &'p boxcar::Vec<Version>,
+    versions: &'p boxcar::Vec<BlockVersion>,
     programs: &'p boxcar::Vec<Verified>,
     of: PhantomData<N>,
     ghost named: { (versions.now ≡ N.versions) × (programs.now ≡ N.programs) },
@@ -118,7 +118,7 @@ pub struct Published<'p, N: Naming> {
 impl<'p, N: Naming> Published<'p, N> {
     /// Works on these two lists, which are those of `N`.
     pub fn new(
-        versions: &'p boxcar::Vec<Version>,
+        versions: &'p boxcar::Vec<BlockVersion>,
         programs: &'p boxcar::Vec<Verified>,
     ) -> Published<'p, N>
         requires { (versions.now ≡ N.versions) × (programs.now ≡ N.programs) }
@@ -140,7 +140,11 @@ impl<'p, N: Naming> Published<'p, N> {
     }
 
     /// Publishes a version. It comes back where there is no memory.
-    pub fn publish<R: Wait>(&self, rt: &R, version: Version) -> Result<VersionToken<N>, Version>
+    pub fn publish<R: Wait>(
+        &self,
+        rt: &R,
+        version: BlockVersion,
+    ) -> Result<VersionToken<N>, BlockVersion>
         ensures ok { IfOk result (λ t. t.value ≡ version) }
         ensures err { IfErr result (λ v. v ≡ version) }
     {
@@ -152,7 +156,7 @@ impl<'p, N: Naming> Published<'p, N> {
     }
 
     /// The version of a token.
-    pub fn look(&self, token: &VersionToken<N>) -> &Version
+    pub fn look(&self, token: &VersionToken<N>) -> &BlockVersion
         ensures { result.now ≡ token.now.value }
     {
         self.versions.value(&token.at)

@@ -16,3 +16,4 @@ pub mod Replaced
 pub mod Blocks
 pub mod ReplacedByRows
 pub mod Room
+pub mod Outside

@@ -1,8 +1,8 @@
-//! What stays the same as operations are accepted: laws on the definitions, each a lemma in proofs/. The four that
+//! What stays the same as operations are accepted: laws on the definitions, each a lemma in proofs/. Those that
 //! callers ask for most are functions too. They do nothing: a call brings the law.
 #![tactic(auto)]
 
-ghost use Rattle.std.specs.Prelude.{◌≡◌, ◌↔◌, ◌++◌, ◌∷◌, [], ℕ, List, Some, ◌⊎◌, ◌<◌, ◌≤◌, true};
+ghost use Rattle.std.specs.Prelude.{◌≡◌, ◌↔◌, ◌++◌, ◌∷◌, [], ℕ, List, Some, ◌⊎◌, ◌<◌, ◌≤◌, true, Contains};
 ghost use Rattle.change_ops.specs.Operations.{is_edit};
 ghost use Rattle.change_ops.specs.declared.id.OpId.{OpId};
 ghost use Rattle.change_ops.specs.declared.operation.Op.{Op};
@@ -15,6 +15,7 @@ ghost use Rattle.mark_anchors.specs.Formatting.{Format};
 ghost use Rattle.mark_anchors.specs.Places.{Lies};
 ghost use Rattle.span_flatten.specs.Spans.{Shown, Span, Cuts};
 ghost use Rattle.version_laws.specs.Joints.{Apart};
+ghost use Rattle.version_laws.specs.Touched.{IsChangedWithin, TouchesWithin};
 
 /// Of two characters that were there, one stands before the other exactly if it did.
 pub fn order_stays()
@@ -42,4 +43,11 @@ pub fn window_keeps_spans()
         → Cuts front before → Cuts middle within → Cuts back after
         → Apart before (within ++ after) → Apart within after
         → Cuts (front ++ (middle ++ back)) (before ++ (within ++ after)) }
+{}
+
+/// Operations leave the elements outside the places that they touch.
+pub fn changes_keep_outside()
+    ensures { (ops added : List Op) (es later : List Element) (low high : ℕ) → Shows es ops → Shows later (ops ++ added)
+        → ((o : Op) → Contains added o → TouchesWithin later low high o) → low ≤ high
+        → IsChangedWithin es later low high }
 {}

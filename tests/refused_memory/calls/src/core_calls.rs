@@ -15,12 +15,12 @@ use feeds::sink::ListSink;
 use filter_workers::filter::filter;
 use hub_core::error::{CommitError, SubscribeError};
 use hub_core::hub::Core;
-use span_flatten::version::Version;
 use std::alloc::{AllocError, Global};
 use std::marker::Brand;
 use std::sync::Wait;
 use std::thread::Threads;
 use verifier::verify::Verified;
+use version_blocks::version::BlockVersion;
 use version_history::published::{Naming, ProgramToken, Published};
 
 /// Makes a call of a core, or on a job of one.
@@ -32,7 +32,7 @@ pub fn play<R: Print + Threads + Wait + Sync>(stage: &Stage<'_, R>) -> Result<bo
 
 fn on_lists<N: Naming, R: Print + Threads + Wait + Sync>(
     stage: &Stage<'_, R>,
-    versions: &boxcar::Vec<Version>,
+    versions: &boxcar::Vec<BlockVersion>,
     programs: &boxcar::Vec<Verified>,
 ) -> Result<bool, Fault>
     requires named { (versions.now ≡ N.versions) × (programs.now ≡ N.programs) }

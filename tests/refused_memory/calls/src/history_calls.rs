@@ -25,7 +25,7 @@ fn accept(alloc: Global, history: &mut History, text: &str) -> Result<(), Fault>
     history.accept(change).ok().ok_or(Fault::Scene)
 }
 
-/// `History::version` is a call of `flatten` on what the history keeps.
+/// `History::version` calls `flatten` on what the history keeps, and puts the spans in blocks.
 fn flattened<R: Print>(stage: &Stage<'_, R>, history: &History) -> Result<bool, Fault> {
     stage.begin()?;
     let outcome = history.version(stage.alloc);

@@ -11,7 +11,6 @@ use filter_workers::work::catch_up;
 use ingest_workers::hub::Hub;
 use ingest_workers::ingest::{HubError, ingest};
 use ingest_workers::share::Share;
-use span_flatten::version::Version;
 use std::alloc::{AllocError, Global};
 use std::marker::Brand;
 use std::sync::Wait;
@@ -19,6 +18,7 @@ use std::sync::ledger::{Blank, Ledger};
 use std::thread::Threads;
 use subscriber_queues::ends::{Subscription, queue};
 use verifier::verify::Verified;
+use version_blocks::version::BlockVersion;
 use version_history::published::{Naming, Published};
 
 /// A hub with what its callers hold.
@@ -41,7 +41,7 @@ pub fn play<R: Print + Threads + Wait + Copy + Sync>(stage: &Stage<'_, R>) -> Re
 fn on_lists<N: Naming + Ledger, R: Print + Threads + Wait + Copy + Sync>(
     stage: &Stage<'_, R>,
     blank: Blank,
-    versions: &boxcar::Vec<Version>,
+    versions: &boxcar::Vec<BlockVersion>,
     programs: &boxcar::Vec<Verified>,
 ) -> Result<bool, Fault>
     requires named { (versions.now ≡ N.versions) × (programs.now ≡ N.programs) }

@@ -7,12 +7,12 @@ use crate::stage::{Answer, Stage};
 use change_history::history::History;
 use feeds::sink::ListSink;
 use hub_core::hub::Core;
-use span_flatten::version::Version;
 use std::alloc::{AllocError, Global};
 use std::marker::Brand;
 use std::sync::Wait;
 use subscriber_queues::ends::{QueueError, QueueSink, Subscription, queue};
 use verifier::verify::Verified;
+use version_blocks::version::BlockVersion;
 use version_history::published::{Naming, Published};
 
 /// Makes a call on a hub's lists, or one that begins a core or a queue.
@@ -24,7 +24,7 @@ pub fn play<R: Print + Wait + Copy>(stage: &Stage<'_, R>) -> Result<bool, Fault>
 
 fn on_lists<N: Naming, R: Print + Wait + Copy>(
     stage: &Stage<'_, R>,
-    versions: &boxcar::Vec<Version>,
+    versions: &boxcar::Vec<BlockVersion>,
     programs: &boxcar::Vec<Verified>,
 ) -> Result<bool, Fault>
     requires named { (versions.now ≡ N.versions) × (programs.now ≡ N.programs) }
@@ -51,7 +51,7 @@ fn state<N: Naming>(alloc: Global, board: &Board<'_, N>) -> Result<String, Alloc
     )
 }
 
-fn new_version(alloc: Global) -> Result<Version, Fault> {
+fn new_version(alloc: Global) -> Result<BlockVersion, Fault> {
     let mut history = History::new(alloc);
     let change = change_of(alloc, FIRST).ok_or(Fault::Scene)?;
     history.accept(change).ok().ok_or(Fault::Scene)?;
@@ -78,8 +78,8 @@ fn version_published<N: Naming, R: Print + Wait>(
 fn publish_once<N: Naming, R: Print + Wait>(
     stage: &Stage<'_, R>,
     board: &Board<'_, N>,
-    version: Version,
-) -> Result<Option<Version>, Fault> {
+    version: BlockVersion,
+) -> Result<Option<BlockVersion>, Fault> {
     let before = state(stage.alloc, board)?;
     stage.begin()?;
     let outcome = board.published.publish(stage.rt, version);

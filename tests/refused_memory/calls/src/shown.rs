@@ -2,10 +2,10 @@ use change_ops::change::{Change, read_change};
 use change_ops::writing::write_change;
 use feeds::item::{Finding, Item};
 use mark_anchors::format::Format;
-use span_flatten::version::Version;
 use span_view::view::spans;
 use std::alloc::{AllocError, Global};
 use verifier::verify::Verified;
+use version_blocks::version::BlockVersion;
 use version_history::published::Naming;
 
 /// The change that a text is of.
@@ -40,7 +40,7 @@ fn push_format(alloc: Global, text: &mut String, format: &Format) -> Result<(), 
 }
 
 /// A version's number, and its spans.
-pub fn version_text(alloc: Global, version: &Version) -> Result<String, AllocError> {
+pub fn version_text(alloc: Global, version: &BlockVersion) -> Result<String, AllocError> {
     let mut text = format!(in alloc; "version {}:", version.number())?;
     for span in spans(version) {
         text.push_str(" (")?;

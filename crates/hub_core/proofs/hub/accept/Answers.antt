@@ -1,12 +1,16 @@
 use Rattle.std.proofs.Common.{◌++◌, ◌∷◌, [], ◌∙◌, List, sym, ap, subst}
 use Rattle.change_ops.specs.Changes.{Change}
 use Rattle.change_history.specs.Kept.{IsDraft}
+use Rattle.hub_core.specs.Accepting.{HasLatest}
 use Rattle.hub_core.proofs.Sound.{version_of_all, version_along}
 use Rattle.hub_core.proofs.hub.accept.Goals as goal
 
 pub publish_draft-requires : goal.publish_draft-requires
-publish_draft-requires g c =
-    (c.args.change, subst (λ (cs : List Change). IsDraft cs c.args.change c.in_ok-draft.draft) (sym c.in_ok-draft.ensures.same) c.in_ok-draft.ensures.drafted)
+publish_draft-requires g c = record {
+  drafted =
+      (c.args.change, subst (λ (cs : List Change). IsDraft cs c.args.change c.in_ok-draft.draft) (sym c.in_ok-draft.ensures.same) c.in_ok-draft.ensures.drafted);
+  published = subst (λ (cs : List Change). HasLatest cs c.args.versions.now.items) (sym c.in_ok-draft.ensures.same) c.requires;
+}
 
 pub put-requires : goal.put-requires
 put-requires g c =

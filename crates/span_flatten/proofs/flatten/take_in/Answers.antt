@@ -19,7 +19,7 @@ left_behind es left left' from to order at moved =
 
 pub returns-then-start-end-clause-taken : goal.returns-then-start-end-clause-taken
 returns-then-start-end-clause-taken c =
-    λ t.
+    λ low t.
     let es : List Element = c.args.sweep.now.resolution.elements in
     let from : ℕ = c.args.from in
     let to : ℕ = c.args.to in
@@ -28,14 +28,14 @@ returns-then-start-end-clause-taken c =
     let grown : text' ≡ text ++ visible_text (slice_range es from to) = c.in_ok-characters.ensures.text ∙ ap (λ l. text ++ visible_text (take (to - from) l)) c.requires.at in
     let started : c.len-start.result ≡ length text = search rules in
     let ended : c.len-end.result ≡ length text' = search rules in
-    taken_empty es c.args.sweep.now.resolution.marks from to text text' c.args.rows.now.items c.requires.order grown (sym started ∙ c.if-start-end.true ∙ ended) t
+    taken_empty es c.args.sweep.now.resolution.marks low from to text text' c.args.rows.now.items c.requires.order grown (sym started ∙ c.if-start-end.true ∙ ended) t
 
 pub returns-then-start-end-clause-at : goal.returns-then-start-end-clause-at
 returns-then-start-end-clause-at c = left_behind c.args.sweep.now.resolution.elements c.args.cursor.now c.push_next.new.self c.args.from c.args.to c.requires.order c.requires.at c.in_ok-characters.ensures.left
 
 pub returns-clause-taken : goal.returns-clause-taken
 returns-clause-taken c =
-    λ t.
+    λ low t.
     let es : List Element = c.args.sweep.now.resolution.elements in
     let marks : List Op = c.args.sweep.now.resolution.marks in
     let from : ℕ = c.args.from in
@@ -53,10 +53,10 @@ returns-clause-taken c =
     let range : FormattedRange = record { from = from; to = to; format = format } in
     let of = uniform_range es marks from to format some c.requires.within c.requires.uniform told.1 in
     let piece : Span = record { text = visible_text (slice_range es from to); format = format } in
-    let is = piece_more es marks range text text' rows some of grown t grew (IsUtf8-string_bytes c.args.text.now) (IsUtf8-string_bytes c.push_next.new.text) in
+    let is = piece_more es marks range text text' rows some of grown low t grew (IsUtf8-string_bytes c.args.text.now) (IsUtf8-string_bytes c.push_next.new.text) in
     let characters = c.in_ok-characters.ensures.characters ∙ ap (λ l. visible_count (take (to - from) l)) c.requires.at ∙ count_spelt (slice_range es from to) is.utf8 in
     let draft = told.2 t.shown (more_of format (slice_range es from to)) piece text text' is refl grown started ended characters t.draft in
-    taken_more es marks range text text' rows some of grown t c.add_row.new.rows.items draft c.in_ok-add_row.ensures.count
+    taken_more es marks range text text' rows some of grown low t c.add_row.new.rows.items draft c.in_ok-add_row.ensures.count
 
 pub returns-clause-formatted : goal.returns-clause-formatted
 returns-clause-formatted c =

@@ -21,9 +21,9 @@ pub returns-in_default-clause-rule : goal.returns-in_default-clause-rule
 returns-in_default-clause-rule c = λ o s there is.
     let none : unboxed c.args.waiting ≡ None = ap unboxed c.in_default.is in
     let same : c.in_ok-new.field-0.value ≡ c.args.state.now = search rules in
-    first_in (unboxed c.args.waiting) c.in_ok-new.field-0.value c.args.state.now o s none same there is
+    first_in c.args.profile (unboxed c.args.waiting) c.in_ok-new.field-0.value c.args.state.now o s none same there is
 
 pub returns-clause-rule : goal.returns-clause-rule
 returns-clause-rule c = λ o s there is.
-    let rule = subst (λ (a : AbsState). IsSituation c.join.new.self (joined_situation (situation_of a) (situation_of c.args.state.now))) (c.deref_mut.ensures.value) c.join.ensures.rule in
-    joined_in (unboxed c.args.waiting) c.in-Some.earlier.value c.args.state.now c.join.new.self o s (ap unboxed c.in-Some.is) there is rule
+    let rule = subst (λ (a : AbsState). IsSituation c.join.new.self (joined_situation c.args.profile (situation_of a) (situation_of c.args.state.now))) (c.deref_mut.ensures.value) c.join.ensures.rule in
+    joined_in c.args.profile (unboxed c.args.waiting) c.in-Some.earlier.value c.args.state.now c.join.new.self o s (ap unboxed c.in-Some.is) there is rule

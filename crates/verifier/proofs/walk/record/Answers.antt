@@ -16,4 +16,4 @@ returns-clause-rule c = λ from w o waits few is.
 
 pub returns-in_default-clause-rule : goal.returns-in_default-clause-rule
 returns-in_default-clause-rule c = λ from w o waits few is.
-    unjumped c.args.waiting.now c.args.target from o w (none_is o (subst (λ x. IsSituationIn x o) c.in_default.is is)) waits
+    unjumped c.args.profile c.args.waiting.now c.args.target from o w (none_is o (subst (λ x. IsSituationIn x o) c.in_default.is is)) waits

@@ -88,12 +88,12 @@ returns-in-Ok-clause-lists c = λ program structured starts covers below.
 
 pub returns-in_default-clause-rule : goal.returns-in_default-clause-rule
 returns-in_default-clause-rule c = λ falling here w falls waits above.
-    let none = arrives_nowhere falling here (c.in_default.ensures.rule falling here falls waits) in
-    (passes_dead c.args.profile c.args.slot c.args.insn.now (arriving falling here) w c.arrive.new.self none (waits_beyond c.args.waiting.now c.arrive.new.self c.args.slot w c.in_default.ensures.others above), tt)
+    let none = arrives_nowhere c.args.profile falling here (c.in_default.ensures.rule falling here falls waits) in
+    (passes_dead c.args.profile c.args.slot c.args.insn.now (arriving c.args.profile falling here) w c.arrive.new.self none (waits_beyond c.args.waiting.now c.arrive.new.self c.args.slot w c.in_default.ensures.others above), tt)
 
 pub returns-in-Ok-clause-rule : goal.returns-in-Ok-clause-rule
 returns-in-Ok-clause-rule c = λ falling here w falls waits above.
-    let known = arrives_at c.arrive.new.state falling here c.is_whole.ensures (c.in-Live.ensures.rule falling here falls waits) in (
+    let known = arrives_at c.args.profile c.arrive.new.state falling here c.is_whole.ensures (c.in-Live.ensures.rule falling here falls waits) in (
       subst (λ (o : Option Situation). Passes c.args.profile c.args.slot c.args.insn.now o w (after c.in-Ok.next c.pass.new.state) c.pass.new.waiting) (sym known)
           (c.in-Ok.ensures.rule w (waits_beyond c.args.waiting.now c.arrive.new.self c.args.slot w c.in-Live.ensures.others above)),
       tt,
@@ -101,10 +101,10 @@ returns-in-Ok-clause-rule c = λ falling here w falls waits above.
 
 pub returns-in-Err-Refused-clause-rule : goal.returns-in-Err-Refused-clause-rule
 returns-in-Err-Refused-clause-rule c = λ falling here w falls waits above.
-    let known = arrives_at c.arrive.new.state falling here c.is_whole.ensures (c.in-Live.ensures.rule falling here falls waits) in
+    let known = arrives_at c.args.profile c.arrive.new.state falling here c.is_whole.ensures (c.in-Live.ensures.rule falling here falls waits) in
     let bad = c.in-Err-Refused.ensures.refuses c.in-Err-Refused.fault (ap (λ (stop : Stop). Err stop) c.in-Err-Refused.field-0-is) in (
       tt,
-      names_here c.args.profile c.args.slot c.args.insn.now (arriving falling here) c.in-Err-Refused.fault
+      names_here c.args.profile c.args.slot c.args.insn.now (arriving c.args.profile falling here) c.in-Err-Refused.fault
           (subst (λ (o : Option Situation). Refuses c.args.profile c.args.insn.now o c.in-Err-Refused.fault) (sym known) bad),
     )
 

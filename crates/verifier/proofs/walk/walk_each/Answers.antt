@@ -72,7 +72,7 @@ loop-slot-preserved c =
     subst (λ states. AriseBelow c.args.profile program (slot + 1) states) (sym items) (arise_more c.args.profile program slot joined c.loop-slot.states.items counted known c.loop-slot.invariant.arises) in
     let a = awaited_at c.args.profile program slot in
     let awaits = c.loop-slot.invariant.awaits in
-    let arrives : IsSituationIn joined (either_way a.falling (a.waiting slot)) = c.arrive-flow.ensures.rule a.falling (a.waiting slot) awaits.falls (awaits.waits slot (le_self slot)) in
+    let arrives : IsSituationIn joined (either_way c.args.profile a.falling (a.waiting slot)) = c.arrive-flow.ensures.rule a.falling (a.waiting slot) awaits.falls (awaits.waits slot (le_self slot)) in
     let beyond : WaitsFrom (slot + 1) c.arrive-flow.new.self a.waiting = waits_beyond c.loop-slot.waiting c.arrive-flow.new.self slot a.waiting c.arrive-flow.ensures.others (waits_after c.loop-slot.waiting slot a.waiting awaits.waits) in
     let known_here : KnownBelow c.args.profile program (slot + 1) c.push.new.self.items =
     subst (λ states. KnownBelow c.args.profile program (slot + 1) states) (sym items) (known_more c.args.profile program slot joined c.loop-slot.states.items counted (known_is c.args.profile program slot joined arrives) c.loop-slot.invariant.known) in
@@ -81,9 +81,9 @@ loop-slot-preserved c =
           let step = w.in_ok-flow.ensures.floor program (program_of-paired c.args.words.now c.len.ensures.sound) c.requires w.in-Some.ensures.value waits
           (here_falls c.args.profile program slot w.in-Some.insn joined w.in-Some.ensures.value (known w.in-Some.insn w.in-Some.ensures.value)) covers in
           let next = after w.in_ok-flow.flow w.visit.new.state in
-          let passes : Passes c.args.profile slot w.in-Some.insn (arrived a.falling (a.waiting slot)) a.waiting next w.visit.new.waiting =
-          subst (λ o. Passes c.args.profile slot w.in-Some.insn o a.waiting next w.visit.new.waiting) (arrived_once a.falling (a.waiting slot))
-          (w.in_ok-flow.ensures.rule (either_way a.falling (a.waiting slot)) None a.waiting arrives c.arrive-flow.ensures.taken beyond).0 in
+          let passes : Passes c.args.profile slot w.in-Some.insn (arrived c.args.profile a.falling (a.waiting slot)) a.waiting next w.visit.new.waiting =
+          subst (λ o. Passes c.args.profile slot w.in-Some.insn o a.waiting next w.visit.new.waiting) (arrived_once c.args.profile a.falling (a.waiting slot))
+          (w.in_ok-flow.ensures.rule (either_way c.args.profile a.falling (a.waiting slot)) None a.waiting arrives c.arrive-flow.ensures.taken beyond).0 in
           rw (w.waiting-is, w.state-is, w.flow-is)
           (record {
             size = w.in_ok-flow.ensures.size ∙ size;
@@ -159,10 +159,10 @@ returns-in_err-flow-clause-names c =
     let awaits = c.loop-slot.invariant.awaits in
     let arrives = c.arrive-flow.ensures.rule a.falling (a.waiting slot) awaits.falls (awaits.waits slot (le_self slot)) in
     let beyond = waits_beyond c.loop-slot.waiting c.arrive-flow.new.self slot a.waiting c.arrive-flow.ensures.others (waits_after c.loop-slot.waiting slot a.waiting awaits.waits) in
-    let named = (c.in_err-flow.ensures.rule (either_way a.falling (a.waiting slot)) None a.waiting arrives c.arrive-flow.ensures.taken beyond).1 in
+    let named = (c.in_err-flow.ensures.rule (either_way c.args.profile a.falling (a.waiting slot)) None a.waiting arrives c.arrive-flow.ensures.taken beyond).1 in
     passed_on c.from_residual-in_err-flow.result c.in_err-flow.field-0.0 (NamesFirst c.args.profile program) c.from_residual-in_err-flow.ensures.1
     (names_first c.args.profile program slot c.in-Some.insn c.in_err-flow.field-0.0 c.in-Some.ensures.value c.loop-slot.invariant.sound
-    (subst (λ o. NamesSlot c.args.profile slot c.in-Some.insn o c.in_err-flow.field-0.0) (arrived_once a.falling (a.waiting slot)) named))
+    (subst (λ o. NamesSlot c.args.profile slot c.in-Some.insn o c.in_err-flow.field-0.0) (arrived_once c.args.profile a.falling (a.waiting slot)) named))
 
 pub returns-in_err-states-clause-names : goal.returns-in_err-states-clause-names
 returns-in_err-states-clause-names c =

@@ -12,9 +12,9 @@ layout_of v is = record {
 
 pub returns : goal.returns
 returns c =
-    λ ops added first middle changed last number window rows ok shows all later marks version drawn formats made same.
+    λ ops added first middle changed last number window rows shows all later marks version drawn formats made same.
     record {
       numbered = refl;
-      spans = spans_met ops added first middle changed last ok shows all later marks (spans_of c.args.now.now) (spans_of c.args.next.now) rows c.keeps.ensures.maximal version.spans window drawn formats made c.keeps-2.ensures.maximal same;
+      spans = spans_met ops added first middle changed last shows all later marks (spans_of c.args.now.now) (spans_of c.args.next.now) rows c.keeps.ensures.maximal version.spans window drawn formats made c.keeps-2.ensures.maximal same;
       layout = layout_of c.args.next.now c.keeps-2.ensures.laid;
     }

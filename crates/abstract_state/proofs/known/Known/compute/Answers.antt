@@ -33,6 +33,11 @@ returns-in-Lent-Number-clause-sound c = IfOk-weaker c.from_lent.result _ _
     (λ o h lengths x y a b. h lengths x y (is _ _ lengths x c.in-Lent-Number.is-0 a) (is _ _ lengths y c.in-Lent-Number.is-1 b))
     c.from_lent.ensures.sound
 
+pub returns-in-Lent-Lent-clause-sound : goal.returns-in-Lent-Lent-clause-sound
+returns-in-Lent-Lent-clause-sound c = IfOk-weaker c.distance.result _ _
+    (λ o h lengths x y a b. h lengths x y (is _ _ lengths x c.in-Lent-Lent.is-0 a) (is _ _ lengths y c.in-Lent-Lent.is-1 b))
+    c.distance.ensures.sound
+
 pub returns-in-Lent-Number-clause-adds : goal.returns-in-Lent-Number-clause-adds
 returns-in-Lent-Number-clause-adds c = λ at adds full m n t a b near.
     let left = subst (λ (k : Known). IsLentIn at m m t k) c.in-Lent-Number.is-0 a in

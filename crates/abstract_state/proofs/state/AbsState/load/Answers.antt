@@ -2,7 +2,7 @@ use Rattle.std.proofs.Common.{◌≡◌, ◌*◌, true, false, ℕ, Option, None
 use Rattle.std.proofs.lemmas.Result.{IfOk-weaker}
 use Rattle.abstract_state.specs.declared.known.Known.{Known}
 use Rattle.abstract_state.specs.Known.{ContainsKnown}
-use Rattle.abstract_state.specs.State.{lengths_of, LoadsAs}
+use Rattle.abstract_state.specs.State.{lengths_of, LoadsIn}
 use Rattle.semantics.specs.Memory.{bytes_in}
 use Rattle.abstract_state.specs.Frame.{AreMarked}
 use Rattle.abstract_state.specs.Stacks.{slots_of}
@@ -23,8 +23,8 @@ returns-in-Some-clause-sound c = λ span s n same a b. let given = c.in-Some.ens
 
 pub returns-clause-sound : goal.returns-clause-sound
 returns-clause-sound c = λ span s n same a b.
-    let bytes = subst (λ (k : ℕ). LoadsAs c.args.self.now c.args.base c.args.offset k (λ lengths v. v < 256 ^ k)) c.count.ensures.value c.in_ok-bytes.ensures.sound in
-    let given = bytes span s n a b in
+    let bytes = subst (λ (k : ℕ). LoadsIn c.args.profile c.args.self.now c.args.base c.args.offset k (λ lengths v. v < 256 ^ k)) c.count.ensures.value c.in_ok-bytes.ensures.sound in
+    let given = bytes span s n same a b in
     (given.0, given.1, (_, refl, c.loaded.ensures.contains (lengths_of span) given.0 given.2))
 
 pub returns-in-Some-clause-lent_numbers : goal.returns-in-Some-clause-lent_numbers
@@ -58,5 +58,5 @@ returns-in_err-bytes-clause-rule c =
     let bounds = least_of c.args.self.now.bounds in
     let none : filled slots (content_of c.args.base) c.args.offset c.args.size ≡ None = sym c.fill.ensures.rule ∙ ap (option_map content_of) c.in_default-fill.is in
     let out : c.from_residual.result ≡ Err c.in_err-bytes.field-0.0 = search rules in
-    let bytes : readable slots bounds (content_of c.args.base) c.args.offset (bytes_in c.args.size) ≡ Err c.in_err-bytes.field-0.0 = subst (λ (n : ℕ). readable slots bounds (content_of c.args.base) c.args.offset n ≡ Err c.in_err-bytes.field-0.0) c.count.ensures.value (sym c.bytes.ensures.rule ∙ c.in_err-bytes.was) in
+    let bytes : readable c.args.profile slots bounds (content_of c.args.base) c.args.offset (bytes_in c.args.size) ≡ Err c.in_err-bytes.field-0.0 = subst (λ (n : ℕ). readable c.args.profile slots bounds (content_of c.args.base) c.args.offset n ≡ Err c.in_err-bytes.field-0.0) c.count.ensures.value (sym c.bytes.ensures.rule ∙ c.in_err-bytes.was) in
     ap (answer_of (option_map content_of)) out ∙ sym (loaded_else c.args.profile slots bounds c.args.base c.args.offset c.args.size c.in_default.not-Context none ∙ ap (answer_of (a_number (any_of c.args.size))) bytes)

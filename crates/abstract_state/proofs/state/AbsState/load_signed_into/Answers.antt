@@ -36,10 +36,10 @@ returns-in_err-load_signed-clause-performs c =
 
 pub returns-clause-performs : goal.returns-clause-performs
 returns-clause-performs c = record {
-  sound = λ span s held.
+  sound = λ span s profile held.
       let same : c.displacement.result ≡ cast_unsigned w64 c.args.offset = c.displacement.ensures ∙ ap (cast_unsigned w64) (to_z-of_z w16 c.args.offset c.ranges.offset) in
       let a = c.in_ok-a.ensures.sound (lengths_of span) s held in
-      let v = c.in_ok-load_signed.ensures.sound span s a.0 held a.2 in (
+      let v = c.in_ok-load_signed.ensures.sound span s a.0 profile held a.2 in (
         _,
         loads_signed span s c.args.size c.args.destination c.args.base c.args.offset a.0 v.0 c.requires a.1
             (subst (λ (o : ℕ). load span.bytes s.stack ((a.0 + o) % 2 ^ 64) (bytes_in_signed c.args.size) ≡ Ok v.0) same v.1),
@@ -88,7 +88,7 @@ returns-in_err-a-clause-rule c =
 pub returns-in_err-load_signed-clause-rule : goal.returns-in_err-load_signed-clause-rule
 returns-in_err-load_signed-clause-rule c =
     let same : c.displacement.result ≡ cast_unsigned w64 c.args.offset = c.displacement.ensures ∙ ap (cast_unsigned w64) (to_z-of_z w16 c.args.offset c.ranges.offset) in
-    let at = c.load_signed.ensures.rule ∙ ap (λ (n : ℕ). readable (slots_of c.args.self.now.stack) (least_of c.args.self.now.bounds) (content_of c.in_ok-a.a) n (bytes_in_signed c.args.size)) same in
+    let at = c.load_signed.ensures.rule ∙ ap (λ (n : ℕ). readable c.args.profile (slots_of c.args.self.now.stack) (least_of c.args.self.now.bounds) (content_of c.in_ok-a.a) n (bytes_in_signed c.args.size)) same in
     unmade _ _ _ _ (content_of c.in_ok-a.a) c.in_err-load_signed.field-0.0 c.from_residual-in_err-load_signed.result _
     (given content_of _ _ _ c.read.ensures.rule c.in_ok-a.was)
     (ap (answer_of (a_number (unknown Full))) (sym at ∙ c.in_err-load_signed.was)) (out_is _ _ c.from_residual-in_err-load_signed.ensures.1)
@@ -96,7 +96,7 @@ returns-in_err-load_signed-clause-rule c =
 pub returns-clause-rule : goal.returns-clause-rule
 returns-clause-rule c =
     let same : c.displacement.result ≡ cast_unsigned w64 c.args.offset = c.displacement.ensures ∙ ap (cast_unsigned w64) (to_z-of_z w16 c.args.offset c.ranges.offset) in
-    let at = c.load_signed.ensures.rule ∙ ap (λ (n : ℕ). readable (slots_of c.args.self.now.stack) (least_of c.args.self.now.bounds) (content_of c.in_ok-a.a) n (bytes_in_signed c.args.size)) same in
+    let at = c.load_signed.ensures.rule ∙ ap (λ (n : ℕ). readable c.args.profile (slots_of c.args.self.now.stack) (least_of c.args.self.now.bounds) (content_of c.in_ok-a.a) n (bytes_in_signed c.args.size)) same in
     writes _ _ _ _ (content_of c.in_ok-a.a) (Some (Number c.unknown.result)) c.write.result _
     (given content_of _ _ _ c.read.ensures.rule c.in_ok-a.was)
     (ap (answer_of (a_number (unknown Full))) (sym at ∙ c.in_ok-load_signed.was) ∙ ap (λ (e : Estimate). Ok (Some (ANumber e))) (sym c.unknown.ensures.rule)) c.write.ensures.rule

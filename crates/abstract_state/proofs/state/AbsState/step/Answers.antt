@@ -92,7 +92,7 @@ pub returns-in-LoadSigned-clause-sound : goal.returns-in-LoadSigned-clause-sound
 returns-in-LoadSigned-clause-sound c =
     let fits : SFits w16 c.in-LoadSigned.offset = search rules in
     let is = c.in-LoadSigned.is ∙ ap (λ (z : ℤ). LoadSigned c.in-LoadSigned.size c.in-LoadSigned.destination c.in-LoadSigned.base z) (sym (to_z-of_z w16 c.in-LoadSigned.offset fits)) in
-    lands_of_any _ _ _ _ _ (performs_at is c.load_signed_into.ensures.performs)
+    lands_so _ _ _ _ _ (performs_at is c.load_signed_into.ensures.performs)
 
 pub returns-in-LoadSigned-clause-unset : goal.returns-in-LoadSigned-clause-unset
 returns-in-LoadSigned-clause-unset c =

@@ -12,9 +12,9 @@ invariant_of-result g c =
     let are : verdicts ≡ verdicts_of job.program.value job.version.value = c.requires in
     let version : c.look-version.result.now ≡ job.version.value = c.look-version.ensures ∙ ap (λ (j : Job). j.version.value) c.job.view_is in
     let number = c.number-number.ensures ∙ ap (λ (v : Version). v.number) version in
-    let spans : length c.rows-spans.result.now ≡ length job.version.value.rows = ap length c.rows-spans.ensures.value ∙ ap (λ (v : Version). length v.rows) version in
+    let spans : c.span_count-spans.result ≡ length job.version.value.rows = c.span_count-spans.ensures.value ∙ ap (λ (v : Version). length v.rows) version in
     let past : length verdicts ≤ c.loop-span.span = omega arith in
-    let few : length c.rows-spans.result.now ≤ 32768 = omega (arith, c.rows-spans.ensures.whole.limits.few, ap length c.rows-spans.ensures.value) in
+    let few : c.span_count-spans.result ≤ 32768 = omega (arith, c.span_count-spans.ensures.whole.limits.few, c.span_count-spans.ensures.value) in
     let count : length verdicts ≡ length job.version.value.rows = ap length are ∙ verdict_count job.program.value job.version.value in (
       subst (λ (j : Job). c.push_finding.new.items.items ≡ items_of j.program j.version) (sym c.again.ensures)
           (batch_whole c.loop-span.items.items c.push_finding.new.items.items job.program job.version verdicts c.number-number.result _ c.loop-span.span

@@ -1,5 +1,8 @@
-use Rattle.hub_core.proofs.Sound.{sound_accepted, submitted}
+use Rattle.hub_core.proofs.Sound.{has_latest, sound_accepted, submitted}
 use Rattle.hub_core.proofs.hub.Core.submit.Goals as goal
+
+pub accept-requires : goal.accept-requires
+accept-requires g c = has_latest g.S.Sink.sent g.S.Sink.full _ c.self.invariant
 
 pub invariant_of-self : goal.invariant_of-self
 invariant_of-self g c = sound_accepted g.S.Sink.sent g.S.Sink.full _ c.args.change c.accept.result _ _ c.self.invariant c.accept.ensures

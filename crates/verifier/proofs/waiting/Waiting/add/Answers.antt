@@ -33,4 +33,4 @@ returns-clause-rule c = λ from w s waits few is.
     let within : c.args.slot < length c.self.inside.states.items = search rules in
     let every = subst (λ v. WaitsFrom from v w) (sym c.self.view_is) waits in
     let there = subst (λ o. IsSituationIn o (w c.args.slot)) (read_waiting c.self.inside.states.items c.args.slot c.index_mut.result.now c.take.result within c.index_mut.ensures.value c.take.ensures.value) (every c.args.slot few) in
-    waits_added c.self.inside.states.items c.args.slot from c.take.new.self c.in_ok-joined.joined s w within every (c.in_ok-joined.ensures.rule (w c.args.slot) s there is)
+    waits_added c.args.profile c.self.inside.states.items c.args.slot from c.take.new.self c.in_ok-joined.joined s w within every (c.in_ok-joined.ensures.rule (w c.args.slot) s there is)

@@ -89,22 +89,22 @@ returns-clause-rule c = λ falling here falls waits.
     let within : c.args.slot < length c.self.inside.states.items = search rules in
     let every = subst (λ v. IsSituationIn (waiting_at v c.args.slot) here) (sym c.self.view_is) waits in
     let there = read_waiting c.self.inside.states.items c.args.slot c.index_mut.result.now c.take.result within c.index_mut.ensures.value c.take.ensures.value ∙ ap unboxed c.in-Some.is in
-    arrives_both (waiting_at c.self.inside.states.items c.args.slot) (after c.args.flow c.args.state.now) c.args.state.now c.in-Some.waiting.value c.join.new.self falling here there (ap (λ f. after f c.args.state.now) c.in-Live.is) every falls
-    (subst (λ (a : AbsState). IsSituation c.join.new.self (joined_situation (situation_of c.args.state.now) (situation_of a))) c.deref.ensures c.join.ensures.rule)
+    arrives_both c.args.profile (waiting_at c.self.inside.states.items c.args.slot) (after c.args.flow c.args.state.now) c.args.state.now c.in-Some.waiting.value c.join.new.self falling here there (ap (λ f. after f c.args.state.now) c.in-Live.is) every falls
+    (subst (λ (a : AbsState). IsSituation c.join.new.self (joined_situation c.args.profile (situation_of c.args.state.now) (situation_of a))) c.deref.ensures c.join.ensures.rule)
 
 pub returns-in_default-flow-clause-rule : goal.returns-in_default-flow-clause-rule
 returns-in_default-flow-clause-rule c = λ falling here falls waits.
     let within : c.args.slot < length c.self.inside.states.items = search rules in
     let every = subst (λ v. IsSituationIn (waiting_at v c.args.slot) here) (sym c.self.view_is) waits in
     let there = read_waiting c.self.inside.states.items c.args.slot c.index_mut.result.now c.take.result within c.index_mut.ensures.value c.take.ensures.value ∙ ap unboxed c.in-Some.is in
-    arrives_alone (waiting_at c.self.inside.states.items c.args.slot) (after c.args.flow c.args.state.now) c.in-Some.waiting.value c.into_inner.result falling here there (search rules) c.into_inner.ensures every falls
+    arrives_alone c.args.profile (waiting_at c.self.inside.states.items c.args.slot) (after c.args.flow c.args.state.now) c.in-Some.waiting.value c.into_inner.result falling here there (search rules) c.into_inner.ensures every falls
 
 pub returns-in_default-clause-rule : goal.returns-in_default-clause-rule
 returns-in_default-clause-rule c = λ falling here falls waits.
     let within : c.args.slot < length c.self.inside.states.items = search rules in
     let every = subst (λ v. IsSituationIn (waiting_at v c.args.slot) here) (sym c.self.view_is) waits in
     let there = read_waiting c.self.inside.states.items c.args.slot c.index_mut.result.now c.take.result within c.index_mut.ensures.value c.take.ensures.value ∙ ap unboxed c.in_default.is in
-    arrives_none (waiting_at c.self.inside.states.items c.args.slot) (after c.args.flow c.args.state.now) falling here there every falls
+    arrives_none c.args.profile (waiting_at c.self.inside.states.items c.args.slot) (after c.args.flow c.args.state.now) falling here there every falls
 
 pub returns-clause-taken : goal.returns-clause-taken
 returns-clause-taken c =

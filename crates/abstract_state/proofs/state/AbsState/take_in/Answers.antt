@@ -2,7 +2,7 @@ use Rattle.std.proofs.Common.{◌≡◌, min}
 use Rattle.abstract_state.specs.declared.region.Region.{Region}
 use Rattle.abstract_state.specs.Lent.{bound_of}
 use Rattle.abstract_state.proofs.Regions.{each}
-use Rattle.abstract_state.proofs.state.AbsState.join.Goals as goal
+use Rattle.abstract_state.proofs.state.AbsState.take_in.Goals as goal
 
 pub returns-clause-bounds : goal.returns-clause-bounds
 returns-clause-bounds c = each

@@ -1,0 +1,96 @@
+use Rattle.std.proofs.Common.{◌≡◌, ◌-◌, ◌++◌, ℕ, List, length, take, drop, sym, ap, subst, ◌∙◌, arith, All, IsUtf8}
+use Rattle.std.specs.List.{slice_range}
+use Rattle.std.proofs.lemmas.List.Elements.{Contains-append_right}
+use Rattle.change_ops.specs.Lines.{ops_of_lines}
+use Rattle.change_ops.specs.declared.operation.Op.{Op}
+use Rattle.char_sequence.specs.declared.sequence.Element.{Element}
+use Rattle.span_flatten.specs.declared.version.Row.{Row}
+use Rattle.span_flatten.specs.Spans.{Span}
+use Rattle.span_flatten.specs.Version.{IsWhole, spans_in, spans_of}
+use Rattle.version_blocks.specs.Glyphs.{glyphs}
+use Rattle.version_blocks.proofs.Made.{texts_in}
+use Rattle.version_blocks.proofs.Meeting.{glyphs_drawn}
+use Rattle.version_windows.proofs.Stepping.{visible_parted, were, are, stepped}
+use Rattle.version_windows.proofs.step.next_version.Goals as goal
+
+pub touched-places-requires : goal.touched-places-requires
+touched-places-requires c =
+    let added : List Op = ops_of_lines c.args.lines.now in
+    (c.requires.0 ++ added, c.requires.1.shows, λ o held. Contains-append_right c.requires.0 added o held)
+
+pub overflow_sub-behind : goal.overflow_sub-behind
+overflow_sub-behind c =
+    let es : List Element = c.args.sequence.now.elements in
+    let count : ℕ = c.len-count.result in
+    let parted = visible_parted es c.touched-places.result.high count (omega (arith, c.len-count.ensures.value)) in
+    omega (arith, parted, c.visible_before-all.ensures, c.visible_before-through.ensures)
+
+pub overflow_sub-to : goal.overflow_sub-to
+overflow_sub-to c =
+    let es : List Element = c.args.sequence.now.elements in
+    let places = c.touched-places in
+    let parted = visible_parted es places.result.high c.len-count.result (omega (arith, c.len-count.ensures.value)) in
+    let old = were c.requires.0 c.args.previous.now es c.args.marks.now c.args.lines.now c.requires.1 places.result.low places.result.high places.ensures.order places.ensures.within places.ensures.touched c.keeps.ensures.maximal in
+    omega (arith, parted, old.1, c.visible_before-all.ensures, c.visible_before-through.ensures, c.character_count-characters.ensures)
+
+pub flatten_window-requires : goal.flatten_window-requires
+flatten_window-requires c = record {
+  text = (c.requires.0 ++ ops_of_lines c.args.lines.now, c.requires.1.shows, c.requires.1.marks);
+  order = c.touched-places.ensures.order;
+  within = c.touched-places.ensures.within;
+}
+
+pub with_window-requires : goal.with_window-requires
+with_window-requires c =
+    let es : List Element = c.args.sequence.now.elements in
+    let places = c.touched-places in
+    let low : ℕ = places.result.low in
+    let high : ℕ = places.result.high in
+    let window = c.in_ok-window.window in
+    let text : List ℕ = c.text-text.result.now in
+    let rows : List Row = c.rows-rows.result.now in
+    let whole = c.rows-rows.ensures.whole in
+    let now : List Span = spans_of c.args.previous.now in
+    let parted = visible_parted es high c.len-count.result (omega (arith, c.len-count.ensures.value)) in
+    let old = were c.requires.0 c.args.previous.now es c.args.marks.now c.args.lines.now c.requires.1 low high places.ensures.order places.ensures.within places.ensures.touched c.keeps.ensures.maximal in
+    let new = are c.requires.0 c.args.previous.now es c.args.marks.now c.args.lines.now c.requires.1 low high places.ensures.order places.ensures.within places.ensures.touched c.keeps.ensures.maximal in
+    let read : spans_in text rows ≡ spans_in window.text window.rows =
+    ap (λ (t : List ℕ). spans_in t rows) c.text-text.ensures ∙ ap (λ (r : List Row). spans_in window.text r) c.rows-rows.ensures.value in
+    let texts : All (λ (s : Span). IsUtf8 s.text) (spans_in window.text window.rows) =
+    texts_in window.text window.rows (subst IsUtf8 c.text-text.ensures c.text-text.utf8) whole.limits.ordered whole.limits.starts whole.limits.ends in
+    let flat = c.in_ok-window.ensures in
+    let drawn = glyphs_drawn (slice_range es low high) flat.shown (spans_in window.text window.rows) texts flat.drawn flat.cut in
+    let size : length (glyphs (spans_in text rows)) ≡ length (glyphs (spans_in window.text window.rows)) = ap (λ (l : List Span). length (glyphs l)) read in
+    record {
+      whole = subst (λ (t : List ℕ). IsWhole t rows) (sym c.text-text.ensures) (subst (λ (r : List Row). IsWhole window.text r) (sym c.rows-rows.ensures.value) whole);
+      order = omega (arith, parted, old.1, c.visible_before-from.ensures, c.visible_before-all.ensures, c.visible_before-through.ensures, c.character_count-characters.ensures);
+      within = omega (arith, parted, old.1, c.visible_before-all.ensures, c.visible_before-through.ensures, c.character_count-characters.ensures);
+      short = omega (arith, parted, old.1, new, drawn, size, c.visible_before-from.ensures, c.visible_before-all.ensures, c.visible_before-through.ensures, c.character_count-characters.ensures, c.len-count.ensures.limit);
+    }
+
+pub returns : goal.returns
+returns c = λ ops step.
+    let es : List Element = c.args.sequence.now.elements in
+    let places = c.touched-places in
+    let low : ℕ = places.result.low in
+    let high : ℕ = places.result.high in
+    let window = c.in_ok-window.window in
+    let text : List ℕ = c.text-text.result.now in
+    let rows : List Row = c.rows-rows.result.now in
+    let whole = c.rows-rows.ensures.whole in
+    let now : List Span = spans_of c.args.previous.now in
+    let from : ℕ = c.visible_before-from.result in
+    let to : ℕ = c.character_count-characters.result - (c.visible_before-all.result - c.visible_before-through.result) in
+    let parted = visible_parted es high c.len-count.result (omega (arith, c.len-count.ensures.value)) in
+    let old = were ops c.args.previous.now es c.args.marks.now c.args.lines.now step low high places.ensures.order places.ensures.within places.ensures.touched c.keeps.ensures.maximal in
+    let read : spans_in text rows ≡ spans_in window.text window.rows =
+    ap (λ (t : List ℕ). spans_in t rows) c.text-text.ensures ∙ ap (λ (r : List Row). spans_in window.text r) c.rows-rows.ensures.value in
+    let texts : All (λ (s : Span). IsUtf8 s.text) (spans_in window.text window.rows) =
+    texts_in window.text window.rows (subst IsUtf8 c.text-text.ensures c.text-text.utf8) whole.limits.ordered whole.limits.starts whole.limits.ends in
+    let next = c.in_ok-next.next in
+    stepped ops c.args.previous.now es c.args.marks.now c.args.lines.now step low high places.ensures.order places.ensures.within places.ensures.touched c.keeps.ensures.maximal
+    window from to c.args.number next c.in_ok-window.ensures texts c.visible_before-from.ensures
+    (omega (arith, parted, old.1, c.visible_before-all.ensures, c.visible_before-through.ensures, c.character_count-characters.ensures))
+    c.in_ok-next.ensures.maximal
+    (c.in_ok-next.ensures.glyphs ∙ ap (λ (l : List Span). take from (glyphs now) ++ (glyphs l ++ drop to (glyphs now))) read)
+    c.in_ok-next.ensures.laid

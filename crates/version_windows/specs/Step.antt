@@ -1,0 +1,20 @@
+-- What it takes to make the version after a change from the one before it.
+use Rattle.std.specs.Prelude.{ℕ, List, ◌++◌}
+use Rattle.change_ops.specs.Lines.{ops_of_lines}
+use Rattle.change_ops.specs.declared.line.Line.{Line}
+use Rattle.change_ops.specs.declared.operation.Op.{Op}
+use Rattle.char_sequence.specs.Acceptance.{AcceptsAll}
+use Rattle.char_sequence.specs.Order.{Shows}
+use Rattle.char_sequence.specs.declared.sequence.Element.{Element}
+use Rattle.mark_anchors.specs.Marks.{AreMarks}
+use Rattle.span_flatten.specs.Version.{Version, IsVersion}
+
+-- the version is of operations, after which those of the lines are accepted, one after the other; the elements and the
+-- marks are of them all
+pub record IsStep (ops : List Op) (previous : Version) (elements : List Element) (held : List Op) (lines : List Line)
+    : Type 0 where
+  pub before : (es : List Element) × Shows es ops
+  pub version : (number : ℕ) × IsVersion ops number previous
+  pub accepted : AcceptsAll ops (ops_of_lines lines)
+  pub shows : Shows elements (ops ++ ops_of_lines lines)
+  pub marks : AreMarks (ops ++ ops_of_lines lines) held

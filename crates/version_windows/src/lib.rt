@@ -1,0 +1,6 @@
+//! The version after a change, made from the one before it: only the characters that the change touches are laid out
+//! anew.
+#![tactic(auto)]
+
+pub mod step;
+mod touched;
