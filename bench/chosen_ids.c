@@ -81,12 +81,12 @@ static Changes text_of(int are_chosen, uint32_t nodes) {
 }
 
 static double time_of_accepting(const Changes *text, uint32_t count) {
-    return LEAST_TIME(RUNS, bench_accept((const uint8_t *)text->bytes, text->length, count, 0)) / 1e6;
+    return LEAST_TIME(RUNS, bench_accept((const uint8_t *)text->bytes, text->length, count)) / 1e6;
 }
 
 static void accepted(const char *what, const Changes *text) {
     char line[96];
-    expect(bench_accept((const uint8_t *)text->bytes, text->length, text->changes - 1, 1), 1, "accepted");
+    expect(bench_follow((const uint8_t *)text->bytes, text->length, text->changes - 1, 1), 1, "accepted");
     double all = time_of_accepting(text, text->changes);
     snprintf(line, sizeof line, "32,768 characters in 128 changes, %s", what);
     row(line, all, "ms");
@@ -123,9 +123,9 @@ static double change_behind_marks(int are_chosen) {
         type_change(&text, id, START, 1);
     }
     const uint8_t *bytes = (const uint8_t *)text.bytes;
-    expect(bench_accept(bytes, text.length, before, LATER) > 3 * COUNT, 0, "refused");
-    double none = LEAST_TIME(MARKED_RUNS, bench_accept(bytes, text.length, before, 0));
-    double all = LEAST_TIME(MARKED_RUNS, bench_accept(bytes, text.length, before, LATER));
+    expect(bench_follow(bytes, text.length, before, LATER) > 3 * COUNT, 0, "refused");
+    double none = LEAST_TIME(MARKED_RUNS, bench_follow(bytes, text.length, before, 0));
+    double all = LEAST_TIME(MARKED_RUNS, bench_follow(bytes, text.length, before, LATER));
     let_go(&text);
     return (all - none) / LATER / 1e6;
 }

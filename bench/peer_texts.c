@@ -7,7 +7,7 @@
 #include <stdio.h>
 #include <string.h>
 
-enum { RUNS = 7, EDITS = 512, OF_AN_EDIT = 8, CHARACTERS = 32768 };
+enum { RUNS = 7, EDITS = 512, OF_AN_EDIT = 8, CHARACTERS = 32768, MARKS = 4096, MARKS_MORE = 64, KEYS = 1024 };
 
 static const Id FIRST = {1, 1};
 
@@ -21,16 +21,28 @@ static Id at(uint32_t place) {
     return id;
 }
 
-/* The microseconds of accepting `alone` changes, and then `followed` more with a version after each. */
-static double time_of(const Changes *text, uint32_t alone, uint32_t followed) {
-    return LEAST_TIME(RUNS, bench_accept((const uint8_t *)text->bytes, text->length, alone, followed)) / 1000;
+/* The microseconds of accepting changes. */
+static double accepting(const Changes *text, uint32_t count) {
+    return LEAST_TIME(RUNS, bench_accept((const uint8_t *)text->bytes, text->length, count)) / 1000;
+}
+
+/* The microseconds of accepting `alone` changes, of their version, and of `followed` more with a version after each. */
+static double following(const Changes *text, uint32_t alone, uint32_t followed) {
+    return LEAST_TIME(RUNS, bench_follow((const uint8_t *)text->bytes, text->length, alone, followed)) / 1000;
 }
 
 /* A change of the last `edits`, with its version. */
 static double time_of_an_edit(const Changes *text, uint32_t edits) {
     uint32_t base = text->changes - edits;
-    expect(bench_accept((const uint8_t *)text->bytes, text->length, text->changes - 1, 1) > CHARACTERS, 0, "refused");
-    return (time_of(text, base, edits) - time_of(text, base, 0)) / edits;
+    expect(bench_follow((const uint8_t *)text->bytes, text->length, text->changes - 1, 1) > CHARACTERS, 0, "refused");
+    return (following(text, base, edits) - following(text, base, 0)) / edits;
+}
+
+/* The version after a change of the last `edits`, without the change. */
+static double time_of_a_version(const Changes *text, uint32_t edits) {
+    uint32_t base = text->changes - edits;
+    double accepted = (accepting(text, text->changes) - accepting(text, base)) / edits;
+    return time_of_an_edit(text, edits) - accepted;
 }
 
 static Changes changes_of_8(int at_the_front) {
@@ -45,22 +57,22 @@ static Changes changes_of_8(int at_the_front) {
 
 static double appends(void) {
     Changes text = changes_of_8(0);
-    return time_of(&text, text.changes, 0);
+    return accepting(&text, text.changes);
 }
 
 static double appends_followed(void) {
     Changes text = changes_of_8(0);
-    return time_of(&text, 0, text.changes);
+    return following(&text, 0, text.changes);
 }
 
 static double at_the_front(void) {
     Changes text = changes_of_8(1);
-    return time_of(&text, text.changes, 0);
+    return accepting(&text, text.changes);
 }
 
 static double at_the_front_followed(void) {
     Changes text = changes_of_8(1);
-    return time_of(&text, 0, text.changes);
+    return following(&text, 0, text.changes);
 }
 
 static double an_append(void) {
@@ -98,7 +110,7 @@ static void add_marks(Changes *text, uint32_t count, uint32_t longest, uint32_t 
             begin_change(text, id.node, of_a_change);
         }
         snprintf(comment, sizeof comment, "comment:%u -", 1 + turn / 5 % 8);
-        uint32_t from = next_random(&state) % (CHARACTERS - longest - 1);
+        uint32_t from = next_random(&state) % (CHARACTERS - KEYS - longest - 1);
         uint32_t to = from + 1 + next_random(&state) % longest;
         mark_line(text, id, turn % 5 < 4 ? kinds[turn % 5] : comment, at(from), at(to));
         id.counter++;
@@ -112,26 +124,66 @@ static double a_mark(void) {
     return time_of_an_edit(&text, EDITS);
 }
 
-static double version_of(uint32_t marks, uint32_t longest, uint32_t rounds) {
+/* Under 4,096 marks less these: one more over `length` characters from the same places on. */
+static double a_mark_more(uint32_t length) {
     Changes text = no_changes();
     type_text(&text, FIRST, CHARACTERS);
+    add_marks(&text, MARKS - 256, 200, 256);
+    for (uint32_t mark = 0; mark < MARKS_MORE; mark++) {
+        Id id = at(CHARACTERS + MARKS - 256 + mark);
+        uint32_t from = length == CHARACTERS ? 0 : 500 * mark;
+        begin_change(&text, id.node, 1);
+        mark_line(&text, id, mark % 2 ? "em -" : "strong -", at(from), at(from + length - 1));
+    }
+    return time_of_an_edit(&text, MARKS_MORE);
+}
+
+static double a_mark_of_200(void) {
+    return a_mark_more(200);
+}
+
+static double a_mark_over_all(void) {
+    return a_mark_more(CHARACTERS);
+}
+
+/* The version after a key in the middle. */
+static double version_of(uint32_t marks, uint32_t longest) {
+    Changes text = no_changes();
+    type_text(&text, FIRST, CHARACTERS - KEYS);
     add_marks(&text, marks, longest, 256);
-    const uint8_t *bytes = (const uint8_t *)text.bytes;
-    double none = LEAST_TIME(RUNS, bench_version(bytes, text.length, text.changes, 0));
-    double all = LEAST_TIME(RUNS, bench_version(bytes, text.length, text.changes, rounds));
-    return (all - none) / rounds / 1000;
+    Id last = at(CHARACTERS / 2);
+    for (uint32_t key = 0; key < KEYS; key++) {
+        Id next = at(CHARACTERS + MARKS + key);
+        last = type_change(&text, next, last, 1);
+    }
+    return time_of_a_version(&text, KEYS);
 }
 
 static double version_plain(void) {
-    return version_of(0, 0, 2000);
+    return version_of(0, 0);
 }
 
 static double version_short_marks(void) {
-    return version_of(4096, 200, 16);
+    return version_of(MARKS, 200);
 }
 
 static double version_long_marks(void) {
-    return version_of(4096, 4000, 16);
+    return version_of(MARKS, 4000);
+}
+
+static double version_longest_marks(void) {
+    return version_of(MARKS, 16384);
+}
+
+/* Characters in runs of 256 behind a text of one, each with its version. */
+static double a_paste(void) {
+    Changes text = no_changes();
+    Id last = type_change(&text, FIRST, START, 1);
+    for (uint32_t typed = 1; typed < CHARACTERS; typed += 256) {
+        Id next = {last.counter + 1, 1};
+        last = run_change(&text, next, last, typed + 256 > CHARACTERS ? CHARACTERS - typed : 256);
+    }
+    return following(&text, 1, text.changes - 1) - following(&text, 1, 0);
 }
 
 static const struct {
@@ -145,9 +197,13 @@ static const struct {
     {"an_append", an_append},
     {"a_removal", a_removal},
     {"a_mark", a_mark},
+    {"a_mark_of_200", a_mark_of_200},
+    {"a_mark_over_all", a_mark_over_all},
+    {"a_paste", a_paste},
     {"version_plain", version_plain},
     {"version_short_marks", version_short_marks},
     {"version_long_marks", version_long_marks},
+    {"version_longest_marks", version_longest_marks},
 };
 
 int main(int count, char **words) {

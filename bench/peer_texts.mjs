@@ -8,6 +8,9 @@ const RUNS = 9;
 const EDITS = 512;
 const OF_AN_EDIT = 8;
 const CHARACTERS = 32768;
+const MARKS = 4096;
+const MARKS_MORE = 64;
+const KEYS = 1024;
 
 function now() {
   const { user, system } = process.cpuUsage();
@@ -102,8 +105,7 @@ function* numbers() {
   }
 }
 
-function marked(count, longest, ofAChange) {
-  const author = new Author();
+function marked(count, longest, ofAChange, author = new Author()) {
   author.type(CHARACTERS, 256);
   const base = author.updates.length;
   const random = numbers();
@@ -113,12 +115,30 @@ function marked(count, longest, ofAChange) {
       for (let turn = done; turn < done + ofAChange; turn++) {
         const comment = { [`comment:${1 + (Math.floor(turn / 5) % 8)}`]: true };
         const kinds = [{ strong: true }, { em: true }, { link: "https://example.org/a" }, { color: "3366cc" }, comment];
-        const from = next() % (CHARACTERS - longest - 1);
+        const from = next() % (CHARACTERS - KEYS - longest - 1);
         text.format(from, 1 + (next() % longest), kinds[turn % 5]);
       }
     });
   }
   return { updates: author.updates, base };
+}
+
+function aMarkMore(length) {
+  const author = new Author();
+  marked(MARKS - 256, 200, 256, author);
+  const base = author.updates.length;
+  for (let mark = 0; mark < MARKS_MORE; mark++) {
+    const from = length === CHARACTERS ? 0 : 500 * mark;
+    author.edit((text) => text.format(from, length, mark % 2 ? { em: true } : { strong: true }));
+  }
+  return timeOf(author.updates, base, true) / (author.updates.length - base);
+}
+
+/** One update, since here a paste is one insert; its version is the last one's alone. */
+function aPaste() {
+  const author = new Author();
+  author.edit((text) => text.insert(0, letters(CHARACTERS)));
+  return timeOf(author.updates, 0, true);
 }
 
 function aMark() {
@@ -145,8 +165,12 @@ const rows = {
   an_append: anAppend,
   a_removal: aRemoval,
   a_mark: aMark,
+  a_mark_of_200: () => aMarkMore(200),
+  a_mark_over_all: () => aMarkMore(CHARACTERS),
+  a_paste: aPaste,
   version_plain: () => versionOf(0, 0, 2000),
   version_short_marks: () => versionOf(4096, 200, 16),
   version_long_marks: () => versionOf(4096, 4000, 16),
+  version_longest_marks: () => versionOf(4096, 16384, 16),
 };
 console.log(rows[wanted]().toFixed(3));

@@ -13,10 +13,14 @@ ROWS = {
     "at_the_front_followed": "  each with its version",
     "an_append": "an append of 8 at 28,672 characters, with its version",
     "a_removal": "8 characters removed, with its version",
-    "a_mark": "one mark more, with its version",
-    "version_plain": "a version without marks",
-    "version_short_marks": "a version with 4,096 marks up to 200 characters",
-    "version_long_marks": "a version with 4,096 marks up to 4,000 characters",
+    "a_mark": "one mark more of up to 512, with its version",
+    "a_mark_of_200": "one mark more over 200 characters, under 3,840 marks, with its version",
+    "a_mark_over_all": "  over the whole text",
+    "a_paste": "32,768 characters pasted as runs, accepted with their versions",
+    "version_plain": "the version after a key, without marks",
+    "version_short_marks": "  with 4,096 marks up to 200 characters",
+    "version_long_marks": "  with 4,096 marks up to 4,000 characters",
+    "version_longest_marks": "  with 4,096 marks up to half the text",
 }
 
 

@@ -22,8 +22,13 @@ static Id at(uint32_t place) {
     return id;
 }
 
-static double time_of_accepting(const Changes *text, uint32_t alone, uint32_t followed) {
-    return LEAST_TIME(1, bench_accept((const uint8_t *)text->bytes, text->length, alone, followed));
+static double time_of_accepting(const Changes *text, uint32_t count) {
+    return LEAST_TIME(1, bench_accept((const uint8_t *)text->bytes, text->length, count));
+}
+
+/* The same of the first `alone` changes and their version, and of `followed` more with a version each. */
+static double time_of_following(const Changes *text, uint32_t alone, uint32_t followed) {
+    return LEAST_TIME(1, bench_follow((const uint8_t *)text->bytes, text->length, alone, followed));
 }
 
 static double less(double a, double b) {
@@ -37,17 +42,19 @@ static void edits_of(const char *where, const Changes *text, size_t from, uint32
     uint32_t base = text->changes - edits;
     double before = 1e300;
     double alone = 1e300;
+    double versioned = 1e300;
     double followed = 1e300;
-    expect(bench_accept((const uint8_t *)text->bytes, text->length, text->changes - 1, 1), 1, "accepted");
+    expect(bench_follow((const uint8_t *)text->bytes, text->length, text->changes - 1, 1), 1, "accepted");
     for (int run = 0; run < RUNS; run++) {
-        before = less(before, time_of_accepting(text, base, 0));
-        alone = less(alone, time_of_accepting(text, text->changes, 0));
-        followed = less(followed, time_of_accepting(text, base, edits));
+        before = less(before, time_of_accepting(text, base));
+        alone = less(alone, time_of_accepting(text, text->changes));
+        versioned = less(versioned, time_of_following(text, base, 0));
+        followed = less(followed, time_of_following(text, base, edits));
     }
     double reading = LEAST_TIME(RUNS, bench_read((const uint8_t *)text->bytes + from, text->length - from, edits)) / edits;
     snprintf(line, sizeof line, "a change of %u characters %s, accepted", OF_AN_EDIT, where);
     row(line, ((alone - before) / edits - reading) / 1000, "us");
-    row("  with its version", ((followed - before) / edits - reading) / 1000, "us");
+    row("  with its version", ((followed - versioned) / edits - reading) / 1000, "us");
     row("  reading it from its text, beside that", reading / 1000, "us");
 }
 
@@ -216,9 +223,9 @@ static void whole_text_by(Typing *typing, const char *how) {
     type_text_by(typing, &text, FIRST, CHARACTERS);
     const uint8_t *bytes = (const uint8_t *)text.bytes;
     expect(bench_read(bytes, text.length, text.changes), 0, "read");
-    expect(bench_accept(bytes, text.length, text.changes - 1, 1), 1, "accepted");
+    expect(bench_follow(bytes, text.length, text.changes - 1, 1), 1, "accepted");
     double reading = LEAST_TIME(RUNS, bench_read(bytes, text.length, text.changes));
-    double all = LEAST_TIME(RUNS, bench_accept(bytes, text.length, text.changes - 1, 1));
+    double all = LEAST_TIME(RUNS, bench_follow(bytes, text.length, text.changes, 0));
     snprintf(line, sizeof line, "a text in %u changes, %s, read", text.changes, how);
     row(line, reading / 1e6, "ms");
     row("  read, accepted, and its version made", all / 1e6, "ms");

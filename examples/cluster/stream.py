@@ -6,10 +6,14 @@ Redis runs whole or not at all: an entry that is sent twice is there once."""
 import asyncio
 import re
 import secrets
+import sys
 from typing import NamedTuple
 
-import redis
-from redis.asyncio.connection import Connection, SSLConnection, parse_url
+try:
+    import redis
+    from redis.asyncio.connection import Connection, SSLConnection, parse_url
+except ModuleNotFoundError as lacking:
+    sys.exit(f"there is no Python module {lacking.name}: Debian has it in python3-redis")
 
 # Errors of Redis or of the way to it: what was under way may have been done or not.
 FAILURES = (redis.RedisError, OSError)

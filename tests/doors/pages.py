@@ -11,7 +11,7 @@ import threading
 from doors import TEXT, UNKNOWN, Web, connected, expect, frame, head, others, read_head, server
 
 ROOT = pathlib.Path(__file__).resolve().parent.parent.parent
-sys.path.append(str(ROOT / "examples" / "page"))
+sys.path.append(str(ROOT / "tests" / "editor"))
 
 TEXTS = {
     "index.html": "text/html", "a.js": "text/javascript", "b.mjs": "text/javascript", "c.css": "text/css", "d.svg": "image/svg+xml",
@@ -160,7 +160,7 @@ def free_port():
 
 def try_another_site(hub):
     """In a browser: a page of another site can't begin a session, and one of an origin given can."""
-    from try_page import Browser, number_in, program, until
+    from browser import Browser, number_in, program, until
     with tempfile.TemporaryDirectory() as name, program("chromedriver", "--port=0") as driver:
         pathlib.Path(name, "evil.html").write_text(OTHER_SITE, encoding="utf-8")
         with site(name) as port, site(name) as welcome, \

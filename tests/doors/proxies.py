@@ -4,7 +4,6 @@ import base64
 import contextlib
 import getpass
 import pathlib
-import re
 import socket
 import ssl
 import subprocess
@@ -16,7 +15,7 @@ from doors import Stream, expect, others, read_head, server
 from pages import free_port
 
 ROOT = pathlib.Path(__file__).resolve().parent.parent.parent
-CONFIGURATION = ROOT / "examples" / "nginx" / "nginx.conf"
+CONFIGURATION, EDITOR = ROOT / "examples" / "nginx" / "nginx.conf", ROOT / "examples" / "editor"
 HOST = "hub.example"
 NGINX = 60    # seconds without a byte, after which it ends a connection by default
 
@@ -138,7 +137,7 @@ def try_nginx(hub):
     through TLS before the socket file."""
     ports = free_port(), free_port()
     origin = f"https://{HOST}:{ports[0]}"
-    words = ["--read", "--files", ROOT / "examples", "--origin", origin]
+    words = ["--read", "--files", EDITOR, "--origin", origin]
     with server(hub, *words) as here, others(here) as rest, nginx(here, ports) as folder:
         for user, of, want in [(None, None, 401), ("ann:wrong", origin, 401), ("ben:secret", None, 401), (None, origin, 401),
                                ("ann:secret", "https://evil.example", 403), ("ann:secret", f"http://127.0.0.1:{here.web}", 403)]:
@@ -149,10 +148,10 @@ def try_nginx(hub):
             got = asyncio.run(edit(folder, ports[0], "ann:secret", of, f"change 9 1\ni {number}@9 - 41\n", "latest"))
             expect(got, [f"ok version {rest.version}\n", f"ok latest {rest.version}\n", 1000], f"through wss, of {of}")
         rest.ask()
-        page = (ROOT / "examples" / "page" / "page.html").read_bytes()
+        page = (EDITOR / "index.html").read_bytes()
         for user, want in [(None, 401), ("ann:wrong", 401), ("ann:secret", 200)]:
             rows = "".join(f"{name}: {value}\r\n" for name, value in log_in(user).items())
-            status, body = answer_to(folder, ports[0], f"GET /page/page.html?node=1 HTTP/1.1\r\nHost: {HOST}\r\n{rows}\r\n".encode())
+            status, body = answer_to(folder, ports[0], f"GET /?node=1 HTTP/1.1\r\nHost: {HOST}\r\n{rows}\r\n".encode())
             expect((status, body == page), (want, want == 200), f"the page for {user}")
         expect(read_head(plain(ports[0]).makefile("rb"))[0], 400, "HTTP without TLS")
         for client in (None, "stranger"):
@@ -212,25 +211,24 @@ def try_pings_through_nginx(hub):
     return "a silent client through nginx"
 
 
-def try_page_through_nginx(hub):
-    """A page in a browser, that logs in, edits through wss."""
-    from try_page import Browser, number_in, program, until
+def try_editor_through_nginx(hub):
+    """The editor in a browser, that logs in, edits through wss."""
+    from browser import Browser, number_in, program, until
     ports = free_port(), free_port()
-    with server(hub, "--read", "--files", ROOT / "examples", "--origin", f"https://{HOST}:{ports[0]}") as here, others(here) as rest, \
+    with server(hub, "--read", "--files", EDITOR, "--origin", f"https://{HOST}:{ports[0]}") as here, others(here) as rest, \
             nginx(here, ports), program("chromedriver", "--port=0") as driver:
         browser = Browser(f"http://127.0.0.1:{number_in(driver, 'successfully on port ([0-9]+)')}",
                           "--ignore-certificate-errors", f"--host-resolver-rules=MAP {HOST} 127.0.0.1")
         try:
-            browser.open(f"https://ann:secret@{HOST}:{ports[0]}/page/page.html?node=2")
-            until(lambda: re.match("version [0-9]+, you are node 2", browser.says("state")), browser.says("state"))
-            browser.select(0, 0)
-            browser.keys("#box", "typed through nginx")
+            browser.open(f"https://ann:secret@{HOST}:{ports[0]}/?node=2")
+            until(lambda: browser.says("state") == "connected", lambda: browser.says("trouble"))
+            browser.keys(".ProseMirror", "typed through nginx")
             client = Stream(here.port)
-            until(lambda: client_text(client).startswith("typed through nginx"), "what is typed through nginx isn't there")
+            until(lambda: "typed through nginx" in client_text(client), "what is typed through nginx isn't there")
             client.close()
         finally:
             browser.quit()
-    return "a page in a browser through nginx"
+    return "the editor in a browser through nginx"
 
 
 def client_text(client):
@@ -239,4 +237,4 @@ def client_text(client):
     return "".join(line.split(" ", 3)[3] for line in client.reply()[:-1])
 
 
-PARTS = [try_nginx, try_pings_through_nginx, try_page_through_nginx]
+PARTS = [try_nginx, try_pings_through_nginx, try_editor_through_nginx]

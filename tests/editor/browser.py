@@ -19,11 +19,11 @@ OPTIONS = ["--headless=new", "--no-sandbox", "--disable-dev-shm-usage", "--disab
 
 
 class Browser:
-    """A browser, by the address of its driver."""
+    """A browser, by the address of its driver, with further options."""
 
-    def __init__(self, driver):
+    def __init__(self, driver, *more):
         self.driver = driver
-        options = {"alwaysMatch": {"goog:chromeOptions": {"args": OPTIONS}}}
+        options = {"alwaysMatch": {"goog:chromeOptions": {"args": [*OPTIONS, *more]}}}
         self.session = self.call("POST", "", {"capabilities": options}, driver + "/session")
         self.call("POST", "/timeouts", {"script": None, "pageLoad": ENDLESS})
 

@@ -286,3 +286,42 @@ def assembled(source):
         number = min(faults)
         return 1, [f"refused {faults[number]} {REFUSALS[faults[number]]} line {number}"]
     return 0, out
+
+
+# What is said beside a refusal for a word.
+
+SHOWN = 40
+
+
+def wrong_token(line):
+    """What is said of the first character or number that is no token, or None."""
+    line, at = line.split(";")[0], 0
+    while at < len(line):
+        token = TOKEN.match(line, at)
+        if line[at] in " \t\r":
+            at += 1
+        elif not token:
+            character = line[at]
+            return f"{character if '!' <= character <= '~' else f'U+{ord(character):04X}'} has no meaning"
+        elif token.group()[0].isdigit() and not NUMBER.fullmatch(token.group()):
+            return f"{token.group()[:SHOWN]} is no number"
+        else:
+            at = token.end()
+    return None
+
+
+def word_hint(source):
+    """What standard error says of the word for which a text is refused by 30 or 31, where that is all that it says; or None."""
+    status, printed = assembled(source)
+    found = re.match(r"refused 3([01]) \w+ line (\d+)", printed[0]) if status else None
+    if not found or source.startswith("\ufeff") or "\0" in source:
+        return None
+    line = source.split("\n")[int(found[2]) - 1]
+    if found[1] == "0":
+        first = re.match(r"[ \t\r]*(\w*)", line, re.ASCII)[1][:SHOWN]
+        said = wrong_token(line) or (f"what stands behind {first} isn't of its form" if first else "it doesn't begin with a word")
+    else:
+        first, *others = tokens_of(line)
+        wrong = next((token for token in others if is_name(token) and not re.fullmatch("r([0-9]|10)", token)), "")
+        said = (f"no register is called {wrong[:SHOWN]}" if first in words() else f"no instruction is called {first[:SHOWN]}")
+    return f"hint: line {found[2]}: {said}"

@@ -19,7 +19,7 @@ A profile says what a program may read, and which rules hold beside those that a
 from typing import NamedTuple
 
 import copies
-from machine import MASK, fields, kind_of, line_of, refusal, signed
+from machine import MASK, fields, kind_of, signed
 from quantities import (LIMITS, NEGATED, REGIONS, Dead, anything, constant, ending, greater, joined_quantity, less_tail, normal,
                         only, told, transfer, up_to_end)
 
@@ -380,12 +380,13 @@ def stepped(profile, before, data, at):
 
 
 class Walk:
-    """One walk over words whose places and targets are right. What is known on each edge waits at its slot. `states` has what was
-    known before each slot to which a run may come, up to the one that is refused, if one is."""
+    """One walk over words whose places and targets are right. What is known on each edge waits at its slot, beside the slot from
+    which it leads there. `states` has what was known before each slot to which a run may come, up to the one that is refused, if one
+    is."""
 
     def __init__(self, data, profile):
         self.data, self.profile = data, profile
-        self.waiting, self.states = {0: [start()]}, {}
+        self.waiting, self.states = {0: [(None, start())]}, {}
         self.refused = self.all_slots()
 
     def all_slots(self):
@@ -393,8 +394,8 @@ class Walk:
         for at in starts(self.data):
             if at not in self.waiting:
                 continue
-            state = self.waiting[at][0]
-            for other in self.waiting[at][1:]:
+            state = self.waiting[at][0][1]
+            for _, other in self.waiting[at][1:]:
                 state = joined(self.profile.rules, state, other)
             self.states[at] = state
             try:
@@ -405,8 +406,8 @@ class Walk:
                 return refused.args[0], at
         return None
 
-    def wait(self, at, state):
-        self.waiting.setdefault(at, []).append(state)
+    def wait(self, here, at, state):
+        self.waiting.setdefault(at, []).append((here, state))
 
     def one_slot(self, at, before):
         """Leaves what is known behind the instruction at each slot to which a run goes on."""
@@ -417,16 +418,16 @@ class Walk:
             if not is_number(before.read(0)):
                 raise Refused(26)
         elif kind in ("ja", "ja32"):
-            self.wait(at + 1 + distance, before)
+            self.wait(at, at + 1 + distance, before)
         elif kind == "compare":
             check_sides(before, instruction)
-            for is_taken, target in ((True, at + 1 + distance), (False, at + 1)):
+            for is_taken, target in ((False, at + 1), (True, at + 1 + distance)):
                 try:
-                    self.wait(target, on_edge(self.profile.rules, before, instruction, is_taken))
+                    self.wait(at, target, on_edge(self.profile.rules, before, instruction, is_taken))
                 except Dead:
                     pass
         else:
-            self.wait(at + (2 if kind == "wide" else 1), stepped(self.profile, before, self.data, at))
+            self.wait(at, at + (2 if kind == "wide" else 1), stepped(self.profile, before, self.data, at))
 
 
 # What is printed.
@@ -462,26 +463,3 @@ def state_lines(state, profile):
             lines.append(place + "".join("x" if is_set else "-" for is_set in detail))
     lines.append(f"  length >= {state.lengths[0]}")
     return lines + [f"  link length >= {state.lengths[1]}"] * profile.lends_link
-
-
-def known_lines(states, at, profile):
-    return state_lines(states[at], profile) if at in states else ["  no run comes there"]
-
-
-def answer(data, profile, detail=None):
-    """What `hub check` prints of bytes, with its exit status; with the detail "slot" or "all" what `--explain` adds. Of an accepted
-    program the lines between the first one and the listing, of what it can do, are left out."""
-    refused = refusal(data)
-    if refused:
-        return 1, [refused]
-    found, states = misplaced(data), None
-    if found is None:
-        walk = Walk(data, profile)
-        found, states = walk.refused, walk.states
-    reason, last = found or (None, len(data) // 8)
-    lines = [f"accepted {last}" if found is None else f"refused {reason} {REASONS[reason]} slot {last}"]
-    for at in starts(data):
-        if detail == "all" and at < last or detail and at == last:
-            lines.append(f"slot {at}: {line_of(data, at)}")
-            lines += known_lines(states, at, profile) if states is not None else []
-    return 1 if found else 0, lines

@@ -1,5 +1,5 @@
 #!/usr/bin/env python3
-"""Checks by the model of the verifier, whose rules are in verifier.py.
+"""Checks by the model of the verifier, whose rules are in verifier.py, and of what is printed of it, which is in explained.py.
 
     verifier_checks.py                      compares with what the cases `check-..` and `explain-..` of crates/test_cases must print
     verifier_checks.py random COUNT SEED    tests that random programs which the first profile accepts are accepted by the second
@@ -7,7 +7,8 @@
                                             which the third alone accepts run without a fault, with the machine as is known
     verifier_checks.py hub HUB COUNT SEED   compares what HUB, a built program, prints of random programs, of which half are
                                             spoiled, by each profile (--profiles 12 leaves out the third): accepted, or which
-                                            refusal at which slot, and what is known before each slot
+                                            refusal at which slot, what is known before each slot and on the ways to it, and where
+                                            what is wanted was known last
 
 `--rules` before these words says which rules the third profile has beside those of the second, each by its letter in verifier.py.
 """
@@ -19,10 +20,11 @@ import subprocess
 import sys
 from pathlib import Path
 
+from explained import answer
 from lent_runs import first_wrong
 from machine import fields
 from random_programs import FRONT, random_program, third_program
-from verifier import PROFILES, Walk, answer, distance_of, starts
+from verifier import PROFILES, Walk, distance_of, starts
 
 CASES = Path(__file__).resolve().parents[2] / "crates" / "test_cases"
 

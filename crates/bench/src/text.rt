@@ -1,7 +1,12 @@
 //! Texts: changes read and taken in, and versions made.
+ghost use Rattle.std.specs.Prelude.{ℕ, IfSome};
+ghost use Rattle.change_history.specs.Accepted.{operations_of};
+ghost use Rattle.span_flatten.specs.Version.{IsVersion};
+
 use change_history::history::History;
 use change_ops::change::read_change;
 use std::alloc::Global;
+use version_blocks::version::BlockVersion;
 
 /// Reads the change at the front of a text, and answers what follows it.
 fn pass_change(alloc: Global, text: &str) -> Option<&str> {
@@ -44,18 +49,45 @@ fn spans_of(alloc: Global, history: &History) -> u64 {
     }
 }
 
-/// Takes in `count` changes of a text, each with its version.
+/// Takes in the change at the front of a text, and answers the version that it makes of the one before, and what
+/// follows it.
+fn follow_change<'a>(
+    alloc: Global,
+    history: &mut History,
+    previous: &BlockVersion,
+    text: &'a str,
+) -> Option<(BlockVersion, &'a str)>
+    requires { (number : ℕ) × IsVersion (operations_of history.old) number previous.now }
+    ensures { IfSome result (λ followed. (number : ℕ)
+        × IsVersion (operations_of history.new) number followed.0) }
+{
+    let Ok((change, rest)) = read_change(alloc, text) else {
+        return None;
+    };
+    let Ok(draft) = history.draft(change) else {
+        return None;
+    };
+    let Ok(version) = history.next_version(alloc, previous, &draft) else {
+        return None;
+    };
+    history.put(draft);
+    Some((version, rest))
+}
+
+/// Takes in `count` changes of a text, each with its version, behind the version that the history has.
 fn follow_changes(alloc: Global, history: &mut History, text: &str, count: u32) -> u64 {
     let mut rest: &str = text;
-    let mut spans = 0;
+    let Ok(mut version) = history.version(alloc) else {
+        return 0;
+    };
     for _change in 0..count {
-        let Some(next) = take_change(alloc, history, rest) else {
+        let Some((next, behind)) = follow_change(alloc, history, &version, rest) else {
             return 0;
         };
-        rest = next;
-        spans = spans_of(alloc, history);
+        version = next;
+        rest = behind;
     }
-    spans
+    version.span_count() as u64
 }
 
 /// Reads `count` changes of a text. It answers how many bytes follow them.
@@ -73,10 +105,23 @@ pub extern "C" fn bench_read(alloc: Global, text: &[u8], count: u32) -> u64 {
     rest.len() as u64
 }
 
-/// Takes in `alone` changes of a text, and then `followed` more, each of these with its version. It answers how many
-/// spans the last version has.
+/// Takes in `count` changes of a text. It answers how many characters were inserted.
 #[unsafe(no_mangle)]
-pub extern "C" fn bench_accept(alloc: Global, text: &[u8], alone: u32, followed: u32) -> u64 {
+pub extern "C" fn bench_accept(alloc: Global, text: &[u8], count: u32) -> u64 {
+    let Ok(text) = std::str::from_utf8(text) else {
+        return u64::MAX;
+    };
+    let mut history = History::new(alloc);
+    match take_changes(alloc, &mut history, text, count) {
+        Some(_rest) => history.inserted() as u64,
+        None => u64::MAX,
+    }
+}
+
+/// Takes in `alone` changes of a text, makes their version, and then takes in `followed` more, each with its version,
+/// made of the one before. It answers how many spans the last version has.
+#[unsafe(no_mangle)]
+pub extern "C" fn bench_follow(alloc: Global, text: &[u8], alone: u32, followed: u32) -> u64 {
     let Ok(text) = std::str::from_utf8(text) else {
         return u64::MAX;
     };

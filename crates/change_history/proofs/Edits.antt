@@ -10,29 +10,7 @@ use Rattle.change_ops.specs.Operations.{is_insert, is_edit}
 use Rattle.char_sequence.specs.Acceptance.{Accepts}
 use Rattle.char_sequence.specs.Held.{HasInserts}
 use Rattle.char_sequence.proofs.Parts as parts
-
--- what a filter keeps was there, and passes
-pub kept_was : {X : Type 0} (p : X → Bool) (xs : List X) (x : X) → Contains (filter p xs) x → Contains xs x
-kept_was p xs x h = All-contains (Contains xs) (filter p xs) x (All-filter p (Contains xs) xs (All-contains_itself xs)) h
-
-pub kept_passes : {X : Type 0} (p : X → Bool) (xs : List X) (x : X) → Contains (filter p xs) x → p x ≡ true
-kept_passes p xs x h = All-contains (λ y. p y ≡ true) (filter p xs) x (filter_passes p xs) h
-
--- what is there and passes is kept
-pub is_kept : {X : Type 0} (p : X → Bool) (xs : List X) (x : X) → p x ≡ true → Contains xs x → Contains (filter p xs) x
-is_kept p [] x t h = h
-is_kept p (y ∷ ys) x t h =
-    ⊎_elim (λ (a : Contains (y ∷ []) x).
-    let same : y ≡ x = ⊎_elim (λ (n : Contains [] x). absurd (omega (arith, n.1))) (λ (e : y ≡ x). e) (Contains-push_cases [] y x a) in
-    let passes : p y ≡ true = ap p same ∙ t in
-    subst (λ (b : Bool). Contains (cond b (y ∷ filter p ys) (filter p ys)) x) (sym passes) (Contains-append_left (y ∷ []) (filter p ys) x a))
-    (λ (b : Contains ys x).
-    let rest = is_kept p ys x t b in
-    elim (p y) as (λ v. Contains (cond v (y ∷ filter p ys) (filter p ys)) x) [
-      | true ↦ Contains-append_right (y ∷ []) (filter p ys) x rest
-      | false ↦ rest
-    ])
-    (Contains-append_cases (y ∷ []) ys x h)
+use Rattle.mark_places.proofs.Filters.{kept_was, is_kept}
 
 -- ---- the edits as a part of the operations
 inserts_among : (ops : List Op) → filter is_insert (filter is_edit ops) ≡ filter is_insert ops

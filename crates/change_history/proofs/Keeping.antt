@@ -15,11 +15,14 @@ use Rattle.char_sequence.specs.Tree.{Present}
 use Rattle.char_sequence.specs.Order.{Shows, IsAt}
 use Rattle.char_sequence.specs.Held.{Holds}
 use Rattle.mark_anchors.specs.Marks.{AreMarks}
+use Rattle.mark_places.specs.Places.{AreMarkPlaces}
+use Rattle.version_laws.proofs.Put.{removal_hides}
 use Rattle.change_history.specs.declared.parts.Parts.{Parts}
 use Rattle.change_history.specs.Accepted.{IsMarkTooMany}
 use Rattle.change_history.specs.Kept.{Keeps}
 use Rattle.char_sequence.proofs.Holding.{shows_other}
-use Rattle.change_history.proofs.Edits.{kept_was, kept_passes, is_kept}
+use Rattle.mark_places.proofs.Filters.{kept_was, kept_passes, is_kept}
+use Rattle.change_history.proofs.Placing.{places_hidden}
 
 -- one more operation, which passes or doesn't
 pub filter_push_yes : {X : Type 0} (p : X → Bool) (xs : List X) (y : X) → p y ≡ true → filter p (xs ++ y ∷ []) ≡ filter p xs ++ y ∷ []
@@ -29,25 +32,35 @@ pub filter_push_no : {X : Type 0} (p : X → Bool) (xs : List X) (y : X) → p y
 filter_push_no p xs y fails = filter-append p xs (y ∷ []) ∙ ap (λ b. filter p xs ++ cond b (y ∷ []) []) fails ∙ search rules
 
 -- ---- the parts after an operation
-pub keeps_edit : {A E : Type 0} (r : Result A E) (ops : List Op) (op : Op) (old new : Parts) → is_edit op ≡ true → is_mark op ≡ false → Keeps ops old → new.marks ≡ old.marks → IsNewest (ops ++ op ∷ []) new.newest → IfOk r (λ _. Shows new.sequence.elements (ops ++ op ∷ [])) → IfOk r (λ _. Holds new.sequence (filter is_edit ops ++ op ∷ [])) → IfOk r (λ _. Keeps (ops ++ op ∷ []) new)
-keeps_edit (Ok a) ops op old new edit fails k marks newest shows held = record {
+pub keeps_edit : (ops : List Op) (op : Op) (old new : Parts) → is_edit op ≡ true → is_mark op ≡ false → Keeps ops old → new.marks ≡ old.marks → IsNewest (ops ++ op ∷ []) new.newest → Shows new.sequence.elements (ops ++ op ∷ []) → Holds new.sequence (filter is_edit ops ++ op ∷ []) → AreMarkPlaces new.sequence.elements old.marks new.places → Keeps (ops ++ op ∷ []) new
+keeps_edit ops op old new edit fails k marks newest shows held places = record {
   shows = shows;
   held = subst (λ (xs : List Op). Holds new.sequence xs) (sym (filter_push_yes is_edit ops op edit)) held;
   marks = marks ∙ k.marks ∙ sym (filter_push_no is_mark ops op fails);
+  places = subst (λ (xs : List Op). AreMarkPlaces new.sequence.elements xs new.places) (sym marks) places;
   newest = newest;
 }
-keeps_edit (Err e) ops op old new edit fails k marks newest shows held = tt
 
-pub keeps_mark : {A E : Type 0} (r : Result A E) (ops : List Op) (op : Op) (old new : Parts) → is_edit op ≡ false → is_mark op ≡ true → Keeps ops old → new.sequence ≡ old.sequence → IsNewest (ops ++ op ∷ []) new.newest → Shows old.sequence.elements (ops ++ op ∷ []) → IfOk r (λ _. new.marks ≡ old.marks ++ op ∷ []) → IfOk r (λ _. Keeps (ops ++ op ∷ []) new)
-keeps_mark (Ok a) ops op old new fails mark k same newest shows marks = record {
+pub keeps_removal : {A E : Type 0} (r : Result A E) (ops : List Op) (op : Op) (id target : OpId) (old new : Parts) → op ≡ Remove id target → Keeps ops old → Accepts ops op → new.marks ≡ old.marks → new.places ≡ old.places → IsNewest (ops ++ op ∷ []) new.newest → IfOk r (λ _. Shows new.sequence.elements (ops ++ op ∷ [])) → IfOk r (λ _. Holds new.sequence (filter is_edit ops ++ op ∷ [])) → IfOk r (λ _. Keeps (ops ++ op ∷ []) new)
+keeps_removal (Ok a) ops op id target old new is k accepted marks same newest shows held =
+    keeps_edit ops op old new (ap is_edit is) (ap is_mark is) k marks newest shows held
+    (subst (λ ps. AreMarkPlaces new.sequence.elements old.marks ps) (sym same)
+    (places_hidden old.sequence.elements new.sequence.elements old.marks old.places (removal_hides ops old.sequence.elements new.sequence.elements op id target is k.shows accepted shows) k.places))
+keeps_removal (Err e) ops op id target old new is k accepted marks same newest shows held = tt
+
+pub keeps_mark : {A E : Type 0} (r : Result A E) (ops : List Op) (op : Op) (old new : Parts) → is_edit op ≡ false → is_mark op ≡ true → Keeps ops old → new.sequence ≡ old.sequence → IsNewest (ops ++ op ∷ []) new.newest → Shows old.sequence.elements (ops ++ op ∷ []) → IfOk r (λ _. new.marks ≡ old.marks ++ op ∷ []) → IfOk r (λ _. AreMarkPlaces old.sequence.elements (old.marks ++ op ∷ []) new.places) → IfOk r (λ _. Keeps (ops ++ op ∷ []) new)
+keeps_mark (Ok a) ops op old new fails mark k same newest shows marks places = record {
   shows = subst (λ s. Shows s.elements (ops ++ op ∷ [])) (sym same) shows;
   held =
       subst (λ (xs : List Op). Holds new.sequence xs) (sym (filter_push_no is_edit ops op fails))
       (subst (λ s. Holds s (filter is_edit ops)) (sym same) k.held);
   marks = marks ∙ ap (λ (xs : List Op). xs ++ op ∷ []) k.marks ∙ sym (filter_push_yes is_mark ops op mark);
+  places =
+      subst (λ s. AreMarkPlaces s.elements new.marks new.places) (sym same)
+      (subst (λ (xs : List Op). AreMarkPlaces old.sequence.elements xs new.places) (sym marks) places);
   newest = newest;
 }
-keeps_mark (Err e) ops op old new fails mark k same newest shows marks = tt
+keeps_mark (Err e) ops op old new fails mark k same newest shows marks places = tt
 
 -- the id of an accepted operation is new among the marks
 pub fresh_mark : (ops : List Op) (op : Op) (marks : List Op) → marks ≡ filter is_mark ops → Accepts ops op → (o : Op) → Contains marks o → id_of o ≡ id_of op → ⊥

@@ -1,5 +1,6 @@
 pub mod Chronicle
 pub mod Edits
+pub mod Placing
 pub mod Keeping
 pub mod AlikeLaws
 pub mod Counting

@@ -22,11 +22,13 @@ use Rattle.char_sequence.proofs.RunHeld.{run_noted}
 use Rattle.char_sequence.proofs.RunKept.{run_accepted, run_accepted_only}
 use Rattle.char_sequence.proofs.RunPlaced.{accepts_run_other}
 use Rattle.char_sequence.proofs.RunSteps.{later_zero}
+use Rattle.mark_places.specs.Places.{AreMarkPlaces}
 use Rattle.change_history.specs.declared.parts.Parts.{Parts}
 use Rattle.change_history.specs.Accepted.{AllFollow}
 use Rattle.change_history.specs.Kept.{Keeps, StandAt, IsApplied, parent_at}
 use Rattle.change_history.proofs.Chronicle.{take_push}
-use Rattle.change_history.proofs.Edits.{kept_was, is_kept, inserts_counted}
+use Rattle.change_history.proofs.Edits.{inserts_counted}
+use Rattle.mark_places.proofs.Filters.{kept_was, is_kept}
 
 -- ---- the inserts of a run
 run_count : (id : OpId) (parent : Option OpId) (cs : List ℕ) → length (inserts_from id parent cs) ≡ length cs
@@ -127,13 +129,14 @@ last_unused ops id last parent cs by is a used =
     a.fresh (u.0, u.1, u.2, omega (arith, high))
 
 -- ---- the parts after a piece
-pub keeps_run : (ops : List Op) (id last : OpId) (parent : Option OpId) (cs : List ℕ) (old new : Parts) → 0 < length cs → last ≡ later_id id (length cs - 1) → Keeps ops old → new.marks ≡ old.marks → ((op : Op) → id_of op ≡ last → IsNewest (ops ++ op ∷ []) new.newest) → Shows new.sequence.elements (ops ++ inserts_from id parent cs) → Holds new.sequence (filter is_edit ops ++ inserts_from id parent cs) → Keeps (ops ++ inserts_from id parent cs) new
-keeps_run ops id last parent cs old new some is k marks noted shows held =
+pub keeps_run : (ops : List Op) (id last : OpId) (parent : Option OpId) (cs : List ℕ) (old new : Parts) → 0 < length cs → last ≡ later_id id (length cs - 1) → Keeps ops old → new.marks ≡ old.marks → ((op : Op) → id_of op ≡ last → IsNewest (ops ++ op ∷ []) new.newest) → Shows new.sequence.elements (ops ++ inserts_from id parent cs) → Holds new.sequence (filter is_edit ops ++ inserts_from id parent cs) → AreMarkPlaces new.sequence.elements old.marks new.places → Keeps (ops ++ inserts_from id parent cs) new
+keeps_run ops id last parent cs old new some is k marks noted shows held places =
     let run = inserts_from id parent cs in
     record {
       shows = shows;
       held = subst (λ xs. Holds new.sequence xs) (sym (filter-append is_edit ops run ∙ ap (λ l. filter is_edit ops ++ l) (edits_of_run cs id parent))) held;
       marks = marks ∙ k.marks ∙ sym (filter-append is_mark ops run ∙ ap (λ l. filter is_mark ops ++ l) (marks_of_run cs id parent) ∙ append-nil (filter is_mark ops));
+      places = subst (λ xs. AreMarkPlaces new.sequence.elements xs new.places) (sym marks) places;
       newest =
           run_noted cs ops id parent new.newest some
           (λ op node counter.

@@ -9,6 +9,7 @@ use Rattle.char_sequence.specs.Order.{Shows}
 use Rattle.char_sequence.specs.Held.{Holds}
 use Rattle.char_sequence.specs.Newest.{IsNewest}
 use Rattle.char_sequence.specs.RunElements.{later_id}
+use Rattle.mark_places.specs.Places.{AreMarkPlaces}
 use Rattle.change_ops.specs.Changes.{Change}
 use Rattle.change_ops.specs.Lines.{ops_of_lines}
 use Rattle.change_ops.specs.declared.line.Line.{Line}
@@ -20,12 +21,13 @@ use Rattle.change_history.specs.declared.refusal.ApplyError.TheVariants as apply
 use Rattle.change_history.specs.declared.refusal.SubmitError.{SubmitError}
 use Rattle.change_history.specs.declared.refusal.SubmitError.TheVariants.{HistoryFull, Refused, OutOfMemory}
 
--- the sequence is that of all operations, and holds those that are edits; the marks are the others, and the newest
--- counters all peers'
+-- the sequence is that of all operations, and holds those that are edits; the marks are the others, with their places
+-- in it, and the newest counters all peers'
 pub record Keeps (ops : List Op) (parts : Parts) : Type 0 where
   pub shows : Shows parts.sequence.elements ops
   pub held : Holds parts.sequence (filter is_edit ops)
   pub marks : parts.marks ≡ filter is_mark ops
+  pub places : AreMarkPlaces parts.sequence.elements parts.marks parts.places
   pub newest : IsNewest ops parts.newest
 
 -- the operations stand among others, from this index on

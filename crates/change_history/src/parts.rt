@@ -4,11 +4,12 @@ ghost use Rattle.change_ops.specs.Lines.{ops_of_lines};
 ghost use Rattle.change_ops.specs.Operations.{id_of, is_insert, is_mark, Names};
 ghost use Rattle.change_ops.specs.Runs.{inserts_from};
 ghost use Rattle.change_ops.specs.declared.operation.Op.{Op};
-ghost use Rattle.char_sequence.specs.Order.{SameSet};
+ghost use Rattle.char_sequence.specs.Order.{SameSet, Shows};
 ghost use Rattle.char_sequence.specs.Tree.{Present};
 ghost use Rattle.char_sequence.specs.Newest.{IsLastCounter};
 ghost use Rattle.char_sequence.specs.RunElements.{AcceptsRun};
 ghost use Rattle.mark_anchors.specs.Format.{IsFormat};
+ghost use Rattle.mark_places.specs.Places.{AreMarkPlaces};
 ghost use Rattle.span_flatten.specs.Spans.{Span, AreSpans};
 ghost use Rattle.span_flatten.specs.Version.{IsVersion};
 ghost use Rattle.change_history.specs.Accepted.{MayFollow, MayNotFollow};
@@ -28,6 +29,8 @@ use char_sequence::runs::later;
 use char_sequence::sequence::Sequence;
 use mark_anchors::format::Format;
 use mark_anchors::marks::{Marks, MarksError};
+use mark_places::boundary::place_of;
+use mark_places::places::MarkPlaces;
 use span_flatten::flatten::{flatten, same_set_same_spans};
 use std::alloc::{AllocError, Global};
 use version_blocks::version::BlockVersion;
@@ -38,6 +41,7 @@ use version_windows::step::next_version;
 pub struct Parts {
     sequence: Sequence,
     marks: Marks,
+    places: MarkPlaces,
     newest: Newest,
 }
 
@@ -47,20 +51,30 @@ impl Drop for Parts {
         let Parts {
             sequence: _,
             marks: _,
+            places: _,
             newest: _,
         } = self;
     }
 }
 
-/// Adds a mark operation to marks that have room for it and not its id.
-fn add_mark(marks: &mut Marks, op: &Op) -> Result<(), AllocError>
+/// Adds a mark operation to marks that have room for it and not its id, and where it begins and ends to their places.
+fn add_mark(
+    marks: &mut Marks,
+    places: &mut MarkPlaces,
+    sequence: &Sequence,
+    op: &Op,
+) -> Result<(), AllocError>
     requires mark { is_mark op.now ≡ true }
     requires fresh { (o : Op) → Contains marks.old o → id_of o ≡ id_of op.now → ⊥ }
     requires room { length marks.old < 4096 }
-    ensures { IfOk result (λ _. marks.new ≡ marks.old ++ op.now ∷ []) }
+    requires there { (ops : List Op) × Shows sequence.now.elements ops
+        × ((x : OpId) → Names op.now x → Present ops x) }
+    ensures marks { IfOk result (λ _. marks.new ≡ marks.old ++ op.now ∷ []) }
+    ensures places { AreMarkPlaces sequence.now.elements marks.old places.old
+        → IfOk result (λ _. AreMarkPlaces sequence.now.elements (marks.old ++ op.now ∷ []) places.new) }
 {
     match marks.add(op) {
-        Ok(()) => Ok(()),
+        Ok(()) => places.add(sequence, op),
         Err(MarksError::MarksFull) => unreachable!(),
         Err(MarksError::OutOfMemory) => Err(AllocError),
     }
@@ -74,6 +88,7 @@ impl Parts {
         Parts {
             sequence: Sequence::new(alloc),
             marks: Marks::new(alloc),
+            places: MarkPlaces::new(alloc),
             newest: Newest::new(alloc),
         }
     }
@@ -165,10 +180,19 @@ impl Parts {
     {
         self.newest.note(op.id())?;
         match op {
-            Op::Insert { .. } => self.sequence.insert(op),
+            Op::Insert { id, .. } => {
+                self.sequence.insert(op)?;
+                let place = place_of(&self.sequence, *id);
+                self.places.shift(place, 1);
+                Ok(())
+            }
             Op::Remove { .. } => self.sequence.remove(op),
-            Op::AddMark { .. } => add_mark(&mut self.marks, op),
-            Op::RemoveMark { .. } => add_mark(&mut self.marks, op),
+            Op::AddMark { .. } => {
+                add_mark(&mut self.marks, &mut self.places, &self.sequence, op)
+            }
+            Op::RemoveMark { .. } => {
+                add_mark(&mut self.marks, &mut self.places, &self.sequence, op)
+            }
         }
     }
 
@@ -187,6 +211,8 @@ impl Parts {
             → IfOk result (λ n. Keeps (ops ++ inserts_from id parent (take n characters.now)) self.new) }
     {
         let count = self.sequence.insert_some(id, parent, characters)?;
+        let place = place_of(&self.sequence, id);
+        self.places.shift(place, count);
         self.newest.note(later(id, count - 1))?;
         Ok(count)
     }
@@ -215,7 +241,15 @@ impl Parts {
         ensures { IfOk result (λ next. (ops : List Op) → AreNextParts ops previous.now lines.now self.now
             → IsVersion (ops ++ ops_of_lines lines.now) number next) }
     {
-        next_version(alloc, previous, &self.sequence, &self.marks, lines, number)
+        next_version(
+            alloc,
+            previous,
+            &self.sequence,
+            &self.marks,
+            &self.places,
+            lines,
+            number,
+        )
     }
 
     /// The format of a character, a removed one too, if it is there.

@@ -298,9 +298,9 @@ fn spans<'a>(alloc: Global) -> Command<'a> {
         .about("Prints the spans that changes make")
         .long_about(
             "Prints the spans that changes make. Standard input is the texts of changes back
-to back, in the order in which they are to be accepted (docs/CHANGES.md); empty
-input is no change. Printed are the spans of the last version, each as a line
-`<index> <format> <text>`.",
+to back, in the order in which they are to be accepted (docs/CHANGE_FORMAT.md);
+empty input is no change. Printed are the spans of the last version, each as a
+line `<index> <format> <text>`.",
         )
         .after_help(AFTER_SPANS)
 }
@@ -311,11 +311,11 @@ fn join<'a>(alloc: Global) -> Command<'a> {
         .long_about(
             "Prints changes joined, as few changes of the same operations. A hub accepts at most
 4,096 changes, whatever their size. Standard input is the texts of changes back to
-back, in the order in which they are to be accepted (docs/CHANGES.md); empty input
-is no change. Printed are the texts of changes in the same form: neighboring ones of
-one peer stand in one, of at most 256 operations. They have the same operations with
-the same ids, in the same order, so a hub that accepts them has the same text, and
-peers go on with the ids that they have.",
+back, in the order in which they are to be accepted (docs/CHANGE_FORMAT.md); empty
+input is no change. Printed are the texts of changes in the same form: neighboring
+ones of one peer stand in one, of at most 256 operations. They have the same
+operations with the same ids, in the same order, so a hub that accepts them has the
+same text, and peers go on with the ids that they have.",
         )
         .after_help(AFTER_JOIN)
 }

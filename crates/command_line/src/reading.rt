@@ -41,7 +41,7 @@ const NEEDED_BY_SERVE: &str =
     "`hub serve` needs a port, 0 for one that the system chooses, or a socket file, as in:
 
     hub serve --port 4711
-    hub serve --web 4712 --files examples/page
+    hub serve --web 4712 --files examples/editor
     hub serve --unix hub.socket
 ";
 

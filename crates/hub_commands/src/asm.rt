@@ -10,6 +10,7 @@ use crate::hexadecimal::slot_lines;
 use crate::hint::source_hint;
 use crate::input::read_input;
 use crate::output::write_answer;
+use crate::word_fault::refused_word;
 use assembler::assembly::assemble;
 use refusals::reason::Reason;
 use std::alloc::{AllocError, Global};
@@ -40,9 +41,11 @@ pub fn asm<R: Read, W: Write>(
 {
     let input = read_input(alloc, reader)?;
     let answer = asm_answer(alloc, &input)?;
+    let word = refused_word(alloc, &input, answer.ending)?;
     let status = write_answer(writer, &answer)?;
     Ok(Ended {
         status,
         hint: source_hint(&input),
+        word,
     })
 }

@@ -77,5 +77,6 @@ pub fn check<R: Read, W: Write>(
     Ok(Ended {
         status,
         hint: input.hint(),
+        word: None,
     })
 }

@@ -51,5 +51,6 @@ pub fn dis<R: Read, W: Write>(
     Ok(Ended {
         status,
         hint: input.hint(),
+        word: None,
     })
 }

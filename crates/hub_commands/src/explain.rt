@@ -22,8 +22,11 @@ use crate::digits::Digits;
 use crate::ended::Ended;
 use crate::failure::Failure;
 use crate::hex_input::HexInput;
-use crate::listing::{push_instructions, push_listing, push_listing_until};
+use crate::knowledge::Knowledge;
+use crate::listing::{push_instructions, push_listing, push_slot};
 use crate::output::write_answer;
+use crate::trail::push_trail;
+use abstract_state::refusal::Refusal;
 use bpf_words::instruction::Insn;
 use bpf_words::words::Words;
 use program_reads::lines::push_reads;
@@ -107,8 +110,25 @@ fn most_steps(alloc: Global, words: &Words<'_>) -> Result<usize, AllocError>
     Ok(steps[0])
 }
 
-/// Appends the instruction at which a program is refused, and the state before it where the instruction is refused for
-/// that; the same of all instructions up to there where the whole program is to be listed.
+/// Appends the instruction at which a program is refused for what is known before it, that, and where what it wants was
+/// known last; before these what is known before each instruction below, where the whole program is to be listed.
+fn push_known_refused(
+    alloc: Global,
+    text: &mut String,
+    knowledge: &Knowledge<'_>,
+    slot: usize,
+    fault: Refusal,
+    is_whole: bool,
+) -> Result<(), AllocError> {
+    if is_whole {
+        push_listing(alloc, text, knowledge, slot)?;
+    }
+    push_slot(alloc, text, knowledge, slot)?;
+    push_trail(alloc, text, knowledge, slot, fault)
+}
+
+/// Appends the instruction at which a program is refused, where the whole program is to be listed behind all others up
+/// to there; and what is known before it where it is refused for that.
 fn push_refused(
     alloc: Global,
     text: &mut String,
@@ -122,9 +142,9 @@ fn push_refused(
             let first = if is_whole { 0 } else { slot };
             push_instructions(text, words, first, slot)
         }
-        VerifyError::State { slot, .. } => {
-            let first = if is_whole { 0 } else { slot };
-            push_listing_until(alloc, text, words, profile, first, slot)
+        VerifyError::State { slot, fault } => {
+            let knowledge = Knowledge::until(alloc, words, profile, slot)?;
+            push_known_refused(alloc, text, &knowledge, slot, fault, is_whole)
         }
         VerifyError::OutOfMemory => Ok(()),
     }
@@ -160,7 +180,10 @@ fn listing(
         return Ok(text);
     }
     match states_before(alloc, words, profile) {
-        Ok(states) => push_listing(&mut text, words, profile, &states)?,
+        Ok(states) => {
+            let knowledge = Knowledge::of(alloc, words, profile, states)?;
+            push_listing(alloc, &mut text, &knowledge, words.len())?;
+        }
         Err(VerifyError::OutOfMemory) => return Err(AllocError),
         Err(_) => {}
     }
@@ -245,5 +268,6 @@ pub fn explain<R: Read, W: Write>(
     Ok(Ended {
         status,
         hint: input.hint(),
+        word: None,
     })
 }

@@ -110,5 +110,6 @@ pub fn join<R: Read, W: Write>(
     Ok(Ended {
         status,
         hint: input.changes.hint(),
+        word: None,
     })
 }

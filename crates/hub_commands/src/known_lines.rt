@@ -6,7 +6,7 @@ use abstract_state::slot::Slot;
 use abstract_state::state::{AbsReg, AbsState};
 use known_bits::Bits;
 use span_context::profile::Profile;
-use std::alloc::AllocError;
+use std::alloc::{AllocError, Global};
 
 /// Appends the interval of a number; the number itself where it is one.
 fn push_range(text: &mut String, quantity: &Quantity) -> Result<(), AllocError> {
@@ -67,14 +67,14 @@ fn push_known(text: &mut String, known: Known) -> Result<(), AllocError> {
     }
 }
 
-/// Appends the line of a register, where it is set for sure.
-fn push_register(text: &mut String, number: usize, register: AbsReg) -> Result<(), AllocError> {
-    let AbsReg::Set(known) = register else {
-        return Ok(());
-    };
-    write!(text, "  r{number} = ")?;
-    push_known(text, known)?;
-    text.push('\n')
+/// The line of a register; empty where it isn't set for sure.
+fn register_line(alloc: Global, number: usize, register: AbsReg) -> Result<String, AllocError> {
+    let mut text = String::new(alloc);
+    if let AbsReg::Set(known) = register {
+        write!(text, "r{number} = ")?;
+        push_known(&mut text, known)?;
+    }
+    Ok(text)
 }
 
 /// Appends which of eight bytes are set for sure.
@@ -85,37 +85,107 @@ fn push_marks(text: &mut String, marks: &[bool; 8]) -> Result<(), AllocError> {
     Ok(())
 }
 
-/// Appends the line of eight bytes of the stack, where one of them is set for sure.
-fn push_slot(text: &mut String, index: usize, slot: Slot) -> Result<(), AllocError> {
+/// The line of eight bytes of the stack; empty where none of them is set for sure.
+fn slot_line(alloc: Global, index: usize, slot: Slot) -> Result<String, AllocError> {
+    let mut text = String::new(alloc);
     if let Slot::Marks(marks) = slot {
         if marks == [false; 8] {
-            return Ok(());
+            return Ok(text);
         }
     }
     write!(
         text,
-        "  [stack-{}] = ",
+        "[stack-{}] = ",
         512_usize.saturating_sub(index.saturating_mul(8))
     )?;
     match slot {
-        Slot::Spilled(known) => push_known(text, known)?,
-        Slot::Marks(marks) => push_marks(text, &marks)?,
+        Slot::Spilled(known) => push_known(&mut text, known)?,
+        Slot::Marks(marks) => push_marks(&mut text, &marks)?,
     }
-    text.push('\n')
+    Ok(text)
 }
 
-/// Appends a line for each register and each eight bytes of the stack that are set, and one for the least length of
-/// each region that the profile lends.
-pub fn push_state(text: &mut String, profile: Profile, state: &AbsState) -> Result<(), AllocError> {
-    for number in 0..11 {
-        push_register(text, number, state.registers[number])?;
+/// The lines of what is known of the machine: one of each register and of each eight bytes of the stack, which may be
+/// empty, and one of the least length of each region that the profile lends.
+#[derive(Drop)]
+pub struct KnownLines {
+    lines: Vec<String>,
+}
+
+impl KnownLines {
+    pub fn of(alloc: Global, profile: Profile, state: &AbsState) -> Result<Self, AllocError> {
+        let mut lines = Vec::new(alloc);
+        for number in 0..11 {
+            lines.push(register_line(alloc, number, state.registers[number])?)?;
+        }
+        for index in 0..64 {
+            lines.push(slot_line(alloc, index, state.stack[index])?)?;
+        }
+        lines.push(format!(in alloc; "length >= {}", state.bounds.text)?)?;
+        if profile.lends_link() {
+            lines.push(format!(in alloc; "link length >= {}", state.bounds.link)?)?;
+        }
+        Ok(KnownLines { lines })
     }
-    for index in 0..64 {
-        push_slot(text, index, state.stack[index])?;
+
+    /// Appends all lines.
+    pub fn push(&self, text: &mut String) -> Result<(), AllocError> {
+        for line in &self.lines {
+            push_line(text, "  ", line)?;
+        }
+        Ok(())
     }
-    writeln!(text, "  length >= {}", state.bounds.text)?;
-    if profile.lends_link() {
-        writeln!(text, "  link length >= {}", state.bounds.link)?;
+
+    /// The lines that others don't have.
+    fn beside(&self, alloc: Global, others: &KnownLines) -> Result<Vec<&str>, AllocError> {
+        let mut beside = Vec::new(alloc);
+        for (line, other) in self.lines.iter().zip(others.lines.iter()) {
+            if !line.is_empty() && line.as_str() != other.as_str() {
+                beside.push(line.as_str())?;
+            }
+        }
+        Ok(beside)
     }
-    Ok(())
+
+    /// Appends the lines that others don't have.
+    pub fn push_beside(
+        &self,
+        alloc: Global,
+        text: &mut String,
+        others: &KnownLines,
+    ) -> Result<(), AllocError> {
+        for line in &self.beside(alloc, others)? {
+            push_line(text, "  ", line)?;
+        }
+        Ok(())
+    }
+
+    /// Appends the same in one line.
+    pub fn push_in_line(
+        &self,
+        alloc: Global,
+        text: &mut String,
+        others: &KnownLines,
+    ) -> Result<(), AllocError> {
+        let mut between = "";
+        for line in &self.beside(alloc, others)? {
+            text.push_str(between)?;
+            text.push_str(line)?;
+            between = "; ";
+        }
+        if between.is_empty() {
+            text.push_str("the same")?;
+        }
+        Ok(())
+    }
+}
+
+/// Appends a line, if there is something in it.
+fn push_line(text: &mut String, front: &str, line: &str) -> Result<(), AllocError> {
+    if line.is_empty() {
+        return Ok(());
+    }
+    text.push_str(front)?;
+    text.push_str(line)?;
+    text.push('\n')
 }

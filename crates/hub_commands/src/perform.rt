@@ -46,6 +46,7 @@ pub fn perform<R: Read, W: Write>(
         } => Ok(Ended {
             status: run(alloc, digits.as_bytes(), options, *shown, reader, writer)?,
             hint: pairs_hint(digits.as_bytes()),
+            word: None,
         }),
         Command::Spans => spans(alloc, reader, writer),
         Command::Straighten => straighten(alloc, reader, writer),

@@ -134,5 +134,6 @@ pub fn spans<R: Read, W: Write>(
     Ok(Ended {
         status,
         hint: input.hint(),
+        word: None,
     })
 }

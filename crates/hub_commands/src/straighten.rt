@@ -89,5 +89,6 @@ pub fn straighten<R: Read, W: Write>(
     Ok(Ended {
         status,
         hint: input.hint(),
+        word: None,
     })
 }

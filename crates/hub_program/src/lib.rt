@@ -235,11 +235,12 @@ fn performed<R: Read, W: Write, E: Write>(
     errors: &mut E,
 ) -> Result<u8, CommandError> {
     let ended = perform(alloc, command, reader, writer)?;
-    match ended.hint {
-        Some(hint) if ended.status != 0 => {
+    if ended.status != 0 {
+        if let Some(hint) = ended.hint {
             let _ = writeln!(errors, "hint: {hint}");
+        } else if let Some(word) = &ended.word {
+            let _ = writeln!(errors, "hint: {word}");
         }
-        _ => {}
     }
     Ok(ended.status)
 }

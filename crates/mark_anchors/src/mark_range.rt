@@ -7,14 +7,14 @@ use change_ops::operation::{Anchor, Op};
 
 /// What additions and removals of marks have in common: a key between two anchors.
 #[derive(Clone, Copy)]
-pub(crate) struct MarkRange {
-    pub(crate) key: Key,
-    pub(crate) start: Anchor,
-    pub(crate) end: Anchor,
+pub struct MarkRange {
+    pub key: Key,
+    pub start: Anchor,
+    pub end: Anchor,
 }
 
 /// The key and the anchors of a mark operation.
-pub(crate) fn mark_range(operation: &Op) -> Option<MarkRange>
+pub fn mark_range(operation: &Op) -> Option<MarkRange>
     ensures { MatchOption result (is_mark operation.now ≡ false) (IsRangeOf operation.now) }
 {
     match operation {

@@ -23,12 +23,12 @@ use std::alloc::{AllocError, Global};
 /// A mark operation, by its index, with its key and the places that it covers: from `start` up to `end`, which is not
 /// one of them.
 #[derive(Clone, Copy)]
-pub(crate) struct PlacedMark {
-    pub(crate) index: usize,
-    pub(crate) id: OpId,
-    pub(crate) key: Key,
-    pub(crate) start: usize,
-    pub(crate) end: usize,
+pub struct PlacedMark {
+    pub index: usize,
+    pub id: OpId,
+    pub key: Key,
+    pub start: usize,
+    pub end: usize,
 }
 
 /// The place of a character that is there.

@@ -5,6 +5,7 @@ ghost use Rattle.char_sequence.specs.Tree.{Present};
 ghost use Rattle.char_sequence.specs.Order.{Shows};
 ghost use Rattle.mark_anchors.specs.Format.{IsFormat};
 ghost use Rattle.mark_anchors.specs.Marks.{AreMarks};
+ghost use Rattle.mark_anchors.specs.Placed.{AreAllPlaced};
 ghost use Rattle.mark_anchors.specs.CommentRuns.{numbers_at};
 ghost use Rattle.mark_anchors.specs.Formatting.{Format};
 ghost use Rattle.mark_anchors.specs.Resolution.{formatting_of};
@@ -110,6 +111,34 @@ impl Decided<'_> {
     }
 }
 
+/// Mark operations with the places that they cover in the sequence.
+///
+/// `alloc` is for the lists of the result.
+pub fn resolve_placed<'a>(
+    alloc: Global,
+    sequence: &'a Sequence,
+    operations: &'a [Op],
+    marks: Vec<PlacedMark>,
+) -> Result<ResolvedMarks<'a>, AllocError>
+    requires text { (ops : List Op) × Shows sequence.now.elements ops × AreMarks ops operations.now }
+    requires placed { AreAllPlaced sequence.now.elements operations.now marks.items }
+    ensures elements { IfOk result (λ resolved. resolved.elements ≡ sequence.now.elements) }
+    ensures marks { IfOk result (λ resolved. resolved.marks ≡ operations.now) }
+{
+    let runs = comment_runs(alloc, operations, &comment_marks(alloc, &marks)?)?;
+    Ok(ResolvedMarks {
+        sequence,
+        operations,
+        strong: marks_of(alloc, &marks, &Key::Strong)?,
+        em: marks_of(alloc, &marks, &Key::Em)?,
+        code: marks_of(alloc, &marks, &Key::Code)?,
+        link: marks_of(alloc, &marks, &Key::Link)?,
+        color: marks_of(alloc, &marks, &Key::Color)?,
+        comments: CommentTable::new(alloc, runs)?,
+        marks,
+    })
+}
+
 impl Marks {
     /// The marks with the places that they cover in the sequence.
     ///
@@ -125,18 +154,7 @@ impl Marks {
     {
         let operations = self.operations();
         let marks = marks_in(alloc, sequence, operations)?;
-        let runs = comment_runs(alloc, operations, &comment_marks(alloc, &marks)?)?;
-        Ok(ResolvedMarks {
-            sequence,
-            operations,
-            strong: marks_of(alloc, &marks, &Key::Strong)?,
-            em: marks_of(alloc, &marks, &Key::Em)?,
-            code: marks_of(alloc, &marks, &Key::Code)?,
-            link: marks_of(alloc, &marks, &Key::Link)?,
-            color: marks_of(alloc, &marks, &Key::Color)?,
-            comments: CommentTable::new(alloc, runs)?,
-            marks,
-        })
+        resolve_placed(alloc, sequence, operations, marks)
     }
 
     /// The format of a character that is there.

@@ -57,7 +57,7 @@ pub at_contains : {X : Type 0} (xs : List X) (x : X) → Contains xs x → (i : 
 at_contains xs x c = (c.0, slice_get-get_or xs c.0 x c.1 ∙ ap Some c.2)
 
 -- the element of a shown character
-stood : (es : List Element) (shown : List Shown) → map element_of shown ≡ filter is_visible es → (s : Shown) → Contains shown s → (i : ℕ) × (slice_get es i ≡ Some (element_of s))
+pub stood : (es : List Element) (shown : List Shown) → map element_of shown ≡ filter is_visible es → (s : Shown) → Contains shown s → (i : ℕ) × (slice_get es i ≡ Some (element_of s))
 stood es shown drawn s c =
     let at = at_contains shown s c in
     filter_from is_visible es at.0 (element_of s) (ap (λ l. slice_get l at.0) (sym drawn) ∙ map_at element_of shown at.0 s at.1)

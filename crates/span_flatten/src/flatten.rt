@@ -17,6 +17,7 @@ use char_sequence::sequence::Sequence;
 use char_sequence::visible_cursor::VisibleCursor;
 use mark_anchors::format_sweep::FormatSweep;
 use mark_anchors::marks::Marks;
+use mark_anchors::resolved::ResolvedMarks;
 use std::alloc::{AllocError, Global};
 
 /// Lengthens a row by `characters` characters, up to a new end.
@@ -130,22 +131,21 @@ fn take_in(
     Ok(())
 }
 
-/// What is visible of the characters from the place `low` up to `high`, cut into spans.
+/// What is visible of the characters from the place `low` up to `high`, cut into spans, by marks with their places.
 ///
 /// `alloc` is for the window.
 pub fn flatten_window(
     alloc: Global,
     sequence: &Sequence,
-    marks: &Marks,
+    resolved: &ResolvedMarks<'_>,
     low: usize,
     high: usize,
 ) -> Result<Window, AllocError>
-    requires text { (ops : List Op) × Shows sequence.now.elements ops × AreMarks ops marks.now }
+    requires elements { resolved.now.elements ≡ sequence.now.elements }
     requires order { low ≤ high }
     requires within { high ≤ length sequence.now.elements }
-    ensures { IfOk result (λ window. IsFlattened sequence.now.elements marks.now low high window) }
+    ensures { IfOk result (λ window. IsFlattened sequence.now.elements resolved.now.marks low high window) }
 {
-    let resolved = marks.resolve(alloc, sequence)?;
     let cuts = resolved.cuts(alloc, low, high)?;
     let mut text = String::new(alloc);
     let mut rows = Vec::new(alloc);
@@ -172,7 +172,8 @@ pub fn flatten(
     ensures { IfOk result (λ version. (ops : List Op) → Shows sequence.now.elements ops → AreMarks ops marks.now
         → IsVersion ops number version) }
 {
-    let window = flatten_window(alloc, sequence, marks, 0, sequence.len())?;
+    let resolved = marks.resolve(alloc, sequence)?;
+    let window = flatten_window(alloc, sequence, &resolved, 0, sequence.len())?;
     Ok(window.into_version(number))
 }
 

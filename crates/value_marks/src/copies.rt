@@ -93,6 +93,7 @@ impl Copies {
         ensures rule { (was : Situation) → IsSituation state.old was
             → Flows (rules.copies_tell left right.now (option_map marking_of (rules.kept self.now)) was) result
             state.new }
+        ensures untracked { rules.kept self.now ≡ None → after result state.new ≡ Some state.old }
     {
         let Some(marks) = &self.marks else {
             return Flow::Live;
@@ -112,6 +113,7 @@ impl Copies {
         ensures rule { (was : Option Situation) → IsSituationIn edge was
             → IsSituationIn result
             (option_and_then (rules.copies_tell left right.now (option_map marking_of (rules.kept self.now))) was) }
+        ensures untracked { rules.kept self.now ≡ None → result ≡ edge }
     {
         let Some(mut state) = edge else {
             return None;

@@ -65,7 +65,7 @@ drafted_longer blocks spans longer x d some m e size =
     }
 
 -- a span is added
-pub drafted_more : (blocks : List (List Span)) (spans : List Span) (x : Span) → AreDrafted blocks spans → IsSpan x → Apart spans (x ∷ []) → length spans < 64 → AreDrafted blocks (spans ++ x ∷ [])
+pub drafted_more : (blocks : List (List Span)) (spans : List Span) (x : Span) → AreDrafted blocks spans → IsSpan x → Apart spans (x ∷ []) → length spans < 32 → AreDrafted blocks (spans ++ x ∷ [])
 drafted_more blocks spans x d is apart less =
     let size = length-append spans (x ∷ []) in
     record {

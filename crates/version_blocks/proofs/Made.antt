@@ -1,17 +1,16 @@
 -- The spans of a version of operations are maximal, and have no more characters than the text has elements.
-use Rattle.std.proofs.Common.{◌≡◌, ℕ, ◌≤◌, true, List, [], ◌∷◌, length, map, sym, ap, ◌∙◌, arith, All, IsUtf8}
+use Rattle.std.proofs.Common.{◌≡◌, ℕ, ◌≤◌, List, [], ◌∷◌, length, map, sym, ap, ◌∙◌, arith, All, IsUtf8}
 use Rattle.std.specs.List.{filter, count_by}
-use Rattle.std.specs.Str.{chars, IsCharBoundary}
-use Rattle.std.proofs.Math.Utf8.{scalars}
-use Rattle.std.proofs.lemmas.List.{map-append, length-map}
+use Rattle.std.specs.Str.{IsCharBoundary}
+use Rattle.std.proofs.lemmas.List.{length-map}
 use Rattle.std.proofs.lemmas.List.Elements.{All-cons, All-head, All-tail}
 use Rattle.std.proofs.lemmas.List.Sums.{length-filter, count_by-le-length}
-use Rattle.std.proofs.lemmas.Str.{chars_from_encodes, scalars-chars, IsUtf8-between}
+use Rattle.std.proofs.lemmas.Str.{IsUtf8-between}
 use Rattle.change_ops.specs.declared.operation.Op.{Op}
 use Rattle.char_sequence.specs.declared.sequence.Element.{Element}
 use Rattle.char_sequence.specs.Order.{Shows}
 use Rattle.span_flatten.specs.declared.version.Row.{Row}
-use Rattle.span_flatten.specs.Spans.{Shown, Span, IsRun, Cuts, AreSpans}
+use Rattle.span_flatten.specs.Spans.{Shown, Span, AreSpans}
 use Rattle.span_flatten.specs.Taken.{element_of, is_visible}
 use Rattle.span_flatten.specs.Version.{Version, IsWithinLimits, span_at, spans_in, spans_of}
 use Rattle.version_laws.proofs.DrawnBack.{visible_drawn}

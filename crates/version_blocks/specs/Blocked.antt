@@ -15,7 +15,7 @@ pub record AreEnds (blocks : List (List Span)) (ends : List ℕ) : Type 0 where
   pub size : length ends ≡ length blocks
   pub at : (i : ℕ) → i < length blocks → get_or ends i 0 ≡ length (in_blocks (take (i + 1) blocks))
 
--- what the type keeps: the blocks' spans are maximal within each block and where blocks meet, a block has 1 to 64 of
+-- what the type keeps: the blocks' spans are maximal within each block and where blocks meet, a block has 1 to 32 of
 -- them, and there are at most 32,768 characters
 pub record IsBlocked (blocks : List (List Span)) (ends : List ℕ) (spans characters bytes : ℕ) : Type 0 where
   pub maximal : AreMaximal (in_blocks blocks)

@@ -7,7 +7,7 @@ use std::marker::Model;
 use std::sync::Arc;
 
 /// The most spans that a block has.
-pub const BLOCK_LIMIT: usize = 64;
+pub const BLOCK_LIMIT: usize = 32;
 
 /// Spans that versions share. Contracts see the spans.
 pub struct Block {

@@ -55,6 +55,18 @@ impl Content {
         }
     }
 
+    /// No span, with room for a text of so many bytes.
+    pub fn with_room(alloc: Global, bytes: usize) -> Result<Content, AllocError>
+        ensures { IfOk result (λ content. content ≡ []) }
+    {
+        let text = String::with_capacity(alloc, bytes)?;
+        Ok(Content {
+            text,
+            rows: Vec::new(alloc),
+            characters: 0,
+        })
+    }
+
     /// How many spans there are.
     pub fn count(&self) -> usize
         ensures value { result ≡ length self.now }

@@ -49,6 +49,17 @@ impl Draft {
         }
     }
 
+    /// No span, with room for a first block's text of so many bytes.
+    pub fn with_room(alloc: Global, bytes: usize) -> Result<Draft, AllocError>
+        ensures { IfOk result (λ draft. draft ≡ []) }
+    {
+        let open = Content::with_room(alloc, bytes)?;
+        Ok(Draft {
+            blocks: Vec::new(alloc),
+            open,
+        })
+    }
+
     /// Adds the span, or lengthens the last one where that has its format.
     pub fn with(self, alloc: Global, span: &SpanText<'_>) -> Result<Draft, AllocError>
         requires { 0 < length span.now.text }

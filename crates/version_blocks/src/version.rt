@@ -176,6 +176,15 @@ struct Places {
     end: usize,
 }
 
+/// How many bytes the text of a block with the rows of a window may have. With more blocks than one it isn't known how
+/// many bytes the first of those that are made has.
+fn room_for(blocks: &[Block], text: &str) -> usize {
+    match blocks {
+        [block] => block.content().byte_count().saturating_add(text.len()),
+        _ => 0,
+    }
+}
+
 /// The blocks of the characters up to the window, of the rows, and of the characters behind the window.
 fn blocks_around(
     alloc: Global,
@@ -192,7 +201,7 @@ fn blocks_around(
     ensures sized { IfOk result (λ made. All IsSized made.items) }
     ensures maximal { IfOk result (λ made. AreMaximal (in_blocks made.items)) }
 {
-    let draft = Draft::new(alloc);
+    let draft = Draft::with_room(alloc, room_for(blocks, text))?;
     let draft = draft.with_blocks(alloc, blocks, 0, places.from)?;
     let draft = draft.with_rows(alloc, text, rows)?;
     let draft = draft.with_blocks(alloc, blocks, places.to, places.end)?;

@@ -29,7 +29,7 @@ use Rattle.mark_anchors.proofs.Deciding.{one_decides, place_from_touches, of_key
 use Rattle.version_laws.specs.Later.{Extends}
 use Rattle.version_laws.specs.Marked.{Holds, IsMarked}
 use Rattle.version_laws.proofs.OrderKept.{before_same, extends_accepted}
-use Rattle.version_laws.proofs.KeyCases.{one_key, of_key_cases}
+use Rattle.mark_places.proofs.KeyCases.{one_key, of_key_cases}
 
 -- ---- what a mark whose anchors name characters that were there covers
 not_after_back : (old new : List Op) → IsTree old → Extends old new → (x y : OpId) → Present old x → Present old y → NotAfter new x y → NotAfter old x y

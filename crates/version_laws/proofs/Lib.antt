@@ -1,13 +1,11 @@
 pub mod Lists
 pub mod OrderKept
-pub mod KeyCases
 pub mod FormatKept
 pub mod ChangeKept
 pub mod CutJoined
 pub mod Inserted
 pub mod VisibleKept
 pub mod DrawnKept
-pub mod Boundaries
 pub mod DrawnBack
 pub mod WindowKept
 pub mod Counted
@@ -17,3 +15,4 @@ pub mod Blocks
 pub mod ReplacedByRows
 pub mod Room
 pub mod Outside
+pub mod Put

@@ -14,6 +14,7 @@ use change_ops::line::Line;
 use change_ops::operation::{Anchor, Op};
 use change_ops::run::Run;
 use char_sequence::sequence::Sequence;
+use mark_places::boundary::{characters_before, place_of};
 
 /// Places of a text: from `low` up to `high`, which is not one of them.
 #[derive(Clone, Copy)]
@@ -51,31 +52,6 @@ impl Places {
             low: self.low.min(other.low),
             high: self.high.max(other.high),
         }
-    }
-}
-
-/// The place of a character that is there.
-fn place_of(sequence: &Sequence, id: OpId) -> usize
-    requires { (ops : List Op) × Shows sequence.now.elements ops × Present ops id }
-    ensures place { IsAt sequence.now.elements id result }
-    ensures within { result < length sequence.now.elements }
-{
-    sequence.place_of(id).unwrap()
-}
-
-/// How many characters, removed ones too, stand before the anchor.
-fn characters_before(sequence: &Sequence, anchor: Anchor) -> usize
-    requires { (ops : List Op) × Shows sequence.now.elements ops × ((x : OpId) → AnchorNames anchor x → Present ops x) }
-    ensures boundary { IsBoundary sequence.now.elements anchor result }
-    ensures within { result ≤ length sequence.now.elements }
-{
-    // Its contract bounds the places, which the proof needs.
-    let count = sequence.len();
-    match anchor {
-        Anchor::TextStart => 0,
-        Anchor::BeforeCharacter(id) => place_of(sequence, id),
-        Anchor::AfterCharacter(id) => place_of(sequence, id) + 1,
-        Anchor::TextEnd => count,
     }
 }
 

@@ -14,14 +14,14 @@ pub loop-cut-init : goal.loop-cut-init
 loop-cut-init c =
     let low : ℕ = c.args.low in
     let es : List Element = c.args.sequence.now.elements in
-    let marks : List Op = c.args.marks.now in
+    let marks : List Op = c.args.resolved.now.marks in
     let text : string_bytes c.new-text.result ≡ [] = search rules in
     let rows : c.new-rows.result.items ≡ [] = search rules in
     record {
       reached = inl (refl, refl);
       behind = let start : c.sweep_from-sweep.result.place ≡ c.args.low = c.sweep_from-sweep.ensures.start in omega arith;
-      elements = ap (λ (v : ResolvedMarks). v.elements) c.sweep_from-sweep.ensures.resolution ∙ c.in_ok-resolved.ensures.elements;
-      marks = ap (λ (v : ResolvedMarks). v.marks) c.sweep_from-sweep.ensures.resolution ∙ c.in_ok-resolved.ensures.marks;
+      elements = ap (λ (v : ResolvedMarks). v.elements) c.sweep_from-sweep.ensures.resolution ∙ c.requires.elements;
+      marks = ap (λ (v : ResolvedMarks). v.marks) c.sweep_from-sweep.ensures.resolution;
       taken =
           subst (λ (t : List ℕ). IsTaken es marks low low t c.new-rows.result.items) (sym text)
           (subst (λ (r : List Row). IsTaken es marks low low [] r) (sym rows) (taken_none es marks low));
@@ -31,13 +31,13 @@ loop-cut-init c =
 
 pub take_in-requires-clause-order : goal.take_in-requires-clause-order
 take_in-requires-clause-order c =
-    let resolved = c.in_ok-resolved.resolved in
+    let resolved = c.args.resolved.now in
     let are = subst (AreCuts resolved.elements resolved.marks c.args.low c.args.high) (sym c.deref-cut-items.ensures.value) c.in_ok-cuts.ensures in
     (next_read resolved.elements resolved.marks c.args.low c.args.high c.deref-cut-items.result.now c.loop-cut.cut-index c.loop-cut.from are c.loop-cut.invariant.reached c.loop-cut-test.true).0
 
 pub take_in-requires-clause-within : goal.take_in-requires-clause-within
 take_in-requires-clause-within c =
-    let resolved = c.in_ok-resolved.resolved in
+    let resolved = c.args.resolved.now in
     let are = subst (AreCuts resolved.elements resolved.marks c.args.low c.args.high) (sym c.deref-cut-items.ensures.value) c.in_ok-cuts.ensures in
     let upto : get_or c.deref-cut-items.result.now c.loop-cut.cut-index 0 ≤ c.args.high =
     (next_read resolved.elements resolved.marks c.args.low c.args.high c.deref-cut-items.result.now c.loop-cut.cut-index c.loop-cut.from are c.loop-cut.invariant.reached c.loop-cut-test.true).1 in
@@ -47,11 +47,11 @@ take_in-requires-clause-within c =
 
 pub take_in-requires-clause-uniform : goal.take_in-requires-clause-uniform
 take_in-requires-clause-uniform c =
-    let resolved = c.in_ok-resolved.resolved in
+    let resolved = c.args.resolved.now in
     let are = subst (AreCuts resolved.elements resolved.marks c.args.low c.args.high) (sym c.deref-cut-items.ensures.value) c.in_ok-cuts.ensures in
     let to : ℕ = get_or c.deref-cut-items.result.now c.loop-cut.cut-index 0 in
-    subst (λ (l : List Element). IsUniform l c.loop-cut.sweep.resolution.marks c.loop-cut.from to) (c.in_ok-resolved.ensures.elements ∙ sym c.loop-cut.invariant.elements)
-    (subst (λ (ms : List Op). IsUniform resolved.elements ms c.loop-cut.from to) (c.in_ok-resolved.ensures.marks ∙ sym c.loop-cut.invariant.marks)
+    subst (λ (l : List Element). IsUniform l c.loop-cut.sweep.resolution.marks c.loop-cut.from to) (c.requires.elements ∙ sym c.loop-cut.invariant.elements)
+    (subst (λ (ms : List Op). IsUniform resolved.elements ms c.loop-cut.from to) (sym c.loop-cut.invariant.marks)
     (next_read resolved.elements resolved.marks c.args.low c.args.high c.deref-cut-items.result.now c.loop-cut.cut-index c.loop-cut.from are c.loop-cut.invariant.reached c.loop-cut-test.true).2)
 
 pub take_in-requires-clause-at : goal.take_in-requires-clause-at
@@ -60,7 +60,7 @@ take_in-requires-clause-at c = c.loop-cut.invariant.at ∙ ap (λ (l : List Elem
 pub take_in-requires-clause-formatted : goal.take_in-requires-clause-formatted
 take_in-requires-clause-formatted c =
     let was = c.loop-cut.sweep.resolution in
-    last_along c.args.sequence.now.elements was.elements c.args.marks.now was.marks c.loop-cut.sweep.place c.loop-cut.rows.items c.loop-cut.invariant.elements c.loop-cut.invariant.marks c.loop-cut.invariant.formatted
+    last_along c.args.sequence.now.elements was.elements c.args.resolved.now.marks was.marks c.loop-cut.sweep.place c.loop-cut.rows.items c.loop-cut.invariant.elements c.loop-cut.invariant.marks c.loop-cut.invariant.formatted
 
 pub take_in-requires-clause-counted : goal.take_in-requires-clause-counted
 take_in-requires-clause-counted c =
@@ -71,7 +71,7 @@ pub loop-cut-preserved : goal.loop-cut-preserved
 loop-cut-preserved c =
     let low : ℕ = c.args.low in
     let es : List Element = c.args.sequence.now.elements in
-    let marks : List Op = c.args.marks.now in
+    let marks : List Op = c.args.resolved.now.marks in
     let to : ℕ = get_or c.deref-cut-items.result.now c.loop-cut.cut-index 0 in
     let inv = c.loop-cut.invariant in
     let held = c.loop-cut.sweep.resolution in
@@ -90,20 +90,20 @@ loop-cut-preserved c =
 -- at the end all characters of the window are taken in
 pub invariant_of-result : goal.invariant_of-result
 invariant_of-result c =
-    let resolved = c.in_ok-resolved.resolved in
+    let resolved = c.args.resolved.now in
     let xs : List ℕ = c.deref-cut-items.result.now in
     let are = subst (AreCuts resolved.elements resolved.marks c.args.low c.args.high) (sym c.deref-cut-items.ensures.value) c.in_ok-cuts.ensures in
     let whole : c.loop-cut.cut-index ≡ length xs = omega arith in
     let end : c.loop-cut.from ≡ c.args.high = all_reached resolved.elements resolved.marks c.args.low c.args.high xs are c.loop-cut.cut-index c.loop-cut.from c.requires.order whole c.loop-cut.invariant.reached in
     let within : c.args.high ≤ length c.args.sequence.now.elements = c.requires.within in
     let limit : length c.args.sequence.now.elements ≤ 32768 = c.len-count.ensures.limit in
-    taken_whole c.args.sequence.now.elements c.args.marks.now c.args.low c.loop-cut.from (string_bytes c.loop-cut.text) c.loop-cut.rows.items (omega arith) c.loop-cut.invariant.taken
+    taken_whole c.args.sequence.now.elements c.args.resolved.now.marks c.args.low c.loop-cut.from (string_bytes c.loop-cut.text) c.loop-cut.rows.items (omega arith) c.loop-cut.invariant.taken
 
 pub returns : goal.returns
 returns c =
-    let resolved = c.in_ok-resolved.resolved in
+    let resolved = c.args.resolved.now in
     let xs : List ℕ = c.deref-cut-items.result.now in
     let are = subst (AreCuts resolved.elements resolved.marks c.args.low c.args.high) (sym c.deref-cut-items.ensures.value) c.in_ok-cuts.ensures in
     let whole : c.loop-cut.cut-index ≡ length xs = omega arith in
     let end : c.loop-cut.from ≡ c.args.high = all_reached resolved.elements resolved.marks c.args.low c.args.high xs are c.loop-cut.cut-index c.loop-cut.from c.requires.order whole c.loop-cut.invariant.reached in
-    taken_window c.args.sequence.now.elements c.args.marks.now c.args.low c.loop-cut.from c.args.high (string_bytes c.loop-cut.text) c.loop-cut.rows.items end c.loop-cut.invariant.taken
+    taken_window c.args.sequence.now.elements c.args.resolved.now.marks c.args.low c.loop-cut.from c.args.high (string_bytes c.loop-cut.text) c.loop-cut.rows.items end c.loop-cut.invariant.taken

@@ -8,8 +8,8 @@ invariant-loop-cut l = record {
   reached : IsReached l.cut-items l.low l.cut-index l.from;
   behind : l.sweep.place ≤ l.from;
   elements : l.sweep.resolution.elements ≡ l.sequence.elements;
-  marks : l.sweep.resolution.marks ≡ l.marks;
-  taken : IsTaken l.sequence.elements l.marks l.low l.from (string_bytes l.text) l.rows.items;
-  formatted : IsLastFormat l.sequence.elements l.marks l.sweep.place l.rows.items;
+  marks : l.sweep.resolution.marks ≡ l.resolved.marks;
+  taken : IsTaken l.sequence.elements l.resolved.marks l.low l.from (string_bytes l.text) l.rows.items;
+  formatted : IsLastFormat l.sequence.elements l.resolved.marks l.sweep.place l.rows.items;
   at : l.cursor ≡ drop l.from l.sequence.elements;
 }

@@ -18,7 +18,7 @@ invariant_of-result-then-count-lt-BLOCK_LIMIT c =
     let utf8 : IsUtf8 c.span.inside.text.now = search rules in
     let is : IsSpan x = record { some = c.requires; utf8 = subst IsUtf8 (ap (λ (z : Span). z.text) c.span.view_is) utf8 } in
     let apart : Apart c.self.inside.open (x ∷ []) = c.ends_with.ensures.no c.if-ends_with.false x (ap (λ (z : Span). z.format) (sym c.span.view_is)) in
-    let less : length c.self.inside.open < 64 = omega (arith, c.count.ensures.value, c.if-count-lt-BLOCK_LIMIT.true) in
+    let less : length c.self.inside.open < 32 = omega (arith, c.count.ensures.value, c.if-count-lt-BLOCK_LIMIT.true) in
     subst (AreDrafted c.self.inside.blocks.items) (sym c.in_ok-open-2.ensures) (drafted_more c.self.inside.blocks.items c.self.inside.open x c.self.invariant is apart less)
 
 pub invariant_of-result-2 : goal.invariant_of-result-2

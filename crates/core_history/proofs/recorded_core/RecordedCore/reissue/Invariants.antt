@@ -1,0 +1,8 @@
+use Rattle.std.proofs.Common.{Some}
+use Rattle.hub_core.specs.declared.run.Reply.TheVariants as reply
+use Rattle.core_history.specs.declared.entry.Call.TheVariants as call
+use Rattle.core_history.specs.Runs.{called}
+use Rattle.core_history.proofs.recorded_core.RecordedCore.reissue.Given as goal
+
+abbrev pub ghosts-record : goal.ghosts-record
+ghosts-record g a = record { entry = Some (called (call.Reissue a.about.now.0) (reply.Reissued a.about.now.1)) }

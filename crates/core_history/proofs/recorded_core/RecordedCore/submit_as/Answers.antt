@@ -1,0 +1,9 @@
+use Rattle.hub_core.specs.declared.run.Reply.TheVariants as reply
+use Rattle.core_history.specs.declared.entry.Call.TheVariants as call
+use Rattle.core_history.proofs.Recording.{led_as}
+use Rattle.core_history.proofs.recorded_core.RecordedCore.submit_as.Goals as goal
+
+pub record-requires-clause-led : goal.record-requires-clause-led
+record-requires-clause-led g c =
+    led_as g.S.Sink.sent g.S.Sink.full _ _ (call.Submit c.args.change) g.A.Asked.call (reply.Submitted c.submit-submitted.result) _
+    c.requires.call c.self.invariant c.submit-submitted.ensures

@@ -1,0 +1,10 @@
+use Rattle.core_history.proofs.Recording.{may_follow, leads}
+use Rattle.core_history.proofs.recorded_core.record.Goals as goal
+
+pub append-requires-clause-legal : goal.append-requires-clause-legal
+append-requires-clause-legal g c =
+    may_follow g.S.Sink.sent g.S.Sink.full _ _ _ c.requires.led c.stays_consistent.ensures
+
+pub returns-clause-run : goal.returns-clause-run
+returns-clause-run g c =
+    leads g.S.Sink.sent g.S.Sink.full _ _ _ _ c.requires.led c.stays_consistent.ensures c.append.ensures.history

@@ -1,0 +1,338 @@
+//! A core, and the history that has led to it.
+ghost use Rattle.std.specs.Prelude.{◌≡◌, ◌<◌, ◌++◌, ◌∷◌, [], ℕ, Some, Err, length};
+ghost use mathlib.Core.List.{IsPrefix};
+ghost use Rattle.crossbeam_queue.specs.Passes.{view as view_of};
+ghost use Rattle.feeds.specs.Promise.{Suits};
+ghost use Rattle.hub_core.specs.Machine.{IsStart};
+ghost use Rattle.hub_core.specs.declared.run.Reply.TheVariants as reply;
+ghost use Rattle.call_history.specs.Calls.{Extends, IsWhole, TakesIn, looked};
+ghost use Rattle.call_history.specs.Rules.{recording};
+ghost use Rattle.core_history.specs.Runs.{CoreEntry as Entered, IsLegal, IsRunOf, LedTo, Starts, Records};
+ghost use Rattle.core_history.specs.declared.entry.Call.TheVariants as call;
+
+use crate::asked::Asked;
+use crate::entry::{CoreBoard, CoreEntry, CorePass, CoreToken};
+use call_history::history::History;
+use call_history::knowledge::{HistoryNaming, NextEntry};
+use change_history::refusal::SubmitError;
+use change_ops::change::Change;
+use feeds::batch::Batch;
+use feeds::item::{Item, Job};
+use feeds::sink::Sink;
+use hub_core::error::{CommitError, NoSubscriber, SubscribeError};
+use hub_core::hub::Core;
+use std::marker::{Brand, Model};
+use std::sync::Wait;
+use std::sync::ledger::{Blank, Ledger};
+use version_history::published::{Naming, ProgramToken, VersionToken};
+
+/// A hub's core, whose state is the end of the history `N`. Each call of it adds an entry to the history, a refused one
+/// too, which is the caller's own. Contracts see both.
+pub struct RecordedCore<'p, N: Naming + HistoryNaming + Ledger, S: Sink<Item<N>>> {
+    core: Core<'p, N, S>,
+    history: History<N, CoreEntry<N, S>>,
+}
+
+impl<'p, N: Naming + HistoryNaming + Ledger, S: Sink<Item<N>>> Drop for RecordedCore<'p, N, S> {
+    fn drop(self) {
+        let RecordedCore {
+            core: _,
+            history: _,
+        } = self;
+    }
+}
+
+impl<'p, N: Naming + HistoryNaming + Ledger, S: Sink<Item<N>>> Model for RecordedCore<'p, N, S> {
+    ghost use Rattle.std.specs.Coded.{codes};
+    ghost use Rattle.core_history.specs.Runs.{Recorded, IsRunOf};
+
+    ghost Value = { Recorded S };
+
+    ghost coded = { Prim.hlevel (codes, S.code) };
+
+    ghost view = { λ r. record { core = r.core; history = r.history } };
+
+    ghost invariant = { λ r. IsRunOf S.sent S.full r.history r.core };
+}
+
+/// Records the call by which a core has come to its state. `C` names the entry, by what it is about.
+fn record<N: Naming + HistoryNaming + Ledger, S: Sink<Item<N>>, C: NextEntry<CoreEntry<N, S>>, X>(
+    core: &Core<'_, N, S>,
+    history: &mut History<N, CoreEntry<N, S>>,
+    board: &CoreBoard<N, S>,
+    me: &mut CoreToken<N, S>,
+    about: &X,
+)
+    requires here { board.now.table.shared.table_id ≡ N.table }
+    requires led { LedTo S.sent S.full history.old C.entry core.now }
+    ensures run { IsRunOf S.sent S.full history.new core.now }
+    ensures history { (e : Entered S) → C.entry ≡ Some e → history.new ≡ history.old ++ e ∷ [] }
+    ensures extends { (e : Entered S) → C.entry ≡ Some e → Extends (IsLegal S.sent S.full) me.old e me.new }
+    ensures seen { me.new.seen ≡ history.new }
+{
+    core.stays_consistent();
+    history.append::<C, X>(board, me, about);
+}
+
+impl<'p, N: Naming + HistoryNaming + Ledger, S: Sink<Item<N>>> RecordedCore<'p, N, S> {
+    /// Records a core at its start, and gives the token of all parts, whose own call is the start.
+    pub fn new(
+        core: Core<'p, N, S>,
+        board: &CoreBoard<N, S>,
+        recorder: CorePass<N, S>,
+        blank: Blank,
+    ) -> (RecordedCore<'p, N, S>, CoreToken<N, S>)
+        requires start { IsStart core }
+        requires name { blank.name ≡ N.name }
+        requires parts { (blank.parts ≡ N.parts) × (0 < N.parts) }
+        requires here { board.now.table.shared.table_id ≡ N.table }
+        requires recorder { (recorder.table_id ≡ N.table) × (recorder.me.1 ≡ [])
+            × (view_of recorder ≡ recording []) }
+        ensures { Starts core.entry N.parts result.0 result.1 }
+    {
+        let (mut history, mut all) = History::new(board, recorder, blank);
+        history.append::<Brand, _>(board, &mut all, &core);
+        (RecordedCore { core, history }, all)
+    }
+
+    /// The core, for what reads it.
+    pub fn core(&self) -> &Core<'p, N, S>
+        ensures core { result.now ≡ self.now.core }
+        ensures run { IsRunOf S.sent S.full self.now.history self.now.core }
+    {
+        &self.core
+    }
+
+    /// Accepts a change after those before it and publishes its version, whole; where it is refused the core stays as
+    /// it was.
+    pub fn submit<R: Wait>(
+        &mut self,
+        rt: &R,
+        board: &CoreBoard<N, S>,
+        me: &mut CoreToken<N, S>,
+        change: Change,
+    ) -> Result<VersionToken<N>, SubmitError>
+        requires { board.now.table.shared.table_id ≡ N.table }
+        ensures { Records S.sent S.full self.old me.old (call.Submit change) (reply.Submitted result) self.new me.new }
+    {
+        self.submit_as::<R, Brand>(rt, board, me, change)
+    }
+
+    /// Submits the change of the call that `A` names.
+    fn submit_as<R: Wait, A: Asked<ProgramToken<N>, S, Job<N>>>(
+        &mut self,
+        rt: &R,
+        board: &CoreBoard<N, S>,
+        me: &mut CoreToken<N, S>,
+        change: Change,
+    ) -> Result<VersionToken<N>, SubmitError>
+        requires here { board.now.table.shared.table_id ≡ N.table }
+        requires call { A.call ≡ call.Submit change }
+        ensures { Records S.sent S.full self.old me.old A.call (reply.Submitted result) self.new me.new }
+    {
+        let submitted = self.core.submit(rt, change);
+        record::<N, S, Brand, _>(&self.core, &mut self.history, board, me, &submitted);
+        submitted
+    }
+
+    /// Closes a subscriber for good, and drops the batches that it holds.
+    pub fn close(
+        &mut self,
+        board: &CoreBoard<N, S>,
+        me: &mut CoreToken<N, S>,
+        id: usize,
+    ) -> Result<(), NoSubscriber>
+        requires { board.now.table.shared.table_id ≡ N.table }
+        ensures { Records S.sent S.full self.old me.old (call.Close id) (reply.Closed result) self.new me.new }
+    {
+        let closed = self.core.close(id);
+        record::<N, S, Brand, _>(&self.core, &mut self.history, board, me, &(id, closed));
+        closed
+    }
+
+    /// Adds a subscriber, from the latest version on, to a sink that was sent nothing, and of which nothing is promised
+    /// but this program's stream. Ids rise from 0.
+    pub fn subscribe(
+        &mut self,
+        board: &CoreBoard<N, S>,
+        me: &mut CoreToken<N, S>,
+        program: ProgramToken<N>,
+        sink: S,
+    ) -> Result<usize, SubscribeError>
+        requires here { board.now.table.shared.table_id ≡ N.table }
+        requires none { S.sent sink ≡ [] }
+        requires suits { Suits (S.promise sink) program.value (length self.old.core.changes) }
+        ensures { Records S.sent S.full self.old me.old (call.Subscribe program sink)
+            (reply.Subscribed result) self.new me.new }
+    {
+        self.subscribe_as::<Brand>(board, me, program, sink)
+    }
+
+    /// Adds the subscriber of the call that `A` names.
+    fn subscribe_as<A: Asked<ProgramToken<N>, S, Job<N>>>(
+        &mut self,
+        board: &CoreBoard<N, S>,
+        me: &mut CoreToken<N, S>,
+        program: ProgramToken<N>,
+        sink: S,
+    ) -> Result<usize, SubscribeError>
+        requires here { board.now.table.shared.table_id ≡ N.table }
+        requires call { A.call ≡ call.Subscribe program sink }
+        requires none { S.sent sink ≡ [] }
+        requires suits { Suits (S.promise sink) program.value (length self.old.core.changes) }
+        ensures { Records S.sent S.full self.old me.old A.call (reply.Subscribed result) self.new me.new }
+    {
+        let subscribed = self.core.subscribe(program, sink);
+        record::<N, S, Brand, _>(&self.core, &mut self.history, board, me, &subscribed);
+        subscribed
+    }
+
+    /// Adds a subscriber, from the latest version or an earlier one on, to a sink that was sent nothing, and of which
+    /// nothing is promised but this program's stream from there on. Ids rise from 0.
+    pub fn subscribe_from(
+        &mut self,
+        board: &CoreBoard<N, S>,
+        me: &mut CoreToken<N, S>,
+        program: ProgramToken<N>,
+        sink: S,
+        first: u64,
+    ) -> Result<usize, SubscribeError>
+        requires here { board.now.table.shared.table_id ≡ N.table }
+        requires none { S.sent sink ≡ [] }
+        requires suits { Suits (S.promise sink) program.value first }
+        ensures { Records S.sent S.full self.old me.old (call.SubscribeFrom program sink first)
+            (reply.Subscribed result) self.new me.new }
+    {
+        self.subscribe_from_as::<Brand>(board, me, program, sink, first)
+    }
+
+    /// Adds the subscriber of the call that `A` names.
+    fn subscribe_from_as<A: Asked<ProgramToken<N>, S, Job<N>>>(
+        &mut self,
+        board: &CoreBoard<N, S>,
+        me: &mut CoreToken<N, S>,
+        program: ProgramToken<N>,
+        sink: S,
+        first: u64,
+    ) -> Result<usize, SubscribeError>
+        requires here { board.now.table.shared.table_id ≡ N.table }
+        requires call { A.call ≡ call.SubscribeFrom program sink first }
+        requires none { S.sent sink ≡ [] }
+        requires suits { Suits (S.promise sink) program.value first }
+        ensures { Records S.sent S.full self.old me.old A.call (reply.Subscribed result) self.new me.new }
+    {
+        let subscribed = self.core.subscribe_from(program, sink, first);
+        record::<N, S, Brand, _>(&self.core, &mut self.history, board, me, &subscribed);
+        subscribed
+    }
+
+    /// Hands out a version that a subscriber's program is to be run on; None only where there is none.
+    pub fn take_job(&mut self, board: &CoreBoard<N, S>, me: &mut CoreToken<N, S>) -> Option<Job<N>>
+        requires { board.now.table.shared.table_id ≡ N.table }
+        ensures { Records S.sent S.full self.old me.old call.TakeJob (reply.Handed result) self.new me.new }
+    {
+        let job = self.core.take_job();
+        record::<N, S, Brand, _>(&self.core, &mut self.history, board, me, &job);
+        job
+    }
+
+    /// Holds a batch, if its subscriber waits for it.
+    pub fn commit(
+        &mut self,
+        board: &CoreBoard<N, S>,
+        me: &mut CoreToken<N, S>,
+        batch: Batch<N>,
+    ) -> Result<(), CommitError>
+        requires { board.now.table.shared.table_id ≡ N.table }
+        ensures records { Records S.sent S.full self.old me.old (call.Commit batch)
+            (reply.Committed result) self.new me.new }
+        ensures takes_no_memory { ¬ (result ≡ Err CommitError.OutOfMemory) }
+    {
+        self.commit_as::<Brand>(board, me, batch)
+    }
+
+    /// Commits the batch of the call that `A` names.
+    fn commit_as<A: Asked<ProgramToken<N>, S, Job<N>>>(
+        &mut self,
+        board: &CoreBoard<N, S>,
+        me: &mut CoreToken<N, S>,
+        batch: Batch<N>,
+    ) -> Result<(), CommitError>
+        requires here { board.now.table.shared.table_id ≡ N.table }
+        requires call { A.call ≡ call.Commit batch }
+        ensures records { Records S.sent S.full self.old me.old A.call (reply.Committed result) self.new me.new }
+        ensures takes_no_memory { ¬ (result ≡ Err CommitError.OutOfMemory) }
+    {
+        let committed = self.core.commit(batch);
+        record::<N, S, Brand, _>(&self.core, &mut self.history, board, me, &committed);
+        committed
+    }
+
+    /// Sends what can be sent to a subscriber. It answers how many items.
+    pub fn pump(
+        &mut self,
+        board: &CoreBoard<N, S>,
+        me: &mut CoreToken<N, S>,
+        id: usize,
+    ) -> Result<usize, NoSubscriber>
+        requires { board.now.table.shared.table_id ≡ N.table }
+        ensures { Records S.sent S.full self.old me.old (call.Pump id) (reply.Pumped result) self.new me.new }
+    {
+        let pumped = self.core.pump(id);
+        record::<N, S, Brand, _>(&self.core, &mut self.history, board, me, &(id, pumped));
+        pumped
+    }
+
+    /// What a subscriber doesn't hold may be handed out again.
+    pub fn reissue(
+        &mut self,
+        board: &CoreBoard<N, S>,
+        me: &mut CoreToken<N, S>,
+        id: usize,
+    ) -> Result<(), NoSubscriber>
+        requires { board.now.table.shared.table_id ≡ N.table }
+        ensures { Records S.sent S.full self.old me.old (call.Reissue id) (reply.Reissued result) self.new me.new }
+    {
+        let reissued = self.core.reissue(id);
+        record::<N, S, Brand, _>(&self.core, &mut self.history, board, me, &(id, reissued));
+        reissued
+    }
+
+    /// Shows a caller the history so far, which has led to the core's state.
+    pub fn look(&mut self, board: &CoreBoard<N, S>, me: &mut CoreToken<N, S>)
+        requires { board.now.table.shared.table_id ≡ N.table }
+        ensures same { self.new ≡ self.old }
+        ensures begins { IsPrefix me.old.seen self.old.history }
+        ensures run { IsRunOf S.sent S.full self.old.history self.old.core }
+        ensures me { me.new ≡ looked me.old self.old.history }
+    {
+        self.history.look(board, me);
+    }
+
+    /// A caller's token takes in another, with its calls, and sees the history so far.
+    pub fn take_in(
+        &mut self,
+        board: &CoreBoard<N, S>,
+        me: &mut CoreToken<N, S>,
+        other: CoreToken<N, S>,
+    )
+        requires { board.now.table.shared.table_id ≡ N.table }
+        ensures same { self.new ≡ self.old }
+        ensures me { TakesIn (IsLegal S.sent S.full) me.old other me.new }
+        ensures seen { me.new.seen ≡ self.old.history }
+    {
+        self.history.take_in(board, me, other);
+    }
+
+    /// The law of the token that has all parts: the whole history is a run that has led to the core's state, and each
+    /// of its entries is the token's own, once.
+    pub fn settle(&mut self, board: &CoreBoard<N, S>, all: CoreToken<N, S>)
+        requires here { board.now.table.shared.table_id ≡ N.table }
+        requires all { all.parts ≡ N.parts }
+        ensures same { self.new ≡ self.old }
+        ensures run { IsRunOf S.sent S.full self.old.history self.old.core }
+        ensures whole { IsWhole (IsLegal S.sent S.full) self.old.history all }
+    {
+        self.history.settle(board, all);
+    }
+}

@@ -1,0 +1,82 @@
+-- The greatest ids, by key, of the marks that cover a whole window, and which marks are kept for it.
+use Rattle.std.specs.Prelude.{◌≡◌, ◌⊎◌, ℕ, ◌<◌, ◌≤◌, Bool, true, false, List, Option, Some, None, MatchOption}
+use Rattle.std.specs.Prelude.{Contains, length, slice_get}
+use Rattle.change_ops.specs.Ids.{Less}
+use Rattle.change_ops.specs.declared.id.OpId.{OpId}
+use Rattle.change_ops.specs.declared.attribute.Key.{Key}
+use Rattle.change_ops.specs.declared.attribute.Key.TheVariants as key
+use Rattle.change_ops.specs.declared.operation.Op.{Op}
+use Rattle.mark_anchors.specs.declared.placed.PlacedMark.{PlacedMark}
+use Rattle.mark_places.specs.declared.places.MarkPlace.{MarkPlace}
+use Rattle.mark_places.specs.declared.floors.Floors.{Floors}
+
+-- what was found for the key; nothing for comments
+abbrev pub floor_of : Floors → Key → Option OpId
+floor_of floors key.Strong = floors.strong
+floor_of floors key.Em = floors.em
+floor_of floors key.Code = floors.code
+floor_of floors key.Link = floors.link
+floor_of floors key.Color = floors.color
+floor_of floors (key.Comment number) = None
+
+-- the id, or the one before if the id is below that
+abbrev pub IsGreaterOf : Option OpId → OpId → Option OpId → Type 0
+IsGreaterOf before id after =
+    MatchOption before (after ≡ Some id) (λ found. ((after ≡ Some found) × Less id found)
+    ⊎ ((after ≡ Some id) × (Less id found → ⊥)))
+
+-- the keys of one value have a floor; comments don't, as each number is a key of its own
+abbrev pub has_floor : Key → Bool
+has_floor key.Strong = true
+has_floor key.Em = true
+has_floor key.Code = true
+has_floor key.Link = true
+has_floor key.Color = true
+has_floor (key.Comment number) = false
+
+-- the key's own floor is the greater of the two, and the others are as they were
+pub record IsRaised (key : Key) (id : OpId) (before after : Floors) : Type 0 where
+  pub own : has_floor key ≡ true → IsGreaterOf (floor_of before key) id (floor_of after key)
+  pub others : (other : Key) → (other ≡ key → ⊥) → floor_of after other ≡ floor_of before other
+
+-- the mark covers all places from `low` up to `high`
+abbrev pub CoversAll : ℕ → ℕ → MarkPlace → Type 0
+CoversAll low high place = (place.mark.start ≤ low) × (high ≤ place.mark.end)
+
+-- the floor is there, and the id isn't above it
+pub record IsFloored (floor : Option OpId) (id : OpId) : Type 0 where
+  pub at : OpId
+  pub is : floor ≡ Some at
+  pub reaches : Less at id → ⊥
+
+-- each floor is the id of a mark of the key that covers the whole window, and none of the first `done` that do is above
+pub record AreFirstFloors (places : List MarkPlace) (low high done : ℕ) (floors : Floors) : Type 0 where
+  pub found : (key : Key) (id : OpId) → floor_of floors key ≡ Some id
+      → (place : MarkPlace) × Contains places place × CoversAll low high place
+      × (place.mark.key ≡ key) × (place.mark.id ≡ id)
+  pub greatest : (i : ℕ) (place : MarkPlace) → i < done → slice_get places i ≡ Some place → CoversAll low high place
+      → has_floor place.mark.key ≡ true → IsFloored (floor_of floors place.mark.key) place.mark.id
+
+abbrev pub AreFloors : List MarkPlace → ℕ → ℕ → Floors → Type 0
+AreFloors places low high floors = AreFirstFloors places low high (length places) floors
+
+-- the mark covers a place from `low` up to `high`, and isn't below its key's floor
+pub record IsKept (floors : Floors) (low high : ℕ) (place : MarkPlace) : Type 0 where
+  pub before : place.mark.start < high
+  pub behind : low < place.mark.end
+  pub some : place.mark.start < place.mark.end
+  pub reaches : (floor : OpId) → floor_of floors place.mark.key ≡ Some floor → Less place.mark.id floor → ⊥
+
+-- the mark with its number among the chosen ones
+abbrev pub numbered : PlacedMark → ℕ → PlacedMark
+numbered mark index = record mark { index = index }
+
+-- those of the first `done` marks that are kept, with their operations, numbered anew
+pub record AreKept (places : List MarkPlace) (operations : List Op) (floors : Floors) (low high done : ℕ)
+    (chosen : List Op) (marks : List PlacedMark) : Type 0 where
+  pub sized : length marks ≡ length chosen
+  pub held : (i : ℕ) (p : PlacedMark) → slice_get marks i ≡ Some p
+      → (place : MarkPlace) × Contains places place × (p ≡ numbered place.mark i)
+      × ((o : Op) × (slice_get operations place.mark.index ≡ Some o) × (slice_get chosen i ≡ Some o))
+  pub listed : (i : ℕ) (place : MarkPlace) (o : Op) → i < done → slice_get places i ≡ Some place
+      → slice_get operations place.mark.index ≡ Some o → IsKept floors low high place → Contains chosen o

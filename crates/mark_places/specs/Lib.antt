@@ -1,0 +1,4 @@
+pub mod Places
+pub mod Shifted
+pub mod Floors
+pub mod Chosen

@@ -1,0 +1,108 @@
+//! The greatest of the marks that cover a whole window, by key: lesser ones decide nothing there.
+ghost use Rattle.std.specs.Prelude.{◌≡◌, ◌↔◌, None, IsTrue};
+ghost use Rattle.change_ops.specs.declared.attribute.Key.{Key};
+ghost use Rattle.mark_places.specs.Floors.{AreFloors, CoversAll, IsGreaterOf, IsKept, IsRaised, floor_of};
+
+use crate::places::MarkPlace;
+use change_ops::attribute::Key;
+use change_ops::id::OpId;
+
+/// For each key of one value the greatest id found among the marks that cover the whole window.
+#[derive(Clone, Copy)]
+pub(crate) struct Floors {
+    strong: Option<OpId>,
+    em: Option<OpId>,
+    code: Option<OpId>,
+    link: Option<OpId>,
+    color: Option<OpId>,
+}
+
+impl MarkPlace {
+    /// Whether it covers all places from `low` up to `high`.
+    fn covers_all(&self, low: usize, high: usize) -> bool
+        ensures { IsTrue result ↔ CoversAll low high self.now }
+    {
+        self.mark.start <= low && high <= self.mark.end
+    }
+}
+
+/// The greater one of the ids, or the one that there is.
+fn greater(floor: Option<OpId>, id: OpId) -> Option<OpId>
+    ensures { IsGreaterOf floor id result }
+{
+    match floor {
+        Some(found) if id.is_below(found) => floor,
+        _ => Some(id),
+    }
+}
+
+impl Floors {
+    /// Of no mark.
+    fn new() -> Floors
+        ensures { (key : Key) → floor_of result key ≡ None }
+    {
+        Floors {
+            strong: None,
+            em: None,
+            code: None,
+            link: None,
+            color: None,
+        }
+    }
+
+    /// Of the marks that cover all places from `low` up to `high`.
+    pub(crate) fn of(places: &[MarkPlace], low: usize, high: usize) -> Floors
+        ensures { AreFloors places.now low high result }
+    {
+        let mut floors = Floors::new();
+        for place in places {
+            if place.covers_all(low, high) {
+                floors.raise(&place.mark.key, place.mark.id);
+            }
+        }
+        floors
+    }
+
+    /// The floor of the key. Comments have none, as each number is a key of its own.
+    fn of_key(&self, key: &Key) -> Option<OpId>
+        ensures { result ≡ floor_of self.now key.now }
+    {
+        match key {
+            Key::Strong => self.strong,
+            Key::Em => self.em,
+            Key::Code => self.code,
+            Key::Link => self.link,
+            Key::Color => self.color,
+            Key::Comment(_) => None,
+        }
+    }
+
+    /// Raises the floor of the key to the id, if that is greater.
+    fn raise(&mut self, key: &Key, id: OpId)
+        ensures { IsRaised key.now id self.old self.new }
+    {
+        match key {
+            Key::Strong => self.strong = greater(self.strong, id),
+            Key::Em => self.em = greater(self.em, id),
+            Key::Code => self.code = greater(self.code, id),
+            Key::Link => self.link = greater(self.link, id),
+            Key::Color => self.color = greater(self.color, id),
+            Key::Comment(_) => {}
+        }
+    }
+
+    /// Whether the mark decides at some place of the window, as far as is known: it covers one from `low` up to
+    /// `high`, and its id isn't below the floor.
+    pub(crate) fn keeps(&self, place: &MarkPlace, low: usize, high: usize) -> bool
+        ensures { IsTrue result ↔ IsKept self.now low high place.now }
+    {
+        let mark = &place.mark;
+        if mark.start >= high || mark.end <= low || mark.start >= mark.end {
+            return false;
+        }
+        match self.of_key(&mark.key) {
+            Some(floor) => !mark.id.is_below(floor),
+            None => true,
+        }
+    }
+}

@@ -1,0 +1,5 @@
+pub mod Pairs
+pub mod Branches
+pub mod Parts
+pub mod Hearing
+pub mod Learned

@@ -1,0 +1,4 @@
+pub mod Tracked
+pub mod Rules
+pub mod Tracking
+pub mod Learning
