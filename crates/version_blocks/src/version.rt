@@ -176,11 +176,19 @@ struct Places {
     end: usize,
 }
 
-/// How many bytes the text of a block with the rows of a window may have. With more blocks than one it isn't known how
-/// many bytes the first of those that are made has.
+/// How many bytes are reserved for the text of a block with the rows of a window: all that it may have, where the
+/// window is small beside the block. What the window replaces is counted too, so a greater one would have much of it
+/// for nothing. With more blocks than one it isn't known how many bytes the first of those that are made has.
 fn room_for(blocks: &[Block], text: &str) -> usize {
     match blocks {
-        [block] => block.content().byte_count().saturating_add(text.len()),
+        [block] => {
+            let bytes = block.content().byte_count();
+            if text.len() <= bytes / 8 {
+                bytes.saturating_add(text.len())
+            } else {
+                0
+            }
+        }
         _ => 0,
     }
 }
