@@ -96,17 +96,17 @@ def marks_after(before, data, at):
     return marks
 
 
-def learned(mark, known, other_mark, other):
+def learned(rules, mark, known, other_mark, other):
     """What is known of another value of the same origin, by what is known of one."""
     bits = min(mark.bits, other_mark.bits)
     if known[0] != other[0] or known[1].high > MASK[bits] or other[1].high > MASK[bits]:
         return other
     ahead = constant(other_mark.addend - mark.addend & MASK[bits])
-    moved = normal(added("", bits, known[1], ahead))
+    moved = normal(added(rules, bits, known[1], ahead))
     return other[0], equal(other[1], moved)[0]
 
 
-def tell(state, register):
+def tell(rules, state, register):
     """All others learn what a comparison tells of a register. Raises Dead where that can't be."""
     mark = state.marks.get(register)
     if mark is None:
@@ -116,7 +116,7 @@ def tell(state, register):
         other = held(state, place)
         if place == register or other is None or state.marks[place].origin != mark.origin:
             continue
-        content = learned(mark, known, state.marks[place], other)
+        content = learned(rules, mark, known, state.marks[place], other)
         if place < STACK:
             state.registers[place] = content
         else:

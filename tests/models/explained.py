@@ -142,9 +142,9 @@ def wanted_of_offset(state, instruction):
     _, name, _, is_register = kind_of(opcode)
     left, right = state.registers[dst], state.registers[src] if is_register else None
     if name == "sub":
-        if right is not None and not is_one(right):
+        if right is not None and not (is_one(right) and right[1].low < 1 << 63):
             return Want(("register", src), "at most", None, spread(left)[0])
-        by = imm if right is None else signed(right[1].low, 64)
+        by = imm if right is None else right[1].low
         return Want(("register", dst), "behind", left[0], by)
     if right is None:
         return Want(("register", dst), "behind", left[0], -imm)

@@ -162,16 +162,30 @@ def complement(bits, quantity):
     return None if value is None or value < 1 << bits - 1 else constant((1 << bits) - value)
 
 
+def both_known(first, second):
+    """What two say of one number; not in its normal form."""
+    if (first.ones ^ second.ones) & ~first.unknown & ~second.unknown:
+        raise Dead
+    unknown = first.unknown & second.unknown
+    return Quantity((first.ones | second.ones) & ~unknown, unknown, max(first.low, second.low), min(first.high, second.high),
+                    both_tails(greater, first.tails, second.tails))
+
+
+def by_both(rules, form, other):
+    """What the one form of a sum or a difference says, and by more rules what the other one says too."""
+    return both_known(normal(form), normal(other)) if "g" in rules else form
+
+
 def added(rules, bits, first, second):
     """The sum; what a great constant lacks is taken away instead."""
-    lacking = complement(bits, second)
-    return plain_sum(rules, bits, first, second) if lacking is None else plain_difference(rules, bits, first, lacking)
+    lacking, plain = complement(bits, second), plain_sum(rules, bits, first, second)
+    return plain if lacking is None else by_both(rules, plain_difference(rules, bits, first, lacking), plain)
 
 
 def taken_away(rules, bits, first, second):
     """The difference; what a great constant lacks is added instead."""
-    lacking = complement(bits, second)
-    return plain_difference(rules, bits, first, second) if lacking is None else plain_sum(rules, bits, first, lacking)
+    lacking, plain = complement(bits, second), plain_difference(rules, bits, first, second)
+    return plain if lacking is None else by_both(rules, plain_sum(rules, bits, first, lacking), plain)
 
 
 def bits_of_both(_rules, _bits, first, second):
@@ -265,11 +279,7 @@ def ordered(left, right, by):
 
 
 def equal(left, right):
-    if (left.ones ^ right.ones) & ~left.unknown & ~right.unknown:
-        raise Dead
-    unknown = left.unknown & right.unknown
-    both = normal(Quantity((left.ones | right.ones) & ~unknown, unknown, max(left.low, right.low), min(left.high, right.high),
-                           both_tails(greater, left.tails, right.tails)))
+    both = normal(both_known(left, right))
     return both, both
 
 

@@ -282,16 +282,36 @@ def copy_piece(rng):
     return data
 
 
-MORE_PIECES = PIECES + [difference_piece, part_piece, quotient_piece, sum_piece] * 4 + [place_piece] * 8 + [copy_piece] * 8
+def great_copy_piece(rng):
+    """A number of which only a few bits are unknown, or its copy, is compared with one number, mostly one whose sign bit is 1, and the
+    other one of both is added to a number or to a place, or taken away."""
+    source, half = rng.choice([4, 5, 7, 7]), rng.choice([1 << 63, 1 << 63, 1 << 31])
+    data = slot(0x57, source, 0, 0, rng.choice([1, 3, 7, 15, 255])) if rng.random() < 0.8 else b""
+    if rng.random() < 0.6:
+        data += wide(0, half) + slot(rng.choice([0x4f, 0x0f]), source, 0)
+    data += slot(0xbf, 8, source)
+    if rng.random() < 0.3:
+        data += slot(rng.choice([0x07, 0x17]), rng.choice([8, source]), 0, 0, rng.choice([1, 8]))
+    tested, other = rng.choice([(8, source), (source, 8)])
+    data += wide(0, rng.choice([half, half + 1, half + 3, half + 8, half + 255, 0, 1, 3, 8])) + slot(0x5d, tested, 0, END)
+    target = rng.choice([4, 5, 6, 7, 9])
+    if target == 9:
+        data += slot(0xbf, 9, rng.choice([2, 3])) + slot(rng.choice([0x0f, 0x1f]), 9, other)
+        return data + slot(0x3d, 9, 3, END) + slot(0x71, 0, 9, 0) + slot(0xb7, 8, 0, 0, 1)
+    return data + slot(rng.choice([0x0f, 0x0f, 0x1f] if half > MASK[32] else [0x0c, 0x0c, 0x1c]), target, other)
+
+
+MORE_PIECES = (PIECES + [difference_piece, part_piece, quotient_piece, sum_piece] * 4 + [place_piece] * 8
+               + [copy_piece, great_copy_piece] * 8)
 # What is left in the registers of numbers may be an address, where a piece was left in the middle.
 NO_ADDRESSES = slot(0xb7, 8, 0, 0, 5)
 
 
 def third_program(rng, profile):
-    """Pieces of any kind, and then up to three loads by what the profile knows behind them."""
+    """Pieces of any kind, and then up to three loads by what the profile, or the second one, knows behind them."""
     data = FRONT + (constant_piece(rng) if rng.random() < 0.2 else b"")
     for _ in range(rng.randrange(1, 9)):
         data += rng.choice(MORE_PIECES)(rng) + NO_ADDRESSES * (rng.random() < 0.2)
     for _ in range(rng.randrange(1, 4)):
-        data = exact_read(rng, data, profile)
+        data = exact_read(rng, data, rng.choice([profile, PROFILES[2]]))
     return ended(data)

@@ -14,6 +14,7 @@ A profile says what a program may read, and which rules hold beside those that a
     d   a part of a field of the context that is a number may be loaded
     e   where ways join, an address has at least the tail that the least length known on its own way gives it
     f   a sum has the greater one of the tails that its two sides give it
+    g   a sum or a difference with a great constant is what both ways to make it say, by the constant and by what it lacks
 """
 
 from typing import NamedTuple
@@ -38,7 +39,7 @@ class Profile(NamedTuple):
     rules: str = ""
 
 
-PROFILES = {1: Profile(56, False), 2: Profile(72, True), 3: Profile(72, True, "bcdef")}
+PROFILES = {1: Profile(56, False), 2: Profile(72, True), 3: Profile(72, True, "abcdefg")}
 
 
 class Refused(Exception):
@@ -289,9 +290,9 @@ def on_edge(rules, before, instruction, is_taken):
     after.lengthen(left)
     after.lengthen(right)
     if "a" in rules:
-        copies.tell(after, dst)
+        copies.tell(rules, after, dst)
         if is_register:
-            copies.tell(after, src)
+            copies.tell(rules, after, src)
     return after
 
 

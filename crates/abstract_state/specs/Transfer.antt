@@ -17,6 +17,7 @@ use Rattle.abstract_state.specs.declared.region.Tails.{Tails}
 use Rattle.abstract_state.specs.Exact.{tail_after}
 use Rattle.abstract_state.specs.Estimate.{Estimate, no_tails, each_tail, both_tails, raised_tail, greater_tail}
 use Rattle.abstract_state.specs.Estimate.{normal_cut, operand_cut, constant, unknown, only}
+use Rattle.abstract_state.specs.Comparing.{same}
 
 -- ---- sum and difference
 -- the bits of f m n where both numbers are known, else none
@@ -68,14 +69,25 @@ complement width b =
     else None)
     (only b)
 
--- a great constant is taken away as what it lacks, and the other way round
+-- what two forms of one number both say; where they have no number in common, no run comes there
+abbrev pub in_both : Option Estimate → Option Estimate → Option Estimate
+in_both first second = option_and_then (λ a. option_and_then (same a) second) first
+
+-- by more rules what both forms say, else what the first says
+abbrev pub by_both : Profile → Option Estimate → Option Estimate → Option Estimate
+by_both profile first second = if has_more_rules profile then in_both first second else first
+
+-- a great constant is taken away as what it lacks, and the other way round; by more rules it is added, or taken away,
+-- as it stands too
 unfoldable pub added : Profile → Width → Estimate → Estimate → Option Estimate
 added profile width a b =
-    option_map_or (λ n. difference width a (constant n)) (complement width b) (sum profile width a b)
+    option_map_or (λ n. by_both profile (difference width a (constant n)) (sum profile width a b)) (complement width b)
+    (sum profile width a b)
 
 unfoldable pub taken_away : Profile → Width → Estimate → Estimate → Option Estimate
 taken_away profile width a b =
-    option_map_or (λ n. sum profile width a (constant n)) (complement width b) (difference width a b)
+    option_map_or (λ n. by_both profile (sum profile width a (constant n)) (difference width a b)) (complement width b)
+    (difference width a b)
 
 -- ---- the others
 unfoldable pub of_both : Width → Estimate → Estimate → Option Estimate

@@ -95,7 +95,7 @@ impl Quantity {
 
     /// What both contain.
     #[tactic(auto, unfolding(crate::specs::Comparing::same))]
-    fn same(self, other: Quantity) -> Option<Quantity>
+    pub(crate) fn same(self, other: Quantity) -> Option<Quantity>
         ensures contains { (lengths : Lengths) (m : ℕ) → Contains self lengths m → Contains other lengths m
             → Within result lengths m }
         ensures within { IfSome result (λ q. (q.range.high ≤ self.range.high) × (q.range.high ≤ other.range.high)) }

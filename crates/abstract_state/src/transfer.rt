@@ -184,7 +184,8 @@ impl Quantity {
         }
     }
 
-    /// The sum; a great constant is taken away as what it lacks to the width, so that the interval stays.
+    /// The sum; a great constant is taken away as what it lacks to the width, so that the interval stays. Where the
+    /// profile has more rules it is added too, so that a constant's sum is never known less than an interval's.
     #[tactic(auto, unfolding(crate::specs::Transfer::added))]
     pub fn add(self, profile: Profile, other: Quantity, width: Width) -> Option<Quantity>
         ensures contains { MapsBoth width self other result (λ x y. value_of Arithmetic.Add width x y) }
@@ -195,12 +196,16 @@ impl Quantity {
             ≡ rules.added profile width (estimate_of self) (estimate_of other) }
     {
         match other.complement(width) {
+            Some(taken) if profile.has_more_rules() => {
+                in_both(self.minus(taken, width), self.plus(profile, other, width))
+            }
             Some(taken) => self.minus(taken, width),
             None => self.plus(profile, other, width),
         }
     }
 
-    /// The difference; a great constant is added as what it lacks to the width, so that the interval stays.
+    /// The difference; a great constant is added as what it lacks to the width, so that the interval stays. Where the
+    /// profile has more rules it is taken away too.
     #[tactic(auto, unfolding(crate::specs::Transfer::taken_away))]
     pub fn sub(self, profile: Profile, other: Quantity, width: Width) -> Option<Quantity>
         ensures contains { MapsBoth width self other result (λ x y. value_of Arithmetic.Sub width x y) }
@@ -208,6 +213,9 @@ impl Quantity {
             ≡ rules.taken_away profile width (estimate_of self) (estimate_of other) }
     {
         match other.complement(width) {
+            Some(added) if profile.has_more_rules() => {
+                in_both(self.plus(profile, added, width), self.minus(other, width))
+            }
             Some(added) => self.plus(profile, added, width),
             None => self.minus(other, width),
         }
@@ -441,6 +449,16 @@ fn mask(width: Width) -> u64
         Width::Full => 63,
         Width::Narrow => 31,
     }
+}
+
+/// What two forms of one number both say.
+fn in_both(first: Option<Quantity>, second: Option<Quantity>) -> Option<Quantity>
+    ensures contains { (lengths : Lengths) (x : ℕ) → Within first lengths x → Within second lengths x
+        → Within result lengths x }
+    ensures rule { option_map estimate_of result
+        ≡ rules.in_both (option_map estimate_of first) (option_map estimate_of second) }
+{
+    first?.same(second?)
 }
 
 /// A power of 2.

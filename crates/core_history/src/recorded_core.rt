@@ -2,6 +2,8 @@
 ghost use Rattle.std.specs.Prelude.{◌≡◌, ◌<◌, ◌++◌, ◌∷◌, [], ℕ, Some, Err, length};
 ghost use mathlib.Core.List.{IsPrefix};
 ghost use Rattle.crossbeam_queue.specs.Passes.{view as view_of};
+ghost use Rattle.change_ops.specs.Changes.{Change as ChangeValue};
+ghost use Rattle.change_history.specs.Accepted.{IsRefused};
 ghost use Rattle.feeds.specs.Promise.{Suits};
 ghost use Rattle.hub_core.specs.Machine.{IsStart};
 ghost use Rattle.hub_core.specs.declared.run.Reply.TheVariants as reply;
@@ -14,6 +16,7 @@ use crate::asked::Asked;
 use crate::entry::{CoreBoard, CoreEntry, CorePass, CoreToken};
 use call_history::history::History;
 use call_history::knowledge::{HistoryNaming, NextEntry};
+use change_history::history::CHANGE_LIMIT;
 use change_history::refusal::SubmitError;
 use change_ops::change::Change;
 use feeds::batch::Batch;
@@ -72,6 +75,17 @@ fn record<N: Naming + HistoryNaming + Ledger, S: Sink<Item<N>>, C: NextEntry<Cor
 {
     core.stays_consistent();
     history.append::<C, X>(board, me, about);
+}
+
+/// Why a change is refused where memory is wanting: a history that is full needs none.
+fn refusal_without_memory<N: Naming, S: Sink<Item<N>>>(core: &Core<'_, N, S>) -> SubmitError
+    ensures { (change : ChangeValue) → IsRefused core.now.changes change result }
+{
+    if core.count() >= CHANGE_LIMIT {
+        SubmitError::HistoryFull
+    } else {
+        SubmitError::OutOfMemory
+    }
 }
 
 impl<'p, N: Naming + HistoryNaming + Ledger, S: Sink<Item<N>>> RecordedCore<'p, N, S> {
@@ -133,6 +147,23 @@ impl<'p, N: Naming + HistoryNaming + Ledger, S: Sink<Item<N>>> RecordedCore<'p, 
         let submitted = self.core.submit(rt, change);
         record::<N, S, Brand, _>(&self.core, &mut self.history, board, me, &submitted);
         submitted
+    }
+
+    /// Refuses a change where memory is wanting for what its caller keeps beside the core, of which the core is told
+    /// nothing.
+    pub fn refuse_submit(
+        &mut self,
+        board: &CoreBoard<N, S>,
+        me: &mut CoreToken<N, S>,
+        change: &Change,
+    ) -> SubmitError
+        requires { board.now.table.shared.table_id ≡ N.table }
+        ensures { Records S.sent S.full self.old me.old (call.Submit change.now) (reply.Submitted (Err result))
+            self.new me.new }
+    {
+        let refusal = refusal_without_memory(&self.core);
+        record::<N, S, Brand, _>(&self.core, &mut self.history, board, me, &(change, refusal));
+        refusal
     }
 
     /// Closes a subscriber for good, and drops the batches that it holds.

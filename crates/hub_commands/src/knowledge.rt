@@ -2,15 +2,18 @@
 ghost use Rattle.std.specs.Prelude.{◌≢◌, ◌<◌, length, IfSome, IsTrue, Some};
 ghost use Rattle.bpf_words.specs.Flow.{written_by};
 ghost use Rattle.bpf_words.specs.Words.{program_of};
+ghost use Rattle.abstract_state.specs.Steps.{MayStep};
 
 use abstract_state::state::AbsState;
 use abstract_state::step::Flow;
 use bpf_words::encoding::encode;
-use bpf_words::instruction::{Arithmetic, Insn, Operand, Width};
+use bpf_words::instruction::{Arithmetic, Comparison, Insn, Operand, Width};
 use bpf_words::register::Register;
 use bpf_words::words::Words;
 use span_context::profile::Profile;
 use std::alloc::{AllocError, Global};
+use tracked_state::state::TrackedState;
+use tracked_state::stop::Stop;
 use verifier::before::{state_before, states_before};
 use verifier::refusal::VerifyError;
 
@@ -32,12 +35,22 @@ struct Behind {
     jumped: Option<AbsState>,
 }
 
-/// What is known of a program before its slots, up to one of them, and where its jumps lead.
+impl Behind {
+    fn nowhere() -> Behind {
+        Behind {
+            next: None,
+            jumped: None,
+        }
+    }
+}
+
+/// What is known of a program before its slots, with the copies that are followed there, up to one of them, and where
+/// its jumps lead.
 #[derive(Drop)]
 pub struct Knowledge<'a> {
     pub words: &'a Words<'a>,
     pub profile: Profile,
-    states: Vec<Option<AbsState>>,
+    states: Vec<Option<TrackedState>>,
     /// Where each slot's jump leads, and to which slots one does.
     targets: Vec<Option<usize>>,
     are_jumped_to: Vec<bool>,
@@ -72,31 +85,66 @@ fn spares_r10(insn: &Insn) -> bool
     }
 }
 
-fn pass(profile: Profile, insn: &Insn, state: &AbsState) -> Behind
+fn state_of(tracked: &Option<TrackedState>) -> Option<AbsState> {
+    Some(tracked.as_ref()?.state)
+}
+
+/// What is known behind a comparison, of its sides and of their copies.
+fn compare(
+    alloc: Global,
+    before: &TrackedState,
+    width: Width,
+    comparison: Comparison,
+    left: Register,
+    right: &Operand,
+) -> Result<Behind, AllocError> {
+    match before.branch(alloc, width, comparison, left, right) {
+        Ok(edges) => Ok(Behind {
+            next: state_of(&edges.untaken),
+            jumped: state_of(&edges.taken),
+        }),
+        Err(Stop::OutOfMemory) => Err(AllocError),
+        Err(Stop::Refused(_)) => Ok(Behind::nowhere()),
+    }
+}
+
+/// What is known behind an instruction that is no jump.
+fn step(profile: Profile, before: &AbsState, insn: &Insn) -> Option<AbsState>
+    requires { MayStep insn.now }
+{
+    let mut next = *before;
+    match next.step(profile, insn) {
+        Ok(Flow::Live) => Some(next),
+        _ => None,
+    }
+}
+
+fn pass(
+    alloc: Global,
+    profile: Profile,
+    before: &TrackedState,
+    insn: &Insn,
+) -> Result<Behind, AllocError>
     requires { written_by insn.now ≢ Some 10 }
 {
-    let (next, jumped) = match *insn {
-        Insn::Jump { .. } | Insn::JumpLong { .. } => (None, Some(*state)),
-        Insn::Exit => (None, None),
+    match *insn {
+        Insn::Jump { .. } | Insn::JumpLong { .. } => Ok(Behind {
+            next: None,
+            jumped: Some(before.state),
+        }),
+        Insn::Exit => Ok(Behind::nowhere()),
         Insn::Branch {
             width,
             comparison,
             left,
             right,
             ..
-        } => match state.branch(width, comparison, left, &right) {
-            Ok(edges) => (edges.untaken, edges.taken),
-            Err(_) => (None, None),
-        },
-        _ => {
-            let mut next = *state;
-            match next.step(profile, insn) {
-                Ok(Flow::Live) => (Some(next), None),
-                _ => (None, None),
-            }
-        }
-    };
-    Behind { next, jumped }
+        } => compare(alloc, before, width, comparison, left, &right),
+        _ => Ok(Behind {
+            next: step(profile, &before.state, insn),
+            jumped: None,
+        }),
+    }
 }
 
 /// The bytes of a program that is accepted if no slot below the last one is refused: the instructions below it, and
@@ -123,7 +171,7 @@ fn known_before(
     words: &Words<'_>,
     profile: Profile,
     slot: usize,
-) -> Result<Option<AbsState>, AllocError> {
+) -> Result<Option<TrackedState>, AllocError> {
     if slot >= words.len() {
         return Ok(None);
     }
@@ -141,7 +189,7 @@ fn states_below(
     words: &Words<'_>,
     profile: Profile,
     last: usize,
-) -> Result<Vec<Option<AbsState>>, AllocError> {
+) -> Result<Vec<Option<TrackedState>>, AllocError> {
     let bytes = ended_at(alloc, words, last)?;
     if let Ok(ended) = Words::new(&bytes) {
         match states_before(alloc, &ended, profile) {
@@ -204,7 +252,7 @@ impl<'a> Knowledge<'a> {
         alloc: Global,
         words: &'a Words<'a>,
         profile: Profile,
-        states: Vec<Option<AbsState>>,
+        states: Vec<Option<TrackedState>>,
     ) -> Result<Knowledge<'a>, AllocError> {
         let targets = targets(alloc, words)?;
         let are_jumped_to = are_jumped_to(alloc, &targets)?;
@@ -219,6 +267,10 @@ impl<'a> Knowledge<'a> {
 
     /// What is known before a slot, if a run may come there.
     pub fn before(&self, slot: usize) -> Option<&AbsState> {
+        Some(&self.tracked_before(slot)?.state)
+    }
+
+    fn tracked_before(&self, slot: usize) -> Option<&TrackedState> {
         self.states.get(slot)?.as_ref()
     }
 
@@ -238,7 +290,7 @@ impl<'a> Knowledge<'a> {
         for from in first..slot {
             let jumps = self.targets.get(from) == Some(&Some(slot));
             if jumps || from.saturating_add(2) >= slot {
-                self.push_ways(&mut ways, from, slot)?;
+                self.push_ways(alloc, &mut ways, from, slot)?;
             }
         }
         Ok(ways)
@@ -253,14 +305,21 @@ impl<'a> Knowledge<'a> {
     }
 
     /// Appends the ways from an instruction to a slot: on to the next one, then by a jump.
-    fn push_ways(&self, ways: &mut Vec<Way>, from: usize, slot: usize) -> Result<(), AllocError> {
-        let (Some(insn), Some(state)) = (insn_at(self.words, from), self.before(from)) else {
+    fn push_ways(
+        &self,
+        alloc: Global,
+        ways: &mut Vec<Way>,
+        from: usize,
+        slot: usize,
+    ) -> Result<(), AllocError> {
+        let (Some(insn), Some(before)) = (insn_at(self.words, from), self.tracked_before(from))
+        else {
             return Ok(());
         };
         if !spares_r10(&insn) {
             return Ok(());
         }
-        let behind = pass(self.profile, &insn, state);
+        let behind = pass(alloc, self.profile, before, &insn)?;
         if let Some(known) = behind.next {
             if from.saturating_add(insn.slots()) == slot {
                 ways.push(Way { from, known })?;

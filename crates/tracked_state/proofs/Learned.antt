@@ -23,6 +23,8 @@ use Rattle.abstract_state.proofs.KindLaws.{keeps_number}
 use Rattle.value_marks.specs.Marking.{Marking}
 use Rattle.value_marks.specs.Copies.{copies_tell}
 use Rattle.tracked_state.specs.declared.state.TrackedState.{TrackedState}
+use Rattle.value_marks.specs.declared.copies.Copies.{Copies}
+use Rattle.tracked_state.specs.Tracked.{with_copies}
 use Rattle.tracked_state.specs.Learning.{LearnsRegister, LearnsAll, Learns, LearnsFrom, LearnsSides, KeepsKinds}
 use Rattle.tracked_state.proofs.Hearing.{copies_learn}
 
@@ -47,6 +49,10 @@ told_learns (Some a) b left right marking rule = (
   refl,
   shown_learns a b (copies_tell left right marking (situation_of a)) (rule (Some (situation_of a)) (a, refl, own a)) (copies_learn left right marking (situation_of a)),
 )
+
+pub all_told : (edge o : Option AbsState) (c : Copies) (left : ℕ) (right : Operand) (marking : Option Marking) → ((was : Option Situation) → IsSituationIn edge was → IsSituationIn o (option_and_then (copies_tell left right marking) was)) → IfSome (with_copies o c) (λ b. LearnsFrom edge b.state)
+all_told edge None c left right marking rule = tt
+all_told edge (Some b) c left right marking rule = told_learns edge b left right marking rule
 
 -- ---- both edges: first the sides learn, then their copies
 at_some : (o : Option AbsState) (P : AbsState → Type 0) (a : AbsState) → IfSome o P → o ≡ Some a → P a
@@ -82,7 +88,7 @@ one_stack p q e =
     let P : ℕ → Type 0 = λ n. (k : n ≤ 512) → stack n k ≡ p in
     subst P e (λ k. ap (λ (w : p.offset ≤ 512). stack p.offset w) (le_prop k p.within)) q.within
 
-kind_kept : (x y : AbsReg) → LearnsRegister (register_of x) (register_of y) → KeepsKind x y
+pub kind_kept : (x y : AbsReg) → LearnsRegister (register_of x) (register_of y) → KeepsKind x y
 kind_kept Unset y h = unset_is y h
 kind_kept (Set x) Unset h = absurd h
 kind_kept (Set (Number q)) (Set (Number r)) h = tt

@@ -21,12 +21,12 @@ use Rattle.value_marks.specs.Marking.{marking_of, IsMarking, no_marks}
 use Rattle.value_marks.specs.Bearing.{Bears}
 use Rattle.value_marks.specs.Copies.{Bear, LieBelow, AreMarking, kept}
 use Rattle.tracked_state.specs.declared.state.TrackedState.{TrackedState}
-use Rattle.tracked_state.specs.Tracked.{WithinTracked, IsTrackedIn, tracked}
+use Rattle.tracked_state.specs.Tracked.{WithinTracked, IsTrackedIn, beside, with_copies, tracked}
 use Rattle.tracked_state.specs.Tracking.{after_tracked, LandsTracked, StepsToTracked}
 use Rattle.tracked_state.specs.Rules.{first_marking}
 
 abbrev pub both : AbsState → Copies → TrackedState
-both a c = record { state = a; copies = c }
+both a c = beside a c
 
 same_some : {A : Type 0} (a b : A) → Some a ≡ Some b → b ≡ a
 same_some a b e = cc
@@ -100,6 +100,16 @@ tracked_edge a c o (Some t) same (b, is, shows) = (
     copies = subst (λ (x : Option Marks). AreMarking x (option_map marking_of o)) (sym same) (own_marking o);
   },
 )
+
+-- an edge that keeps the copies of what was before it
+pub beside_within : (o : Option AbsState) (c : Copies) (lengths : Lengths) (s : State) → Bear (kept c) s → WithinState o lengths s → WithinTracked (with_copies o c) lengths s
+beside_within None c lengths s bears within = absurd (nothing_within lengths s within)
+beside_within (Some a) c lengths s bears within = within_both a c (kept c) lengths s refl bears within
+
+pub beside_tracked : (o : Option AbsState) (c : Copies) (told : Option Situation) → IsSituationIn o told → IsTrackedIn (with_copies o c) (option_map (tracked (option_map marking_of (kept c))) told)
+beside_tracked None c None is = refl
+beside_tracked None c (Some t) (a, there, is) = absurd (none_some a there)
+beside_tracked (Some a) c told is = tracked_edge a c (kept c) told refl is
 
 -- ---- a step
 abbrev BearsThen : Copies → Moved → Type 0

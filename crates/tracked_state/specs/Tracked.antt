@@ -8,6 +8,7 @@ use Rattle.abstract_state.specs.State.{Contains}
 use Rattle.abstract_state.specs.Situation.{Situation, IsSituation, situation_of}
 use Rattle.value_marks.specs.Marking.{Marking, marking_of}
 use Rattle.value_marks.specs.Copies.{Bear, AreMarking, LieBelow, kept}
+use Rattle.value_marks.specs.declared.copies.Copies.{Copies}
 use Rattle.tracked_state.specs.declared.state.TrackedState.{TrackedState}
 
 -- the machine's state is contained, and the marks are true of it
@@ -17,6 +18,13 @@ pub record ContainsTracked (a : TrackedState) (lengths : Lengths) (s : State) : 
 
 abbrev pub WithinTracked : Option TrackedState → Lengths → State → Type 0
 WithinTracked o lengths s = (a : TrackedState) × (o ≡ Some a) × ContainsTracked a lengths s
+
+-- a state of an edge with the marks that are true of it too
+abbrev pub beside : AbsState → Copies → TrackedState
+beside a c = record { state = a; copies = c }
+
+abbrev pub with_copies : Option AbsState → Copies → Option TrackedState
+with_copies o c = option_map (λ a. beside a c) o
 
 abbrev pub state_in : Option TrackedState → Option AbsState
 state_in o = option_map (λ a. a.state) o

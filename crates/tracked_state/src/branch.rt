@@ -18,6 +18,7 @@ ghost use Rattle.abstract_state.specs.Situation.{Situation, IsSituationIn, situa
 ghost use Rattle.abstract_state.specs.Edges.{branched};
 ghost use Rattle.value_marks.specs.Copies.{Bear, LieBelow, kept};
 ghost use Rattle.tracked_state.specs.Tracked.{WithinTracked, LieBelowIn, IsTrackedIn, marking_in, tracked_of, state_in};
+ghost use Rattle.tracked_state.specs.Tracked.{with_copies};
 ghost use Rattle.tracked_state.specs.Learning.{LearnsFrom, LearnsSides, KeepsKinds};
 ghost use Rattle.tracked_state.specs.Tracking.{TrackedEdge, AnswersTrackedBranch};
 ghost use Rattle.tracked_state.specs.Rules as rules;
@@ -51,6 +52,7 @@ impl TrackedState {
         ensures rule { IfOk result (λ told. (was : Option Situation) → IsSituationIn edge was
             → IsTrackedIn told (rules.told_edge left right.now (marking_in self.now) was)) }
         ensures learns { IfOk result (λ told. IfSome told (λ b. LearnsFrom edge b.state)) }
+        ensures copies { IfOk result (λ told. IfSome told (λ b. kept b.copies ≡ kept self.now.copies)) }
         ensures untracked { kept self.now.copies ≡ None → IfOk result (λ told. state_in told ≡ edge) }
     {
         let Some(state) = self.copies.tell_edge(edge, left, right) else {
@@ -58,6 +60,19 @@ impl TrackedState {
         };
         let copies = self.copies.copy(alloc)?;
         Ok(Some(TrackedState { state, copies }))
+    }
+
+    /// The edge of a comparison learns in its place what the copies of its sides learn. The copies stay what they are.
+    pub fn tell(&self, edge: &mut Option<AbsState>, left: Register, right: &Operand)
+        ensures sound { (lengths : Lengths) (s : State) → Bear (kept self.now.copies) s
+            → WithinState edge.old lengths s → WithinTracked (with_copies edge.new self.now.copies) lengths s }
+        ensures rule { (was : Option Situation) → IsSituationIn edge.old was
+            → IsTrackedIn (with_copies edge.new self.now.copies)
+            (rules.told_edge left right.now (marking_in self.now) was) }
+        ensures learns { IfSome (with_copies edge.new self.now.copies) (λ b. LearnsFrom edge.old b.state) }
+        ensures untracked { kept self.now.copies ≡ None → edge.new ≡ edge.old }
+    {
+        self.copies.tell_edge_in(edge, left, right);
     }
 
     /// The states after a comparison that holds, and after one that doesn't.
@@ -76,6 +91,9 @@ impl TrackedState {
             → IfOk result (λ edges. LieBelowIn k edges.taken) }
         ensures untaken_below { (m k : ℕ) → m ≤ k → LieBelow m (kept self.now.copies)
             → IfOk result (λ edges. LieBelowIn k edges.untaken) }
+        ensures taken_copies { IfOk result (λ edges. IfSome edges.taken (λ b. kept b.copies ≡ kept self.now.copies)) }
+        ensures untaken_copies { IfOk result (λ edges. IfSome edges.untaken
+            (λ b. kept b.copies ≡ kept self.now.copies)) }
         ensures regions { (r : ℕ) (p q : LentAddress) → right.now ≡ Operand.Source r → width ≡ Full → IsOrder comparison
             → register_at self.now.state.registers left ≡ Set (Lent p)
             → register_at self.now.state.registers r ≡ Set (Lent q) → p.region ≡ q.region

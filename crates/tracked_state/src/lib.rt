@@ -6,7 +6,7 @@
 #![tactic(auto)]
 
 pub mod branch;
-mod join;
+pub mod join;
 pub mod state;
 pub mod step;
 pub mod stop;

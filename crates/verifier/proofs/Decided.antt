@@ -11,8 +11,9 @@ use Rattle.bpf_words.specs.declared.instruction.Insn.{Insn}
 use Rattle.bpf_words.specs.Flow.{StartsAt}
 use Rattle.semantics.specs.Step.{Program}
 use Rattle.abstract_state.specs.declared.refusal.Refusal.{Refusal}
-use Rattle.abstract_state.specs.declared.state.AbsState.{AbsState}
-use Rattle.abstract_state.specs.Situation.{Situation, IsSituation, IsSituationIn, situation_of, entry}
+use Rattle.tracked_state.specs.declared.state.TrackedState.{TrackedState}
+use Rattle.tracked_state.specs.Tracked.{TrackedSituation, IsTracked, IsTrackedIn, tracked_of}
+use Rattle.tracked_state.specs.Rules.{entry}
 use Rattle.verifier.specs.declared.refusal.VerifyError.{VerifyError}
 use Rattle.verifier.specs.declared.refusal.VerifyError.TheVariants.{Structure, State as StateRefused, OutOfMemory}
 use Rattle.verifier.specs.Structure.{IsStructured}
@@ -23,61 +24,61 @@ use Rattle.verifier.specs.Decided.{WaitsFrom, Awaits, Passes, NamesSlot, NamesFi
 use Rattle.verifier.proofs.Deciding.{trimmed_is, some_is, none_is, either_none}
 
 -- ---- what arrives at a slot
-trimmed_in : (o : Option AbsState) (x : Option Situation) → IsSituationIn o x → IsSituationIn o (option_map trimmed x)
+trimmed_in : (o : Option TrackedState) (x : Option TrackedSituation) → IsTrackedIn o x → IsTrackedIn o (option_map trimmed x)
 trimmed_in o None is = is
 trimmed_in o (Some s) (a, there, is) = (a, there, trimmed_is a s is)
 
-pub arrives_at : (profile : Profile) (a : AbsState) (falling here : Option Situation) → ((s : Situation) → IsSituation a s → trimmed s ≡ situation_of a) → IsSituationIn (Some a) (either_way profile falling here) → arrived profile falling here ≡ Some (situation_of a)
+pub arrives_at : (profile : Profile) (a : TrackedState) (falling here : Option TrackedSituation) → ((s : TrackedSituation) → IsTracked a s → trimmed s ≡ tracked_of a) → IsTrackedIn (Some a) (either_way profile falling here) → arrived profile falling here ≡ Some (tracked_of a)
 arrives_at profile a falling here whole is =
     let (s, same, one) = some_is a (either_way profile falling here) is in
-    ap (option_map trimmed) same ∙ ap (λ (t : Situation). Some t) (whole s one)
+    ap (option_map trimmed) same ∙ ap (λ (t : TrackedSituation). Some t) (whole s one)
 
-pub arrives_nowhere : (profile : Profile) (falling here : Option Situation) → IsSituationIn None (either_way profile falling here) → arrived profile falling here ≡ None
+pub arrives_nowhere : (profile : Profile) (falling here : Option TrackedSituation) → IsTrackedIn None (either_way profile falling here) → arrived profile falling here ≡ None
 arrives_nowhere profile falling here is = ap (option_map trimmed) (none_is (either_way profile falling here) is)
 
-pub arrived_once : (profile : Profile) (falling here : Option Situation) → arrived profile (either_way profile falling here) None ≡ arrived profile falling here
+pub arrived_once : (profile : Profile) (falling here : Option TrackedSituation) → arrived profile (either_way profile falling here) None ≡ arrived profile falling here
 arrived_once profile falling here = ap (option_map trimmed) (either_none profile (either_way profile falling here))
 
 -- what waits beyond a slot is as it was
 pub waits_beyond : (old new : Waiting) (slot : ℕ) (w : Waits) → ((other : ℕ) → other ≢ slot → waiting_at new other ≡ waiting_at old other) → WaitsFrom (slot + 1) old w → WaitsFrom (slot + 1) new w
 waits_beyond old new slot w others waits at on =
     let apart : at ≢ slot = λ same. omega (arith, on, same) in
-    subst (λ x. IsSituationIn x (w at)) (sym (others at apart)) (waits at on)
+    subst (λ x. IsTrackedIn x (w at)) (sym (others at apart)) (waits at on)
 
 pub waits_after : (waiting : Waiting) (slot : ℕ) (w : Waits) → WaitsFrom slot waiting w → WaitsFrom (slot + 1) waiting w
 waits_after waiting slot w waits at on = waits at (omega (arith, on))
 
-pub passes_dead : (profile : Profile) (slot : ℕ) (insn : Insn) (known : Option Situation) (w : Waits) (waiting : Waiting) → known ≡ None → WaitsFrom (slot + 1) waiting w → Passes profile slot insn known w None waiting
+pub passes_dead : (profile : Profile) (slot : ℕ) (insn : Insn) (known : Option TrackedSituation) (w : Waits) (waiting : Waiting) → known ≡ None → WaitsFrom (slot + 1) waiting w → Passes profile slot insn known w None waiting
 unfolding passed
 passes_dead profile slot insn known w waiting none waits =
     subst (λ o. Passes profile slot insn o w None waiting) (sym none)
     (record { allowed = λ fault bad. bad; awaits = record { falls = refl; waits = waits } })
 
-pub names_here : (profile : Profile) (slot : ℕ) (insn : Insn) (known : Option Situation) (fault : Refusal) → Refuses profile insn known fault → NamesSlot profile slot insn known (StateRefused slot fault)
+pub names_here : (profile : Profile) (slot : ℕ) (insn : Insn) (known : Option TrackedSituation) (fault : Refusal) → Refuses profile slot insn known fault → NamesSlot profile slot insn known (StateRefused slot fault)
 names_here profile slot insn known fault bad at other e =
     let same : slot ≡ at = cc in
     let one : fault ≡ other = cc in
-    (sym same, subst (λ f. Refuses profile insn known f) one bad)
+    (sym same, subst (λ f. Refuses profile slot insn known f) one bad)
 
 pub le_self : (n : ℕ) → n ≤ n
 le_self n = omega arith
 
 -- ---- over the slots
-pub awaits_first : (profile : Profile) (program : Program) (a : AbsState) (waiting : Waiting) → IsSituation a entry → ((slot : ℕ) → waiting_at waiting slot ≡ None) → Awaits 0 (Some a) waiting (awaited_at profile program 0)
+pub awaits_first : (profile : Profile) (program : Program) (a : TrackedState) (waiting : Waiting) → IsTracked a (entry profile) → ((slot : ℕ) → waiting_at waiting slot ≡ None) → Awaits 0 (Some a) waiting (awaited_at profile program 0)
 unfolding awaited_at
 awaits_first profile program a waiting is nothing = record { falls = (a, refl, is); waits = λ at on. nothing at }
 
 pub sound_first : (profile : Profile) (program : Program) → IsStructured program → IsAllowedBelow profile program 0
 sound_first profile program structured = record { structured = structured; below = λ slot fault few. absurd (omega (arith, few)) }
 
-pub awaits_over : (profile : Profile) (program : Program) (slot : ℕ) (insn : Insn) (o : Option AbsState) (waiting : Waiting) → StartsAt program slot insn
+pub awaits_over : (profile : Profile) (program : Program) (slot : ℕ) (insn : Insn) (o : Option TrackedState) (waiting : Waiting) → StartsAt program slot insn
     → (let a = awaited_at profile program slot in Passes profile slot insn (arrived profile a.falling (a.waiting slot)) a.waiting o waiting → Awaits (slot + 1) o waiting (awaited_at profile program (slot + 1)))
 unfolding awaited_at stepped_over
 awaits_over profile program slot insn o waiting starts passes =
     let next = passes.awaits in
     rw add-one (rw starts (rw add-one at next))
 
-pub awaits_second : (profile : Profile) (program : Program) (slot : ℕ) (o : Option AbsState) (waiting : Waiting) → slice_get program slot ≡ Some None → IsSituationIn o (awaited_at profile program slot).falling → WaitsFrom (slot + 1) waiting (awaited_at profile program slot).waiting → Awaits (slot + 1) o waiting (awaited_at profile program (slot + 1))
+pub awaits_second : (profile : Profile) (program : Program) (slot : ℕ) (o : Option TrackedState) (waiting : Waiting) → slice_get program slot ≡ Some None → IsTrackedIn o (awaited_at profile program slot).falling → WaitsFrom (slot + 1) waiting (awaited_at profile program slot).waiting → Awaits (slot + 1) o waiting (awaited_at profile program (slot + 1))
 unfolding awaited_at stepped_over
 awaits_second profile program slot o waiting second falls waits =
     let next : Awaits (slot + 1) o waiting (awaited_at profile program slot) = record { falls = falls; waits = waits } in
@@ -86,9 +87,9 @@ awaits_second profile program slot o waiting second falls waits =
 same_insn : (program : Program) (slot : ℕ) (one other : Insn) → StartsAt program slot one → StartsAt program slot other → one ≡ other
 same_insn program slot one other e f = same_Some one other (same_Some (Some one) (Some other) (sym e ∙ f))
 
-refused_there : (profile : Profile) (program : Program) (slot : ℕ) (insn : Insn) (fault : Refusal) → StartsAt program slot insn → IsRefusedAt profile program slot fault → Refuses profile insn (known_before profile program slot) fault
+refused_there : (profile : Profile) (program : Program) (slot : ℕ) (insn : Insn) (fault : Refusal) → StartsAt program slot insn → IsRefusedAt profile program slot fault → Refuses profile slot insn (known_before profile program slot) fault
 refused_there profile program slot insn fault starts bad =
-    subst (λ i. Refuses profile i (known_before profile program slot) fault) (same_insn program slot bad.insn insn bad.starts starts) bad.refused
+    subst (λ i. Refuses profile slot i (known_before profile program slot) fault) (same_insn program slot bad.insn insn bad.starts starts) bad.refused
 
 sound_more : (profile : Profile) (program : Program) (slot : ℕ) → IsAllowedBelow profile program slot → ((fault : Refusal) → IsRefusedAt profile program slot fault → ⊥) → IsAllowedBelow profile program (slot + 1)
 sound_more profile program slot sound here = record {
@@ -100,7 +101,7 @@ sound_more profile program slot sound here = record {
       (cases_eq at slot);
 }
 
-pub sound_over : (profile : Profile) (program : Program) (slot : ℕ) (insn : Insn) (o : Option AbsState) (waiting : Waiting) → StartsAt program slot insn → IsAllowedBelow profile program slot
+pub sound_over : (profile : Profile) (program : Program) (slot : ℕ) (insn : Insn) (o : Option TrackedState) (waiting : Waiting) → StartsAt program slot insn → IsAllowedBelow profile program slot
     → (let a = awaited_at profile program slot in Passes profile slot insn (arrived profile a.falling (a.waiting slot)) a.waiting o waiting → IsAllowedBelow profile program (slot + 1))
 unfolding known_before
 sound_over profile program slot insn o waiting starts sound passes =
@@ -118,37 +119,37 @@ names_first profile program slot insn e starts sound names at fault is =
     subst (λ k. FirstRefusal profile program k fault) (sym same)
     (record { before = sound; here = record { insn = insn; starts = starts; refused = bad } })
 
-pub known_is : (profile : Profile) (program : Program) (slot : ℕ) (o : Option AbsState) → (let a = awaited_at profile program slot in IsSituationIn o (either_way profile a.falling (a.waiting slot)) → IsSituationIn o (known_before profile program slot))
+pub known_is : (profile : Profile) (program : Program) (slot : ℕ) (o : Option TrackedState) → (let a = awaited_at profile program slot in IsTrackedIn o (either_way profile a.falling (a.waiting slot)) → IsTrackedIn o (known_before profile program slot))
 unfolding known_before
 known_is profile program slot o is =
     let a = awaited_at profile program slot in
     trimmed_in o (either_way profile a.falling (a.waiting slot)) is
 
 -- ---- what is known before each slot, in a list
-abbrev pub KnownBelow : Profile → Program → ℕ → List (Option AbsState) → Type 0
-KnownBelow profile program count states = (slot : ℕ) → slot < count → IsSituationIn (get_or states slot None) (known_before profile program slot)
+abbrev pub KnownBelow : Profile → Program → ℕ → List (Option TrackedState) → Type 0
+KnownBelow profile program count states = (slot : ℕ) → slot < count → IsTrackedIn (get_or states slot None) (known_before profile program slot)
 
-pub known_none : (profile : Profile) (program : Program) (states : List (Option AbsState)) → KnownBelow profile program 0 states
+pub known_none : (profile : Profile) (program : Program) (states : List (Option TrackedState)) → KnownBelow profile program 0 states
 known_none profile program states slot less = absurd (omega (arith, less))
 
-pub known_more : (profile : Profile) (program : Program) (slot : ℕ) (o : Option AbsState) (states : List (Option AbsState)) → length states ≡ slot → IsSituationIn o (known_before profile program slot) → KnownBelow profile program slot states → KnownBelow profile program (slot + 1) (states ++ o ∷ [])
+pub known_more : (profile : Profile) (program : Program) (slot : ℕ) (o : Option TrackedState) (states : List (Option TrackedState)) → length states ≡ slot → IsTrackedIn o (known_before profile program slot) → KnownBelow profile program slot states → KnownBelow profile program (slot + 1) (states ++ o ∷ [])
 known_more profile program slot o states size here below at less =
     ⊎_elim
     (λ (last : at ≡ slot).
     let end : at ≡ length states = last ∙ sym size in
     let is : get_or (states ++ o ∷ []) at None ≡ o = ap (λ k. get_or (states ++ o ∷ []) k None) end ∙ get_or-append_seam states o [] None in
-    subst (λ k. IsSituationIn (get_or (states ++ o ∷ []) at None) (known_before profile program k)) (sym last) (subst (λ x. IsSituationIn x (known_before profile program slot)) (sym is) here))
+    subst (λ k. IsTrackedIn (get_or (states ++ o ∷ []) at None) (known_before profile program k)) (sym last) (subst (λ x. IsTrackedIn x (known_before profile program slot)) (sym is) here))
     (λ (apart : at ≡ slot → ⊥).
     let under : at < slot = omega arith in
     let is : get_or (states ++ o ∷ []) at None ≡ get_or states at None = get_or-append states (o ∷ []) None at (omega arith) in
-    subst (λ x. IsSituationIn x (known_before profile program at)) (sym is) (below at under))
+    subst (λ x. IsTrackedIn x (known_before profile program at)) (sym is) (below at under))
     (cases_eq at slot)
 
 -- ---- what is answered
 -- a program has one first slot that is refused, for one fault
-same_refusal : (profile : Profile) (insn : Insn) (known : Option Situation) (a b : Refusal) → Refuses profile insn known a → Refuses profile insn known b → a ≡ b
-same_refusal profile insn None a b e f = absurd e
-same_refusal profile insn (Some s) a b e f = cc
+same_refusal : (profile : Profile) (slot : ℕ) (insn : Insn) (known : Option TrackedSituation) (a b : Refusal) → Refuses profile slot insn known a → Refuses profile slot insn known b → a ≡ b
+same_refusal profile slot insn None a b e f = absurd e
+same_refusal profile slot insn (Some s) a b e f = cc
 
 pub one_first : (profile : Profile) (program : Program) (i j : ℕ) (a b : Refusal) → FirstRefusal profile program i a → FirstRefusal profile program j b → (i ≡ j) × (a ≡ b)
 one_first profile program i j a b first second =
@@ -156,7 +157,7 @@ one_first profile program i j a b first second =
     (λ (same : i ≡ j).
     let there : IsRefusedAt profile program i b = subst (λ k. IsRefusedAt profile program k b) (sym same) second.here in
     let here = first.here in
-    (same, same_refusal profile here.insn (known_before profile program i) a b here.refused (refused_there profile program i here.insn b here.starts there)))
+    (same, same_refusal profile i here.insn (known_before profile program i) a b here.refused (refused_there profile program i here.insn b here.starts there)))
     (λ (apart : (i < j) ⊎ (j < i)).
     ⊎_elim
     (λ (less : i < j). absurd (second.before.below i a less first.here))

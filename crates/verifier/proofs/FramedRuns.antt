@@ -19,15 +19,16 @@ use Rattle.abstract_state.specs.declared.state.AbsReg.{AbsReg}
 use Rattle.abstract_state.specs.declared.state.AbsReg.TheVariants.{Unset, Set}
 use Rattle.abstract_state.specs.declared.state.AbsState.{AbsState}
 use Rattle.abstract_state.specs.State.{register_at, slot_at}
-use Rattle.abstract_state.specs.Kinds.{HasNumberAt, IsContextAt, IsStackAt, IsNumberReg, WritesNumber}
-use Rattle.abstract_state.specs.Branch.{LeavesSides}
+use Rattle.abstract_state.specs.Kinds.{HasNumberAt, KeepsKind, IsContextAt, IsStackAt, IsNumberReg, WritesNumber}
 use Rattle.abstract_state.specs.Exact.{AnyNumber}
 use Rattle.abstract_state.specs.Frame.{IsStackByte, IsMarkedAt, AreMarked, StoresSlot}
-use Rattle.abstract_state.specs.Guard.{LeavesOthers, stack_read, stack_read_signed, stored}
+use Rattle.abstract_state.specs.Guard.{stack_read, stack_read_signed, stored}
 use Rattle.abstract_state.proofs.Exact.{any_is_number}
+use Rattle.abstract_state.proofs.KindLaws.{keeps_self}
+use Rattle.verifier.proofs.Learnt.{IsAside, aside_keeps, keeps_context, keeps_stack, bytes_stay}
 use Rattle.verifier.specs.Plain.{IsFree, IsFreeOperand, Leads, Path, begins, goes, with_written}
 use Rattle.verifier.specs.Framed.{byte_at, IsFramedInsn, StoresByte, LoadsByte, Unstored, at_first, spared, IsFramed}
-use Rattle.verifier.specs.Arises.{IsGranted, Takes, TakesNumbers, Arises, first, fell, jumped, joined, MayRefuse, of_numbers, of_row, of_store}
+use Rattle.verifier.specs.Arises.{IsGranted, Leaves, Takes, TakesNumbers, Arises, first, fell, jumped, joined, MayRefuse, of_numbers, of_row, of_store}
 use Rattle.verifier.proofs.PlainRuns.{Known, nothing_in, is_written, not_in, operand_number, reads}
 use Rattle.verifier.proofs.Taking.{writes_takes}
 
@@ -99,24 +100,31 @@ reads_in program slot a insn framed at starts = record {
 }
 
 -- ---- what an instruction leaves
-side_leaves : (register left : ℕ) (right : Operand) (a b : AbsState) → ((d : ℕ) → IsFree d → register ≢ d) → IsFree left → IsFreeOperand right → LeavesSides left right a b → register_at b.registers register ≡ register_at a.registers register
-side_leaves register left (Immediate value) a b fixed free operand leaves = leaves.others register (fixed left free) (λ e. cc)
-side_leaves register left (Source other) a b fixed free operand leaves = leaves.others register (fixed left free) (λ e. let same : register ≡ other = cc in fixed other operand same)
+is_aside : (register left : ℕ) (right : Operand) → register < 11 → ((d : ℕ) → IsFree d → register ≢ d) → IsFree left → IsFreeOperand right → IsAside left right register
+is_aside register left (Immediate value) few fixed free operand = record { few = few; left = fixed left free; right = λ e. cc }
+is_aside register left (Source other) few fixed free operand = record {
+  few = few;
+  left = fixed left free;
+  right = λ e. let same : register ≡ other = cc in fixed other operand same;
+}
 
-leaves : (register : ℕ) (a b : AbsState) (insn : Insn) → ((d : ℕ) → IsFree d → register ≢ d) → IsFramedInsn insn → LeavesOthers a insn b → register_at b.registers register ≡ register_at a.registers register
-leaves register a b (Compute w op d o) fixed (free, fo) others = others.others register (fixed d free)
-leaves register a b (Negate w d) fixed free others = others.others register (fixed d free)
-leaves register a b (Extend x d r) fixed (free, fr) others = others.others register (fixed d free)
-leaves register a b (Convert c x d) fixed free others = others.others register (fixed d free)
-leaves register a b (Jump distance) fixed p others = ap (λ (s : AbsState). register_at s.registers register) others
-leaves register a b (JumpLong distance) fixed p others = ap (λ (s : AbsState). register_at s.registers register) others
-leaves register a b (Branch w c l r distance) fixed (fl, fr) others = side_leaves register l r a b fixed fl fr others
-leaves register a b (Load z d base o) fixed (inl (free, fb, ff)) others = others.others register (fixed d free)
-leaves register a b (Load z d base o) fixed (inr (free, within)) others = others.others register (fixed d free)
-leaves register a b (LoadSigned z d base o) fixed (free, within) others = others.others register (fixed d free)
-leaves register a b (Store z base o v) fixed p others = ap (λ (regs : List AbsReg). register_at regs register) others
-leaves register a b (LoadWide d v) fixed free others = others.others register (fixed d free)
-leaves register a b Exit fixed p others = ap (λ (s : AbsState). register_at s.registers register) others
+same_kind : (a b : AbsState) (register : ℕ) → register_at b.registers register ≡ register_at a.registers register → KeepsKind (register_at a.registers register) (register_at b.registers register)
+same_kind a b register same = subst (λ (r : AbsReg). KeepsKind (register_at a.registers register) r) (sym same) (keeps_self (register_at a.registers register))
+
+leaves : (profile : Profile) (register : ℕ) (a b : AbsState) (insn : Insn) → register < 11 → ((d : ℕ) → IsFree d → register ≢ d) → IsFramedInsn insn → Leaves profile a insn b → KeepsKind (register_at a.registers register) (register_at b.registers register)
+leaves profile register a b (Compute w op d o) few fixed (free, fo) left = same_kind a b register (left.0.others register (fixed d free))
+leaves profile register a b (Negate w d) few fixed free left = same_kind a b register (left.0.others register (fixed d free))
+leaves profile register a b (Extend x d r) few fixed (free, fr) left = same_kind a b register (left.0.others register (fixed d free))
+leaves profile register a b (Convert c x d) few fixed free left = same_kind a b register (left.0.others register (fixed d free))
+leaves profile register a b (Jump distance) few fixed p left = same_kind a b register (ap (λ (s : AbsState). register_at s.registers register) left.0)
+leaves profile register a b (JumpLong distance) few fixed p left = same_kind a b register (ap (λ (s : AbsState). register_at s.registers register) left.0)
+leaves profile register a b (Branch w c l r distance) few fixed (fl, fr) left = aside_keeps l r register a b (is_aside register l r few fixed fl fr) left.0
+leaves profile register a b (Load z d base o) few fixed (inl (free, fb, ff)) left = same_kind a b register (left.0.others register (fixed d free))
+leaves profile register a b (Load z d base o) few fixed (inr (free, within)) left = same_kind a b register (left.0.others register (fixed d free))
+leaves profile register a b (LoadSigned z d base o) few fixed (free, within) left = same_kind a b register (left.0.others register (fixed d free))
+leaves profile register a b (Store z base o v) few fixed p left = same_kind a b register (ap (λ (regs : List AbsReg). register_at regs register) left.0)
+leaves profile register a b (LoadWide d v) few fixed free left = same_kind a b register (left.0.others register (fixed d free))
+leaves profile register a b Exit few fixed p left = same_kind a b register (ap (λ (s : AbsState). register_at s.registers register) left.0)
 
 loaded : (a b : AbsState) (insn : Insn) (d : ℕ) → written_by insn ≡ Some d → ((i : ℕ) → i ≢ d → register_at b.registers i ≡ register_at a.registers i) → IsNumberReg (register_at b.registers d) → TakesNumbers a insn b
 loaded a b insn d writes others number =
@@ -134,20 +142,25 @@ takes_numbers profile a b (LoadWide d v) is from takes = takes.numbers (reads a 
 takes_numbers profile a b Exit is from takes = takes.numbers (reads a Exit is from.context from.numbers)
 takes_numbers profile a b (Load z d base o) (inl plain) from takes = takes.numbers (reads a (Load z d base o) plain from.context from.numbers)
 takes_numbers profile a b (Load z d base o) (inr (free, (is, within))) from takes =
-    loaded a b (Load z d base o) d refl takes.others.others
+    loaded a b (Load z d base o) d refl takes.leaves.0.others
     (any_is_number _ (takes.yields d AnyNumber (stack_read z d base (byte_at o) o (at_frame a base o is from.frame) (load_marked a (Load z d base o) o (bytes_in z) within (λ p low high. (is, (low, high))) from))))
 takes_numbers profile a b (LoadSigned z d base o) (free, (is, within)) from takes =
-    loaded a b (LoadSigned z d base o) d refl takes.others.others
+    loaded a b (LoadSigned z d base o) d refl takes.leaves.0.others
     (any_is_number _ (takes.yields d AnyNumber (stack_read_signed z d base (byte_at o) o (at_frame a base o is from.frame) (load_marked a (LoadSigned z d base o) o (bytes_in_signed z) within (λ p low high. (low, high)) from))))
 takes_numbers profile a b (Store z base o v) is from takes = record {
   written = λ i e. absurd (cc);
-  kept = λ i was. subst IsNumberReg (ap (λ (regs : List AbsReg). register_at regs i) (sym takes.others)) was;
+  kept = λ i was. subst IsNumberReg (ap (λ (regs : List AbsReg). register_at regs i) (sym takes.leaves.0)) was;
 }
 
 -- ---- the bytes that are set
 same_bytes : (program : Program) (slot to p : ℕ) (a b : AbsState) (insn : Insn) → StartsAt program slot insn → Leads insn slot to → b.stack ≡ a.stack → (StoresByte insn p → ⊥) → IsMarkedAt a.stack p ⊎ Unstored program p slot → IsMarkedAt b.stack p ⊎ Unstored program p to
 same_bytes program slot to p a b insn starts leads same none (inl marked) = inl (subst (λ (s : List Slot). IsMarkedAt s p) (sym same) marked)
 same_bytes program slot to p a b insn starts leads same none (inr path) = inr (spared path starts leads none)
+
+-- past a comparison each byte that was set for sure is
+told_bytes : (program : Program) (slot to p : ℕ) (a b : AbsState) (insn : Insn) → StartsAt program slot insn → Leads insn slot to → (IsMarkedAt a.stack p → IsMarkedAt b.stack p) → (StoresByte insn p → ⊥) → IsMarkedAt a.stack p ⊎ Unstored program p slot → IsMarkedAt b.stack p ⊎ Unstored program p to
+told_bytes program slot to p a b insn starts leads stay none (inl marked) = inl (stay marked)
+told_bytes program slot to p a b insn starts leads stay none (inr path) = inr (spared path starts leads none)
 
 store_bytes : (program : Program) (slot to p : ℕ) (a b : AbsState) (z : Size) (base : ℕ) (o : ℤ) (v : Operand) → StartsAt program slot (Store z base o v) → Leads (Store z base o v) slot to → p < 512 → ((i : ℕ) → i < 64 → StoresSlot (byte_at o) (bytes_in z) i (slot_at a.stack i) (slot_at b.stack i)) → IsMarkedAt a.stack p ⊎ Unstored program p slot → IsMarkedAt b.stack p ⊎ Unstored program p to
 store_bytes program slot to p a b z base o v starts leads less stores (inl marked) = inl ((stores (p / 8) (omega arith)).kept (p % 8) (omega arith) marked)
@@ -162,17 +175,17 @@ store_bytes program slot to p a b z base o v starts leads less stores (inr path)
     (cases_lt p (byte_at o))
 
 bytes_after : (profile : Profile) (program : Program) (slot to p : ℕ) (a b : AbsState) (insn : Insn) → IsFramedInsn insn → ReadsIn a insn → StartsAt program slot insn → Leads insn slot to → Takes profile a insn b → p < 512 → IsMarkedAt a.stack p ⊎ Unstored program p slot → IsMarkedAt b.stack p ⊎ Unstored program p to
-bytes_after profile program slot to p a b (Compute w op d o) is from starts leads takes less was = same_bytes program slot to p a b (Compute w op d o) starts leads takes.memory.0 (λ none. none) was
-bytes_after profile program slot to p a b (Negate w d) is from starts leads takes less was = same_bytes program slot to p a b (Negate w d) starts leads takes.memory.0 (λ none. none) was
-bytes_after profile program slot to p a b (Extend x d r) is from starts leads takes less was = same_bytes program slot to p a b (Extend x d r) starts leads takes.memory.0 (λ none. none) was
-bytes_after profile program slot to p a b (Convert c x d) is from starts leads takes less was = same_bytes program slot to p a b (Convert c x d) starts leads takes.memory.0 (λ none. none) was
-bytes_after profile program slot to p a b (Jump distance) is from starts leads takes less was = same_bytes program slot to p a b (Jump distance) starts leads takes.memory.0 (λ none. none) was
-bytes_after profile program slot to p a b (JumpLong distance) is from starts leads takes less was = same_bytes program slot to p a b (JumpLong distance) starts leads takes.memory.0 (λ none. none) was
-bytes_after profile program slot to p a b (Branch w c l r distance) is from starts leads takes less was = same_bytes program slot to p a b (Branch w c l r distance) starts leads takes.memory.0 (λ none. none) was
-bytes_after profile program slot to p a b (LoadWide d v) is from starts leads takes less was = same_bytes program slot to p a b (LoadWide d v) starts leads takes.memory.0 (λ none. none) was
-bytes_after profile program slot to p a b Exit is from starts leads takes less was = same_bytes program slot to p a b Exit starts leads takes.memory.0 (λ none. none) was
-bytes_after profile program slot to p a b (Load z d base o) is from starts leads takes less was = same_bytes program slot to p a b (Load z d base o) starts leads takes.memory.0 (λ none. none) was
-bytes_after profile program slot to p a b (LoadSigned z d base o) is from starts leads takes less was = same_bytes program slot to p a b (LoadSigned z d base o) starts leads takes.memory.0 (λ none. none) was
+bytes_after profile program slot to p a b (Compute w op d o) is from starts leads takes less was = same_bytes program slot to p a b (Compute w op d o) starts leads takes.leaves.1.0 (λ none. none) was
+bytes_after profile program slot to p a b (Negate w d) is from starts leads takes less was = same_bytes program slot to p a b (Negate w d) starts leads takes.leaves.1.0 (λ none. none) was
+bytes_after profile program slot to p a b (Extend x d r) is from starts leads takes less was = same_bytes program slot to p a b (Extend x d r) starts leads takes.leaves.1.0 (λ none. none) was
+bytes_after profile program slot to p a b (Convert c x d) is from starts leads takes less was = same_bytes program slot to p a b (Convert c x d) starts leads takes.leaves.1.0 (λ none. none) was
+bytes_after profile program slot to p a b (Jump distance) is from starts leads takes less was = same_bytes program slot to p a b (Jump distance) starts leads takes.leaves.1.0 (λ none. none) was
+bytes_after profile program slot to p a b (JumpLong distance) is from starts leads takes less was = same_bytes program slot to p a b (JumpLong distance) starts leads takes.leaves.1.0 (λ none. none) was
+bytes_after profile program slot to p a b (Branch w c l r distance) is from starts leads takes less was = told_bytes program slot to p a b (Branch w c l r distance) starts leads (bytes_stay l r p a b less takes.leaves.0) (λ none. none) was
+bytes_after profile program slot to p a b (LoadWide d v) is from starts leads takes less was = same_bytes program slot to p a b (LoadWide d v) starts leads takes.leaves.1.0 (λ none. none) was
+bytes_after profile program slot to p a b Exit is from starts leads takes less was = same_bytes program slot to p a b Exit starts leads takes.leaves.1.0 (λ none. none) was
+bytes_after profile program slot to p a b (Load z d base o) is from starts leads takes less was = same_bytes program slot to p a b (Load z d base o) starts leads takes.leaves.1.0 (λ none. none) was
+bytes_after profile program slot to p a b (LoadSigned z d base o) is from starts leads takes less was = same_bytes program slot to p a b (LoadSigned z d base o) starts leads takes.leaves.1.0 (λ none. none) was
 bytes_after profile program slot to p a b (Store z base o v) (free, (is, within)) from starts leads takes less was =
     store_bytes program slot to p a b z base o v starts leads less
     (takes.stores (byte_at o) (bytes_in z) (stored z base (byte_at o) o v (at_frame a base o is from.frame) within (operand_number a v free (λ r c f. from.numbers r (Contains-append_right (base ∷ []) (read_operand v) r c) f))))
@@ -185,8 +198,8 @@ carried_at profile program slot to a b insn framed at starts leads takes =
     let from = reads_in program slot a insn framed at starts in
     let taken = takes_numbers profile a b insn is from takes in
     record {
-      context = subst (IsContextAt 0) (sym (leaves 1 a b insn (λ d free e. free.1 (sym e)) is takes.others)) at.context;
-      frame = subst (IsStackAt 512) (sym (leaves 10 a b insn (λ d free e. let below = free.0 in absurd (omega arith)) is takes.others)) at.frame;
+      context = keeps_context 0 (register_at a.registers 1) (register_at b.registers 1) (leaves profile 1 a b insn (omega arith) (λ d free e. free.1 (sym e)) is takes.leaves) at.context;
+      frame = keeps_stack 512 (register_at a.registers 10) (register_at b.registers 10) (leaves profile 10 a b insn (omega arith) (λ d free e. let below = free.0 in absurd (omega arith)) is takes.leaves) at.frame;
       registers = λ i h.
           ⊎_elim
           (λ (wrote : written_by insn ≡ Some i). inl (taken.written i wrote))

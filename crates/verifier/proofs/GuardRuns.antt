@@ -15,14 +15,20 @@ use Rattle.bpf_words.specs.Flow.{StartsAt, jump_of, slots_of, falls_through, wri
 use Rattle.semantics.specs.Step.{Program}
 use Rattle.abstract_state.specs.declared.region.Region.{Region}
 use Rattle.abstract_state.specs.Lent.{begin_field, end_field, limit_of, bound_of, tail_of, Lends}
+use Rattle.abstract_state.specs.declared.address.LentAddress.{LentAddress}
+use Rattle.abstract_state.specs.declared.known.Known.TheVariants.{Lent}
 use Rattle.abstract_state.specs.declared.state.AbsReg.{AbsReg}
+use Rattle.abstract_state.specs.declared.state.AbsReg.TheVariants.{Set}
 use Rattle.abstract_state.specs.declared.state.AbsState.{AbsState}
 use Rattle.abstract_state.specs.State.{register_at}
-use Rattle.abstract_state.specs.Kinds.{HasNumberAt, IsContextAt, IsNumberReg}
+use Rattle.abstract_state.specs.Kinds.{HasNumberAt, IsContextAt}
 use Rattle.abstract_state.specs.Exact.{Fact, LentIn, NumberIn, AnyNumber, Holds, tail_after}
 use Rattle.abstract_state.specs.Guard.{Yields, lent_begin, lent_end, lent_moved, lent_added, copied, lent_read}
 use Rattle.abstract_state.proofs.Exact.{any_is_number, in_is_number, lent_set}
+use Rattle.abstract_state.proofs.KindLaws.{keeps_number}
 use Rattle.abstract_state.proofs.Regions.{limit_low}
+use Rattle.tracked_state.specs.Learning.{LearnsSides}
+use Rattle.verifier.proofs.Learnt.{IsAside, aside_learns, aside_keeps, lent_learns}
 use Rattle.verifier.specs.declared.refusal.StructureFault.TheVariants.{BackwardJump, JumpOut, JumpIntoWide, FallOff, WriteR10}
 use Rattle.verifier.specs.Structure.{IsSound, IsStructured}
 use Rattle.verifier.specs.Guard.{guard, IsGuard}
@@ -108,6 +114,19 @@ HasBegin region a = Holding a 2 (LentIn region 0 0 (Some 0))
 abbrev HasEnds : Region → AbsState → Type 0
 HasEnds region a = HasBegin region a × Holding a 3 (LentIn region 0 (limit_of region) (Some 0))
 
+-- past a comparison r2 is in the region still, and not past its begin
+abbrev IsNearBegin : Region → AbsState → Type 0
+IsNearBegin region a =
+    (p : LentAddress) × (register_at a.registers 2 ≡ Set (Lent p)) × (p.region ≡ region) × (p.offset.range.high ≤ 0)
+
+stays_near : (region : Region) (a b : AbsState) → LearnsSides 4 (Source 3) a b → HasBegin region a → IsNearBegin region b
+stays_near region a b learns begin =
+    let address = lent_set region 0 0 (Some 0) (register_at a.registers 2) begin in
+    let aside : IsAside 4 (Source 3) 2 = record { few = omega arith; left = λ e. omega arith; right = λ e. cc } in
+    let (q, is, same, less) = lent_learns address.0 (register_at a.registers 2) (register_at b.registers 2) address.1 (aside_learns 4 (Source 3) 2 a b aside learns) in
+    let high : address.0.offset.range.high ≡ 0 = address.3.1 in
+    (q, is, sym same ∙ address.2, omega (arith, high, less))
+
 abbrev At : Region → ℕ → ℕ → AbsState → Type 0
 At region n zero a = IsContextAt 0 (register_at a.registers 1)
 At region n (suc zero) a = IsContextAt 0 (register_at a.registers 1) × HasBegin region a
@@ -115,7 +134,7 @@ At region n (suc (suc zero)) a = HasEnds region a
 At region n (suc (suc (suc zero))) a = HasEnds region a × Holding a 4 (LentIn region 0 0 (Some 0))
 At region n (suc (suc (suc (suc zero)))) a = HasEnds region a × Holding a 4 (LentIn region n n (tail_after (Some 0) n))
 At region n (suc (suc (suc (suc (suc zero))))) a = HasEnds region a × Holding a 4 (LentIn region n n (tail_after (Some 0) n)) × HasNumberAt a 0
-At region n (suc (suc (suc (suc (suc (suc zero)))))) a = HasBegin region a × (n ≤ bound_of a.bounds region)
+At region n (suc (suc (suc (suc (suc (suc zero)))))) a = IsNearBegin region a × (n ≤ bound_of a.bounds region)
 At region n (suc (suc (suc (suc (suc (suc (suc zero))))))) a = HasNumberAt a 0
 At region n (suc (suc (suc (suc (suc (suc (suc (suc k)))))))) a = Unit {0}
 
@@ -155,8 +174,8 @@ reads profile region n offset a sized at =
     let inside = sized.within in
     let fits = sized.fits in
     let long = at.1 in
-    let address = lent_set region 0 0 (Some 0) (register_at a.registers 2) at.0 in
-    let high : address.0.offset.range.high ≡ 0 = address.3.1 in
+    let address = at.0 in
+    let high : address.0.offset.range.high ≤ 0 = address.3 in
     let same : bound_of a.bounds address.0.region ≡ bound_of a.bounds region = ap (bound_of a.bounds) address.2 in
     lent_read Byte 0 2 offset address.0 address.1 (omega arith) (omega arith)
 
@@ -173,28 +192,28 @@ row_granted profile region n offset slot insn a sized row_exit at = of_numbers a
 -- what falls into the next slot
 fell_at : (profile : Profile) (region : Region) (n offset slot : ℕ) (insn : Insn) (a b : AbsState) → IsSized profile region n offset → Row region n offset slot insn → At region n slot a → Takes profile a insn b → IsLongBehind a insn b → falls_through insn ≡ true → At region n (slot + slots_of insn) b
 fell_at profile region n offset slot insn a b sized row_begin at takes long falls = (
-  stays a b 1 (IsContextAt 0) (takes.others.others 1 (λ e. omega arith)) at,
+  stays a b 1 (IsContextAt 0) (takes.leaves.0.others 1 (λ e. omega arith)) at,
   takes.yields 2 (LentIn region 0 0 (Some 0)) (lent_begin region 2 1 sized.lends at),
 )
 fell_at profile region n offset slot insn a b sized row_end at takes long falls = (
-  stays a b 2 (Holds (LentIn region 0 0 (Some 0))) (takes.others.others 2 (λ e. omega arith)) at.1,
+  stays a b 2 (Holds (LentIn region 0 0 (Some 0))) (takes.leaves.0.others 2 (λ e. omega arith)) at.1,
   takes.yields 3 (LentIn region 0 (limit_of region) (Some 0)) (lent_end region 3 1 sized.lends at.0),
 )
 fell_at profile region n offset slot insn a b sized row_move at takes long falls = (
-  ends_stay region a b (takes.others.others 2 (λ e. omega arith)) (takes.others.others 3 (λ e. omega arith)) at,
+  ends_stay region a b (takes.leaves.0.others 2 (λ e. omega arith)) (takes.leaves.0.others 3 (λ e. omega arith)) at,
   takes.yields 4 (LentIn region 0 0 (Some 0)) (lent_moved region 4 2 0 (Some 0) at.0),
 )
 fell_at profile region n offset slot insn a b sized row_add at takes long falls = (
-  ends_stay region a b (takes.others.others 2 (λ e. omega arith)) (takes.others.others 3 (λ e. omega arith)) at.0,
+  ends_stay region a b (takes.leaves.0.others 2 (λ e. omega arith)) (takes.leaves.0.others 3 (λ e. omega arith)) at.0,
   takes.yields 4 (LentIn region n n (tail_after (Some 0) n)) (adds profile region n a sized.short at),
 )
 fell_at profile region n offset slot insn a b sized row_zero at takes long falls = (
-  ends_stay region a b (takes.others.others 2 (λ e. omega arith)) (takes.others.others 3 (λ e. omega arith)) at.0,
-  stays a b 4 (Holds (LentIn region n n (tail_after (Some 0) n))) (takes.others.others 4 (λ e. omega arith)) at.1,
+  ends_stay region a b (takes.leaves.0.others 2 (λ e. omega arith)) (takes.leaves.0.others 3 (λ e. omega arith)) at.0,
+  stays a b 4 (Holds (LentIn region n n (tail_after (Some 0) n))) (takes.leaves.0.others 4 (λ e. omega arith)) at.1,
   in_is_number region 0 0 None _ (takes.yields 0 (NumberIn region 0 0 None) (copied region 0 0 (Immediate (pos 0)) refl)),
 )
 fell_at profile region n offset slot insn a b sized row_branch at takes long falls = (
-  stays a b 2 (Holds (LentIn region 0 0 (Some 0))) (takes.others.others 2 (λ e. omega arith) (λ e. cc)) at.0.0,
+  stays_near region a b takes.leaves.0 at.0.0,
   long region n (tests region n a at),
 )
 fell_at profile region n offset slot insn a b sized row_read at takes long falls = any_is_number _ (takes.yields 0 AnyNumber (reads profile region n offset a sized at))
@@ -219,7 +238,9 @@ jump_keeps profile region n offset slot k insn a b row_end at takes jumps = absu
 jump_keeps profile region n offset slot k insn a b row_move at takes jumps = absurd (cc)
 jump_keeps profile region n offset slot k insn a b row_add at takes jumps = absurd (cc)
 jump_keeps profile region n offset slot k insn a b row_zero at takes jumps = absurd (cc)
-jump_keeps profile region n offset slot k insn a b row_branch at takes jumps = stays a b 0 IsNumberReg (takes.others.others 0 (λ e. omega arith) (λ e. cc)) at.2
+jump_keeps profile region n offset slot k insn a b row_branch at takes jumps =
+    let aside : IsAside 4 (Source 3) 0 = record { few = omega arith; left = λ e. omega arith; right = λ e. cc } in
+    keeps_number (register_at a.registers 0) (register_at b.registers 0) (aside_keeps 4 (Source 3) 0 a b aside takes.leaves.0) at.2
 jump_keeps profile region n offset slot k insn a b row_read at takes jumps = absurd (cc)
 jump_keeps profile region n offset slot k insn a b row_exit at takes jumps = absurd (cc)
 

@@ -4,6 +4,8 @@ pub mod Runs
 pub mod Walking
 pub mod Passing
 pub mod Refusals
+pub mod Learnt
+pub mod Telling
 pub mod Taking
 pub mod Arising
 pub mod PlainRuns

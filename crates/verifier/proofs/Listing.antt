@@ -8,15 +8,14 @@ use Rattle.bpf_words.specs.declared.instruction.Insn.{Insn}
 use Rattle.bpf_words.specs.Flow.{StartsAt}
 use Rattle.semantics.specs.State.{State}
 use Rattle.semantics.specs.Step.{Program}
-use Rattle.abstract_state.specs.declared.state.AbsState.{AbsState}
+use Rattle.tracked_state.specs.declared.state.TrackedState.{TrackedState}
 use Rattle.abstract_state.specs.Lent.{Lengths}
 use Rattle.abstract_state.specs.State.{lengths_of, Contains}
 use Rattle.program_reads.specs.declared.reads.Reads.{Reads}
-use Rattle.program_reads.specs.Runs.{ContainsRuns}
 use Rattle.program_reads.specs.Loads.{CoversLoad, CoversRuns}
 use Rattle.program_reads.specs.Marks.{Grows}
 use Rattle.program_reads.proofs.Growing.{covers_load}
-use Rattle.verifier.specs.Reaches.{ListsBelow}
+use Rattle.verifier.specs.Reaches.{TracksRuns, ListsBelow}
 use Rattle.verifier.proofs.Waits.{within_some}
 
 pub lists_none : (profile : Profile) (program : Program) (reads : Reads) → ListsBelow profile program 0 reads
@@ -25,18 +24,18 @@ lists_none profile program reads span s insn which reached less = absurd (omega 
 one_insn : (program : Program) (at slot : ℕ) (i j : Insn) → at ≡ slot → StartsAt program at i → StartsAt program slot j → j ≡ i
 one_insn program at slot i j here starts others = let there = subst (λ k. StartsAt program k i) here starts in cc
 
-pub lists_more : (profile : Profile) (program : Program) (slot : ℕ) (insn : Insn) (known : AbsState) (old new : Reads) → StartsAt program slot insn → ContainsRuns profile program slot (Some known) → Grows old new
-    → ((lengths : Lengths) (s : State) → Contains known lengths s → CoversLoad new s insn) → ListsBelow profile program slot old → ListsBelow profile program (slot + 1) new
+pub lists_more : (profile : Profile) (program : Program) (slot : ℕ) (insn : Insn) (known : TrackedState) (old new : Reads) → StartsAt program slot insn → TracksRuns profile program slot (Some known) → Grows old new
+    → ((lengths : Lengths) (s : State) → Contains known.state lengths s → CoversLoad new s insn) → ListsBelow profile program slot old → ListsBelow profile program (slot + 1) new
 lists_more profile program slot insn known old new starts contains grows covers below span s other which reached less there =
     ⊎_elim
     (λ (here : s.slot ≡ slot).
     let within = within_some (Some known) known (lengths_of span) s refl (contains span s which reached here) in
-    subst (λ i. CoversLoad new s i) (one_insn program s.slot slot other insn here there starts) (covers (lengths_of span) s within))
+    subst (λ i. CoversLoad new s i) (one_insn program s.slot slot other insn here there starts) (covers (lengths_of span) s within.state))
     (λ (apart : s.slot ≡ slot → ⊥). covers_load old new grows s other (below span s other which reached (omega arith) there))
     (cases_eq s.slot slot)
 
 -- where no run comes to a slot, it reads nothing
-pub lists_dead : (profile : Profile) (program : Program) (slot : ℕ) (reads : Reads) → ContainsRuns profile program slot None → ListsBelow profile program slot reads → ListsBelow profile program (slot + 1) reads
+pub lists_dead : (profile : Profile) (program : Program) (slot : ℕ) (reads : Reads) → TracksRuns profile program slot None → ListsBelow profile program slot reads → ListsBelow profile program (slot + 1) reads
 lists_dead profile program slot reads contains below span s insn which reached less there =
     ⊎_elim
     (λ (here : s.slot ≡ slot). absurd (let within = contains span s which reached here in let is = within.1 in cc))

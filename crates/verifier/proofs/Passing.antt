@@ -13,15 +13,16 @@ use Rattle.semantics.specs.declared.FaultKind.{FaultKind}
 use Rattle.semantics.specs.State.{State, register_of, operand_in}
 use Rattle.semantics.specs.Step.{Moved, On, Returns}
 use Rattle.semantics.specs.Value.{cut, holds_of}
-use Rattle.abstract_state.specs.declared.state.AbsState.{AbsState}
+use Rattle.tracked_state.specs.declared.state.TrackedState.{TrackedState}
 use Rattle.abstract_state.specs.Lent.{Lengths}
-use Rattle.abstract_state.specs.State.{Span, lengths_of, Contains, WithinState, does}
-use Rattle.abstract_state.specs.Steps.{Lands, distance_of}
-use Rattle.abstract_state.specs.Branch.{Edge}
+use Rattle.abstract_state.specs.State.{Span, lengths_of, does}
+use Rattle.abstract_state.specs.Steps.{distance_of}
+use Rattle.tracked_state.specs.Tracked.{ContainsTracked, WithinTracked}
+use Rattle.tracked_state.specs.Tracking.{LandsTracked, TrackedEdge}
 use Rattle.verifier.specs.Waiting.{Waiting, waiting_at}
 use Rattle.verifier.specs.Walk.{Advances}
 
-pub jump_advances : (span : Span) (s : State) (slot n : ℕ) (insn : Insn) (distance : ℤ) (waiting : Waiting) → does span s insn ≡ Ok (On s distance) → jump_of insn ≡ Some distance → distance ≡ pos n → WithinState (waiting_at waiting (slot + 1 + n)) (lengths_of span) s → Advances (lengths_of span) slot insn None waiting (does span s insn)
+pub jump_advances : (span : Span) (s : State) (slot n : ℕ) (insn : Insn) (distance : ℤ) (waiting : Waiting) → does span s insn ≡ Ok (On s distance) → jump_of insn ≡ Some distance → distance ≡ pos n → WithinTracked (waiting_at waiting (slot + 1 + n)) (lengths_of span) s → Advances (lengths_of span) slot insn None waiting (does span s insn)
 jump_advances span s slot n insn distance waiting e jumps is within =
     subst (λ m. Advances (lengths_of span) slot insn None waiting m) (sym e) (inr (n, is, jumps ∙ ap Some is, within))
 
@@ -54,7 +55,7 @@ straight (Store z x o v) j l b e = tt
 straight (LoadWide d v) j l b e = tt
 straight Exit j l b e = e refl
 
-pub lands_advances : (insn : Insn) (lengths : Lengths) (slot : ℕ) (o : Option AbsState) (waiting : Waiting) (m : Moved) → IsStraight insn → Lands o lengths (distance_of insn) m → Advances lengths slot insn o waiting m
+pub lands_advances : (insn : Insn) (lengths : Lengths) (slot : ℕ) (o : Option TrackedState) (waiting : Waiting) (m : Moved) → IsStraight insn → LandsTracked o lengths (distance_of insn) m → Advances lengths slot insn o waiting m
 lands_advances insn lengths slot o waiting (Ok (Returns value)) is lands = tt
 lands_advances insn lengths slot o waiting (Err kind) is lands = lands
 lands_advances (Compute w op d x) lengths slot o waiting (Ok (On next far)) is (e, within) = inl (0, e, refl, refl, within)
@@ -78,13 +79,13 @@ compares span s width comparison left right distance a b x y = rw (x, y) refl
 same_number : (a b : ℕ) (r : Result ℕ FaultKind) → r ≡ Ok a → r ≡ Ok b → a ≡ b
 same_number a b r e f = let both : Ok a ≡ r = sym e in cc
 
-pub branch_advances : (span : Span) (s : State) (slot n : ℕ) (width : Width) (comparison : Comparison) (left : ℕ) (right : Operand) (distance : ℤ) (a : AbsState) (taken untaken : Option AbsState) (waiting : Waiting) → distance ≡ pos n → Edge a width comparison left right true taken → Edge a width comparison left right false untaken → (WithinState taken (lengths_of span) s → WithinState (waiting_at waiting (slot + 1 + n)) (lengths_of span) s) → Contains a (lengths_of span) s → Advances (lengths_of span) slot (Branch width comparison left right distance) untaken waiting (does span s (Branch width comparison left right distance))
+pub branch_advances : (span : Span) (s : State) (slot n : ℕ) (width : Width) (comparison : Comparison) (left : ℕ) (right : Operand) (distance : ℤ) (a : TrackedState) (taken untaken : Option TrackedState) (waiting : Waiting) → distance ≡ pos n → TrackedEdge a width comparison left right true taken → TrackedEdge a width comparison left right false untaken → (WithinTracked taken (lengths_of span) s → WithinTracked (waiting_at waiting (slot + 1 + n)) (lengths_of span) s) → ContainsTracked a (lengths_of span) s → Advances (lengths_of span) slot (Branch width comparison left right distance) untaken waiting (does span s (Branch width comparison left right distance))
 branch_advances span s slot n width comparison left right distance a taken untaken waiting is holds fails added contains =
     let (x, (y, ex, ey, when_true)) = holds span s contains in
     let (v, (w, ev, ew, when_false)) = fails span s contains in
     let same_left : v ≡ x = same_number v x (register_of s left) ev ex in
     let same_right : w ≡ y = same_number w y (operand_in s right) ew ey in
-    let at_false : holds_of comparison width (cut width x) (cut width y) ≡ false → WithinState untaken (lengths_of span) s =
+    let at_false : holds_of comparison width (cut width x) (cut width y) ≡ false → WithinTracked untaken (lengths_of span) s =
     λ no. when_false (ap (λ m. holds_of comparison width (cut width m) (cut width w)) same_left ∙ ap (λ m. holds_of comparison width (cut width x) (cut width m)) same_right ∙ no) in
     let done = compares span s width comparison left right distance x y ex ey in
     subst (λ m. Advances (lengths_of span) slot (Branch width comparison left right distance) untaken waiting m) (sym done)
@@ -97,12 +98,12 @@ branch_advances span s slot n width comparison left right distance a taken untak
     (inl (0, refl, refl, refl, at_false failing)))
     (cases_Bool (holds_of comparison width (cut width x) (cut width y))))
 
-pub insn_advances : (span : Span) (s : State) (slot n target : ℕ) (insn : Insn) (width : Width) (comparison : Comparison) (left : ℕ) (right : Operand) (distance : ℤ) (a : AbsState) (taken untaken next : Option AbsState) (waiting : Waiting) → insn ≡ Branch width comparison left right distance → next ≡ untaken → target ≡ slot + 1 + n → distance ≡ pos n → Edge a width comparison left right true taken → Edge a width comparison left right false untaken → (WithinState taken (lengths_of span) s → WithinState (waiting_at waiting target) (lengths_of span) s) → Contains a (lengths_of span) s → Advances (lengths_of span) slot insn next waiting (does span s insn)
+pub insn_advances : (span : Span) (s : State) (slot n target : ℕ) (insn : Insn) (width : Width) (comparison : Comparison) (left : ℕ) (right : Operand) (distance : ℤ) (a : TrackedState) (taken untaken next : Option TrackedState) (waiting : Waiting) → insn ≡ Branch width comparison left right distance → next ≡ untaken → target ≡ slot + 1 + n → distance ≡ pos n → TrackedEdge a width comparison left right true taken → TrackedEdge a width comparison left right false untaken → (WithinTracked taken (lengths_of span) s → WithinTracked (waiting_at waiting target) (lengths_of span) s) → ContainsTracked a (lengths_of span) s → Advances (lengths_of span) slot insn next waiting (does span s insn)
 insn_advances span s slot n target insn width comparison left right distance a taken untaken next waiting is goes to forward holds fails added contains =
     subst (λ i. Advances (lengths_of span) slot i next waiting (does span s i)) (sym is)
     (subst (λ o. Advances (lengths_of span) slot (Branch width comparison left right distance) o waiting (does span s (Branch width comparison left right distance))) (sym goes)
     (branch_advances span s slot n width comparison left right distance a taken untaken waiting forward holds fails
-    (λ within. subst (λ k. WithinState (waiting_at waiting k) (lengths_of span) s) to (added within))
+    (λ within. subst (λ k. WithinTracked (waiting_at waiting k) (lengths_of span) s) to (added within))
     contains))
 
 -- what follows from a promise on success

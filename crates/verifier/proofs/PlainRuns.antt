@@ -16,10 +16,9 @@ use Rattle.semantics.specs.Step.{Program}
 use Rattle.abstract_state.specs.declared.state.AbsState.{AbsState}
 use Rattle.abstract_state.specs.State.{register_at}
 use Rattle.abstract_state.specs.Kinds.{HasNumberAt, HasNumberIn, IsContextAt, ReadsFirst, ReadsNumbers}
-use Rattle.abstract_state.specs.Branch.{LeavesSides}
-use Rattle.abstract_state.specs.Guard.{LeavesOthers}
 use Rattle.verifier.specs.Plain.{IsFree, IsFreeOperand, IsPlainInsn, IsPlain, Leads, Path, begins, goes, with_written}
-use Rattle.verifier.specs.Arises.{Takes, Arises, first, fell, jumped, joined, MayRefuse, of_numbers}
+use Rattle.verifier.proofs.Learnt.{IsAside, aside_keeps, keeps_context}
+use Rattle.verifier.specs.Arises.{Leaves, Takes, Arises, first, fell, jumped, joined, MayRefuse, of_numbers}
 
 pub nothing_in : (i : ℕ) → Contains [] i → ⊥
 nothing_in i (k, h, e) = omega arith
@@ -93,30 +92,37 @@ reads_at program slot a insn plain at starts =
     (at.registers r (omega arith)))
 
 -- ---- what an instruction leaves
-is_no_side : (left : ℕ) (right : Operand) (a b : AbsState) → IsFree left → IsFreeOperand right → LeavesSides left right a b → register_at b.registers 1 ≡ register_at a.registers 1
-is_no_side left (Immediate value) a b free operand leaves = leaves.others 1 (λ e. free.1 (sym e)) (λ e. cc)
-is_no_side left (Source register) a b free operand leaves =
-    leaves.others 1 (λ e. free.1 (sym e)) (λ e. let same : register ≡ 1 = cc in operand.1 same)
+is_no_side : (left : ℕ) (right : Operand) → IsFree left → IsFreeOperand right → IsAside left right 1
+is_no_side left (Immediate value) free operand = record { few = omega arith; left = λ e. free.1 (sym e); right = λ e. cc }
+is_no_side left (Source register) free operand = record {
+  few = omega arith;
+  left = λ e. free.1 (sym e);
+  right = λ e. let same : register ≡ 1 = cc in operand.1 same;
+}
 
-leaves_r1 : (a b : AbsState) (insn : Insn) → IsPlainInsn insn → LeavesOthers a insn b → register_at b.registers 1 ≡ register_at a.registers 1
-leaves_r1 a b (Compute w op d o) (free, fo) others = others.others 1 (λ e. free.1 (sym e))
-leaves_r1 a b (Negate w d) free others = others.others 1 (λ e. free.1 (sym e))
-leaves_r1 a b (Extend x d r) (free, fr) others = others.others 1 (λ e. free.1 (sym e))
-leaves_r1 a b (Convert c x d) free others = others.others 1 (λ e. free.1 (sym e))
-leaves_r1 a b (Jump distance) p others = ap (λ (s : AbsState). register_at s.registers 1) others
-leaves_r1 a b (JumpLong distance) p others = ap (λ (s : AbsState). register_at s.registers 1) others
-leaves_r1 a b (Branch w c l r distance) (fl, fr) others = is_no_side l r a b fl fr others
-leaves_r1 a b (Load z d base o) (free, fb, ff) others = others.others 1 (λ e. free.1 (sym e))
-leaves_r1 a b (LoadSigned z d base o) p others = absurd p
-leaves_r1 a b (Store z base o v) p others = absurd p
-leaves_r1 a b (LoadWide d v) free others = others.others 1 (λ e. free.1 (sym e))
-leaves_r1 a b Exit p others = ap (λ (s : AbsState). register_at s.registers 1) others
+same_context : (a b : AbsState) → register_at b.registers 1 ≡ register_at a.registers 1 → IsContextAt 0 (register_at a.registers 1) → IsContextAt 0 (register_at b.registers 1)
+same_context a b same at = subst (IsContextAt 0) (sym same) at
+
+leaves_r1 : (profile : Profile) (a b : AbsState) (insn : Insn) → IsPlainInsn insn → Leaves profile a insn b → IsContextAt 0 (register_at a.registers 1) → IsContextAt 0 (register_at b.registers 1)
+leaves_r1 profile a b (Compute w op d o) (free, fo) leaves at = same_context a b (leaves.0.others 1 (λ e. free.1 (sym e))) at
+leaves_r1 profile a b (Negate w d) free leaves at = same_context a b (leaves.0.others 1 (λ e. free.1 (sym e))) at
+leaves_r1 profile a b (Extend x d r) (free, fr) leaves at = same_context a b (leaves.0.others 1 (λ e. free.1 (sym e))) at
+leaves_r1 profile a b (Convert c x d) free leaves at = same_context a b (leaves.0.others 1 (λ e. free.1 (sym e))) at
+leaves_r1 profile a b (Jump distance) p leaves at = same_context a b (ap (λ (s : AbsState). register_at s.registers 1) leaves.0) at
+leaves_r1 profile a b (JumpLong distance) p leaves at = same_context a b (ap (λ (s : AbsState). register_at s.registers 1) leaves.0) at
+leaves_r1 profile a b (Branch w c l r distance) (fl, fr) leaves at =
+    keeps_context 0 (register_at a.registers 1) (register_at b.registers 1) (aside_keeps l r 1 a b (is_no_side l r fl fr) leaves.0) at
+leaves_r1 profile a b (Load z d base o) (free, fb, ff) leaves at = same_context a b (leaves.0.others 1 (λ e. free.1 (sym e))) at
+leaves_r1 profile a b (LoadSigned z d base o) p leaves at = absurd p
+leaves_r1 profile a b (Store z base o v) p leaves at = absurd p
+leaves_r1 profile a b (LoadWide d v) free leaves at = same_context a b (leaves.0.others 1 (λ e. free.1 (sym e))) at
+leaves_r1 profile a b Exit p leaves at = same_context a b (ap (λ (s : AbsState). register_at s.registers 1) leaves.0) at
 
 carried_at : (profile : Profile) (program : Program) (slot to : ℕ) (a b : AbsState) (insn : Insn) → IsPlain program → PlainAt program slot a → StartsAt program slot insn → Leads insn slot to → Takes profile a insn b → PlainAt program to b
 carried_at profile program slot to a b insn plain at starts leads takes =
     let taken = takes.numbers (reads_at program slot a insn plain at starts) in
     record {
-      context = subst (IsContextAt 0) (sym (leaves_r1 a b insn (plain.scalar slot insn starts) takes.others)) at.context;
+      context = leaves_r1 profile a b insn (plain.scalar slot insn starts) takes.leaves at.context;
       registers = λ i h.
           ⊎_elim
           (λ (wrote : written_by insn ≡ Some i). inl (taken.written i wrote))

@@ -13,9 +13,10 @@ use Rattle.bpf_words.specs.Flow.{StartsAt, IsPaired, jump_of, slots_of, falls_th
 use Rattle.semantics.specs.declared.FaultKind.TheVariants.{OutOfCode}
 use Rattle.semantics.specs.State.{State, start}
 use Rattle.semantics.specs.Step.{Program, Moved, On, Returns, Next, then_with, land, step_at, step}
-use Rattle.abstract_state.specs.declared.state.AbsState.{AbsState}
+use Rattle.tracked_state.specs.declared.state.TrackedState.{TrackedState}
 use Rattle.abstract_state.specs.Lent.{Lengths}
-use Rattle.abstract_state.specs.State.{Span, lengths_of, Contains, WithinState, does}
+use Rattle.abstract_state.specs.State.{Span, lengths_of, does}
+use Rattle.tracked_state.specs.Tracked.{ContainsTracked, WithinTracked, state_in}
 use Rattle.std.specs.Result.{IfErr}
 use Rattle.verifier.specs.declared.refusal.StructureFault.{StructureFault}
 use Rattle.verifier.specs.declared.refusal.StructureFault.TheVariants.{BackwardJump}
@@ -26,7 +27,7 @@ use Rattle.verifier.specs.Arises.{ArisesAt}
 use Rattle.verifier.specs.Waiting.{Waiting, waiting_at}
 use Rattle.verifier.specs.Walk.{Between, IsAwaited, Advances, Keeps}
 use Rattle.program_reads.specs.Runs.{Reaches, at_start, by_step, ContainsRuns}
-use Rattle.verifier.specs.Reaches.{Enters, from_start, from_below, Covers, IsStateBelow, IsBefore}
+use Rattle.verifier.specs.Reaches.{TracksRuns, Enters, from_start, from_below, Covers, IsStateBelow, IsBefore}
 use Rattle.verifier.proofs.Runs.{StaysAt, stays, stays_on, contains_at, stepped}
 use Rattle.verifier.proofs.Walking.{fall_starts}
 
@@ -66,13 +67,13 @@ enters program span slot s structured at (by_step {s = before} from e) =
     from_below from (subst (λ k. before.slot < k) at less) e
 
 -- ---- from the state before an instruction
-moved_awaited : (program : Program) (span : Span) (slot : ℕ) (insn : Insn) (s next : State) (falling : Option AbsState) (waiting : Waiting) (m : Moved) → IsPaired program → IsStructured program → StartsAt program slot insn → s.slot ≡ slot → does span s insn ≡ m → Advances (lengths_of span) slot insn falling waiting m → then_with m (land program) ≡ Ok (Next next) → IsAwaited program (slot + 1) falling waiting (lengths_of span) next
+moved_awaited : (program : Program) (span : Span) (slot : ℕ) (insn : Insn) (s next : State) (falling : Option TrackedState) (waiting : Waiting) (m : Moved) → IsPaired program → IsStructured program → StartsAt program slot insn → s.slot ≡ slot → does span s insn ≡ m → Advances (lengths_of span) slot insn falling waiting m → then_with m (land program) ≡ Ok (Next next) → IsAwaited program (slot + 1) falling waiting (lengths_of span) next
 moved_awaited program span slot insn s next falling waiting (Ok (Returns value)) paired structured starts at e advances to = absurd (cc)
 moved_awaited program span slot insn s next falling waiting (Err kind) paired structured starts at e advances to = absurd advances
 moved_awaited program span slot insn s next falling waiting (Ok (On mid distance)) paired structured starts at e advances to =
     let same : mid.slot ≡ s.slot = stays_on span s mid insn distance e in
     ⊎_elim
-    (λ (fell : (n : ℕ) × (distance ≡ pos n) × (n + 1 ≡ slots_of insn) × (falls_through insn ≡ true) × WithinState falling (lengths_of span) mid).
+    (λ (fell : (n : ℕ) × (distance ≡ pos n) × (n + 1 ≡ slots_of insn) × (falls_through insn ≡ true) × WithinTracked falling (lengths_of span) mid).
     let n = fell.0 in
     let count : n + 1 ≡ slots_of insn = fell.2 in
     let f = fall_starts program slot (slot + slots_of insn) insn paired structured starts fell.3 refl in
@@ -81,7 +82,7 @@ moved_awaited program span slot insn s next falling waiting (Ok (On mid distance
     lands_at program mid next n (subst (λ d. land program (On mid d) ≡ Ok (Next next)) fell.1 to) ∙ ap (λ k. record mid { slot = k }) same_slot in
     subst (λ (x : State). IsAwaited program (slot + 1) falling waiting (lengths_of span) x) (sym is)
     ((omega arith), inl (f.between, contains_at falling (lengths_of span) mid (slot + slots_of insn) fell.4)))
-    (λ (jumped : (n : ℕ) × (distance ≡ pos n) × (jump_of insn ≡ Some (pos n)) × WithinState (waiting_at waiting (slot + 1 + n)) (lengths_of span) mid).
+    (λ (jumped : (n : ℕ) × (distance ≡ pos n) × (jump_of insn ≡ Some (pos n)) × WithinTracked (waiting_at waiting (slot + 1 + n)) (lengths_of span) mid).
     let n = jumped.0 in
     let same_slot : mid.slot + 1 + n ≡ slot + 1 + n = omega arith in
     let is : next ≡ record mid { slot = slot + 1 + n } =
@@ -91,62 +92,67 @@ moved_awaited program span slot insn s next falling waiting (Ok (On mid distance
     advances
 
 -- ---- all edges into a slot
-pub all_joined : (profile : Profile) (program : Program) (slot : ℕ) (falling joined : Option AbsState) (waiting : Waiting) → IsStructured program → ((lengths : Lengths) (s : State) → WithinState falling lengths s → WithinState joined lengths s) → ((lengths : Lengths) (s : State) → WithinState (waiting_at waiting slot) lengths s → WithinState joined lengths s) → Covers profile program slot falling waiting → ContainsRuns profile program slot joined
+pub all_joined : (profile : Profile) (program : Program) (slot : ℕ) (falling joined : Option TrackedState) (waiting : Waiting) → IsStructured program → ((lengths : Lengths) (s : State) → WithinTracked falling lengths s → WithinTracked joined lengths s) → ((lengths : Lengths) (s : State) → WithinTracked (waiting_at waiting slot) lengths s → WithinTracked joined lengths s) → Covers profile program slot falling waiting → TracksRuns profile program slot joined
 all_joined profile program slot falling joined waiting structured falls arrives covers span s which reached at =
     let awaited = covers span s which (enters program span slot s structured at reached) (omega arith) in
     ⊎_elim
-    (λ (fell : Between program slot s.slot × WithinState falling (lengths_of span) s). falls (lengths_of span) s fell.1)
-    (λ (waits : WithinState (waiting_at waiting s.slot) (lengths_of span) s).
-    arrives (lengths_of span) s (subst (λ k. WithinState (waiting_at waiting k) (lengths_of span) s) at waits))
+    (λ (fell : Between program slot s.slot × WithinTracked falling (lengths_of span) s). falls (lengths_of span) s fell.1)
+    (λ (waits : WithinTracked (waiting_at waiting s.slot) (lengths_of span) s).
+    arrives (lengths_of span) s (subst (λ k. WithinTracked (waiting_at waiting k) (lengths_of span) s) at waits))
     awaited.1
 
 -- what waited at a slot is joined to what falls into it, and all else still waits
-pub covers_arrived : (profile : Profile) (program : Program) (slot : ℕ) (falling joined : Option AbsState) (old mid : Waiting) → ((lengths : Lengths) (s : State) → WithinState falling lengths s → WithinState joined lengths s) → ((lengths : Lengths) (s : State) → WithinState (waiting_at old slot) lengths s → WithinState joined lengths s) → ((other : ℕ) → other ≢ slot → waiting_at mid other ≡ waiting_at old other) → Covers profile program slot falling old → Covers profile program slot joined mid
+pub covers_arrived : (profile : Profile) (program : Program) (slot : ℕ) (falling joined : Option TrackedState) (old mid : Waiting) → ((lengths : Lengths) (s : State) → WithinTracked falling lengths s → WithinTracked joined lengths s) → ((lengths : Lengths) (s : State) → WithinTracked (waiting_at old slot) lengths s → WithinTracked joined lengths s) → ((other : ℕ) → other ≢ slot → waiting_at mid other ≡ waiting_at old other) → Covers profile program slot falling old → Covers profile program slot joined mid
 covers_arrived profile program slot falling joined old mid falls arrives others covers span s which entered low =
     let awaited = covers span s which entered low in (
       low,
       ⊎_elim
-          (λ (fell : Between program slot s.slot × WithinState falling (lengths_of span) s). inl (fell.0, falls (lengths_of span) s fell.1))
-          (λ (waits : WithinState (waiting_at old s.slot) (lengths_of span) s).
+          (λ (fell : Between program slot s.slot × WithinTracked falling (lengths_of span) s). inl (fell.0, falls (lengths_of span) s fell.1))
+          (λ (waits : WithinTracked (waiting_at old s.slot) (lengths_of span) s).
           ⊎_elim
           (λ (here : s.slot ≡ slot).
           let between : Between program slot s.slot = λ k least most. absurd (omega arith) in
-          inl (between, arrives (lengths_of span) s (subst (λ k. WithinState (waiting_at old k) (lengths_of span) s) here waits)))
-          (λ (apart : s.slot ≡ slot → ⊥). inr (subst (λ o. WithinState o (lengths_of span) s) (sym (others s.slot apart)) waits))
+          inl (between, arrives (lengths_of span) s (subst (λ k. WithinTracked (waiting_at old k) (lengths_of span) s) here waits)))
+          (λ (apart : s.slot ≡ slot → ⊥). inr (subst (λ o. WithinTracked o (lengths_of span) s) (sym (others s.slot apart)) waits))
           (cases_eq s.slot slot))
           awaited.1,
     )
 
--- ---- what is known before each slot, in a list
-abbrev pub ContainRunsBelow : Profile → Program → ℕ → List (Option AbsState) → Type 0
-ContainRunsBelow profile program count states = (slot : ℕ) → slot < count → ContainsRuns profile program slot (get_or states slot None)
+-- what is known contains them without its copies
+pub tracked_runs : (profile : Profile) (program : Program) (slot : ℕ) (known : Option TrackedState) → TracksRuns profile program slot known → ContainsRuns profile program slot (state_in known)
+tracked_runs profile program slot known tracks span s which reached at =
+    let (a, is, c) = tracks span s which reached at in (a.state, ap state_in is, c.state)
 
-pub contain_none : (profile : Profile) (program : Program) (states : List (Option AbsState)) → ContainRunsBelow profile program 0 states
+-- ---- what is known before each slot, in a list
+abbrev pub TrackRunsBelow : Profile → Program → ℕ → List (Option TrackedState) → Type 0
+TrackRunsBelow profile program count states = (slot : ℕ) → slot < count → TracksRuns profile program slot (get_or states slot None)
+
+pub contain_none : (profile : Profile) (program : Program) (states : List (Option TrackedState)) → TrackRunsBelow profile program 0 states
 contain_none profile program states slot less = absurd (omega arith)
 
-pub count_more : (slot : ℕ) (known : Option AbsState) (states : List (Option AbsState)) → length states ≡ slot → length (states ++ known ∷ []) ≡ slot + 1
+pub count_more : (slot : ℕ) (known : Option TrackedState) (states : List (Option TrackedState)) → length states ≡ slot → length (states ++ known ∷ []) ≡ slot + 1
 count_more slot known states size = length-append states (known ∷ []) ∙ ap (λ n. n + 1) size
 
-pub contain_more : (profile : Profile) (program : Program) (slot : ℕ) (known : Option AbsState) (states : List (Option AbsState)) → length states ≡ slot → ContainsRuns profile program slot known → ContainRunsBelow profile program slot states → ContainRunsBelow profile program (slot + 1) (states ++ known ∷ [])
+pub contain_more : (profile : Profile) (program : Program) (slot : ℕ) (known : Option TrackedState) (states : List (Option TrackedState)) → length states ≡ slot → TracksRuns profile program slot known → TrackRunsBelow profile program slot states → TrackRunsBelow profile program (slot + 1) (states ++ known ∷ [])
 contain_more profile program slot known states size here below at less =
     ⊎_elim
     (λ (last : at ≡ slot).
     let end : at ≡ length states = last ∙ sym size in
     let is : get_or (states ++ known ∷ []) at None ≡ known = ap (λ k. get_or (states ++ known ∷ []) k None) end ∙ get_or-append_seam states known [] None in
-    subst (λ k. ContainsRuns profile program k (get_or (states ++ known ∷ []) at None)) (sym last) (subst (λ o. ContainsRuns profile program slot o) (sym is) here))
+    subst (λ k. TracksRuns profile program k (get_or (states ++ known ∷ []) at None)) (sym last) (subst (λ o. TracksRuns profile program slot o) (sym is) here))
     (λ (apart : at ≡ slot → ⊥).
     let under : at < slot = omega arith in
     let is : get_or (states ++ known ∷ []) at None ≡ get_or states at None = get_or-append states (known ∷ []) None at (omega arith) in
-    subst (λ o. ContainsRuns profile program at o) (sym is) (below at under))
+    subst (λ o. TracksRuns profile program at o) (sym is) (below at under))
     (cases_eq at slot)
 
-abbrev pub AriseBelow : Profile → Program → ℕ → List (Option AbsState) → Type 0
+abbrev pub AriseBelow : Profile → Program → ℕ → List (Option TrackedState) → Type 0
 AriseBelow profile program count states = (slot : ℕ) (insn : Insn) → slot < count → StartsAt program slot insn → ArisesAt profile program slot (get_or states slot None)
 
-pub arise_none : (profile : Profile) (program : Program) (states : List (Option AbsState)) → AriseBelow profile program 0 states
+pub arise_none : (profile : Profile) (program : Program) (states : List (Option TrackedState)) → AriseBelow profile program 0 states
 arise_none profile program states slot insn less = absurd (omega arith)
 
-pub arise_more : (profile : Profile) (program : Program) (slot : ℕ) (known : Option AbsState) (states : List (Option AbsState)) → length states ≡ slot → ((insn : Insn) → StartsAt program slot insn → ArisesAt profile program slot known) → AriseBelow profile program slot states → AriseBelow profile program (slot + 1) (states ++ known ∷ [])
+pub arise_more : (profile : Profile) (program : Program) (slot : ℕ) (known : Option TrackedState) (states : List (Option TrackedState)) → length states ≡ slot → ((insn : Insn) → StartsAt program slot insn → ArisesAt profile program slot known) → AriseBelow profile program slot states → AriseBelow profile program (slot + 1) (states ++ known ∷ [])
 arise_more profile program slot known states size here below at insn less starts =
     ⊎_elim
     (λ (last : at ≡ slot).
@@ -161,11 +167,11 @@ arise_more profile program slot known states size here below at insn less starts
     (cases_eq at slot)
 
 -- ---- one turn of the walk
-pub covers_begin : (profile : Profile) (program : Program) (entry : AbsState) (waiting : Waiting) → ((span : Span) → Contains entry (lengths_of span) start) → Covers profile program 0 (Some entry) waiting
+pub covers_begin : (profile : Profile) (program : Program) (entry : TrackedState) (waiting : Waiting) → ((span : Span) → ContainsTracked entry (lengths_of span) start) → Covers profile program 0 (Some entry) waiting
 covers_begin profile program entry waiting contains span s which from_start low = ((omega arith), inl ((λ k least most. absurd (omega arith)), (entry, refl, contains span)))
 covers_begin profile program entry waiting contains span s which (from_below from below e) low = absurd (omega arith)
 
-pub covers_over : (profile : Profile) (program : Program) (slot : ℕ) (falling : Option AbsState) (waiting : Waiting) → slice_get program slot ≡ Some None → Covers profile program slot falling waiting → Covers profile program (slot + 1) falling waiting
+pub covers_over : (profile : Profile) (program : Program) (slot : ℕ) (falling : Option TrackedState) (waiting : Waiting) → slice_get program slot ≡ Some None → Covers profile program slot falling waiting → Covers profile program (slot + 1) falling waiting
 covers_over profile program slot falling waiting second covers span s which from_start low = absurd (omega arith)
 covers_over profile program slot falling waiting second covers span s which (from_below {s = before} from below e) low =
     ⊎_elim
@@ -178,18 +184,18 @@ covers_over profile program slot falling waiting second covers span s which (fro
     let awaited = covers span s which (from_below from (omega arith) e) (omega arith) in (
       low,
       ⊎_elim
-          (λ (fell : Between program slot s.slot × WithinState falling (lengths_of span) s). let between : Between program (slot + 1) s.slot = λ k least most. fell.0 k (omega arith) most in inl (between, fell.1))
-          (λ (waits : WithinState (waiting_at waiting s.slot) (lengths_of span) s). inr waits)
+          (λ (fell : Between program slot s.slot × WithinTracked falling (lengths_of span) s). let between : Between program (slot + 1) s.slot = λ k least most. fell.0 k (omega arith) most in inl (between, fell.1))
+          (λ (waits : WithinTracked (waiting_at waiting s.slot) (lengths_of span) s). inr waits)
           awaited.1,
     ))
     (cases_eq before.slot slot)
 
-pub covers_passed : (profile : Profile) (program : Program) (slot : ℕ) (insn : Insn) (falling joined next : Option AbsState) (old mid new : Waiting) → IsPaired program → IsStructured program → StartsAt program slot insn → ((lengths : Lengths) (s : State) → WithinState falling lengths s → WithinState joined lengths s) → ((lengths : Lengths) (s : State) → WithinState (waiting_at old slot) lengths s → WithinState joined lengths s) → ((other : ℕ) → other ≢ slot → waiting_at mid other ≡ waiting_at old other) → Keeps mid new → ((span : Span) (s : State) → span.profile ≡ profile → WithinState joined (lengths_of span) s → Advances (lengths_of span) slot insn next new (does span s insn)) → Covers profile program slot falling old → Covers profile program (slot + 1) next new
+pub covers_passed : (profile : Profile) (program : Program) (slot : ℕ) (insn : Insn) (falling joined next : Option TrackedState) (old mid new : Waiting) → IsPaired program → IsStructured program → StartsAt program slot insn → ((lengths : Lengths) (s : State) → WithinTracked falling lengths s → WithinTracked joined lengths s) → ((lengths : Lengths) (s : State) → WithinTracked (waiting_at old slot) lengths s → WithinTracked joined lengths s) → ((other : ℕ) → other ≢ slot → waiting_at mid other ≡ waiting_at old other) → Keeps mid new → ((span : Span) (s : State) → span.profile ≡ profile → WithinTracked joined (lengths_of span) s → Advances (lengths_of span) slot insn next new (does span s insn)) → Covers profile program slot falling old → Covers profile program (slot + 1) next new
 covers_passed profile program slot insn falling joined next old mid new paired structured starts falls arrives others keeps sound covers span s which from_start low = absurd (omega arith)
 covers_passed profile program slot insn falling joined next old mid new paired structured starts falls arrives others keeps sound covers span s which (from_below {s = before} from below e) low =
     ⊎_elim
     (λ (here : before.slot ≡ slot).
-    let known : WithinState joined (lengths_of span) before = all_joined profile program slot falling joined old structured falls arrives covers span before which from here in
+    let known : WithinTracked joined (lengths_of span) before = all_joined profile program slot falling joined old structured falls arrives covers span before which from here in
     let there : StartsAt program before.slot insn = subst (λ k. StartsAt program k insn) (sym here) starts in
     moved_awaited program span slot insn before s next new (does span before insn) paired structured starts here refl (sound span before which known)
     (sym (stepped program span before insn (does span before insn) there refl) ∙ e))
@@ -197,13 +203,13 @@ covers_passed profile program slot insn falling joined next old mid new paired s
     let awaited = covers span s which (from_below from (omega arith) e) (omega arith) in (
       low,
       ⊎_elim
-          (λ (fell : Between program slot s.slot × WithinState falling (lengths_of span) s).
+          (λ (fell : Between program slot s.slot × WithinTracked falling (lengths_of span) s).
           let none = fell.0 slot (omega arith) (omega arith) in
           let both : Some (Some insn) ≡ Some None = sym starts ∙ none in
           absurd (cc))
-          (λ (waits : WithinState (waiting_at old s.slot) (lengths_of span) s).
+          (λ (waits : WithinTracked (waiting_at old s.slot) (lengths_of span) s).
           let stays = others s.slot (λ same. (omega arith)) in
-          inr (keeps s.slot (lengths_of span) s (subst (λ o. WithinState o (lengths_of span) s) (sym stays) waits)))
+          inr (keeps s.slot (lengths_of span) s (subst (λ o. WithinTracked o (lengths_of span) s) (sym stays) waits)))
           awaited.1,
     ))
     (cases_eq before.slot slot)

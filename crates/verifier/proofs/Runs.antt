@@ -15,9 +15,12 @@ use Rattle.semantics.specs.Memory.{address_of, load, store, bytes_in, bytes_in_s
 use Rattle.semantics.specs.Step.{Program, Moved, On, Returns, Next, then_with, write_and_go, first_of, perform, land, step}
 use Rattle.semantics.specs.Outcomes.{after, outcome_from}
 use Rattle.semantics.proofs.Runs.{outcome_from-step}
-use Rattle.abstract_state.specs.declared.state.AbsState.{AbsState}
+use Rattle.tracked_state.specs.declared.state.TrackedState.{TrackedState}
 use Rattle.abstract_state.specs.Lent.{Lengths}
-use Rattle.abstract_state.specs.State.{Span, WithinState, does}
+use Rattle.abstract_state.specs.State.{Span, does}
+use Rattle.value_marks.specs.declared.marks.Marks.{Marks}
+use Rattle.value_marks.specs.Copies.{Bear, kept}
+use Rattle.tracked_state.specs.Tracked.{WithinTracked}
 use Rattle.verifier.specs.Walk.{ComesTo, Ends}
 
 -- ---- an instruction leaves the slot to the program, and goes on forward or as its jump says
@@ -75,9 +78,26 @@ pub stays_on : (span : Span) (s next : State) (insn : Insn) (distance : ℤ) →
 stays_on span s next insn distance e = (subst (StaysAt s.slot (jump_of insn)) e (stays span.bytes s insn)).0
 
 -- ---- a state at another slot
-pub contains_at : (o : Option AbsState) (lengths : Lengths) (s : State) (slot : ℕ) → WithinState o lengths s → WithinState o lengths (record s { slot = slot })
+bear_at : (o : Option Marks) (s : State) (slot : ℕ) → Bear o s → Bear o (record s { slot = slot })
+bear_at None s slot bear = tt
+bear_at (Some marks) s slot (origins, bear) = (origins, record { registers = bear.registers; slots = bear.slots })
+
+pub contains_at : (o : Option TrackedState) (lengths : Lengths) (s : State) (slot : ℕ) → WithinTracked o lengths s → WithinTracked o lengths (record s { slot = slot })
 contains_at o lengths s slot (a, is, c) =
-    (a, is, record { eleven = c.eleven; long = c.long; bounds = c.bounds; registers = c.registers; stack = c.stack })
+    let was = c.state in (
+      a,
+      is,
+      record {
+        state = record {
+          eleven = was.eleven;
+          long = was.long;
+          bounds = was.bounds;
+          registers = was.registers;
+          stack = was.stack;
+        };
+        copies = bear_at (kept a.copies) s slot c.copies;
+      },
+    )
 
 -- ---- one step
 -- there is a step left

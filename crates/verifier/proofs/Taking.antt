@@ -1,10 +1,13 @@
 -- What is promised past an instruction, on each of its edges.
-use Rattle.std.proofs.Common.{◌≡◌, ◌≢◌, ℕ, ◌∷◌, ⊎_elim, Option, Some, None, refl, sym, ap, ◌∙◌, subst}
+use Rattle.std.proofs.Common.{◌≡◌, ◌≢◌, ℕ, ◌<◌, ◌≤◌, ◌∷◌, false, length, arith, ⊎_elim, Option, Some, None, refl, sym, ap, ◌∙◌, subst}
 use Rattle.std.specs.Prelude.{ℤ}
 use Rattle.std.specs.Option.{IfSome}
 use Rattle.std.proofs.lemmas.Bool.{cases_eq}
 use Rattle.std.proofs.lemmas.Option.{same_Some}
 use Rattle.span_context.specs.declared.profile.Profile.{Profile}
+use Rattle.span_context.specs.Profile.{has_more_rules}
+use Rattle.std.proofs.lemmas.List.{get_or_past}
+use Rattle.std.proofs.lemmas.Bool.{cases_lt}
 use Rattle.bpf_words.specs.declared.instruction.Width.{Width}
 use Rattle.bpf_words.specs.declared.instruction.Width.TheVariants.{Full}
 use Rattle.bpf_words.specs.declared.instruction.Comparison.{Comparison}
@@ -22,14 +25,20 @@ use Rattle.abstract_state.specs.declared.region.Region.{Region}
 use Rattle.abstract_state.specs.declared.state.AbsState.{AbsState}
 use Rattle.abstract_state.specs.State.{register_at}
 use Rattle.abstract_state.specs.Branch.{LeavesSides}
-use Rattle.abstract_state.specs.Kinds.{HasNumberAt, HasNumberIn, IsNumberReg, KeepsAll, KeepsKind, ReadsNumbers, WritesNumber, Carries}
+use Rattle.abstract_state.specs.Kinds.{HasNumberAt, HasNumberIn, IsNumberReg, KeepsKind, ReadsNumbers, WritesNumber, Carries}
 use Rattle.abstract_state.specs.Exact.{Fact, Holds}
 use Rattle.abstract_state.specs.Lent.{tail_of}
 use Rattle.abstract_state.specs.declared.address.LentAddress.{LentAddress}
 use Rattle.abstract_state.specs.Guard.{Yields, lent_begin, lent_end, lent_moved, lent_added, copied, moved, folded, wide, lent_read, lent_read_signed, stack_read, stack_read_signed, refilled, Stores, stored, Spills, spilled, LeavesOthers, LeavesMemory, LengthensMemory}
 use Rattle.abstract_state.specs.Frame.{StoresSlots, SpillsSlot}
 use Rattle.abstract_state.specs.declared.known.Known.{Known}
-use Rattle.verifier.specs.Arises.{Guards, behind, IsGranted, of_numbers, of_row, of_guard, of_store, of_spill, TakesNumbers, Takes, IsLongBehind}
+use Rattle.tracked_state.specs.declared.state.TrackedState.{TrackedState}
+use Rattle.abstract_state.specs.declared.step.Flow.{Flow}
+use Rattle.abstract_state.specs.declared.step.Flow.TheVariants.{Live, Dead}
+use Rattle.abstract_state.specs.Steps.{after}
+use Rattle.tracked_state.specs.Tracking.{after_tracked}
+use Rattle.tracked_state.specs.Learning.{LearnsSides, KeepsKinds}
+use Rattle.verifier.specs.Arises.{Guards, behind, IsGranted, of_numbers, of_row, of_guard, of_store, of_spill, TakesNumbers, Leaves, Takes, IsLongBehind}
 use Rattle.verifier.proofs.Passing.{IsStraight}
 
 pub at_some : {T : Type 0} (o : Option T) (P : T → Type 0) (t : T) → IfSome o P → o ≡ Some t → P t
@@ -131,12 +140,31 @@ carries_takes a b (Store z base o v) is reads carries = absurd reads
 carries_takes a b (LoadWide d v) is reads carries = writes_takes a b (LoadWide d v) d refl carries
 carries_takes a b Exit is reads carries = absurd is
 
+-- a straight instruction leaves as it was what it doesn't write
+straight_leaves : (profile : Profile) (a b : AbsState) (insn : Insn) → IsStraight insn → LeavesOthers a insn b → LeavesMemory a insn b → Leaves profile a insn b
+straight_leaves profile a b (Compute w op d o) is others memory = (others, memory)
+straight_leaves profile a b (Negate w d) is others memory = (others, memory)
+straight_leaves profile a b (Extend x d r) is others memory = (others, memory)
+straight_leaves profile a b (Convert c x d) is others memory = (others, memory)
+straight_leaves profile a b (Jump distance) is others memory = absurd is
+straight_leaves profile a b (JumpLong distance) is others memory = absurd is
+straight_leaves profile a b (Branch w c l r distance) is others memory = absurd is
+straight_leaves profile a b (Load z d base o) is others memory = (others, memory)
+straight_leaves profile a b (LoadSigned z d base o) is others memory = (others, memory)
+straight_leaves profile a b (Store z base o v) is others memory = (others, memory)
+straight_leaves profile a b (LoadWide d v) is others memory = (others, memory)
+straight_leaves profile a b Exit is others memory = absurd is
+
+-- a state after a step is that of the state without its copies
+pub live_after : (flow : Flow) (a b : TrackedState) → after_tracked flow a ≡ Some b → after flow a.state ≡ Some b.state
+live_after Live a b live = ap (λ (x : TrackedState). Some x.state) (same_Some a b live)
+live_after Dead a b live = absurd (cc (live))
+
 pub step_takes : (profile : Profile) (a b : AbsState) (insn : Insn) (o : Option AbsState) → IsStraight insn → o ≡ Some b → (ReadsNumbers a insn → IfSome o (λ x. Carries a insn x)) → IfSome o (λ x. LeavesOthers a insn x) → IfSome o (λ x. LeavesMemory a insn x) → ((p count : ℕ) → Stores a insn p count → IfSome o (λ x. StoresSlots p count a.stack x.stack)) → ((i : ℕ) (known : Known) → Spills a insn i known → IfSome o (λ x. SpillsSlot i known a.stack x.stack)) → ((d : ℕ) (fact : Fact) → Yields profile a insn d fact → IfSome o (λ x. Holds fact (register_at x.registers d))) → (HasUnset a (read_by insn) → ⊥) → Takes profile a insn b
 step_takes profile a b insn o straight live carries others memory stores spills rows read = record {
   read = read;
   numbers = λ reads. carries_takes a b insn straight reads (at_some o (λ x. Carries a insn x) b (carries reads) live);
-  others = at_some o (λ x. LeavesOthers a insn x) b others live;
-  memory = at_some o (λ x. LeavesMemory a insn x) b memory live;
+  leaves = straight_leaves profile a b insn straight (at_some o (λ x. LeavesOthers a insn x) b others live) (at_some o (λ x. LeavesMemory a insn x) b memory live);
   stores = λ p count row. at_some o (λ x. StoresSlots p count a.stack x.stack) b (stores p count row) live;
   spills = λ i known row. at_some o (λ x. SpillsSlot i known a.stack x.stack) b (spills i known row) live;
   yields = λ d fact row. at_some o (λ x. Holds fact (register_at x.registers d)) b (rows d fact row) live;
@@ -152,12 +180,11 @@ none_taken a insn none = record {
   kept = λ i was. was;
 }
 
-pub jump_takes : (profile : Profile) (a : AbsState) (insn : Insn) (distance : ℤ) → written_by insn ≡ None → jump_of insn ≡ Some distance → LeavesOthers a insn a → LeavesMemory a insn a → (HasUnset a (read_by insn) → ⊥) → Takes profile a insn a
-jump_takes profile a insn distance none jumps others memory read = record {
+pub jump_takes : (profile : Profile) (a : AbsState) (insn : Insn) (distance : ℤ) → written_by insn ≡ None → jump_of insn ≡ Some distance → Leaves profile a insn a → (HasUnset a (read_by insn) → ⊥) → Takes profile a insn a
+jump_takes profile a insn distance none jumps leaves read = record {
   read = read;
   numbers = λ reads. none_taken a insn none;
-  others = others;
-  memory = memory;
+  leaves = leaves;
   stores = λ p count row. absurd ((stores_none a insn p count row).2 distance jumps);
   spills = λ i known row. absurd ((spills_none a insn i known row).2 distance jumps);
   yields = λ d fact row. absurd (no_row profile a insn d fact none row);
@@ -170,18 +197,35 @@ keeps_number (Set (Context p)) y keeps number = absurd number
 keeps_number (Set (Stack p)) y keeps number = absurd number
 keeps_number (Set (Lent p)) y keeps number = absurd number
 
-pub edge_takes : (profile : Profile) (a b : AbsState) (insn : Insn) (width : Width) (comparison : Comparison) (left : ℕ) (right : Operand) (distance : ℤ) (edge : Option AbsState) → insn ≡ Branch width comparison left right distance → edge ≡ Some b → IfSome edge (λ x. LeavesSides left right a x) → IfSome edge (λ x. LengthensMemory a x) → (HasNumberAt a left → HasNumberIn a right → IfSome edge (λ x. KeepsAll a x)) → (HasUnset a (left ∷ read_operand right) → ⊥) → Takes profile a insn b
-edge_takes profile a b insn width comparison left right distance edge is live leaves memory kinds read = record {
+-- a number in a register that there is stays one; in no other is one
+number_stays : (a b : AbsState) (i : ℕ) → length a.registers ≡ 11 → KeepsKinds a b → HasNumberAt a i → HasNumberAt b i
+number_stays a b i eleven keeps was =
+    ⊎_elim
+    (λ (few : i < 11). keeps_number _ _ (keeps i few) was)
+    (λ (more : 11 ≤ i). absurd (subst IsNumberReg (get_or_past a.registers i Unset (omega (arith, eleven, more))) was))
+    (cases_lt i 11)
+
+-- what an edge of a comparison learns
+pub record EdgeLearns (profile : Profile) (a : AbsState) (left : ℕ) (right : Operand) (edge : Option TrackedState) : Type 0 where
+  pub learns : IfSome edge (λ b. LearnsSides left right a b.state)
+  pub kinds : HasNumberAt a left → HasNumberIn a right → IfSome edge (λ b. KeepsKinds a b.state)
+  pub others : has_more_rules profile ≡ false → IfSome edge (λ b. LeavesSides left right a b.state)
+  pub memory : has_more_rules profile ≡ false → IfSome edge (λ b. LengthensMemory a b.state)
+
+pub edge_takes : (profile : Profile) (a : AbsState) (b : TrackedState) (insn : Insn) (width : Width) (comparison : Comparison) (left : ℕ) (right : Operand) (distance : ℤ) (edge : Option TrackedState) → insn ≡ Branch width comparison left right distance → length a.registers ≡ 11 → edge ≡ Some b → EdgeLearns profile a left right edge → (HasUnset a (left ∷ read_operand right) → ⊥) → Takes profile a insn b.state
+edge_takes profile a b insn width comparison left right distance edge is eleven live learnt read = record {
   read = subst (λ (i : Insn). HasUnset a (read_by i) → ⊥) (sym is) read;
   numbers = λ reads.
       let both = subst (ReadsNumbers a) is reads in
-      let keeps = at_some edge (λ x. KeepsAll a x) b (kinds both.0 both.1) live in
+      let keeps = at_some edge (λ x. KeepsKinds a x.state) b (learnt.kinds both.0 both.1) live in
       record {
         written = λ i e. let both : None ≡ Some i = sym (ap written_by is) ∙ e in absurd (cc);
-        kept = λ i was. keeps_number _ _ (keeps i) was;
+        kept = λ i was. number_stays a b.state i eleven keeps was;
       };
-  others = subst (λ (i : Insn). LeavesOthers a i b) (sym is) (at_some edge (λ x. LeavesSides left right a x) b leaves live);
-  memory = subst (λ (i : Insn). LeavesMemory a i b) (sym is) (at_some edge (λ x. LengthensMemory a x) b memory live);
+  leaves = subst (λ (i : Insn). Leaves profile a i b.state) (sym is) (
+    at_some edge (λ x. LearnsSides left right a x.state) b learnt.learns live,
+    λ few. (at_some edge (λ x. LeavesSides left right a x.state) b (learnt.others few) live, at_some edge (λ x. LengthensMemory a x.state) b (learnt.memory few) live),
+  );
   stores = λ p count row. absurd ((stores_none a insn p count row).2 distance (ap jump_of is));
   spills = λ i known row. absurd ((spills_none a insn i known row).2 distance (ap jump_of is));
   yields = λ d fact row. absurd (no_row profile a insn d fact (ap written_by is) row);

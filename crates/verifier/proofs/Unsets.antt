@@ -23,14 +23,14 @@ use Rattle.abstract_state.specs.declared.state.AbsState.{AbsState}
 use Rattle.abstract_state.specs.Lent.{Lengths}
 use Rattle.abstract_state.specs.State.{lengths_of, register_at, ContainsRegister, WithinState}
 use Rattle.abstract_state.specs.Unset.{HasUnset}
-use Rattle.abstract_state.specs.Branch.{LeavesSides}
-use Rattle.abstract_state.specs.Guard.{LeavesOthers}
+use Rattle.tracked_state.specs.Learning.{LearnsSides}
 use Rattle.verifier.specs.declared.refusal.VerifyError.{VerifyError}
 use Rattle.verifier.specs.declared.refusal.VerifyError.TheVariants.{State as StateRefused}
 use Rattle.verifier.specs.Plain.{IsFree, Leads, Path, begins, goes, with_written}
 use Rattle.verifier.specs.Unset.{ReadsUnset, in_run, unwritten}
-use Rattle.verifier.specs.Arises.{Takes, Arises, first, fell, jumped, joined, MayRefuse, RefusesAt, IsCause}
+use Rattle.verifier.specs.Arises.{Leaves, Takes, Arises, first, fell, jumped, joined, MayRefuse, RefusesAt, IsCause}
 use Rattle.verifier.proofs.Arising.{refuses_at}
+use Rattle.verifier.proofs.Learnt.{IsAside, aside_keeps, keeps_unset}
 
 unset_in : (a : AbsState) (registers : List ℕ) (r : ℕ) → Contains registers r → register_at a.registers r ≡ Unset
     → HasUnset a registers
@@ -69,39 +69,51 @@ moved_unset : (a : AbsState) (i j : ℕ) → i ≡ j → register_at a.registers
 moved_unset a i j same unset = subst (λ (k : ℕ). register_at a.registers k ≡ Unset) same unset
 
 -- no side of a comparison is an unset register
-stays_side : (a b : AbsState) (left : ℕ) (right : Operand) (i : ℕ) → (HasUnset a (left ∷ read_operand right) → ⊥)
-    → LeavesSides left right a b → register_at a.registers i ≡ Unset → register_at b.registers i ≡ Unset
-stays_side a b left (Immediate value) i read leaves unset =
-    leaves.others i (λ same. read (inl (moved_unset a i left same unset))) (λ e. cc) ∙ unset
-stays_side a b left (Source r) i read leaves unset =
-    leaves.others i (λ same. read (inl (moved_unset a i left same unset)))
-    (λ e. let same : i ≡ r = cc in read (inr (inl (moved_unset a i r same unset)))) ∙ unset
+unset_aside : (a : AbsState) (left : ℕ) (right : Operand) (i : ℕ) → i < 11 → (HasUnset a (left ∷ read_operand right) → ⊥)
+    → register_at a.registers i ≡ Unset → IsAside left right i
+unset_aside a left (Immediate value) i few read unset = record {
+  few = few;
+  left = λ same. read (inl (moved_unset a i left same unset));
+  right = λ e. cc;
+}
+unset_aside a left (Source r) i few read unset = record {
+  few = few;
+  left = λ same. read (inl (moved_unset a i left same unset));
+  right = λ e. let same : i ≡ r = cc in read (inr (inl (moved_unset a i r same unset)));
+}
 
-stays_unset : (a b : AbsState) (insn : Insn) (i : ℕ) → (HasUnset a (read_by insn) → ⊥) → LeavesOthers a insn b
+stays_side : (a b : AbsState) (left : ℕ) (right : Operand) (i : ℕ) → i < 11 → (HasUnset a (left ∷ read_operand right) → ⊥)
+    → LearnsSides left right a b → register_at a.registers i ≡ Unset → register_at b.registers i ≡ Unset
+stays_side a b left right i few read learns unset =
+    let keeps = aside_keeps left right i a b (unset_aside a left right i few read unset) learns in
+    keeps_unset (register_at a.registers i) (register_at b.registers i) keeps unset
+
+stays_unset : (profile : Profile) (a b : AbsState) (insn : Insn) (i : ℕ) → i < 11 → (HasUnset a (read_by insn) → ⊥)
+    → Leaves profile a insn b
     → (written_by insn ≡ Some i → ⊥) → register_at a.registers i ≡ Unset → register_at b.registers i ≡ Unset
-stays_unset a b (Compute w op d o) i read leaves spared unset =
-    leaves.others i (λ same. spared (ap Some (sym same))) ∙ unset
-stays_unset a b (Negate w d) i read leaves spared unset =
-    leaves.others i (λ same. spared (ap Some (sym same))) ∙ unset
-stays_unset a b (Extend x d r) i read leaves spared unset =
-    leaves.others i (λ same. spared (ap Some (sym same))) ∙ unset
-stays_unset a b (Convert c x d) i read leaves spared unset =
-    leaves.others i (λ same. spared (ap Some (sym same))) ∙ unset
-stays_unset a b (Jump distance) i read leaves spared unset =
-    ap (λ (s : AbsState). register_at s.registers i) leaves ∙ unset
-stays_unset a b (JumpLong distance) i read leaves spared unset =
-    ap (λ (s : AbsState). register_at s.registers i) leaves ∙ unset
-stays_unset a b (Branch w c l r distance) i read leaves spared unset = stays_side a b l r i read leaves unset
-stays_unset a b (Load z d base o) i read leaves spared unset =
-    leaves.others i (λ same. spared (ap Some (sym same))) ∙ unset
-stays_unset a b (LoadSigned z d base o) i read leaves spared unset =
-    leaves.others i (λ same. spared (ap Some (sym same))) ∙ unset
-stays_unset a b (Store z base o v) i read leaves spared unset =
-    ap (λ (regs : List AbsReg). register_at regs i) leaves ∙ unset
-stays_unset a b (LoadWide d v) i read leaves spared unset =
-    leaves.others i (λ same. spared (ap Some (sym same))) ∙ unset
-stays_unset a b Exit i read leaves spared unset =
-    ap (λ (s : AbsState). register_at s.registers i) leaves ∙ unset
+stays_unset profile a b (Compute w op d o) i few read leaves spared unset =
+    leaves.0.others i (λ same. spared (ap Some (sym same))) ∙ unset
+stays_unset profile a b (Negate w d) i few read leaves spared unset =
+    leaves.0.others i (λ same. spared (ap Some (sym same))) ∙ unset
+stays_unset profile a b (Extend x d r) i few read leaves spared unset =
+    leaves.0.others i (λ same. spared (ap Some (sym same))) ∙ unset
+stays_unset profile a b (Convert c x d) i few read leaves spared unset =
+    leaves.0.others i (λ same. spared (ap Some (sym same))) ∙ unset
+stays_unset profile a b (Jump distance) i few read leaves spared unset =
+    ap (λ (s : AbsState). register_at s.registers i) leaves.0 ∙ unset
+stays_unset profile a b (JumpLong distance) i few read leaves spared unset =
+    ap (λ (s : AbsState). register_at s.registers i) leaves.0 ∙ unset
+stays_unset profile a b (Branch w c l r distance) i few read leaves spared unset = stays_side a b l r i few read leaves.0 unset
+stays_unset profile a b (Load z d base o) i few read leaves spared unset =
+    leaves.0.others i (λ same. spared (ap Some (sym same))) ∙ unset
+stays_unset profile a b (LoadSigned z d base o) i few read leaves spared unset =
+    leaves.0.others i (λ same. spared (ap Some (sym same))) ∙ unset
+stays_unset profile a b (Store z base o v) i few read leaves spared unset =
+    ap (λ (regs : List AbsReg). register_at regs i) leaves.0 ∙ unset
+stays_unset profile a b (LoadWide d v) i few read leaves spared unset =
+    leaves.0.others i (λ same. spared (ap Some (sym same))) ∙ unset
+stays_unset profile a b Exit i few read leaves spared unset =
+    ap (λ (s : AbsState). register_at s.registers i) leaves.0 ∙ unset
 
 left_on : (profile : Profile) (program : Program) (slot to : ℕ) (a b : AbsState) (insn : Insn) → Left program slot a
     → StartsAt program slot insn → Leads insn slot to → Takes profile a insn b → Left program to b
@@ -109,7 +121,8 @@ left_on profile program slot to a b insn left starts leads takes = record {
   done = with_written (written_by insn) left.done;
   path = goes left.path starts leads;
   unset = λ i free missing.
-      stays_unset a b insn i takes.read takes.others (λ is. missing (written_in (written_by insn) left.done i is))
+      let below = free.0 in
+      stays_unset profile a b insn i (omega arith) takes.read takes.leaves (λ is. missing (written_in (written_by insn) left.done i is))
       (left.unset i free (λ here. missing (still_in (written_by insn) left.done i here)));
 }
 

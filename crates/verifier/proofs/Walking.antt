@@ -11,9 +11,10 @@ use Rattle.bpf_words.specs.Flow.{StartsAt, IsPaired, jump_of, slots_of, falls_th
 use Rattle.semantics.specs.State.{State, start}
 use Rattle.semantics.specs.Step.{Program, Moved, On, Returns}
 use Rattle.semantics.specs.Safe.{SafeIn}
-use Rattle.abstract_state.specs.declared.state.AbsState.{AbsState}
+use Rattle.tracked_state.specs.declared.state.TrackedState.{TrackedState}
 use Rattle.abstract_state.specs.Lent.{Lengths}
-use Rattle.abstract_state.specs.State.{Span, lengths_of, Contains, WithinState, does}
+use Rattle.abstract_state.specs.State.{Span, lengths_of, does}
+use Rattle.tracked_state.specs.Tracked.{ContainsTracked, WithinTracked}
 use Rattle.verifier.specs.declared.refusal.StructureFault.TheVariants.{BackwardJump, JumpOut, JumpIntoWide, FallOff}
 use Rattle.verifier.specs.Structure.{IsStructured}
 use Rattle.verifier.specs.Waiting.{Waiting, waiting_at}
@@ -107,15 +108,15 @@ fall_starts program slot to insn paired structured starts falls is =
     (one_or_two insn)
 
 -- ---- what is known once all edges into a slot are joined
-abbrev pub Settled : Profile → Program → ℕ → Option AbsState → Waiting → Type 0
+abbrev pub Settled : Profile → Program → ℕ → Option TrackedState → Waiting → Type 0
 Settled profile program slot falling waiting =
     (span : Span) → span.profile ≡ profile
     → Ends program span
     ⊎ ((s : State) × ComesTo program span s
-    × (((s.slot ≡ slot) × WithinState falling (lengths_of span) s)
-    ⊎ ((slot < s.slot) × WithinState (waiting_at waiting s.slot) (lengths_of span) s)))
+    × (((s.slot ≡ slot) × WithinTracked falling (lengths_of span) s)
+    ⊎ ((slot < s.slot) × WithinTracked (waiting_at waiting s.slot) (lengths_of span) s)))
 
-pub arrived : (profile : Profile) (program : Program) (slot : ℕ) (insn : Insn) (falling joined : Option AbsState) (old new : Waiting) → StartsAt program slot insn → ((lengths : Lengths) (s : State) → WithinState falling lengths s → WithinState joined lengths s) → ((lengths : Lengths) (s : State) → WithinState (waiting_at old slot) lengths s → WithinState joined lengths s) → ((other : ℕ) → other ≢ slot → waiting_at new other ≡ waiting_at old other) → Follows profile program slot falling old → Settled profile program slot joined new
+pub arrived : (profile : Profile) (program : Program) (slot : ℕ) (insn : Insn) (falling joined : Option TrackedState) (old new : Waiting) → StartsAt program slot insn → ((lengths : Lengths) (s : State) → WithinTracked falling lengths s → WithinTracked joined lengths s) → ((lengths : Lengths) (s : State) → WithinTracked (waiting_at old slot) lengths s → WithinTracked joined lengths s) → ((other : ℕ) → other ≢ slot → waiting_at new other ≡ waiting_at old other) → Follows profile program slot falling old → Settled profile program slot joined new
 arrived profile program slot insn falling joined old new starts falls arrives others follows span which =
     ⊎_elim
     (λ (ended : Ends program span). inl ended)
@@ -124,33 +125,33 @@ arrived profile program slot insn falling joined old new starts falls arrives ot
     ⊎_elim
     (λ (later : slot < s.slot).
     ⊎_elim
-    (λ (fell : Between program slot s.slot × WithinState falling (lengths_of span) s).
+    (λ (fell : Between program slot s.slot × WithinTracked falling (lengths_of span) s).
     let none = fell.0 slot (omega arith) later in
     let both : Some (Some insn) ≡ Some None = sym starts ∙ none in
     absurd (cc))
-    (λ (waits : WithinState (waiting_at old s.slot) (lengths_of span) s).
+    (λ (waits : WithinTracked (waiting_at old s.slot) (lengths_of span) s).
     let stays = others s.slot (λ e. (omega arith)) in
-    inr (s, come.1, inr (later, subst (λ o. WithinState o (lengths_of span) s) (sym stays) waits)))
+    inr (s, come.1, inr (later, subst (λ o. WithinTracked o (lengths_of span) s) (sym stays) waits)))
     come.2.1)
     (λ (here : s.slot ≤ slot).
     let least = come.2.0 in
     let at : s.slot ≡ slot = omega arith in
     ⊎_elim
-    (λ (fell : Between program slot s.slot × WithinState falling (lengths_of span) s). inr (s, come.1, inl (at, falls (lengths_of span) s fell.1)))
-    (λ (waits : WithinState (waiting_at old s.slot) (lengths_of span) s).
-    inr (s, come.1, inl (at, arrives (lengths_of span) s (subst (λ k. WithinState (waiting_at old k) (lengths_of span) s) at waits))))
+    (λ (fell : Between program slot s.slot × WithinTracked falling (lengths_of span) s). inr (s, come.1, inl (at, falls (lengths_of span) s fell.1)))
+    (λ (waits : WithinTracked (waiting_at old s.slot) (lengths_of span) s).
+    inr (s, come.1, inl (at, arrives (lengths_of span) s (subst (λ k. WithinTracked (waiting_at old k) (lengths_of span) s) at waits))))
     come.2.1)
     (cases_lt slot s.slot))
     (follows span which)
 
 -- ---- an instruction is passed
-moved : (program : Program) (span : Span) (slot : ℕ) (insn : Insn) (s : State) (falling : Option AbsState) (waiting : Waiting) (m : Moved) → IsPaired program → IsStructured program → StartsAt program slot insn → ComesTo program span s → s.slot ≡ slot → does span s insn ≡ m → Advances (lengths_of span) slot insn falling waiting m → Ends program span ⊎ ((s : State) × ComesTo program span s × IsAwaited program (slot + 1) falling waiting (lengths_of span) s)
+moved : (program : Program) (span : Span) (slot : ℕ) (insn : Insn) (s : State) (falling : Option TrackedState) (waiting : Waiting) (m : Moved) → IsPaired program → IsStructured program → StartsAt program slot insn → ComesTo program span s → s.slot ≡ slot → does span s insn ≡ m → Advances (lengths_of span) slot insn falling waiting m → Ends program span ⊎ ((s : State) × ComesTo program span s × IsAwaited program (slot + 1) falling waiting (lengths_of span) s)
 moved program span slot insn s falling waiting (Ok (Returns value)) paired structured starts comes at e advances =
     inl (ends_here program span s insn value comes (subst (λ k. StartsAt program k insn) (sym at) starts) e)
 moved program span slot insn s falling waiting (Ok (On next distance)) paired structured starts comes at e advances =
     let here : StartsAt program s.slot insn = subst (λ k. StartsAt program k insn) (sym at) starts in
     ⊎_elim
-    (λ (fell : (n : ℕ) × (distance ≡ pos n) × (n + 1 ≡ slots_of insn) × (falls_through insn ≡ true) × WithinState falling (lengths_of span) next).
+    (λ (fell : (n : ℕ) × (distance ≡ pos n) × (n + 1 ≡ slots_of insn) × (falls_through insn ≡ true) × WithinTracked falling (lengths_of span) next).
     let n = fell.0 in
     let count : n + 1 ≡ slots_of insn = fell.2 in
     let f = fall_starts program slot (slot + slots_of insn) insn paired structured starts fell.3 refl in
@@ -160,7 +161,7 @@ moved program span slot insn s falling waiting (Ok (On next distance)) paired st
       goes_on program span s next insn f.next (slot + slots_of insn) n comes here does_so (omega arith) f.starts,
       (omega arith, inl (f.between, contains_at falling (lengths_of span) next (slot + slots_of insn) fell.4)),
     ))
-    (λ (jumped : (n : ℕ) × (distance ≡ pos n) × (jump_of insn ≡ Some (pos n)) × WithinState (waiting_at waiting (slot + 1 + n)) (lengths_of span) next).
+    (λ (jumped : (n : ℕ) × (distance ≡ pos n) × (jump_of insn ≡ Some (pos n)) × WithinTracked (waiting_at waiting (slot + 1 + n)) (lengths_of span) next).
     let n = jumped.0 in
     let t = jump_starts program slot n insn structured starts jumped.2 in
     let does_so : does span s insn ≡ Ok (On next (pos n)) = e ∙ ap (λ d. Ok (On next d)) jumped.1 in
@@ -172,39 +173,39 @@ moved program span slot insn s falling waiting (Ok (On next distance)) paired st
     advances
 moved program span slot insn s falling waiting (Err kind) paired structured starts comes at e advances = absurd advances
 
-pub passed : (profile : Profile) (program : Program) (slot : ℕ) (insn : Insn) (a : AbsState) (falling : Option AbsState) (old new : Waiting) → IsPaired program → IsStructured program → StartsAt program slot insn → Keeps old new → ((span : Span) (s : State) → span.profile ≡ profile → Contains a (lengths_of span) s → Advances (lengths_of span) slot insn falling new (does span s insn)) → Settled profile program slot (Some a) old → Follows profile program (slot + 1) falling new
+pub passed : (profile : Profile) (program : Program) (slot : ℕ) (insn : Insn) (a : TrackedState) (falling : Option TrackedState) (old new : Waiting) → IsPaired program → IsStructured program → StartsAt program slot insn → Keeps old new → ((span : Span) (s : State) → span.profile ≡ profile → ContainsTracked a (lengths_of span) s → Advances (lengths_of span) slot insn falling new (does span s insn)) → Settled profile program slot (Some a) old → Follows profile program (slot + 1) falling new
 passed profile program slot insn a falling old new paired structured starts keeps sound settled span which =
     ⊎_elim
     (λ (ended : Ends program span). inl ended)
-    (λ (come : (s : State) × ComesTo program span s × (((s.slot ≡ slot) × WithinState (Some a) (lengths_of span) s) ⊎ ((slot < s.slot) × WithinState (waiting_at old s.slot) (lengths_of span) s))).
+    (λ (come : (s : State) × ComesTo program span s × (((s.slot ≡ slot) × WithinTracked (Some a) (lengths_of span) s) ⊎ ((slot < s.slot) × WithinTracked (waiting_at old s.slot) (lengths_of span) s))).
     let s = come.0 in
     ⊎_elim
-    (λ (here : (s.slot ≡ slot) × WithinState (Some a) (lengths_of span) s).
-    let contains : Contains a (lengths_of span) s = let (x, is, c) = here.1 in subst (λ b. Contains b (lengths_of span) s) (same_Some x a (sym is)) c in
+    (λ (here : (s.slot ≡ slot) × WithinTracked (Some a) (lengths_of span) s).
+    let contains : ContainsTracked a (lengths_of span) s = let (x, is, c) = here.1 in subst (λ b. ContainsTracked b (lengths_of span) s) (same_Some x a (sym is)) c in
     moved program span slot insn s falling new (does span s insn) paired structured starts come.1 here.0 refl (sound span s which contains))
-    (λ (later : (slot < s.slot) × WithinState (waiting_at old s.slot) (lengths_of span) s).
+    (λ (later : (slot < s.slot) × WithinTracked (waiting_at old s.slot) (lengths_of span) s).
     let after_it = later.0 in
     inr (s, come.1, (omega arith, inr (keeps s.slot (lengths_of span) s later.1))))
     come.2)
     (settled span which)
 
 -- nothing comes to a dead slot
-pub skipped : (profile : Profile) (program : Program) (slot : ℕ) (falling : Option AbsState) (waiting : Waiting) → Settled profile program slot None waiting → Follows profile program (slot + 1) falling waiting
+pub skipped : (profile : Profile) (program : Program) (slot : ℕ) (falling : Option TrackedState) (waiting : Waiting) → Settled profile program slot None waiting → Follows profile program (slot + 1) falling waiting
 skipped profile program slot falling waiting settled span which =
     ⊎_elim
     (λ (ended : Ends program span). inl ended)
-    (λ (come : (s : State) × ComesTo program span s × (((s.slot ≡ slot) × WithinState None (lengths_of span) s) ⊎ ((slot < s.slot) × WithinState (waiting_at waiting s.slot) (lengths_of span) s))).
+    (λ (come : (s : State) × ComesTo program span s × (((s.slot ≡ slot) × WithinTracked None (lengths_of span) s) ⊎ ((slot < s.slot) × WithinTracked (waiting_at waiting s.slot) (lengths_of span) s))).
     let s = come.0 in
     ⊎_elim
-    (λ (here : (s.slot ≡ slot) × WithinState None (lengths_of span) s). absurd (let is = here.1.1 in cc))
-    (λ (later : (slot < s.slot) × WithinState (waiting_at waiting s.slot) (lengths_of span) s).
+    (λ (here : (s.slot ≡ slot) × WithinTracked None (lengths_of span) s). absurd (let is = here.1.1 in cc))
+    (λ (later : (slot < s.slot) × WithinTracked (waiting_at waiting s.slot) (lengths_of span) s).
     let after_it = later.0 in
     inr (s, come.1, (omega arith, inr later.1)))
     come.2)
     (settled span which)
 
 -- ---- a slot that is no instruction
-pub stepped_over : (profile : Profile) (program : Program) (slot : ℕ) (falling : Option AbsState) (waiting : Waiting) → slice_get program slot ≡ Some None → Follows profile program slot falling waiting → Follows profile program (slot + 1) falling waiting
+pub stepped_over : (profile : Profile) (program : Program) (slot : ℕ) (falling : Option TrackedState) (waiting : Waiting) → slice_get program slot ≡ Some None → Follows profile program slot falling waiting → Follows profile program (slot + 1) falling waiting
 stepped_over profile program slot falling waiting second follows span which =
     ⊎_elim
     (λ (ended : Ends program span). inl ended)
@@ -219,8 +220,8 @@ stepped_over profile program slot falling waiting second follows span which =
       (
         (omega arith),
         ⊎_elim
-            (λ (fell : Between program slot s.slot × WithinState falling (lengths_of span) s). let between : Between program (slot + 1) s.slot = λ k low high. fell.0 k (omega arith) high in inl (between, fell.1))
-            (λ (waits : WithinState (waiting_at waiting s.slot) (lengths_of span) s). inr waits)
+            (λ (fell : Between program slot s.slot × WithinTracked falling (lengths_of span) s). let between : Between program (slot + 1) s.slot = λ k low high. fell.0 k (omega arith) high in inl (between, fell.1))
+            (λ (waits : WithinTracked (waiting_at waiting s.slot) (lengths_of span) s). inr waits)
             come.2.1,
       ),
     ))
@@ -234,7 +235,7 @@ stepped_over profile program slot falling waiting second follows span which =
     (follows span which)
 
 -- ---- the walk's begin and end
-pub begins : (profile : Profile) (program : Program) (entry : AbsState) (waiting : Waiting) → 0 < length program → IsPaired program → ((span : Span) → Contains entry (lengths_of span) start) → Follows profile program 0 (Some entry) waiting
+pub begins : (profile : Profile) (program : Program) (entry : TrackedState) (waiting : Waiting) → 0 < length program → IsPaired program → ((span : Span) → ContainsTracked entry (lengths_of span) start) → Follows profile program 0 (Some entry) waiting
 begins profile program entry waiting some paired contains span which =
     let first = starts_at program 0 some paired.begins in
     inr (
@@ -243,7 +244,7 @@ begins profile program entry waiting some paired contains span which =
       (omega arith, inl ((λ k low high. absurd (omega arith)), (entry, refl, contains span))),
     )
 
-pub ends : (profile : Profile) (program : Program) (falling : Option AbsState) (waiting : Waiting) → Follows profile program (length program) falling waiting → SafeIn profile program
+pub ends : (profile : Profile) (program : Program) (falling : Option TrackedState) (waiting : Waiting) → Follows profile program (length program) falling waiting → SafeIn profile program
 ends profile program falling waiting follows bytes whole =
     ⊎_elim
     (λ (ended : Ends program (record { profile = profile; bytes = bytes; whole = whole })). ended)

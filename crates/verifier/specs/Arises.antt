@@ -1,6 +1,7 @@
 -- How what is known before a slot came to be, and which instructions may be refused then.
-use Rattle.std.specs.Prelude.{◌≡◌, ◌≢◌, ℕ, ℤ, pos, ◌+◌, ◌<◌, ◌≤◌, ◌⊎◌, ◌↔◌, min, Option, Some, true}
+use Rattle.std.specs.Prelude.{◌≡◌, ◌≢◌, ℕ, ℤ, pos, ◌+◌, ◌<◌, ◌≤◌, ◌⊎◌, ◌↔◌, min, Option, Some, true, false}
 use Rattle.span_context.specs.declared.profile.Profile.{Profile}
+use Rattle.span_context.specs.Profile.{has_more_rules}
 use Rattle.bpf_words.specs.declared.instruction.Width.TheVariants.{Full}
 use Rattle.bpf_words.specs.declared.instruction.Comparison.TheVariants.{Greater}
 use Rattle.bpf_words.specs.declared.instruction.Operand.TheVariants.{Source}
@@ -16,7 +17,8 @@ use Rattle.abstract_state.specs.declared.state.AbsState.{AbsState}
 use Rattle.abstract_state.specs.State.{register_at, slot_at}
 use Rattle.abstract_state.specs.Kinds.{HasNumberAt, IsContextAt, IsStackAt, JoinsReg, JoinsSlot, ReadsNumbers}
 use Rattle.abstract_state.specs.Exact.{Fact, Holds}
-use Rattle.abstract_state.specs.Guard.{Yields, Stores, Spills, LeavesOthers, LeavesMemory}
+use Rattle.abstract_state.specs.Branch.{LeavesSides}
+use Rattle.abstract_state.specs.Guard.{Yields, Stores, Spills, LeavesOthers, LeavesMemory, LengthensMemory}
 use Rattle.abstract_state.specs.Frame.{StoresSlots, SpillsSlot}
 use Rattle.abstract_state.specs.declared.known.Known.{Known}
 use Rattle.abstract_state.specs.declared.known.Known.TheVariants.{Lent}
@@ -26,6 +28,8 @@ use Rattle.abstract_state.specs.declared.refusal.Refusal.TheVariants.{UnsetRegis
 use Rattle.verifier.specs.declared.refusal.VerifyError.{VerifyError}
 use Rattle.verifier.specs.declared.refusal.VerifyError.TheVariants.{State as StateRefused, OutOfMemory}
 use Rattle.program_reads.specs.Runs.{ContainsRuns}
+use Rattle.tracked_state.specs.declared.state.TrackedState.{TrackedState}
+use Rattle.tracked_state.specs.Learning.{LearnsSides}
 use Rattle.verifier.specs.Waiting.{Waiting, waiting_at}
 use Rattle.verifier.specs.Walk.{Between}
 
@@ -51,12 +55,19 @@ pub record TakesNumbers (a : AbsState) (insn : Insn) (b : AbsState) : Type 0 whe
   pub written : (i : ℕ) → written_by insn ≡ Some i → HasNumberAt b i
   pub kept : (i : ℕ) → HasNumberAt a i → HasNumberAt b i
 
+-- what an instruction leaves as it was; by the rules that the first two profiles leave out a comparison's sides tell
+-- their copies, so past it that may be better known
+abbrev pub Leaves : Profile → AbsState → Insn → AbsState → Type 0
+Leaves profile a (Branch width comparison left right distance) b =
+    LearnsSides left right a b
+    × (has_more_rules profile ≡ false → LeavesSides left right a b × LengthensMemory a b)
+Leaves profile a insn b = LeavesOthers a insn b × LeavesMemory a insn b
+
 -- what is known past an instruction, on each of its edges: it reads no unset register, and what it writes is set
 pub record Takes (profile : Profile) (a : AbsState) (insn : Insn) (b : AbsState) : Type 0 where
   pub read : HasUnset a (read_by insn) → ⊥
   pub numbers : ReadsNumbers a insn → TakesNumbers a insn b
-  pub others : LeavesOthers a insn b
-  pub memory : LeavesMemory a insn b
+  pub leaves : Leaves profile a insn b
   pub stores : (p count : ℕ) → Stores a insn p count → StoresSlots p count a.stack b.stack
   pub spills : (i : ℕ) (known : Known) → Spills a insn i known → SpillsSlot i known a.stack b.stack
   pub yields : (register : ℕ) (fact : Fact) → Yields profile a insn register fact
@@ -95,25 +106,27 @@ pub data Arises (profile : Profile) (program : Program) : ℕ → AbsState → T
   joined : {slot : ℕ} {a b c : AbsState} → IsTarget program slot → Arises profile program slot a
       → Arises profile program slot b → JoinsAll a b c → Arises profile program slot c
 
-abbrev pub ArisesAt : Profile → Program → ℕ → Option AbsState → Type 0
-ArisesAt profile program slot o = (a : AbsState) → o ≡ Some a → Arises profile program slot a
+abbrev pub ArisesAt : Profile → Program → ℕ → Option TrackedState → Type 0
+ArisesAt profile program slot o = (a : TrackedState) → o ≡ Some a → Arises profile program slot a.state
 
 -- something waits only where a jump leads, and arises there
 abbrev pub AllArise : Profile → Program → Waiting → Type 0
 AllArise profile program waiting =
-    (slot : ℕ) (a : AbsState) → waiting_at waiting slot ≡ Some a → IsTarget program slot × Arises profile program slot a
+    (slot : ℕ) (a : TrackedState) → waiting_at waiting slot ≡ Some a
+    → IsTarget program slot × Arises profile program slot a.state
 
 -- what an instruction leaves for the next one
-abbrev pub FallsFrom : Profile → Program → ℕ → Insn → Option AbsState → Type 0
+abbrev pub FallsFrom : Profile → Program → ℕ → Insn → Option TrackedState → Type 0
 FallsFrom profile program slot insn falling =
-    (a : AbsState) → falling ≡ Some a → (falls_through insn ≡ true) × Arises profile program (slot + slots_of insn) a
+    (a : TrackedState) → falling ≡ Some a
+    → (falls_through insn ≡ true) × Arises profile program (slot + slots_of insn) a.state
 
 -- what falls into the next instruction arises there
-abbrev pub FallsAs : Profile → Program → ℕ → Option AbsState → Type 0
+abbrev pub FallsAs : Profile → Program → ℕ → Option TrackedState → Type 0
 FallsAs profile program slot falling =
-    (a : AbsState) → falling ≡ Some a
+    (a : TrackedState) → falling ≡ Some a
     → (to : ℕ) × ((next : Insn) × (slot ≤ to) × Between program slot to × StartsAt program to next
-    × Arises profile program to a)
+    × Arises profile program to a.state)
 
 -- what arises before some instruction, and contains each state that a run of the profile comes to there, doesn't grant
 -- it; the fault is an unset register exactly where the instruction reads one

@@ -9,21 +9,25 @@ use Rattle.bpf_words.specs.declared.instruction.Insn.TheVariants.{Jump, JumpLong
 use Rattle.bpf_words.specs.Flow.{StartsAt, jump_of}
 use Rattle.semantics.specs.Step.{Program}
 use Rattle.abstract_state.specs.declared.refusal.Refusal.{Refusal}
-use Rattle.abstract_state.specs.declared.state.AbsState.{AbsState}
 use Rattle.abstract_state.specs.Addresses.{answer_of}
 use Rattle.abstract_state.specs.Stacks.{Marked}
-use Rattle.abstract_state.specs.Situation.{Situation, IsSituationIn, entry, joined}
-use Rattle.abstract_state.specs.Stepping.{stepped, exit}
-use Rattle.abstract_state.specs.Edges.{Ways, ways, branched}
+use Rattle.abstract_state.specs.Situation.{Situation}
+use Rattle.value_marks.specs.Marking.{Marking}
+use Rattle.tracked_state.specs.declared.state.TrackedState.{TrackedState}
+use Rattle.tracked_state.specs.Tracked.{TrackedSituation, tracked, IsTrackedIn}
+use Rattle.tracked_state.specs.Rules.{TrackedWays, entry, stepped, branched, joined, exit}
 use Rattle.verifier.specs.Structure.{IsStructured}
 
--- ---- where an instruction leads: by its jump, and to the next instruction
-unfoldable pub led : Profile → Insn → Situation → Result Ways Refusal
-led profile (Branch width comparison left right distance) s = branched width comparison left right s
-led profile (Jump distance) s = Ok (ways (Some s) None)
-led profile (JumpLong distance) s = Ok (ways (Some s) None)
-led profile Exit s = answer_of (λ done. ways None None) (exit s)
-led profile insn s = answer_of (ways None) (stepped profile insn s)
+-- ---- where an instruction at a slot leads: by its jump, and to the next instruction
+abbrev pub ways : Option TrackedSituation → Option TrackedSituation → TrackedWays
+ways taken untaken = record { taken = taken; untaken = untaken }
+
+unfoldable pub led : Profile → ℕ → Insn → TrackedSituation → Result TrackedWays Refusal
+led profile slot (Branch width comparison left right distance) t = branched width comparison left right t
+led profile slot (Jump distance) t = Ok (ways (Some t) None)
+led profile slot (JumpLong distance) t = Ok (ways (Some t) None)
+led profile slot Exit t = answer_of (λ done. ways None None) (exit t)
+led profile slot insn t = answer_of (ways None) (stepped profile slot insn t)
 
 -- the slot to which a jump leads; a structured program has none that leads back
 abbrev pub jump_target : ℕ → Option ℤ → ℕ
@@ -33,48 +37,57 @@ jump_target slot None = slot
 
 -- ---- what is known before a slot, from all edges into it
 -- nothing where no run comes
-abbrev pub either_way : Profile → Option Situation → Option Situation → Option Situation
+abbrev pub either_way : Profile → Option TrackedSituation → Option TrackedSituation → Option TrackedSituation
 either_way profile None b = b
 either_way profile (Some a) None = Some a
 either_way profile (Some a) (Some b) = Some (joined profile a b)
 
 -- of the eleven registers and the 64 slots of the stack alone, since the machine has no others
-abbrev pub trimmed : Situation → Situation
-trimmed s = record {
+abbrev pub trimmed_situation : Situation → Situation
+trimmed_situation s = record {
   registers = λ i. if nat_lt i 11 then s.registers i else None;
   slots = λ i. if nat_lt i 64 then s.slots i else Marked [];
   least = s.least;
 }
 
-abbrev pub arrived : Profile → Option Situation → Option Situation → Option Situation
+abbrev pub trimmed_marking : Marking → Marking
+trimmed_marking w = record {
+  registers = λ i. if nat_lt i 11 then w.registers i else None;
+  slots = λ i. if nat_lt i 64 then w.slots i else None;
+}
+
+abbrev pub trimmed : TrackedSituation → TrackedSituation
+trimmed t = tracked (option_map trimmed_marking t.marking) (trimmed_situation t.situation)
+
+abbrev pub arrived : Profile → Option TrackedSituation → Option TrackedSituation → Option TrackedSituation
 arrived profile falling waiting = option_map trimmed (either_way profile falling waiting)
 
 -- what jumps lead to each slot
 abbrev pub Waits : Type 0
-Waits = ℕ → Option Situation
+Waits = ℕ → Option TrackedSituation
 
 -- what falls into a slot from the one below it, and what the jumps below it lead to each slot
 pub record Awaited : Type 0 where
-  pub falling : Option Situation
+  pub falling : Option TrackedSituation
   pub waiting : Waits
 
-abbrev pub awaited : Option Situation → Waits → Awaited
+abbrev pub awaited : Option TrackedSituation → Waits → Awaited
 awaited falling waiting = record { falling = falling; waiting = waiting }
 
 -- what a jump leads to its target is joined to what the jumps before it led there
-abbrev pub with_jump : Profile → ℕ → Option Situation → Waits → Waits
+abbrev pub with_jump : Profile → ℕ → Option TrackedSituation → Waits → Waits
 with_jump profile target taken waiting slot =
     if nat_eq slot target then either_way profile (waiting slot) taken else waiting slot
 
 -- beyond an instruction; one that is refused leads nothing on
-abbrev pub led_on : Profile → ℕ → Insn → Waits → Result Ways Refusal → Awaited
+abbrev pub led_on : Profile → ℕ → Insn → Waits → Result TrackedWays Refusal → Awaited
 led_on profile slot insn waiting (Ok w) =
     awaited w.untaken (with_jump profile (jump_target slot (jump_of insn)) w.taken waiting)
 led_on profile slot insn waiting (Err fault) = awaited None waiting
 
-unfoldable pub passed : Profile → ℕ → Insn → Option Situation → Waits → Awaited
+unfoldable pub passed : Profile → ℕ → Insn → Option TrackedSituation → Waits → Awaited
 passed profile slot insn None waiting = awaited None waiting
-passed profile slot insn (Some s) waiting = led_on profile slot insn waiting (led profile insn s)
+passed profile slot insn (Some t) waiting = led_on profile slot insn waiting (led profile slot insn t)
 
 -- beyond a slot; at the second one of a wide load stands no instruction
 unfoldable pub stepped_over : Profile → ℕ → Option (Option Insn) → Awaited → Awaited
@@ -83,25 +96,25 @@ stepped_over profile slot (Some (Some insn)) a =
 stepped_over profile slot place a = a
 
 unfoldable pub awaited_at : Profile → Program → ℕ → Awaited
-awaited_at profile program zero = awaited (Some entry) (λ slot. None)
+awaited_at profile program zero = awaited (Some (entry profile)) (λ slot. None)
 awaited_at profile program (suc slot) =
     stepped_over profile slot (slice_get program slot) (awaited_at profile program slot)
 
-unfoldable pub known_before : Profile → Program → ℕ → Option Situation
+unfoldable pub known_before : Profile → Program → ℕ → Option TrackedSituation
 known_before profile program slot =
     let a = awaited_at profile program slot in
     arrived profile a.falling (a.waiting slot)
 
 -- ---- the verifier's decision
--- the rules refuse an instruction where a run may come
-abbrev pub Refuses : Profile → Insn → Option Situation → Refusal → Type 0
-Refuses profile insn None fault = ⊥
-Refuses profile insn (Some s) fault = led profile insn s ≡ Err fault
+-- the rules refuse an instruction at a slot, where a run may come
+abbrev pub Refuses : Profile → ℕ → Insn → Option TrackedSituation → Refusal → Type 0
+Refuses profile slot insn None fault = ⊥
+Refuses profile slot insn (Some t) fault = led profile slot insn t ≡ Err fault
 
 pub record IsRefusedAt (profile : Profile) (program : Program) (slot : ℕ) (fault : Refusal) : Type 0 where
   pub insn : Insn
   pub starts : StartsAt program slot insn
-  pub refused : Refuses profile insn (known_before profile program slot) fault
+  pub refused : Refuses profile slot insn (known_before profile program slot) fault
 
 -- the structure has no fault, and no slot below is refused
 pub record IsAllowedBelow (profile : Profile) (program : Program) (end : ℕ) : Type 0 where
@@ -117,7 +130,7 @@ pub record FirstRefusal (profile : Profile) (program : Program) (slot : ℕ) (fa
   pub here : IsRefusedAt profile program slot fault
 
 -- the code's states are what is known before each slot
-abbrev pub KnownEach : Profile → Program → List (Option AbsState) → Type 0
+abbrev pub KnownEach : Profile → Program → List (Option TrackedState) → Type 0
 KnownEach profile program states =
     (slot : ℕ) → slot < length program
-    → IsSituationIn (slice_index_or states slot None) (known_before profile program slot)
+    → IsTrackedIn (slice_index_or states slot None) (known_before profile program slot)

@@ -9,9 +9,10 @@ use Rattle.semantics.specs.State.{State}
 use Rattle.semantics.specs.Step.{Program, Moved, On, Returns}
 use Rattle.semantics.specs.Outcomes.{outcome, outcome_from}
 use Rattle.semantics.specs.Safe.{Verdict}
-use Rattle.abstract_state.specs.declared.state.AbsState.{AbsState}
 use Rattle.abstract_state.specs.Lent.{Lengths}
-use Rattle.abstract_state.specs.State.{Span, lengths_of, WithinState}
+use Rattle.abstract_state.specs.State.{Span, lengths_of}
+use Rattle.tracked_state.specs.declared.state.TrackedState.{TrackedState}
+use Rattle.tracked_state.specs.Tracked.{WithinTracked}
 use Rattle.verifier.specs.Waiting.{Waiting, waiting_at}
 
 -- the run on a span comes to a state, at an instruction, with enough steps left for all slots from there on
@@ -28,16 +29,16 @@ Between program from to = (slot : ℕ) → from ≤ slot → slot < to → slice
 
 -- a state before a slot or after it is contained in what is known: of the fall into the next instruction, or of the
 -- jumps to its slot
-abbrev pub IsAwaited : Program → ℕ → Option AbsState → Waiting → Lengths → State → Type 0
+abbrev pub IsAwaited : Program → ℕ → Option TrackedState → Waiting → Lengths → State → Type 0
 IsAwaited program slot falling waiting lengths s =
-    (slot ≤ s.slot) × ((Between program slot s.slot × WithinState falling lengths s)
-    ⊎ WithinState (waiting_at waiting s.slot) lengths s)
+    (slot ≤ s.slot) × ((Between program slot s.slot × WithinTracked falling lengths s)
+    ⊎ WithinTracked (waiting_at waiting s.slot) lengths s)
 
 abbrev pub Ends : Program → Span → Type 0
 Ends program span = (value : ℕ) × Verdict program span.bytes value
 
 -- every run of the profile ends with a number, or comes to a state that is awaited
-abbrev pub Follows : Profile → Program → ℕ → Option AbsState → Waiting → Type 0
+abbrev pub Follows : Profile → Program → ℕ → Option TrackedState → Waiting → Type 0
 Follows profile program slot falling waiting =
     (span : Span) → span.profile ≡ profile
     → Ends program span
@@ -45,20 +46,20 @@ Follows profile program slot falling waiting =
 
 -- where what an instruction did leads: to the end, to the next instruction, or to the target of its jump, and what is
 -- known there contains it
-abbrev pub Advances : Lengths → ℕ → Insn → Option AbsState → Waiting → Moved → Type 0
+abbrev pub Advances : Lengths → ℕ → Insn → Option TrackedState → Waiting → Moved → Type 0
 Advances lengths slot insn falling waiting (Ok (Returns value)) = Unit {0}
 Advances lengths slot insn falling waiting (Ok (On next distance)) =
     ((n : ℕ) × (distance ≡ pos n) × (n + 1 ≡ slots_of insn) × (falls_through insn ≡ true)
-    × WithinState falling lengths next)
+    × WithinTracked falling lengths next)
     ⊎ ((n : ℕ) × (distance ≡ pos n) × (jump_of insn ≡ Some (pos n))
-    × WithinState (waiting_at waiting (slot + 1 + n)) lengths next)
+    × WithinTracked (waiting_at waiting (slot + 1 + n)) lengths next)
 Advances lengths slot insn falling waiting (Err kind) = ⊥
 
 -- what waits contains still what it contained
 abbrev pub Keeps : Waiting → Waiting → Type 0
 Keeps old new =
-    (slot : ℕ) (lengths : Lengths) (s : State) → WithinState (waiting_at old slot) lengths s
-    → WithinState (waiting_at new slot) lengths s
+    (slot : ℕ) (lengths : Lengths) (s : State) → WithinTracked (waiting_at old slot) lengths s
+    → WithinTracked (waiting_at new slot) lengths s
 
 -- a jump of an instruction leads forward, to a slot below the count
 abbrev pub JumpsWithin : ℕ → ℕ → Insn → Type 0

@@ -10,32 +10,33 @@ ghost use Rattle.verifier.specs.Unset.{ReadsUnset};
 ghost use Rattle.verifier.specs.Framed.{IsFramed};
 ghost use Rattle.verifier.specs.Guard.{IsGuard};
 ghost use Rattle.verifier.specs.Judged.{Rejects};
-ghost use Rattle.abstract_state.specs.Situation.{IsSituationIn};
+ghost use Rattle.tracked_state.specs.Tracked.{IsTrackedIn, state_in};
 ghost use Rattle.verifier.specs.Decides.{IsAllowed, FirstRefusal, IsAllowedBelow, KnownEach, known_before};
 ghost use Rattle.verifier.specs.Structure.{FirstFault};
-ghost use Rattle.program_reads.specs.Runs.{ContainsRuns, ContainAllRuns};
-ghost use Rattle.verifier.specs.Reaches.{AriseEverywhere, IsBefore};
+ghost use Rattle.program_reads.specs.Runs.{ContainsRuns};
+ghost use Rattle.verifier.specs.Reaches.{AriseEverywhere, ContainEachRun, TracksRuns, TrackAllRuns, IsBefore};
 ghost use Rattle.verifier.specs.declared.refusal.StructureFault.{StructureFault};
 
 use crate::refusal::VerifyError;
 use crate::structure::check;
 use crate::walk::{walk_before, walk_each};
-use abstract_state::state::AbsState;
 use bpf_words::words::Words;
 use span_context::profile::Profile;
 use std::alloc::Global;
+use tracked_state::state::TrackedState;
 
 /// What `verify` knows of the machine before a slot: it contains each state to which a run comes there, on whatever the
-/// profile lends of a span, and it is nothing only where no run comes there. Refused is what `verify` refuses for its
-/// structure or at a slot below.
+/// profile lends of a span, and its copies are true of that; it is nothing only where no run comes there. Refused is
+/// what `verify` refuses for its structure or at a slot below.
 pub fn state_before(
     alloc: Global,
     words: &Words<'_>,
     profile: Profile,
     slot: usize,
-) -> Result<Option<AbsState>, VerifyError>
+) -> Result<Option<TrackedState>, VerifyError>
     requires { slot < length (program_of words.now) }
-    ensures contains { IfOk result (ContainsRuns profile (program_of words.now) slot) }
+    ensures contains { IfOk result (λ known. ContainsRuns profile (program_of words.now) slot (state_in known)) }
+    ensures tracks { IfOk result (TracksRuns profile (program_of words.now) slot) }
     ensures arises { IfOk result (λ known. (insn : Insn) → StartsAt (program_of words.now) slot insn
         → ArisesAt profile (program_of words.now) slot known) }
     ensures structure { (at : ℕ) (fault : StructureFault)
@@ -49,7 +50,7 @@ pub fn state_before(
     ensures guard { IfErr result (λ e. IsGuard profile (program_of words.now) → e ≡ VerifyError.OutOfMemory) }
     ensures before { IfErr result (IsBefore slot) }
     ensures rejects { IfErr result (λ e. Rejects profile (program_of words.now) e) }
-    ensures rule { IfOk result (λ known. IsSituationIn known (known_before profile (program_of words.now) slot)) }
+    ensures rule { IfOk result (λ known. IsTrackedIn known (known_before profile (program_of words.now) slot)) }
     ensures accepts { IfOk result (λ _. IsAllowedBelow profile (program_of words.now) slot) }
     ensures complete { IsAllowedBelow profile (program_of words.now) slot
         → IfErr result (λ e. e ≡ VerifyError.OutOfMemory) }
@@ -73,9 +74,10 @@ pub fn states_before(
     alloc: Global,
     words: &Words<'_>,
     profile: Profile,
-) -> Result<Vec<Option<AbsState>>, VerifyError>
+) -> Result<Vec<Option<TrackedState>>, VerifyError>
     ensures size { IfOk result (λ states. length states.items ≡ length (program_of words.now)) }
-    ensures contains { IfOk result (λ states. ContainAllRuns profile (program_of words.now) states.items) }
+    ensures contains { IfOk result (λ states. ContainEachRun profile (program_of words.now) states.items) }
+    ensures tracks { IfOk result (λ states. TrackAllRuns profile (program_of words.now) states.items) }
     ensures arises { IfOk result (λ states. AriseEverywhere profile (program_of words.now) states.items) }
     ensures structure { (at : ℕ) (fault : StructureFault)
         → (result ≡ Err (VerifyError.Structure at fault)) ↔ FirstFault (program_of words.now) at fault }

@@ -3,11 +3,11 @@ ghost use Rattle.std.specs.Prelude.{◌≡◌, ◌≢◌, ℕ, ◌<◌, ◌≤�
 ghost use Rattle.span_context.specs.declared.profile.Profile.{Profile as TheProfile};
 ghost use Rattle.semantics.specs.State.{State};
 ghost use Rattle.abstract_state.specs.Lent.{Lengths};
-ghost use Rattle.abstract_state.specs.State.{Contains, WithinState};
-ghost use Rattle.abstract_state.specs.Steps.{after};
-ghost use Rattle.verifier.specs.Waiting.{unboxed, waiting_at};
+ghost use Rattle.tracked_state.specs.Tracked.{ContainsTracked, WithinTracked, beside};
+ghost use Rattle.tracked_state.specs.Tracked.{TrackedSituation, IsTracked, IsTrackedIn};
+ghost use Rattle.tracked_state.specs.Tracking.{after_tracked};
+ghost use Rattle.verifier.specs.Waiting.{MarksBelow, MarksBelowIn, WaitBelow, as_tracked, unboxed, waiting_at};
 ghost use Rattle.verifier.specs.Walk.{Keeps};
-ghost use Rattle.abstract_state.specs.Situation.{Situation, IsSituation, IsSituationIn};
 ghost use Rattle.verifier.specs.Decides.{Waits, either_way, with_jump};
 ghost use Rattle.verifier.specs.Decided.{WaitsFrom};
 ghost use Rattle.verifier.specs.Arises.{Arises, ArisesAt, AllArise, IsTarget};
@@ -18,12 +18,23 @@ use abstract_state::step::Flow;
 use span_context::profile::Profile;
 use std::alloc::{AllocError, Global};
 use std::marker::Model;
+use tracked_state::join::join_parts;
+use tracked_state::state::TrackedState;
+use value_marks::copies::Copies;
+
+/// What waits at a slot. Only the state is boxed, and filled in its place: a local state that owns its marks would be
+/// cleared at each call.
+#[derive(Drop)]
+pub struct Awaiting {
+    state: Box<AbsState>,
+    copies: Copies,
+}
 
 /// What is known before each slot to which a jump leads, from the jumps that were looked at.
 #[derive(Drop)]
 pub struct Waiting {
     alloc: Global,
-    states: Vec<Option<Box<AbsState>>>,
+    states: Vec<Option<Awaiting>>,
 }
 
 impl Model for Waiting {
@@ -38,23 +49,36 @@ impl Model for Waiting {
 fn join(
     alloc: Global,
     profile: Profile,
-    waiting: Option<Box<AbsState>>,
+    waiting: Option<Awaiting>,
     state: &AbsState,
-) -> Result<Box<AbsState>, AllocError>
-    ensures kept { IfOk result (λ joined. (lengths : Lengths) (s : State) → WithinState (unboxed waiting) lengths s
-        → Contains joined.value lengths s) }
-    ensures added { IfOk result (λ joined. (lengths : Lengths) (s : State) → Contains state.now lengths s
-        → Contains joined.value lengths s) }
+    copies: &Copies,
+) -> Result<Awaiting, AllocError>
+    ensures kept { IfOk result (λ joined. (lengths : Lengths) (s : State) → WithinTracked (unboxed waiting) lengths s
+        → ContainsTracked (as_tracked joined) lengths s) }
+    ensures added { IfOk result (λ joined. (lengths : Lengths) (s : State)
+        → ContainsTracked (beside state.now copies.now) lengths s → ContainsTracked (as_tracked joined) lengths s) }
+    ensures below { (lent : TheProfile) (k : ℕ) → MarksBelowIn lent k (unboxed waiting)
+        → MarksBelow lent k (beside state.now copies.now)
+        → IfOk result (λ joined. MarksBelow lent k (as_tracked joined)) }
     ensures arises { (lent : TheProfile) (program : Program) (slot : ℕ) → IsTarget program slot
         → ArisesAt lent program slot (unboxed waiting) → Arises lent program slot state.now
-        → IfOk result (λ joined. Arises lent program slot joined.value) }
-    ensures rule { (o : Option Situation) (s : Situation) → IsSituationIn (unboxed waiting) o → IsSituation state.now s
-        → IfOk result (λ joined. IsSituationIn (Some joined.value) (either_way profile o (Some s))) }
+        → IfOk result (λ joined. Arises lent program slot joined.state.value) }
+    ensures rule { (o : Option TrackedSituation) (s : TrackedSituation) → IsTrackedIn (unboxed waiting) o
+        → IsTracked (beside state.now copies.now) s
+        → IfOk result (λ joined. IsTrackedIn (Some (as_tracked joined)) (either_way profile o (Some s))) }
 {
     let Some(mut earlier) = waiting else {
-        return Ok(Box::new(alloc, *state)?);
+        let state = Box::new(alloc, *state)?;
+        let copies = copies.copy(alloc)?;
+        return Ok(Awaiting { state, copies });
     };
-    earlier.join(profile, state);
+    join_parts(
+        profile,
+        &mut earlier.state,
+        &mut earlier.copies,
+        state,
+        copies,
+    );
     Ok(earlier)
 }
 
@@ -72,19 +96,29 @@ impl Waiting {
     }
 
     /// Joins what a jump to a slot leads there to what waits there.
-    pub fn add(&mut self, profile: Profile, slot: usize, state: &AbsState) -> Result<(), AllocError>
+    pub fn add(
+        &mut self,
+        profile: Profile,
+        slot: usize,
+        state: &AbsState,
+        copies: &Copies,
+    ) -> Result<(), AllocError>
         requires { slot < length self.old }
         ensures size { length self.new ≡ length self.old }
         ensures kept { IfOk result (λ _. Keeps self.old self.new) }
-        ensures added { IfOk result (λ _. (lengths : Lengths) (s : State) → Contains state.now lengths s
-            → WithinState (waiting_at self.new slot) lengths s) }
+        ensures added { IfOk result (λ _. (lengths : Lengths) (s : State)
+            → ContainsTracked (beside state.now copies.now) lengths s
+            → WithinTracked (waiting_at self.new slot) lengths s) }
+        ensures below { (lent : TheProfile) → WaitBelow lent self.old
+            → MarksBelow lent slot (beside state.now copies.now) → IfOk result (λ _. WaitBelow lent self.new) }
         ensures arises { (lent : TheProfile) (program : Program) → AllArise lent program self.old
             → IsTarget program slot → Arises lent program slot state.now
             → IfOk result (λ _. AllArise lent program self.new) }
-        ensures rule { (from : ℕ) (w : Waits) (s : Situation) → WaitsFrom from self.old w → from ≤ slot
-            → IsSituation state.now s → IfOk result (λ _. WaitsFrom from self.new (with_jump profile slot (Some s) w)) }
+        ensures rule { (from : ℕ) (w : Waits) (s : TrackedSituation) → WaitsFrom from self.old w → from ≤ slot
+            → IsTracked (beside state.now copies.now) s
+            → IfOk result (λ _. WaitsFrom from self.new (with_jump profile slot (Some s) w)) }
     {
-        let joined = join(self.alloc, profile, self.states[slot].take(), state)?;
+        let joined = join(self.alloc, profile, self.states[slot].take(), state, copies)?;
         self.states[slot] = Some(joined);
         Ok(())
     }
@@ -95,34 +129,50 @@ impl Waiting {
         profile: Profile,
         slot: usize,
         flow: Flow,
-        state: &mut AbsState,
+        state: &mut TrackedState,
     ) -> Flow
         requires { slot < length self.old }
         ensures size { length self.new ≡ length self.old }
-        ensures falls { (lengths : Lengths) (s : State) → WithinState (after flow state.old) lengths s
-            → WithinState (after result state.new) lengths s }
-        ensures arrives { (lengths : Lengths) (s : State) → WithinState (waiting_at self.old slot) lengths s
-            → WithinState (after result state.new) lengths s }
+        ensures falls { (lengths : Lengths) (s : State) → WithinTracked (after_tracked flow state.old) lengths s
+            → WithinTracked (after_tracked result state.new) lengths s }
+        ensures arrives { (lengths : Lengths) (s : State) → WithinTracked (waiting_at self.old slot) lengths s
+            → WithinTracked (after_tracked result state.new) lengths s }
         ensures others { (other : ℕ) → other ≢ slot → waiting_at self.new other ≡ waiting_at self.old other }
-        ensures alone { waiting_at self.old slot ≡ None → after result state.new ≡ after flow state.old }
+        ensures alone { waiting_at self.old slot ≡ None
+            → after_tracked result state.new ≡ after_tracked flow state.old }
         ensures taken { waiting_at self.new slot ≡ None }
+        ensures waits_below { (lent : TheProfile) → WaitBelow lent self.old → WaitBelow lent self.new }
+        ensures below { (lent : TheProfile) → WaitBelow lent self.old
+            → MarksBelowIn lent slot (after_tracked flow state.old)
+            → MarksBelowIn lent slot (after_tracked result state.new) }
         ensures waits { (lent : TheProfile) (program : Program) → AllArise lent program self.old
             → AllArise lent program self.new }
         ensures arises { (lent : TheProfile) (program : Program) → AllArise lent program self.old
-            → ArisesAt lent program slot (after flow state.old)
-            → AllArise lent program self.new × ArisesAt lent program slot (after result state.new) }
-        ensures rule { (falling here : Option Situation) → IsSituationIn (after flow state.old) falling
-            → IsSituationIn (waiting_at self.old slot) here
-            → IsSituationIn (after result state.new) (either_way profile falling here) }
+            → ArisesAt lent program slot (after_tracked flow state.old)
+            → AllArise lent program self.new × ArisesAt lent program slot (after_tracked result state.new) }
+        ensures rule { (falling here : Option TrackedSituation) → IsTrackedIn (after_tracked flow state.old) falling
+            → IsTrackedIn (waiting_at self.old slot) here
+            → IsTrackedIn (after_tracked result state.new) (either_way profile falling here) }
     {
         let Some(waiting) = self.states[slot].take() else {
             return flow;
         };
+        let Awaiting {
+            state: earlier,
+            copies,
+        } = waiting;
         let Flow::Live = flow else {
-            *state = Box::into_inner(waiting);
+            state.state = Box::into_inner(earlier);
+            state.copies = copies;
             return Flow::Live;
         };
-        state.join(profile, &waiting);
+        join_parts(
+            profile,
+            &mut state.state,
+            &mut state.copies,
+            &earlier,
+            &copies,
+        );
         Flow::Live
     }
 }

@@ -7,25 +7,27 @@ ghost use Rattle.semantics.specs.Safe.{Safe, SafeIn};
 ghost use Rattle.semantics.specs.State.{State};
 ghost use Rattle.semantics.specs.Step.{Program};
 ghost use Rattle.abstract_state.specs.Lent.{Lengths};
-ghost use Rattle.abstract_state.specs.State.{Span, lengths_of, Contains, WithinState, does};
+ghost use Rattle.abstract_state.specs.State.{Span, lengths_of, does};
+ghost use Rattle.tracked_state.specs.Tracked.{ContainsTracked, WithinTracked, with_copies, state_in};
 ghost use Rattle.abstract_state.specs.Steps.{after};
+ghost use Rattle.tracked_state.specs.Tracked.{TrackedSituation, IsTracked, IsTrackedIn, tracked_of};
+ghost use Rattle.tracked_state.specs.Tracking.{after_tracked};
 ghost use Rattle.abstract_state.specs.Unset.{HasUnset};
 ghost use Rattle.abstract_state.specs.declared.refusal.Refusal.{Refusal as TheRefusal};
 ghost use Rattle.verifier.specs.Structure.{IsOfState, IsStructured};
 ghost use Rattle.verifier.specs.Arises.{Arises, ArisesAt, AllArise, IsTarget, IsGranted, IsCause, FallsAs, FallsFrom};
-ghost use Rattle.verifier.specs.Waiting.{waiting_at};
+ghost use Rattle.verifier.specs.Waiting.{MarksBelow, MarksBelowIn, WaitBelow, waiting_at};
 ghost use Rattle.verifier.specs.Walk.{Advances, Follows, IsComparison, JumpsWithin, Keeps};
-ghost use Rattle.program_reads.specs.Runs.{ContainsRuns, ContainAllRuns};
+ghost use Rattle.program_reads.specs.Runs.{ContainsRuns};
 ghost use Rattle.program_reads.specs.Loads.{CoversRuns};
-ghost use Rattle.verifier.specs.Reaches.{AriseEverywhere, Covers, ListsBelow, IsStateBelow};
-ghost use Rattle.abstract_state.specs.Situation.{Situation, IsSituation, IsSituationIn, situation_of};
+ghost use Rattle.verifier.specs.Reaches.{AriseEverywhere, ContainEachRun, Covers, ListsBelow, IsStateBelow};
+ghost use Rattle.verifier.specs.Reaches.{TracksRuns, TrackAllRuns};
 ghost use Rattle.verifier.specs.Decides.{Waits, IsAllowedBelow, KnownEach};
 ghost use Rattle.verifier.specs.Decided.{WaitsFrom, Awaits, Passes, NamesSlot, NamesFirst};
 ghost use Rattle.verifier.specs.Decides.{led, trimmed, arrived, with_jump, awaited_at, known_before};
 
 use crate::refusal::VerifyError;
 use crate::waiting::Waiting;
-use abstract_state::refusal::Refusal;
 use abstract_state::state::AbsState;
 use abstract_state::step::Flow;
 use bpf_words::instruction::Insn;
@@ -33,33 +35,10 @@ use bpf_words::words::Words;
 use program_reads::reads::Reads;
 use span_context::profile::Profile;
 use std::alloc::{AllocError, Global};
-
-/// Why a walk doesn't go past an instruction.
-#[derive(Clone, Copy)]
-enum Stop {
-    Refused(Refusal),
-    OutOfMemory,
-}
-
-impl From<Refusal> for Stop {
-    ghost use Rattle.verifier.specs.declared.walk.Stop.TheVariants.{Refused};
-
-    ghost from_gives = { λ fault stop. stop ≡ Refused fault };
-
-    fn from(fault: Refusal) -> Stop {
-        Stop::Refused(fault)
-    }
-}
-
-impl From<AllocError> for Stop {
-    ghost use Rattle.verifier.specs.declared.walk.Stop.TheVariants.{OutOfMemory};
-
-    ghost from_gives = { λ _ stop. stop ≡ OutOfMemory };
-
-    fn from(_e: AllocError) -> Stop {
-        Stop::OutOfMemory
-    }
-}
+use tracked_state::state::TrackedState;
+use tracked_state::stop::Stop;
+use value_marks::copies::Copies;
+use value_marks::marks::Marks;
 
 /// The slot to which an instruction jumps.
 fn target(slot: usize, insn: &Insn) -> usize
@@ -77,23 +56,28 @@ fn record(
     profile: Profile,
     target: usize,
     edge: &Option<AbsState>,
+    copies: &Copies,
     waiting: &mut Waiting,
 ) -> Result<(), AllocError>
     requires { target < length waiting.old }
     ensures size { length waiting.new ≡ length waiting.old }
     ensures kept { IfOk result (λ _. Keeps waiting.old waiting.new) }
-    ensures added { IfOk result (λ _. (lengths : Lengths) (s : State) → WithinState edge.now lengths s
-        → WithinState (waiting_at waiting.new target) lengths s) }
+    ensures added { IfOk result (λ _. (lengths : Lengths) (s : State)
+        → WithinTracked (with_copies edge.now copies.now) lengths s
+        → WithinTracked (waiting_at waiting.new target) lengths s) }
+    ensures below { (lent : TheProfile) → WaitBelow lent waiting.old
+        → MarksBelowIn lent target (with_copies edge.now copies.now) → IfOk result (λ _. WaitBelow lent waiting.new) }
     ensures arises { (lent : TheProfile) (program : Program) → AllArise lent program waiting.old
-        → IsTarget program target → ArisesAt lent program target edge.now
+        → IsTarget program target → ArisesAt lent program target (with_copies edge.now copies.now)
         → IfOk result (λ _. AllArise lent program waiting.new) }
-    ensures rule { (from : ℕ) (w : Waits) (o : Option Situation) → WaitsFrom from waiting.old w → from ≤ target
-        → IsSituationIn edge.now o → IfOk result (λ _. WaitsFrom from waiting.new (with_jump profile target o w)) }
+    ensures rule { (from : ℕ) (w : Waits) (o : Option TrackedSituation) → WaitsFrom from waiting.old w → from ≤ target
+        → IsTrackedIn (with_copies edge.now copies.now) o
+        → IfOk result (λ _. WaitsFrom from waiting.new (with_jump profile target o w)) }
 {
     let Some(state) = edge else {
         return Ok(());
     };
-    waiting.add(profile, target, state)
+    waiting.add(profile, target, state, copies)
 }
 
 /// Goes on with what is known, if a run can come there.
@@ -107,24 +91,57 @@ fn go_on(state: &mut AbsState, next: &Option<AbsState>) -> Flow
     Flow::Live
 }
 
-/// What is known, if a run can come there.
-fn live(flow: Flow, state: &AbsState) -> Option<AbsState>
-    ensures { result ≡ after flow state.now }
+/// What is known once more, if a run can come there.
+fn live(alloc: Global, flow: Flow, state: &TrackedState) -> Result<Option<TrackedState>, AllocError>
+    ensures tracks { (lengths : Lengths) (s : State) → WithinTracked (after_tracked flow state.now) lengths s
+        → IfOk result (λ known. WithinTracked known lengths s) }
+    ensures arises { (lent : TheProfile) (program : Program) (slot : ℕ)
+        → ArisesAt lent program slot (after_tracked flow state.now) → IfOk result (ArisesAt lent program slot) }
+    ensures rule { (o : Option TrackedSituation) → IsTrackedIn (after_tracked flow state.now) o
+        → IfOk result (λ known. IsTrackedIn known o) }
 {
     match flow {
-        Flow::Live => Some(*state),
-        Flow::Dead => None,
+        Flow::Live => Ok(Some(state.copy(alloc)?)),
+        Flow::Dead => Ok(None),
     }
 }
 
-/// Makes of what is known before a comparison what is known on its edges. The two edges are large: kept out of `pass`,
-/// they are cleared once for each comparison, not for each instruction.
+/// A state has no more than the machine's eleven registers and the 64 slots of its stack.
+fn is_state_whole(state: &AbsState)
+    ensures registers { length state.now.registers ≡ 11 }
+    ensures stack { length state.now.stack ≡ 64 }
+{
+    let _register = state.registers[0];
+    let _slot = state.stack[0];
+}
+
+/// Nor do the marks.
+fn are_marks_whole(marks: &Marks)
+    ensures registers { length marks.now.registers ≡ 11 }
+    ensures slots { length marks.now.slots ≡ 64 }
+{
+    let _of_register = marks.registers[0];
+    let _of_slot = marks.slots[0];
+}
+
+/// What `visit` has to know of the length of a state and of its marks, with nothing to run.
+fn is_whole(state: &TrackedState)
+    ensures { (t : TrackedSituation) → IsTracked state.now t → trimmed t ≡ tracked_of state.now }
+{
+    is_state_whole(&state.state);
+    if let Some(marks) = &state.copies.marks {
+        are_marks_whole(marks);
+    }
+}
+
+/// Makes of what is known before a comparison what is known on its edges. The two edges are large: they stay out of the
+/// frame of `pass`, and are told in place beside the one `Copies` of both, so that no local of that size has a drop.
 #[inline(never)]
 fn compare(
     profile: Profile,
     slot: usize,
     insn: &Insn,
-    state: &mut AbsState,
+    state: &mut TrackedState,
     waiting: &mut Waiting,
 ) -> Result<Flow, Stop>
     requires few { slot < 4096 }
@@ -132,21 +149,23 @@ fn compare(
     requires compares { IsComparison insn.now }
     ensures size { length waiting.new ≡ length waiting.old }
     ensures kept { IfOk result (λ _. Keeps waiting.old waiting.new) }
-    ensures sound { IfOk result (λ flow. (span : Span) (s : State) → span.profile ≡ profile
-        → Contains state.old (lengths_of span) s
-        → Advances (lengths_of span) slot insn.now (after flow state.new) waiting.new (does span s insn.now)) }
-    ensures floor { IsGranted profile state.old insn.now → IfErr result (λ stop. stop ≡ Stop.OutOfMemory) }
+    ensures sound { MarksBelow profile slot state.old → IfOk result (λ flow. (span : Span) (s : State)
+        → span.profile ≡ profile → ContainsTracked state.old (lengths_of span) s
+        → Advances (lengths_of span) slot insn.now (after_tracked flow state.new) waiting.new (does span s insn.now)) }
+    ensures below { MarksBelow profile slot state.old → WaitBelow profile waiting.old → IfOk result (λ flow.
+        WaitBelow profile waiting.new × MarksBelowIn profile (slot + 1) (after_tracked flow state.new)) }
+    ensures floor { IsGranted profile state.old.state insn.now → IfErr result (λ stop. stop ≡ Stop.OutOfMemory) }
     ensures unset { (fault : TheRefusal) → result ≡ Err (Stop.Refused fault)
-        → (fault ≡ TheRefusal.UnsetRegister) ↔ HasUnset state.old (read_by insn.now) }
-    ensures arises { (program : Program) → StartsAt program slot insn.now → Arises profile program slot state.old
-        → AllArise profile program waiting.old
+        → (fault ≡ TheRefusal.UnsetRegister) ↔ HasUnset state.old.state (read_by insn.now) }
+    ensures arises { (program : Program) → StartsAt program slot insn.now → MarksBelow profile slot state.old
+        → Arises profile program slot state.old.state → AllArise profile program waiting.old
         → IfOk result (λ flow. AllArise profile program waiting.new
-        × FallsFrom profile program slot insn.now (after flow state.new)) }
+        × FallsFrom profile program slot insn.now (after_tracked flow state.new)) }
     ensures rule { (w : Waits) → WaitsFrom (slot + 1) waiting.old w
-        → IfOk result (λ flow. Passes profile slot insn.now (Some (situation_of state.old)) w (after flow state.new)
-        waiting.new) }
+        → IfOk result (λ flow. Passes profile slot insn.now (Some (tracked_of state.old)) w
+        (after_tracked flow state.new) waiting.new) }
     ensures refuses { (fault : TheRefusal) → result ≡ Err (Stop.Refused fault)
-        → led profile insn.now (situation_of state.old) ≡ Err fault }
+        → led profile slot insn.now (tracked_of state.old) ≡ Err fault }
 {
     let Insn::Branch {
         width,
@@ -158,9 +177,18 @@ fn compare(
     else {
         unreachable!()
     };
-    let edges = state.branch(width, comparison, left, &right)?;
-    record(profile, target(slot, insn), &edges.taken, waiting)?;
-    Ok(go_on(state, &edges.untaken))
+    is_state_whole(&state.state);
+    let mut edges = state.state.branch(width, comparison, left, &right)?;
+    state.tell(&mut edges.taken, left, &right);
+    state.tell(&mut edges.untaken, left, &right);
+    record(
+        profile,
+        target(slot, insn),
+        &edges.taken,
+        &state.copies,
+        waiting,
+    )?;
+    Ok(go_on(&mut state.state, &edges.untaken))
 }
 
 /// Makes of what is known before an instruction what is known on its edges: of a jump at its target, else in the state.
@@ -168,7 +196,7 @@ fn pass(
     profile: Profile,
     slot: usize,
     insn: &Insn,
-    state: &mut AbsState,
+    state: &mut TrackedState,
     waiting: &mut Waiting,
 ) -> Result<Flow, Stop>
     requires few { slot < 4096 }
@@ -176,29 +204,31 @@ fn pass(
     requires spares { written_by insn.now ≢ Some 10 }
     ensures size { length waiting.new ≡ length waiting.old }
     ensures kept { IfOk result (λ _. Keeps waiting.old waiting.new) }
-    ensures sound { IfOk result (λ flow. (span : Span) (s : State) → span.profile ≡ profile
-        → Contains state.old (lengths_of span) s
-        → Advances (lengths_of span) slot insn.now (after flow state.new) waiting.new (does span s insn.now)) }
-    ensures floor { IsGranted profile state.old insn.now → IfErr result (λ stop. stop ≡ Stop.OutOfMemory) }
+    ensures sound { MarksBelow profile slot state.old → IfOk result (λ flow. (span : Span) (s : State)
+        → span.profile ≡ profile → ContainsTracked state.old (lengths_of span) s
+        → Advances (lengths_of span) slot insn.now (after_tracked flow state.new) waiting.new (does span s insn.now)) }
+    ensures below { MarksBelow profile slot state.old → WaitBelow profile waiting.old → IfOk result (λ flow.
+        WaitBelow profile waiting.new × MarksBelowIn profile (slot + 1) (after_tracked flow state.new)) }
+    ensures floor { IsGranted profile state.old.state insn.now → IfErr result (λ stop. stop ≡ Stop.OutOfMemory) }
     ensures unset { (fault : TheRefusal) → result ≡ Err (Stop.Refused fault)
-        → (fault ≡ TheRefusal.UnsetRegister) ↔ HasUnset state.old (read_by insn.now) }
-    ensures arises { (program : Program) → StartsAt program slot insn.now → Arises profile program slot state.old
-        → AllArise profile program waiting.old
+        → (fault ≡ TheRefusal.UnsetRegister) ↔ HasUnset state.old.state (read_by insn.now) }
+    ensures arises { (program : Program) → StartsAt program slot insn.now → MarksBelow profile slot state.old
+        → Arises profile program slot state.old.state → AllArise profile program waiting.old
         → IfOk result (λ flow. AllArise profile program waiting.new
-        × FallsFrom profile program slot insn.now (after flow state.new)) }
+        × FallsFrom profile program slot insn.now (after_tracked flow state.new)) }
     ensures rule { (w : Waits) → WaitsFrom (slot + 1) waiting.old w
-        → IfOk result (λ flow. Passes profile slot insn.now (Some (situation_of state.old)) w (after flow state.new)
-        waiting.new) }
+        → IfOk result (λ flow. Passes profile slot insn.now (Some (tracked_of state.old)) w
+        (after_tracked flow state.new) waiting.new) }
     ensures refuses { (fault : TheRefusal) → result ≡ Err (Stop.Refused fault)
-        → led profile insn.now (situation_of state.old) ≡ Err fault }
+        → led profile slot insn.now (tracked_of state.old) ≡ Err fault }
 {
     match *insn {
         Insn::Jump { .. } => {
-            waiting.add(profile, target(slot, insn), state)?;
+            waiting.add(profile, target(slot, insn), &state.state, &state.copies)?;
             Ok(Flow::Dead)
         }
         Insn::JumpLong { .. } => {
-            waiting.add(profile, target(slot, insn), state)?;
+            waiting.add(profile, target(slot, insn), &state.state, &state.copies)?;
             Ok(Flow::Dead)
         }
         Insn::Branch { .. } => compare(profile, slot, insn, state, waiting),
@@ -206,17 +236,8 @@ fn pass(
             state.exit()?;
             Ok(Flow::Dead)
         }
-        _ => Ok(state.step(profile, insn)?),
+        _ => Ok(state.step(profile, slot, insn)?),
     }
-}
-
-/// A state has no more than the machine's eleven registers and the 64 slots of its stack: what `visit` has to know of
-/// its length, with nothing to run.
-fn is_whole(state: &AbsState)
-    ensures { (s : Situation) → IsSituation state.now s → trimmed s ≡ situation_of state.now }
-{
-    let _register = state.registers[0];
-    let _slot = state.stack[0];
 }
 
 /// Joins all edges into a slot, lists what its instruction can read, and goes past it, if a run can come there.
@@ -225,7 +246,7 @@ fn visit(
     slot: usize,
     insn: &Insn,
     flow: Flow,
-    state: &mut AbsState,
+    state: &mut TrackedState,
     waiting: &mut Waiting,
     reads: &mut Reads,
 ) -> Result<Flow, VerifyError>
@@ -235,32 +256,40 @@ fn visit(
     requires spares { written_by insn.now ≢ Some 10 }
     ensures size { length waiting.new ≡ length waiting.old }
     ensures below { IfErr result (IsStateBelow (slot + 1)) }
+    ensures marks { MarksBelowIn profile slot (after_tracked flow state.old) → WaitBelow profile waiting.old
+        → IfOk result (λ next. WaitBelow profile waiting.new
+        × MarksBelowIn profile (slot + 1) (after_tracked next state.new)) }
     ensures covers { (program : Program) → IsPaired program → IsStructured program → StartsAt program slot insn.now
-        → Covers profile program slot (after flow state.old) waiting.old
-        → IfOk result (λ next. Covers profile program (slot + 1) (after next state.new) waiting.new) }
+        → MarksBelowIn profile slot (after_tracked flow state.old) → WaitBelow profile waiting.old
+        → Covers profile program slot (after_tracked flow state.old) waiting.old
+        → IfOk result (λ next. Covers profile program (slot + 1) (after_tracked next state.new) waiting.new) }
     ensures follows { (program : Program) → IsPaired program → IsStructured program → StartsAt program slot insn.now
-        → Follows profile program slot (after flow state.old) waiting.old
-        → IfOk result (λ next. Follows profile program (slot + 1) (after next state.new) waiting.new) }
+        → MarksBelowIn profile slot (after_tracked flow state.old) → WaitBelow profile waiting.old
+        → Follows profile program slot (after_tracked flow state.old) waiting.old
+        → IfOk result (λ next. Follows profile program (slot + 1) (after_tracked next state.new) waiting.new) }
     ensures lists { (program : Program) → IsStructured program → StartsAt program slot insn.now
-        → Covers profile program slot (after flow state.old) waiting.old → ListsBelow profile program slot reads.old
+        → Covers profile program slot (after_tracked flow state.old) waiting.old
+        → ListsBelow profile program slot reads.old
         → IfOk result (λ _. ListsBelow profile program (slot + 1) reads.new) }
     ensures floor { (program : Program) → IsPaired program → IsStructured program → StartsAt program slot insn.now
-        → AllArise profile program waiting.old → FallsAs profile program slot (after flow state.old)
-        → Covers profile program slot (after flow state.old) waiting.old
+        → MarksBelowIn profile slot (after_tracked flow state.old) → WaitBelow profile waiting.old
+        → AllArise profile program waiting.old → FallsAs profile program slot (after_tracked flow state.old)
+        → Covers profile program slot (after_tracked flow state.old) waiting.old
         → IfErr result (IsCause profile program)
         × IfOk result (λ next. AllArise profile program waiting.new
-        × FallsAs profile program (slot + 1) (after next state.new)) }
-    ensures rule { (falling here : Option Situation) (w : Waits) → IsSituationIn (after flow state.old) falling
-        → IsSituationIn (waiting_at waiting.old slot) here → WaitsFrom (slot + 1) waiting.old w
-        → IfOk result (λ next. Passes profile slot insn.now (arrived profile falling here) w (after next state.new)
-        waiting.new)
+        × FallsAs profile program (slot + 1) (after_tracked next state.new)) }
+    ensures rule { (falling here : Option TrackedSituation) (w : Waits)
+        → IsTrackedIn (after_tracked flow state.old) falling → IsTrackedIn (waiting_at waiting.old slot) here
+        → WaitsFrom (slot + 1) waiting.old w
+        → IfOk result (λ next. Passes profile slot insn.now (arrived profile falling here) w
+        (after_tracked next state.new) waiting.new)
         × IfErr result (NamesSlot profile slot insn.now (arrived profile falling here)) }
 {
     let Flow::Live = waiting.arrive(profile, slot, flow, state) else {
         return Ok(Flow::Dead);
     };
     is_whole(state);
-    reads.add_insn(insn, state);
+    reads.add_insn(insn, &state.state);
     match pass(profile, slot, insn, state, waiting) {
         Ok(next) => Ok(next),
         Err(Stop::Refused(fault)) => Err(VerifyError::State { slot, fault }),
@@ -272,7 +301,7 @@ fn visit(
 #[derive(Drop)]
 pub struct Walked {
     flow: Flow,
-    state: AbsState,
+    state: TrackedState,
     waiting: Waiting,
     /// What the instructions below can read.
     reads: Reads,
@@ -288,22 +317,24 @@ fn walk_to(
     requires structured { IsStructured (program_of words.now) }
     requires end { end ≤ length (program_of words.now) }
     ensures size { IfOk result (λ walked. length walked.waiting ≡ length (program_of words.now)) }
+    ensures marks { IfOk result (λ walked. WaitBelow profile walked.waiting
+        × MarksBelowIn profile end (after_tracked walked.flow walked.state)) }
     ensures follows { IfOk result (λ walked. Follows profile (program_of words.now) end
-        (after walked.flow walked.state) walked.waiting) }
-    ensures covers { IfOk result (λ walked. Covers profile (program_of words.now) end (after walked.flow walked.state)
-        walked.waiting) }
+        (after_tracked walked.flow walked.state) walked.waiting) }
+    ensures covers { IfOk result (λ walked. Covers profile (program_of words.now) end
+        (after_tracked walked.flow walked.state) walked.waiting) }
     ensures lists { IfOk result (λ walked. ListsBelow profile (program_of words.now) end walked.reads) }
     ensures arises { IfOk result (λ walked. AllArise profile (program_of words.now) walked.waiting
-        × FallsAs profile (program_of words.now) end (after walked.flow walked.state)) }
+        × FallsAs profile (program_of words.now) end (after_tracked walked.flow walked.state)) }
     ensures below { IfErr result (IsStateBelow end) }
     ensures floor { IfErr result (IsCause profile (program_of words.now)) }
-    ensures awaits { IfOk result (λ walked. Awaits end (after walked.flow walked.state) walked.waiting
+    ensures awaits { IfOk result (λ walked. Awaits end (after_tracked walked.flow walked.state) walked.waiting
         (awaited_at profile (program_of words.now) end)) }
     ensures passes { IfOk result (λ _. IsAllowedBelow profile (program_of words.now) end) }
     ensures names { IfErr result (NamesFirst profile (program_of words.now)) }
 {
     let mut waiting = Waiting::new(alloc, words.len())?;
-    let mut state = AbsState::entry();
+    let mut state = TrackedState::entry(alloc, profile)?;
     let mut flow = Flow::Live;
     let mut reads = Reads::nothing();
     for slot in 0..end {
@@ -349,15 +380,16 @@ pub fn walk_before(
     words: &Words<'_>,
     profile: Profile,
     slot: usize,
-) -> Result<Option<AbsState>, VerifyError>
+) -> Result<Option<TrackedState>, VerifyError>
     requires structured { IsStructured (program_of words.now) }
     requires slot { slot < length (program_of words.now) }
-    ensures contains { IfOk result (ContainsRuns profile (program_of words.now) slot) }
+    ensures contains { IfOk result (λ known. ContainsRuns profile (program_of words.now) slot (state_in known)) }
+    ensures tracks { IfOk result (TracksRuns profile (program_of words.now) slot) }
     ensures arises { (insn : Insn) → StartsAt (program_of words.now) slot insn
         → IfOk result (ArisesAt profile (program_of words.now) slot) }
     ensures below { IfErr result (IsStateBelow slot) }
     ensures floor { IfErr result (IsCause profile (program_of words.now)) }
-    ensures rule { IfOk result (λ known. IsSituationIn known (known_before profile (program_of words.now) slot)) }
+    ensures rule { IfOk result (λ known. IsTrackedIn known (known_before profile (program_of words.now) slot)) }
     ensures passes { IfOk result (λ _. IsAllowedBelow profile (program_of words.now) slot) }
     ensures names { IfErr result (NamesFirst profile (program_of words.now)) }
 {
@@ -378,10 +410,11 @@ pub fn walk_each(
     alloc: Global,
     words: &Words<'_>,
     profile: Profile,
-) -> Result<Vec<Option<AbsState>>, VerifyError>
+) -> Result<Vec<Option<TrackedState>>, VerifyError>
     requires { IsStructured (program_of words.now) }
     ensures size { IfOk result (λ states. length states.items ≡ length (program_of words.now)) }
-    ensures contains { IfOk result (λ states. ContainAllRuns profile (program_of words.now) states.items) }
+    ensures contains { IfOk result (λ states. ContainEachRun profile (program_of words.now) states.items) }
+    ensures tracks { IfOk result (λ states. TrackAllRuns profile (program_of words.now) states.items) }
     ensures arises { IfOk result (λ states. AriseEverywhere profile (program_of words.now) states.items) }
     ensures below { IfErr result (IsStateBelow (length (program_of words.now))) }
     ensures floor { IfErr result (IsCause profile (program_of words.now)) }
@@ -391,12 +424,13 @@ pub fn walk_each(
 {
     let mut states = Vec::with_capacity(alloc, words.len())?;
     let mut waiting = Waiting::new(alloc, words.len())?;
-    let mut state = AbsState::entry();
+    let mut state = TrackedState::entry(alloc, profile)?;
     let mut flow = Flow::Live;
     let mut reads = Reads::nothing();
     for slot in 0..words.len() {
         flow = waiting.arrive(profile, slot, flow, &mut state);
-        states.push(live(flow, &state))?;
+        let known = live(alloc, flow, &state)?;
+        states.push(known)?;
         if let Some(insn) = words.insn(slot) {
             flow = visit(
                 profile,

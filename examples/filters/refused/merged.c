@@ -1,4 +1,4 @@
-/* 21 TextBounds: the two tests become one, of a copy of `len` less 2, from which the verifier learns nothing of `len`. */
+/* 21 TextBounds: the two tests become one, of `len` less 2, beside which no `len` is left of which it could tell. */
 #include "../span.h"
 
 u64 filter(const struct span *span) {

@@ -1,4 +1,5 @@
-/* 21 TextBounds: behind the step the compiler tests a copy of the address, two bytes ahead. Test and step byte by byte. */
+/* 21 TextBounds, but in context 3: behind the step the compiler tests a copy of the address, two bytes ahead. Else test
+   and step byte by byte. */
 #include "../span.h"
 
 u64 filter(const struct span *span) {

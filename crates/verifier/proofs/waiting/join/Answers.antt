@@ -1,29 +1,47 @@
-use Rattle.std.proofs.Common.{◌≡◌, None, sym, ap, subst, rules}
-use Rattle.abstract_state.specs.State.{Contains}
-use Rattle.verifier.specs.Waiting.{unboxed}
-use Rattle.verifier.proofs.Waits.{within_some}
+use Rattle.std.proofs.Common.{◌≡◌, None, refl, sym, ap, subst, rules}
 use Rattle.abstract_state.specs.declared.state.AbsState.{AbsState}
-use Rattle.abstract_state.specs.Situation.{IsSituation, situation_of, joined as joined_situation}
+use Rattle.tracked_state.specs.Tracked.{ContainsTracked, IsTracked, beside, tracked_of}
+use Rattle.tracked_state.specs.Rules.{joined as joined_tracked}
+use Rattle.verifier.specs.Arises.{Arises, joined}
+use Rattle.verifier.specs.Waiting.{as_tracked, unboxed}
+use Rattle.verifier.proofs.Waits.{within_some, below_some, copy_contains, copy_is, copy_below}
 use Rattle.verifier.proofs.Deciding.{first_in, joined_in}
 use Rattle.verifier.proofs.waiting.join.Goals as goal
-use Rattle.verifier.specs.Arises.{Arises, joined}
 
 pub returns-clause-kept : goal.returns-clause-kept
 returns-clause-kept c = λ lengths s within.
-    c.join.ensures.left lengths s
-    (subst (λ a. Contains a lengths s) (sym c.deref_mut.ensures.value) (within_some _ c.in-Some.earlier.value lengths s (ap unboxed c.in-Some.is) within))
+    c.join_parts.ensures.left lengths s
+    (subst (λ (a : AbsState). ContainsTracked (beside a c.in-Some.earlier.copies) lengths s) (sym c.deref_mut.ensures.value) (within_some _ (as_tracked c.in-Some.earlier) lengths s (ap unboxed c.in-Some.is) within))
 
 pub returns-clause-arises : goal.returns-clause-arises
 returns-clause-arises c = λ profile program slot target waits arises.
-    joined target (subst (λ a. Arises profile program slot a) (sym c.deref_mut.ensures.value) (waits c.in-Some.earlier.value (ap unboxed c.in-Some.is))) arises (record { registers = c.join.ensures.kinds; slots = c.join.ensures.slots; bounds = c.join.ensures.bounds })
+    joined target (subst (λ (a : AbsState). Arises profile program slot a) (sym c.deref_mut.ensures.value) (waits (as_tracked c.in-Some.earlier) (ap unboxed c.in-Some.is))) arises
+    (record { registers = c.join_parts.ensures.kinds; slots = c.join_parts.ensures.slots; bounds = c.join_parts.ensures.bounds })
+
+pub returns-in_default-clause-added : goal.returns-in_default-clause-added
+returns-in_default-clause-added c = λ lengths s contains.
+    let same : c.in_ok-state.state.value ≡ c.args.state.now = search rules in
+    copy_contains (beside c.args.state.now c.args.copies.now) (beside c.in_ok-state.state.value c.in_ok-copies.copies) lengths s same c.in_ok-copies.ensures contains
 
 pub returns-in_default-clause-rule : goal.returns-in_default-clause-rule
 returns-in_default-clause-rule c = λ o s there is.
     let none : unboxed c.args.waiting ≡ None = ap unboxed c.in_default.is in
-    let same : c.in_ok-new.field-0.value ≡ c.args.state.now = search rules in
-    first_in c.args.profile (unboxed c.args.waiting) c.in_ok-new.field-0.value c.args.state.now o s none same there is
+    let same : c.in_ok-state.state.value ≡ c.args.state.now = search rules in
+    let first = beside c.in_ok-state.state.value c.in_ok-copies.copies in
+    first_in c.args.profile (unboxed c.args.waiting) first first o s none refl there (copy_is (beside c.args.state.now c.args.copies.now) first s same c.in_ok-copies.ensures is)
 
 pub returns-clause-rule : goal.returns-clause-rule
 returns-clause-rule c = λ o s there is.
-    let rule = subst (λ (a : AbsState). IsSituation c.join.new.self (joined_situation c.args.profile (situation_of a) (situation_of c.args.state.now))) (c.deref_mut.ensures.value) c.join.ensures.rule in
-    joined_in c.args.profile (unboxed c.args.waiting) c.in-Some.earlier.value c.args.state.now c.join.new.self o s (ap unboxed c.in-Some.is) there is rule
+    let now = beside c.args.state.now c.args.copies.now in
+    let after = beside c.join_parts.new.state c.join_parts.new.copies in
+    let rule = subst (λ (a : AbsState). IsTracked after (joined_tracked c.args.profile (tracked_of (beside a c.in-Some.earlier.copies)) (tracked_of now))) c.deref_mut.ensures.value c.join_parts.ensures.rule in
+    joined_in c.args.profile (unboxed c.args.waiting) (as_tracked c.in-Some.earlier) now after o s (ap unboxed c.in-Some.is) there is rule
+
+pub returns-in_default-clause-below : goal.returns-in_default-clause-below
+returns-in_default-clause-below c = λ profile k waits marks.
+    copy_below profile k (beside c.args.state.now c.args.copies.now) (beside c.in_ok-state.state.value c.in_ok-copies.copies) c.in_ok-copies.ensures marks
+
+pub returns-clause-below : goal.returns-clause-below
+returns-clause-below c = λ profile k waits marks.
+    let before = below_some profile k _ (as_tracked c.in-Some.earlier) (ap unboxed c.in-Some.is) waits in
+    record { origins = c.join_parts.ensures.below k before.origins; unfollowed = λ few. c.join_parts.ensures.untracked (before.unfollowed few) }

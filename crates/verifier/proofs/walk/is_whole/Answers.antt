@@ -1,9 +1,17 @@
-use Rattle.std.proofs.Common.{◌≡◌, length, rules}
-use Rattle.verifier.proofs.Deciding.{is_trimmed}
+use Rattle.std.proofs.Common.{Some, sym, ap, subst}
+use Rattle.value_marks.specs.declared.marks.Marks.{Marks}
+use Rattle.value_marks.specs.Copies.{in_box, kept}
+use Rattle.verifier.proofs.Deciding.{HaveAll, is_trimmed}
 use Rattle.verifier.proofs.walk.is_whole.Goals as goal
 
-pub returns : goal.returns
-returns c = λ s is.
-    let eleven : length c.args.state.now.registers ≡ 11 = search rules in
-    let all : length c.args.state.now.stack ≡ 64 = search rules in
-    is_trimmed c.args.state.now s eleven all is
+pub returns-in-Some : goal.returns-in-Some
+returns-in-Some c = λ t is.
+    let all : HaveAll (Some c.in-Some.marks.value) =
+    subst (λ (marks : Marks). HaveAll (Some marks)) c.deref.ensures (c.are_marks_whole.ensures.registers, c.are_marks_whole.ensures.slots) in
+    let marks : HaveAll (kept c.args.state.now.copies) = subst HaveAll (sym (ap in_box c.in-Some.is)) all in
+    is_trimmed c.args.state.now t c.is_state_whole.ensures.registers c.is_state_whole.ensures.stack marks is
+
+pub returns-in_default : goal.returns-in_default
+returns-in_default c = λ t is.
+    let marks : HaveAll (kept c.args.state.now.copies) = subst HaveAll (sym (ap in_box c.in_default.is)) tt in
+    is_trimmed c.args.state.now t c.is_state_whole.ensures.registers c.is_state_whole.ensures.stack marks is

@@ -1,19 +1,33 @@
-use Rattle.std.proofs.Common.{subst}
-use Rattle.abstract_state.specs.Situation.{IsSituationIn}
-use Rattle.verifier.proofs.Waits.{within_some}
+use Rattle.std.proofs.Common.{Option, ap, subst}
+use Rattle.abstract_state.specs.declared.state.AbsState.{AbsState}
+use Rattle.tracked_state.specs.Tracked.{IsTrackedIn, beside, with_copies}
+use Rattle.verifier.proofs.Waits.{within_some, below_some}
 use Rattle.verifier.proofs.Passing.{ok_more}
 use Rattle.verifier.proofs.Deciding.{some_is, none_is, unjumped}
 use Rattle.verifier.proofs.walk.record.Goals as goal
 
 pub returns-clause-added : goal.returns-clause-added
 returns-clause-added c =
-    ok_more c.add.result _ _ (λ _ added lengths s within. added lengths s (within_some _ c.in-Some.state lengths s c.in-Some.is within)) c.add.ensures.added
+    let is = ap (λ (o : Option AbsState). with_copies o c.args.copies.now) c.in-Some.is in
+    ok_more c.add.result _ _ (λ _ added lengths s within. added lengths s (within_some _ (beside c.in-Some.state c.args.copies.now) lengths s is within)) c.add.ensures.added
 
 pub returns-clause-rule : goal.returns-clause-rule
-returns-clause-rule c = λ from w o waits few is.
-    let (s, same, one) = some_is c.in-Some.state o (subst (λ x. IsSituationIn x o) c.in-Some.is is) in
+returns-clause-rule c = λ from w o waits few tracked.
+    let is = ap (λ (x : Option AbsState). with_copies x c.args.copies.now) c.in-Some.is in
+    let (s, same, one) = some_is (beside c.in-Some.state c.args.copies.now) o (subst (λ x. IsTrackedIn x o) is tracked) in
     rw same (c.add.ensures.rule from w s waits few one)
 
 pub returns-in_default-clause-rule : goal.returns-in_default-clause-rule
-returns-in_default-clause-rule c = λ from w o waits few is.
-    unjumped c.args.profile c.args.waiting.now c.args.target from o w (none_is o (subst (λ x. IsSituationIn x o) c.in_default.is is)) waits
+returns-in_default-clause-rule c = λ from w o waits few tracked.
+    let is = ap (λ (x : Option AbsState). with_copies x c.args.copies.now) c.in_default.is in
+    unjumped c.args.profile c.args.waiting.now c.args.target from o w (none_is o (subst (λ x. IsTrackedIn x o) is tracked)) waits
+
+pub returns-clause-below : goal.returns-clause-below
+returns-clause-below c = λ profile below marks.
+    let is = ap (λ (o : Option AbsState). with_copies o c.args.copies.now) c.in-Some.is in
+    c.add.ensures.below profile below (below_some profile c.args.target _ (beside c.in-Some.state c.args.copies.now) is marks)
+
+pub returns-clause-arises : goal.returns-clause-arises
+returns-clause-arises c = λ profile program all target arises.
+    let is = ap (λ (o : Option AbsState). with_copies o c.args.copies.now) c.in-Some.is in
+    c.add.ensures.arises profile program all target (arises (beside c.in-Some.state c.args.copies.now) is)

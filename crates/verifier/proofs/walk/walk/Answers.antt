@@ -1,6 +1,6 @@
 use Rattle.std.proofs.Common.{subst}
 use Rattle.bpf_words.specs.Words.{program_of}
-use Rattle.abstract_state.specs.Steps.{after}
+use Rattle.tracked_state.specs.Tracking.{after_tracked}
 use Rattle.semantics.proofs.More.{seen_safe}
 use Rattle.verifier.specs.Walk.{Follows}
 use Rattle.verifier.proofs.Listing.{lists_all}
@@ -11,15 +11,15 @@ use Rattle.verifier.proofs.walk.walk.Goals as goal
 pub returns-clause-seen : goal.returns-clause-seen
 returns-clause-seen c =
     let walked = c.in_ok-walked.walked in
-    ends c.args.profile (program_of c.args.words.now) (after walked.flow walked.state) walked.waiting
-    (subst (λ n. Follows c.args.profile (program_of c.args.words.now) n (after walked.flow walked.state) walked.waiting) c.len.ensures.value c.in_ok-walked.ensures.follows)
+    ends c.args.profile (program_of c.args.words.now) (after_tracked walked.flow walked.state) walked.waiting
+    (subst (λ n. Follows c.args.profile (program_of c.args.words.now) n (after_tracked walked.flow walked.state) walked.waiting) c.len.ensures.value c.in_ok-walked.ensures.follows)
 
 pub returns-clause-safe : goal.returns-clause-safe
 returns-clause-safe c =
     let walked = c.in_ok-walked.walked in
     seen_safe c.args.profile (program_of c.args.words.now)
-    (ends c.args.profile (program_of c.args.words.now) (after walked.flow walked.state) walked.waiting
-    (subst (λ n. Follows c.args.profile (program_of c.args.words.now) n (after walked.flow walked.state) walked.waiting) c.len.ensures.value c.in_ok-walked.ensures.follows))
+    (ends c.args.profile (program_of c.args.words.now) (after_tracked walked.flow walked.state) walked.waiting
+    (subst (λ n. Follows c.args.profile (program_of c.args.words.now) n (after_tracked walked.flow walked.state) walked.waiting) c.len.ensures.value c.in_ok-walked.ensures.follows))
 
 pub returns-clause-reads : goal.returns-clause-reads
 returns-clause-reads c = lists_all c.args.profile (program_of c.args.words.now) _ c.in_ok-walked.walked.reads c.len.ensures.value c.in_ok-walked.ensures.lists

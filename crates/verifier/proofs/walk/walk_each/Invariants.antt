@@ -1,24 +1,26 @@
 use Rattle.std.proofs.Common.{◌≡◌, length}
 use Rattle.bpf_words.specs.Words.{program_of}
-use Rattle.abstract_state.specs.Steps.{after}
+use Rattle.tracked_state.specs.Tracking.{after_tracked}
+use Rattle.verifier.specs.Waiting.{MarksBelowIn, WaitBelow}
 use Rattle.verifier.specs.Arises.{AllArise, FallsAs}
 use Rattle.verifier.specs.Reaches.{Covers}
 use Rattle.verifier.specs.Decides.{IsAllowedBelow, awaited_at}
 use Rattle.verifier.specs.Decided.{Awaits}
 use Rattle.verifier.proofs.Decided.{KnownBelow}
-use Rattle.verifier.proofs.Reaching.{ContainRunsBelow, AriseBelow}
+use Rattle.verifier.proofs.Reaching.{TrackRunsBelow, AriseBelow}
 use Rattle.verifier.proofs.walk.walk_each.Given as goal
 
 abbrev pub invariant-loop-slot : goal.invariant-loop-slot
 invariant-loop-slot l = record {
   size : length l.waiting ≡ length (program_of l.words);
-  covers : Covers l.profile (program_of l.words) l.slot (after l.flow l.state) l.waiting;
+  covers : Covers l.profile (program_of l.words) l.slot (after_tracked l.flow l.state) l.waiting;
   count : length l.states.items ≡ l.slot;
-  contains : ContainRunsBelow l.profile (program_of l.words) l.slot l.states.items;
+  contains : TrackRunsBelow l.profile (program_of l.words) l.slot l.states.items;
+  marks : WaitBelow l.profile l.waiting × MarksBelowIn l.profile l.slot (after_tracked l.flow l.state);
   waits : AllArise l.profile (program_of l.words) l.waiting;
-  falls : FallsAs l.profile (program_of l.words) l.slot (after l.flow l.state);
+  falls : FallsAs l.profile (program_of l.words) l.slot (after_tracked l.flow l.state);
   arises : AriseBelow l.profile (program_of l.words) l.slot l.states.items;
-  awaits : Awaits l.slot (after l.flow l.state) l.waiting (awaited_at l.profile (program_of l.words) l.slot);
+  awaits : Awaits l.slot (after_tracked l.flow l.state) l.waiting (awaited_at l.profile (program_of l.words) l.slot);
   sound : IsAllowedBelow l.profile (program_of l.words) l.slot;
   known : KnownBelow l.profile (program_of l.words) l.slot l.states.items;
 }
