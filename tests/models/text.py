@@ -1,6 +1,6 @@
 """Changes of both forms read and taken in, and what `hub spans` and sessions say of them, apart from the code of the hub.
 
-    text.py spans < CHANGES              prints what `hub spans` prints of them
+    text.py spans [WORDS..] < CHANGES    prints what `hub spans` prints of them, with these options
     text.py replay [WORDS..] < LINES     prints what `hub replay` prints with these options, where all programs are of PROGRAMS
     text.py check STDIN STDOUT           compares the cases of `spans` and of such sessions, as crates/test_cases has them, with this model
     text.py rows FOLDER..                compares folders of worked rows (NAME, NAME.args, NAME.stdout) with it
@@ -22,7 +22,9 @@ from machine import run, slot
 NAMES = {40: "BadLine", 41: "Truncated", 42: "Limit", 43: "CharRefused", 44: "WrongPeer", 46: "StaleCounter", 47: "UnknownRef",
          48: "DocumentFull", 49: "MarksFull", 50: "HistoryFull", 51: "SubscribersFull", 52: "NoSubscriber", 54: "BadCapacity", 55: "NoVersion",
          60: "BadCommand", 61: "LineTooLong", 62: "TextRefused"}
-CHARACTERS, MARKS, CHANGES, OPERATIONS = 32768, 4096, 4096, 256
+# The most changes, characters and marks by size; how many bytes are shown at each.
+SIZES = {"small": (4096, 32768, 4096), "large": (65536, 262144, 16384)}
+BYTES, OPERATIONS, SUBSCRIBERS = 131072, 256, 64
 COUNTER, NODE, COMMENT, LINK = (1 << 48) - 1, 65535, (1 << 32) - 1, 1024
 
 
@@ -211,9 +213,14 @@ def read_change(text):
 
 # What is accepted, and what it looks like.
 
+def length_of(code):
+    return len(chr(code).encode())
+
+
 class Text:
-    def __init__(self):
+    def __init__(self, size="small"):
         self.parents, self.codes, self.removed, self.marks, self.counters, self.changes = {}, {}, set(), [], {}, 0
+        self.limits, self.bytes = SIZES[size], 0
 
     def fault(self, op):
         counter, node = op[1]
@@ -221,9 +228,9 @@ class Text:
             return 46
         if any(at not in self.codes for at in named(op)):
             return 47
-        if op[0] == "i" and len(self.codes) == CHARACTERS:
+        if op[0] == "i" and (len(self.codes) == self.limits[1] or self.bytes + length_of(op[3]) > BYTES):
             return 48
-        if op[0] in "mu" and len(self.marks) == MARKS:
+        if op[0] in "mu" and len(self.marks) == self.limits[2]:
             return 49
         return None
 
@@ -234,8 +241,10 @@ class Text:
         self.counters[node] = counter
         if op[0] == "i":
             self.parents[op[1]], self.codes[op[1]] = op[2], op[3]
+            self.bytes += length_of(op[3])
         elif op[0] == "d":
             self.removed.add(op[2])
+            self.bytes -= 0 if was_removed else length_of(self.codes[op[2]])
         else:
             self.marks.append(op)
         return op, last, was_removed
@@ -248,15 +257,17 @@ class Text:
             self.counters[node] = last
         if op[0] == "i":
             del self.parents[op[1]], self.codes[op[1]]
+            self.bytes -= length_of(op[3])
         elif op[0] == "d":
             if not was_removed:
                 self.removed.discard(op[2])
+                self.bytes += length_of(self.codes[op[2]])
         else:
             self.marks.pop()
 
     def accept(self, lines):
         """Takes a change in, whole; else refuses it, at one of its lines."""
-        if self.changes == CHANGES:
+        if self.changes == self.limits[0]:
             raise Refused(50)
         taken = []
         for number, ops in enumerate(lines, 2):
@@ -314,13 +325,13 @@ def printed(text):
             for index, (span, found) in enumerate(text.spans())]
 
 
-def spans_of(data):
+def spans_of(data, size="small"):
     """What `hub spans` prints of this input, and its exit status."""
     try:
         rest = data.decode("utf-8")
     except UnicodeDecodeError:
         return ["refused " + refusal(62)], 1
-    text, number = Text(), 1
+    text, number = Text(size), 1
     while rest:
         try:
             lines, rest = read_change(rest)
@@ -343,9 +354,6 @@ READ_ALL = (slot(0xb7, 0) + b"".join(slot(0x27, 0, 0, 0, 31) + slot(opcode, 2, 1
             + slot(0x95)).hex()
 PROGRAMS = {"b7000000010000009500000000000000", "b7000000020000009500000000000000", FLAGS, CHARACTERS_OF, STRONG, READ_ALL}
 FLAG_BITS = {"strong": 1, "em": 2, "link": 4, "color": 8, "comment": 16, "code": 32}
-
-
-LIMITS = 4096, CHARACTERS, MARKS, 64
 
 
 class Foreign(Exception):
@@ -376,9 +384,9 @@ def number_of(word):
 
 
 class Session:
-    def __init__(self, data, reads=False, jump=None, limits=None):
+    def __init__(self, data, reads=False, jump=None, limits=None, size="small"):
         self.jump, self.limits, self.used = jump, limits or {}, {"changes": 0, "bytes": 0, "subscribers": 0}
-        self.rest, self.text, self.versions, self.subscribers, self.out = data, Text(), [[]], [], []
+        self.rest, self.text, self.versions, self.subscribers, self.out = data, Text(size), [[]], [], []
         self.reads, self.spellings, self.lines_of_spans = reads, [], [[]]
 
     def line(self):
@@ -436,7 +444,7 @@ class Session:
         if program not in PROGRAMS:
             raise Foreign
         used = self.use(51, subscribers=1)
-        if len(self.subscribers) >= 64:
+        if len(self.subscribers) >= SUBSCRIBERS:
             raise Foreign
         if first >= len(self.versions):
             raise Refused(55)
@@ -494,7 +502,7 @@ class Session:
 
     def left(self):
         used = self.text.changes, len(self.text.codes), len(self.text.marks), len(self.subscribers)
-        return ["ok left " + " ".join(str(limit - count) for limit, count in zip(LIMITS, used))]
+        return ["ok left " + " ".join(str(limit - count) for limit, count in zip(self.text.limits + (SUBSCRIBERS,), used))]
 
     def stats(self):
         """A subscriber's queue must have had room for all that was due when it was last pulled, so that it was sent what it was given."""
@@ -504,7 +512,7 @@ class Session:
         told = [("versions", text.changes), ("characters", len(visible)), ("removed", len(text.removed)), ("marks", len(text.marks)), ("subscribers", len(listening)),
                 ("subscribed", len(self.subscribers)), ("sessions", 1), ("bytes", len(visible.encode())),
                 ("lag", max((text.changes + 1 - version for version, _, _ in listening), default=0))]
-        told += [(name + "-used", count * 1000 // limit) for name, count, limit in zip(("changes", "characters", "marks", "subscribers"), used, LIMITS)]
+        told += [(name + "-used", count * 1000 // limit) for name, count, limit in zip(("changes", "characters", "marks", "subscribers"), used, text.limits + (SUBSCRIBERS,))]
         return ["ok stats " + " ".join(f"{name} {count}" for name, count in told)]
 
     def answer(self, line, ended):
@@ -581,6 +589,8 @@ def options_of(words):
         word = rest.pop(0)
         if word == "--read" and "reads" not in found:
             found["reads"] = True
+        elif word == "--size" and "size" not in found and rest and rest[0] in SIZES:
+            found["size"] = rest.pop(0)
         elif word == "--workers" and rest[:1] and rest[0] in map(str, range(1, 17)):
             rest.pop(0)
         elif word == "--counter-jump" and "jump" not in found and rest and re.fullmatch("[0-9]+", rest[0]) and 1 <= int(rest[0]) < 2 ** 64:
@@ -597,8 +607,13 @@ def options_of(words):
 
 def answer_of(words, data):
     """What the program is to print, and its exit status; Foreign where this model doesn't know."""
-    if words == ["spans"]:
-        return spans_of(data)
+    if words[:1] == ["spans"]:
+        options = options_of(words[1:])
+        if options is not None and set(options) <= {"size"}:
+            return spans_of(data, **options)
+        if words[1:2] == ["--size"]:
+            return [], 2
+        raise Foreign
     if words[:1] == ["replay"]:
         options = options_of(words[1:])
         return ([], 2) if options is None else (Session(data, **options).replies(), 0)
@@ -947,7 +962,7 @@ def write_cases(folder):
 
 def main():
     command, words = (sys.argv[1:2] or [""])[0], sys.argv[2:]
-    if command == "replay" or command == "spans" and not words:
+    if command in ("replay", "spans"):
         lines, status = answer_of([command] + words, sys.stdin.buffer.read())
         sys.stdout.write("".join(line + "\n" for line in lines))
         sys.exit(status)

@@ -5,6 +5,7 @@ ghost use Rattle.span_flatten.specs.Version.{IsVersion};
 
 use change_history::history::History;
 use change_ops::change::read_change;
+use change_ops::size::Size;
 use std::alloc::Global;
 use version_blocks::version::BlockVersion;
 
@@ -57,9 +58,9 @@ fn follow_change<'a>(
     previous: &BlockVersion,
     text: &'a str,
 ) -> Option<(BlockVersion, &'a str)>
-    requires { (number : ℕ) × IsVersion (operations_of history.old) number previous.now }
+    requires { (number : ℕ) × IsVersion (operations_of history.old.changes) number previous.now }
     ensures { IfSome result (λ followed. (number : ℕ)
-        × IsVersion (operations_of history.new) number followed.0) }
+        × IsVersion (operations_of history.new.changes) number followed.0) }
 {
     let Ok((change, rest)) = read_change(alloc, text) else {
         return None;
@@ -111,7 +112,7 @@ pub extern "C" fn bench_accept(alloc: Global, text: &[u8], count: u32) -> u64 {
     let Ok(text) = std::str::from_utf8(text) else {
         return u64::MAX;
     };
-    let mut history = History::new(alloc);
+    let mut history = History::new(alloc, Size::Small);
     match take_changes(alloc, &mut history, text, count) {
         Some(_rest) => history.inserted() as u64,
         None => u64::MAX,
@@ -125,7 +126,7 @@ pub extern "C" fn bench_follow(alloc: Global, text: &[u8], alone: u32, followed:
     let Ok(text) = std::str::from_utf8(text) else {
         return u64::MAX;
     };
-    let mut history = History::new(alloc);
+    let mut history = History::new(alloc, Size::Small);
     match take_changes(alloc, &mut history, text, alone) {
         Some(rest) => follow_changes(alloc, &mut history, rest, followed),
         None => u64::MAX,
@@ -139,7 +140,7 @@ pub extern "C" fn bench_version(alloc: Global, text: &[u8], count: u32, rounds: 
     let Ok(text) = std::str::from_utf8(text) else {
         return u64::MAX;
     };
-    let mut history = History::new(alloc);
+    let mut history = History::new(alloc, Size::Small);
     if take_changes(alloc, &mut history, text, count).is_none() {
         return u64::MAX;
     }

@@ -12,6 +12,7 @@ use Rattle.change_history.specs.Accepted.{operations_of, AllFollow, IsFirstRefus
 use Rattle.change_history.specs.Alike.{IsRefusedFor, FormsAreAlike}
 use Rattle.change_history.specs.declared.refusal.Refusal.{Refusal}
 use Rattle.change_history.proofs.Chronicle.{operations_of-push, begin_of, none_before}
+use Rattle.change_ops.specs.declared.size.Size.{Size}
 
 -- the line that means the operation at an index
 record LineAt (lines : List Line) (at : ℕ) : Type 0 where
@@ -36,22 +37,23 @@ line_at (line ∷ lines) at h = elim (cases_lt at (length (ops_of line))) [
       record { index = suc rest.index; line = rest.line; here = rest.here; offset = rest.offset; within = rest.within; is = omega arith }
 ]
 
-accepted : (changes : List Change) (a b : Change) → operations a ≡ operations b → IsAccepted changes a → IsAccepted changes b
-accepted changes a b same h = record { room = h.room; follow = subst (λ (ops : List Op). AllFollow (operations_of changes) ops (length ops)) same h.follow }
+module _ {size : Size} where
+  accepted : (changes : List Change) (a b : Change) → operations a ≡ operations b → IsAccepted size changes a → IsAccepted size changes b
+  accepted changes a b same h = record { room = h.room; follow = subst (λ (ops : List Op). AllFollow size (operations_of changes) ops (length ops)) same h.follow }
 
-refused : (changes : List Change) (a b : Change) (refusal : Refusal) → operations a ≡ operations b → IsRefusedFor changes a refusal → IsRefusedFor changes b refusal
-refused changes a b refusal same h =
-    let first = h.1.1 in
-    let at = begin_of a.lines h.0 + first.offset in
-    let moved : IsFirstRefused (operations_of changes) (operations b) at refusal = subst (λ (ops : List Op). IsFirstRefused (operations_of changes) ops at refusal) same first.first in
-    let line = line_at b.lines at (slice_get_within (operations b) at moved.operation moved.here) in
-    (line.index, (h.1.0, record { line = line.line; here = line.here; offset = line.offset; within = line.within; first = subst (λ (n : ℕ). IsFirstRefused (operations_of changes) (operations b) n refusal) (sym line.is) moved }))
+  refused : (changes : List Change) (a b : Change) (refusal : Refusal) → operations a ≡ operations b → IsRefusedFor size changes a refusal → IsRefusedFor size changes b refusal
+  refused changes a b refusal same h =
+      let first = h.1.1 in
+      let at = begin_of a.lines h.0 + first.offset in
+      let moved : IsFirstRefused size (operations_of changes) (operations b) at refusal = subst (λ (ops : List Op). IsFirstRefused size (operations_of changes) ops at refusal) same first.first in
+      let line = line_at b.lines at (slice_get_within (operations b) at moved.operation moved.here) in
+      (line.index, (h.1.0, record { line = line.line; here = line.here; offset = line.offset; within = line.within; first = subst (λ (n : ℕ). IsFirstRefused size (operations_of changes) (operations b) n refusal) (sym line.is) moved }))
 
 all_operations : (changes : List Change) (a b : Change) → operations a ≡ operations b → operations_of (changes ++ a ∷ []) ≡ operations_of (changes ++ b ∷ [])
 all_operations changes a b same = operations_of-push changes a ∙ ap (λ (ops : List Op). operations_of changes ++ ops) same ∙ sym (operations_of-push changes b)
 
 pub forms_are_alike : FormsAreAlike
-forms_are_alike changes a b same =
+forms_are_alike size changes a b same =
     let all = all_operations changes a b same in
     record {
       accepted = (accepted changes a b same, accepted changes b a (sym same));

@@ -10,7 +10,7 @@ use Rattle.change_ops.specs.Lines.{ops_of, ops_of_lines}
 use Rattle.change_ops.specs.declared.line.Line.{Line}
 use Rattle.change_history.specs.declared.parts.Parts.{Parts}
 use Rattle.change_history.specs.Accepted.{operations_of, MayFollow, MayNotFollow, AllFollow, IsFirstRefused, FirstRefused, IsAccepted, IsRefused, AreAccepted}
-use Rattle.change_history.specs.Tally.{AreOf, IsTally, IsAdmitted, StretchAdmitted}
+use Rattle.change_history.specs.Tally.{AreOf, AreShort, IsTally, IsAdmitted, StretchAdmitted}
 use Rattle.change_history.specs.declared.refusal.Refusal.{Refusal}
 use Rattle.change_history.specs.declared.tally.Tally.{Tally}
 use Rattle.change_ops.specs.Operations.{id_of}
@@ -21,6 +21,9 @@ use Rattle.change_history.specs.declared.refusal.ApplyError.TheVariants as apply
 use Rattle.change_history.specs.declared.refusal.SubmitError.TheVariants as submit
 use Rattle.change_history.specs.declared.history.Draft.{Draft}
 use Rattle.change_history.specs.Kept.{Keeps, IsHistory, IsSpare, IsDraft, StandAt, IsApplied, AreAllAccepted, IsNotAccepted, error_at}
+use Rattle.change_ops.specs.declared.size.Size.{Size}
+use Rattle.change_ops.specs.declared.size.Size.TheVariants.{Large}
+use Rattle.change_ops.specs.Sizes.{most_changes}
 
 pub operations_of-push : (changes : List Change) (change : Change) → operations_of (changes ++ change ∷ []) ≡ operations_of changes ++ operations change
 unfolding operations_of
@@ -36,18 +39,19 @@ pushed_index (z ∷ zs) y (suc n) x g =
     ⊎_elim (λ (a : (slice_get zs n ≡ Some x) × (take n (zs ++ y ∷ []) ≡ take n zs)). inl (a.0, ap (λ ts. z ∷ ts) a.1))
     (λ (b : (y ≡ x) × (take n (zs ++ y ∷ []) ≡ zs)). inr (b.0, ap (λ ts. z ∷ ts) b.1)) (pushed_index zs y n x g)
 
-pub accepted_more : (changes : List Change) (change : Change) → AreAccepted changes → IsAccepted changes change → AreAccepted (changes ++ change ∷ [])
-accepted_more changes change all last = λ n c g.
-    ⊎_elim
-    (λ (a : (slice_get changes n ≡ Some c) × (take n (changes ++ change ∷ []) ≡ take n changes)).
-    subst (λ (cs : List Change). IsAccepted cs c) (sym a.1) (all n c a.0))
-    (λ (b : (change ≡ c) × (take n (changes ++ change ∷ []) ≡ changes)).
-    subst (λ (cs : List Change). IsAccepted cs c) (sym b.1) (subst (λ (d : Change). IsAccepted changes d) b.0 last))
-    (pushed_index changes change n c g)
+module _ {size : Size} where
+  pub accepted_more : (changes : List Change) (change : Change) → AreAccepted size changes → IsAccepted size changes change → AreAccepted size (changes ++ change ∷ [])
+  accepted_more changes change all last = λ n c g.
+      ⊎_elim
+      (λ (a : (slice_get changes n ≡ Some c) × (take n (changes ++ change ∷ []) ≡ take n changes)).
+      subst (λ (cs : List Change). IsAccepted size cs c) (sym a.1) (all n c a.0))
+      (λ (b : (change ≡ c) × (take n (changes ++ change ∷ []) ≡ changes)).
+      subst (λ (cs : List Change). IsAccepted size cs c) (sym b.1) (subst (λ (d : Change). IsAccepted size changes d) b.0 last))
+      (pushed_index changes change n c g)
 
-pub history_new : (changes : List Change) (parts : Parts) → changes ≡ [] → Keeps [] parts → IsHistory changes parts
-unfolding operations_of
-history_new changes parts e k = subst (λ (cs : List Change). IsHistory cs parts) (sym e) (record { accepted = λ n c g. absurd (none-some c g); kept = k })
+  pub history_new : (changes : List Change) (parts : Parts) → changes ≡ [] → Keeps [] parts → IsHistory size changes parts
+  unfolding operations_of
+  history_new changes parts e k = subst (λ (cs : List Change). IsHistory size cs parts) (sym e) (record { accepted = λ n c g. absurd (none-some c g); kept = k })
 
 -- ---- one operation more of a change
 pub cases_below : (i n : ℕ) → i < n + 1 → (i < n) ⊎ (i ≡ n)
@@ -61,16 +65,17 @@ take_suc_push (y ∷ ys) (suc k) x g = ap (λ zs. y ∷ zs) (take_suc_push ys k 
 pub take_push : {X : Type 0} (xs : List X) (k : ℕ) (x : X) → slice_get xs k ≡ Some x → take (k + 1) xs ≡ take k xs ++ x ∷ []
 take_push xs k x g = rw add-one (take_suc_push xs k x g)
 
-pub follow_none : (ops added : List Op) → AllFollow ops added 0
-follow_none ops added = λ i op below g. absurd (omega arith)
+module _ {size : Size} where
+  pub follow_none : (ops added : List Op) → AllFollow size ops added 0
+  follow_none ops added = λ i op below g. absurd (omega arith)
 
-pub follow_more : (ops added : List Op) (count : ℕ) (o : Op) → slice_get added count ≡ Some o → AllFollow ops added count → MayFollow (ops ++ take count added) o → AllFollow ops added (count + 1)
-follow_more ops added count o here before m = λ i op below g.
-    ⊎_elim (λ (low : i < count). before i op low g)
-    (λ (same : i ≡ count).
-    let one : o ≡ op = same_Some o op (sym here ∙ ap (λ k. slice_get added k) (sym same) ∙ g) in
-    subst (λ (k : ℕ). MayFollow (ops ++ take k added) op) (sym same) (subst (λ (p : Op). MayFollow (ops ++ take count added) p) one m))
-    (cases_below i count below)
+  pub follow_more : (ops added : List Op) (count : ℕ) (o : Op) → slice_get added count ≡ Some o → AllFollow size ops added count → MayFollow size (ops ++ take count added) o → AllFollow size ops added (count + 1)
+  follow_more ops added count o here before m = λ i op below g.
+      ⊎_elim (λ (low : i < count). before i op low g)
+      (λ (same : i ≡ count).
+      let one : o ≡ op = same_Some o op (sym here ∙ ap (λ k. slice_get added k) (sym same) ∙ g) in
+      subst (λ (k : ℕ). MayFollow size (ops ++ take k added) op) (sym same) (subst (λ (p : Op). MayFollow size (ops ++ take count added) p) one m))
+      (cases_below i count below)
 
 -- ---- the operations of a change are admitted
 -- an operation that stands alone
@@ -84,32 +89,35 @@ stand_first added at op stand = let same_index : at + 0 ≡ at = omega arith in 
 pub own_at : (added : List Op) (node at : ℕ) (op : Op) → AreOf node added → slice_get added at ≡ Some op → (id_of op).node ≡ node
 own_at added node at op own here = own op (contains_from added at op here)
 
-pub admitted_one : (ops added : List Op) (from node : ℕ) (parts : Parts) (old new : Tally) (op : Op) → IsAdmitted ops added from node parts old → slice_get added from ≡ Some op → MayFollow (ops ++ take from added) op → IsTally ops (take from added ++ op ∷ []) node new → IsAdmitted ops added (from + 1) node parts new
-admitted_one ops added from node parts old new op a here m counted = record {
-  kept = a.kept;
-  own = a.own;
-  follow = follow_more ops added from op here a.follow m;
-  counted = subst (λ (xs : List Op). IsTally ops xs node new) (sym (take_push added from op here)) counted;
-}
+module _ {size : Size} where
+  pub admitted_one : (ops added : List Op) (from node : ℕ) (parts : Parts) (old new : Tally) (op : Op) → IsAdmitted size ops added from node parts old → slice_get added from ≡ Some op → MayFollow size (ops ++ take from added) op → IsTally ops (take from added ++ op ∷ []) node new → IsAdmitted size ops added (from + 1) node parts new
+  admitted_one ops added from node parts old new op a here m counted = record {
+    kept = a.kept;
+    own = a.own;
+    short = a.short;
+    follow = follow_more ops added from op here a.follow m;
+    counted = subst (λ (xs : List Op). IsTally ops xs node new) (sym (take_push added from op here)) counted;
+  }
 
-pub refused_one : (ops added : List Op) (from node : ℕ) (parts : Parts) (old new : Tally) (op : Op) (refusal : Refusal) → IsAdmitted ops added from node parts old → slice_get added from ≡ Some op → MayNotFollow (ops ++ take from added) op refusal → StretchAdmitted ops added from 1 node parts new (Err (apply.Refused refusal))
-refused_one ops added from node parts old new op refusal a here not =
-    let first : from + 0 ≡ from = omega arith in
-    (0, omega arith, subst (λ (n : ℕ). IsFirstRefused ops added n refusal) (sym first) (record { operation = op; here = here; refused = not; before = a.follow }))
+  pub refused_one : (ops added : List Op) (from node : ℕ) (parts : Parts) (old new : Tally) (op : Op) (refusal : Refusal) → IsAdmitted size ops added from node parts old → slice_get added from ≡ Some op → MayNotFollow size (ops ++ take from added) op refusal → StretchAdmitted size ops added from 1 node parts new (Err (apply.Refused refusal))
+  refused_one ops added from node parts old new op refusal a here not =
+      let first : from + 0 ≡ from = omega arith in
+      (0, omega arith, subst (λ (n : ℕ). IsFirstRefused size ops added n refusal) (sym first) (record { operation = op; here = here; refused = not; before = a.follow }))
 
--- the next one of a run
-pub run_begun : (ops added : List Op) (from node : ℕ) (parts : Parts) (tally : Tally) → IsAdmitted ops added from node parts tally → IsAdmitted ops added (from + 0) node parts tally
-run_begun ops added from node parts tally a = let same : from ≡ from + 0 = omega arith in subst (λ (n : ℕ). IsAdmitted ops added n node parts tally) same a
+  -- the next one of a run
+  pub run_begun : (ops added : List Op) (from node : ℕ) (parts : Parts) (tally : Tally) → IsAdmitted size ops added from node parts tally → IsAdmitted size ops added (from + 0) node parts tally
+  run_begun ops added from node parts tally a = let same : from ≡ from + 0 = omega arith in subst (λ (n : ℕ). IsAdmitted size ops added n node parts tally) same a
 
-pub run_more : (ops added : List Op) (from index node : ℕ) (parts : Parts) (tally : Tally) → IsAdmitted ops added (from + index + 1) node parts tally → IsAdmitted ops added (from + (index + 1)) node parts tally
-run_more ops added from index node parts tally a = let same : from + index + 1 ≡ from + (index + 1) = omega arith in subst (λ (n : ℕ). IsAdmitted ops added n node parts tally) same a
+  pub run_more : (ops added : List Op) (from index node : ℕ) (parts : Parts) (tally : Tally) → IsAdmitted size ops added (from + index + 1) node parts tally → IsAdmitted size ops added (from + (index + 1)) node parts tally
+  run_more ops added from index node parts tally a = let same : from + index + 1 ≡ from + (index + 1) = omega arith in subst (λ (n : ℕ). IsAdmitted size ops added n node parts tally) same a
 
-pub run_refused : (ops added : List Op) (from index count node : ℕ) (parts : Parts) (tally : Tally) (error : ApplyError) → index < count → StretchAdmitted ops added (from + index) 1 node parts tally (Err error) → StretchAdmitted ops added from count node parts tally (Err error)
-run_refused ops added from index count node parts tally (apply.Refused refusal) below h =
-    let low : h.0 < 1 = h.1 in
-    let same_index : (from + index) + h.0 ≡ from + index = omega arith in
-    (index, below, subst (λ (n : ℕ). IsFirstRefused ops added n refusal) same_index h.2)
-run_refused ops added from index count node parts tally apply.OutOfMemory below h = tt
+module _ (size : Size) where
+  pub run_refused : (ops added : List Op) (from index count node : ℕ) (parts : Parts) (tally : Tally) (error : ApplyError) → index < count → StretchAdmitted size ops added (from + index) 1 node parts tally (Err error) → StretchAdmitted size ops added from count node parts tally (Err error)
+  run_refused ops added from index count node parts tally (apply.Refused refusal) below h =
+      let low : h.0 < 1 = h.1 in
+      let same_index : (from + index) + h.0 ≡ from + index = omega arith in
+      (index, below, subst (λ (n : ℕ). IsFirstRefused size ops added n refusal) same_index h.2)
+  run_refused ops added from index count node parts tally apply.OutOfMemory below h = tt
 
 -- ---- the operations of a change are applied
 pub applied_one : {E : Type 0} (ops added : List Op) (from : ℕ) (old new : Parts) (op : Op) (r : Result (Unit {0}) E) → IsApplied ops added from old → slice_get added from ≡ Some op → IfOk r (λ _. Keeps ((ops ++ take from added) ++ op ∷ []) new) → IfOk r (λ _. IsApplied ops added (from + 1) new)
@@ -119,7 +127,7 @@ applied_one ops added from old new op (Ok done) a here kept = record {
 }
 applied_one ops added from old new op (Err e) a here kept = tt
 
-pub follows_at : (ops added : List Op) (from : ℕ) (old : Parts) (op : Op) → IsApplied ops added from old → slice_get added from ≡ Some op → MayFollow (ops ++ take from added) op
+pub follows_at : (ops added : List Op) (from : ℕ) (old : Parts) (op : Op) → IsApplied ops added from old → slice_get added from ≡ Some op → MayFollow Large (ops ++ take from added) op
 follows_at ops added from old op a here = a.follow from op (slice_get_within added from op here) here
 
 pub applying_begun : (ops added : List Op) (from : ℕ) (parts : Parts) → IsApplied ops added from parts → IsApplied ops added (from + 0) parts
@@ -171,24 +179,27 @@ begin_next lines index line g = ap (λ (ls : List Line). length (ops_of_lines ls
 pub end_of : (lines : List Line) (count : ℕ) → count ≡ length lines → begin_of lines count ≡ length (ops_of_lines lines)
 end_of lines count whole = ap (λ (ls : List Line). length (ops_of_lines ls)) (ap (λ k. take k lines) whole ∙ take-length lines)
 
-pub admitting_begun : (ops : List Op) (lines : List Line) (node : ℕ) (parts : Parts) (tally : Tally) → Keeps ops parts → AreOf node (ops_of_lines lines) → IsTally ops [] node tally → IsAdmitted ops (ops_of_lines lines) (begin_of lines 0) node parts tally
-admitting_begun ops lines node parts tally k own t =
-    let all = ops_of_lines lines in
-    subst (λ (n : ℕ). IsAdmitted ops all n node parts tally) (sym (none_before lines)) (record { kept = k; own = own; follow = follow_none ops all; counted = t })
+module _ {size : Size} where
+  pub admitting_begun : (ops : List Op) (lines : List Line) (node : ℕ) (parts : Parts) (tally : Tally) → Keeps ops parts → AreOf node (ops_of_lines lines) → AreShort size ops (ops_of_lines lines) → IsTally ops [] node tally → IsAdmitted size ops (ops_of_lines lines) (begin_of lines 0) node parts tally
+  admitting_begun ops lines node parts tally k own short t =
+      let all = ops_of_lines lines in
+      subst (λ (n : ℕ). IsAdmitted size ops all n node parts tally) (sym (none_before lines)) (record { kept = k; own = own; short = short; follow = follow_none ops all; counted = t })
 
-pub line_admitted : (ops : List Op) (lines : List Line) (index : ℕ) (line : Line) (node : ℕ) (parts : Parts) (tally : Tally) → slice_get lines index ≡ Some line → IsAdmitted ops (ops_of_lines lines) (begin_of lines index + length (ops_of line)) node parts tally → IsAdmitted ops (ops_of_lines lines) (begin_of lines (index + 1)) node parts tally
-line_admitted ops lines index line node parts tally g h =
-    subst (λ (n : ℕ). IsAdmitted ops (ops_of_lines lines) n node parts tally) (sym (begin_next lines index line g)) h
+  pub line_admitted : (ops : List Op) (lines : List Line) (index : ℕ) (line : Line) (node : ℕ) (parts : Parts) (tally : Tally) → slice_get lines index ≡ Some line → IsAdmitted size ops (ops_of_lines lines) (begin_of lines index + length (ops_of line)) node parts tally → IsAdmitted size ops (ops_of_lines lines) (begin_of lines (index + 1)) node parts tally
+  line_admitted ops lines index line node parts tally g h =
+      subst (λ (n : ℕ). IsAdmitted size ops (ops_of_lines lines) n node parts tally) (sym (begin_next lines index line g)) h
 
-pub refused_at : (ops : List Op) (lines : List Line) (index : ℕ) (line : Line) (node : ℕ) (parts : Parts) (new : Tally) (error : ApplyError) → slice_get lines index ≡ Some line
-    → StretchAdmitted ops (ops_of_lines lines) (begin_of lines index) (length (ops_of line)) node parts new (Err error) → IsNotAccepted ops lines (error_at index error)
-refused_at ops lines index line node parts new (apply.Refused refusal) here h = record { line = line; here = here; offset = h.0; within = h.1; first = h.2 }
-refused_at ops lines index line node parts new apply.OutOfMemory here h = tt
+module _ (size : Size) where
+  pub refused_at : (ops : List Op) (lines : List Line) (index : ℕ) (line : Line) (node : ℕ) (parts : Parts) (new : Tally) (error : ApplyError) → slice_get lines index ≡ Some line
+      → StretchAdmitted size ops (ops_of_lines lines) (begin_of lines index) (length (ops_of line)) node parts new (Err error) → IsNotAccepted size ops lines (error_at index error)
+  refused_at ops lines index line node parts new (apply.Refused refusal) here h = record { line = line; here = here; offset = h.0; within = h.1; first = h.2 }
+  refused_at ops lines index line node parts new apply.OutOfMemory here h = tt
 
-pub admitted_all : (ops : List Op) (lines : List Line) (count node : ℕ) (parts : Parts) (tally : Tally) → count ≡ length lines → IsAdmitted ops (ops_of_lines lines) (begin_of lines count) node parts tally → AreAllAccepted ops lines
-admitted_all ops lines count node parts tally whole a = subst (λ (n : ℕ). AllFollow ops (ops_of_lines lines) n) (end_of lines count whole) a.follow
+module _ {size : Size} where
+  pub admitted_all : (ops : List Op) (lines : List Line) (count node : ℕ) (parts : Parts) (tally : Tally) → count ≡ length lines → IsAdmitted size ops (ops_of_lines lines) (begin_of lines count) node parts tally → AreAllAccepted size ops lines
+  admitted_all ops lines count node parts tally whole a = subst (λ (n : ℕ). AllFollow size ops (ops_of_lines lines) n) (end_of lines count whole) a.follow
 
-pub applying_lines : (ops : List Op) (lines : List Line) (parts : Parts) → Keeps ops parts → AreAllAccepted ops lines → IsApplied ops (ops_of_lines lines) (begin_of lines 0) parts
+pub applying_lines : (ops : List Op) (lines : List Line) (parts : Parts) → Keeps ops parts → AreAllAccepted Large ops lines → IsApplied ops (ops_of_lines lines) (begin_of lines 0) parts
 applying_lines ops lines parts k all =
     let added = ops_of_lines lines in
     subst (λ (n : ℕ). IsApplied ops added n parts) (sym (none_before lines)) (record { follow = all; kept = subst (λ (xs : List Op). Keeps xs parts) (sym (append-nil ops)) k })
@@ -201,35 +212,37 @@ applied_all ops lines count parts whole a =
     let all = ops_of_lines lines in
     subst (λ (ts : List Op). Keeps (ops ++ ts) parts) (ap (λ k. take k all) (end_of lines count whole) ∙ take-length all) a.kept
 
--- ---- a change more
--- the operations of the change were all applied
-pub drafted : (changes : List Change) (change : Change) (lines : List Line) (draft : Draft) → draft.added ≡ change ∷ [] → lines ≡ change.lines → IsAccepted changes change → Keeps (operations_of changes ++ ops_of_lines lines) draft.parts → IsDraft changes change draft
-drafted changes change lines draft alone e accepted kept = record {
-  added = alone;
-  accepted = accepted;
-  kept = subst (λ (ops : List Op). Keeps ops draft.parts) (ap (λ (ls : List Line). operations_of changes ++ ops_of_lines ls) e ∙ sym (operations_of-push changes change)) kept;
-}
+module _ {size : Size} where
+  -- ---- a change more
+  -- the operations of the change were all applied
+  pub drafted : (changes : List Change) (change : Change) (lines : List Line) (draft : Draft) → draft.added ≡ change ∷ [] → lines ≡ change.lines → IsAccepted size changes change → Keeps (operations_of changes ++ ops_of_lines lines) draft.parts → IsDraft size changes change draft
+  drafted changes change lines draft alone e accepted kept = record {
+    added = alone;
+    accepted = accepted;
+    kept = subst (λ (ops : List Op). Keeps ops draft.parts) (ap (λ (ls : List Line). operations_of changes ++ ops_of_lines ls) e ∙ sym (operations_of-push changes change)) kept;
+  }
 
 -- a draft put at the end
 pub put_appended : {E : Type 0} (r : Result (Unit {0}) E) (done : Unit {0}) (changes xs added new : List Change) (change : Change) → changes ≡ xs → added ≡ change ∷ [] → r ≡ Ok done → new ≡ (if is_ok r then changes ++ added else changes) → new ≡ xs ++ change ∷ []
 put_appended (Ok x) done changes xs added new change same alone ok is = is ∙ (λ i. same i ++ alone i)
 put_appended (Err error) done changes xs added new change same alone ok is = absurd cc
 
-pub history_put : (changes new : List Change) (change : Change) (old after : Parts) (draft : Draft) → IsHistory changes old → IsDraft changes change draft → new ≡ changes ++ change ∷ [] → after ≡ draft.parts → IsHistory new after
-history_put changes new change old after draft h d is put = subst (λ (x : List Change × Parts). IsHistory x.0 x.1) (λ i. (sym is i, sym put i)) (record {
-  accepted = accepted_more changes change h.accepted d.accepted;
-  kept = d.kept;
-})
+module _ {size : Size} where
+  pub history_put : (changes new : List Change) (change : Change) (old after : Parts) (draft : Draft) → IsHistory size changes old → IsDraft size changes change draft → new ≡ changes ++ change ∷ [] → after ≡ draft.parts → IsHistory size new after
+  history_put changes new change old after draft h d is put = subst (λ (x : List Change × Parts). IsHistory size x.0 x.1) (λ i. (sym is i, sym put i)) (record {
+    accepted = accepted_more changes change h.accepted d.accepted;
+    kept = d.kept;
+  })
 
--- at most 4,096 changes are accepted
-pub few_accepted : (changes : List Change) → AreAccepted changes → length changes ≤ 4096
-few_accepted [] all = omega arith
-few_accepted (first ∷ others) all =
-    let changes = first ∷ others in
-    let last = length others in
-    let here : slice_get changes last ≡ Some (get_or changes last first) = slice_get-get_or changes last first (omega arith) in
-    let room : length (take last changes) < 4096 = (all last (get_or changes last first) here).room in
-    omega (arith, length-take last changes)
+  -- at most so many changes are accepted as the size allows
+  pub few_accepted : (changes : List Change) → AreAccepted size changes → length changes ≤ most_changes size
+  few_accepted [] all = omega arith
+  few_accepted (first ∷ others) all =
+      let changes = first ∷ others in
+      let last = length others in
+      let here : slice_get changes last ≡ Some (get_or changes last first) = slice_get-get_or changes last first (omega arith) in
+      let room : length (take last changes) < most_changes size = (all last (get_or changes last first) here).room in
+      omega (arith, length-take last changes)
 
 -- ---- parts without the last change
 last_change : (changes : List Change) (change : Change) → slice_get changes (length changes - 1) ≡ Some change → changes ≡ take (length changes - 1) changes ++ change ∷ []
@@ -250,21 +263,23 @@ pub caught_up_none : (changes : List Change) (parts : Parts) → (0 < length cha
 caught_up_none [] parts none k = k
 caught_up_none (c ∷ cs) parts none k = absurd (none (omega arith))
 
--- one change more: the parts so far are spare now
-pub spare_after : (changes : List Change) (change : Change) (parts : Parts) (spare : Option Parts) → IsHistory changes parts → spare ≡ Some parts → IsSpare (changes ++ change ∷ []) spare
-spare_after changes change parts spare h is = λ p same.
-    let one : parts ≡ p = same_Some parts p (sym is ∙ same) in
-    let size : length (changes ++ change ∷ []) - 1 ≡ length changes = omega (arith, length_push changes change) in
-    let front : take (length (changes ++ change ∷ []) - 1) (changes ++ change ∷ []) ≡ changes = ap (λ n. take n (changes ++ change ∷ [])) size ∙ take_at changes (change ∷ []) (length changes) refl in
-    subst (λ (cs : List Change). Keeps (operations_of cs) p) (sym front) (subst (λ (q : Parts). Keeps (operations_of changes) q) one h.kept)
+module _ {size : Size} where
+  -- one change more: the parts so far are spare now
+  pub spare_after : (changes : List Change) (change : Change) (parts : Parts) (spare : Option Parts) → IsHistory size changes parts → spare ≡ Some parts → IsSpare (changes ++ change ∷ []) spare
+  spare_after changes change parts spare h is = λ p same.
+      let one : parts ≡ p = same_Some parts p (sym is ∙ same) in
+      let size : length (changes ++ change ∷ []) - 1 ≡ length changes = omega (arith, length_push changes change) in
+      let front : take (length (changes ++ change ∷ []) - 1) (changes ++ change ∷ []) ≡ changes = ap (λ n. take n (changes ++ change ∷ [])) size ∙ take_at changes (change ∷ []) (length changes) refl in
+      subst (λ (cs : List Change). Keeps (operations_of cs) p) (sym front) (subst (λ (q : Parts). Keeps (operations_of changes) q) one h.kept)
 
 pub no_spare : (changes : List Change) (spare : Option Parts) → spare ≡ None → IsSpare changes spare
 no_spare changes spare is = λ p same. absurd (none-some p (sym is ∙ same))
 
--- the last change is accepted after those before it
-pub last_accepted : (changes : List Change) (change : Change) (lines : List Line) → AreAccepted changes → slice_get changes (length changes - 1) ≡ Some change → lines ≡ change.lines → AreAllAccepted (operations_of (take (length changes - 1) changes)) lines
-last_accepted changes change lines all g e =
-    subst (λ (ls : List Line). AreAllAccepted (operations_of (take (length changes - 1) changes)) ls) (sym e) (all (length changes - 1) change g).follow
+module _ {size : Size} where
+  -- the last change is accepted after those before it
+  pub last_accepted : (changes : List Change) (change : Change) (lines : List Line) → AreAccepted size changes → slice_get changes (length changes - 1) ≡ Some change → lines ≡ change.lines → AreAllAccepted size (operations_of (take (length changes - 1) changes)) lines
+  last_accepted changes change lines all g e =
+      subst (λ (ls : List Line). AreAllAccepted size (operations_of (take (length changes - 1) changes)) ls) (sym e) (all (length changes - 1) change g).follow
 
 pub caught_up_result : {E : Type 0} (changes : List Change) (change : Change) (lines : List Line) (new : Parts) (r : Result (Unit {0}) E) → slice_get changes (length changes - 1) ≡ Some change → lines ≡ change.lines → IfOk r (λ _. Keeps (operations_of (take (length changes - 1) changes) ++ ops_of_lines lines) new) → IfOk r (λ _. Keeps (operations_of changes) new)
 caught_up_result changes change lines new (Ok done) g e kept = caught_up_last changes change lines new g e kept
@@ -276,15 +291,16 @@ kept_copy (Ok p) parts changes xs same kept is = subst (λ (x : List Change × P
 kept_copy (Err e) parts changes xs same kept is = tt
 
 -- ---- what is told of a change
-pub admitted_or_refused : (changes : List Change) (change : Change) (lines : List Line) (r : Result (Unit {0}) SubmitError) → length changes < 4096 → lines ≡ change.lines → MatchResult r (λ _. AreAllAccepted (operations_of changes) lines) (IsNotAccepted (operations_of changes) lines) → MatchResult r (λ _. IsAccepted changes change) (IsRefused changes change)
-admitted_or_refused changes change lines (Ok done) few e all = record {
-  room = few;
-  follow = subst (λ (ls : List Line). AreAllAccepted (operations_of changes) ls) e all;
-}
-admitted_or_refused changes change lines (Err submit.HistoryFull) few e why = absurd why
-admitted_or_refused changes change lines (Err (submit.Refused index refusal)) few e why = (few, subst (λ (ls : List Line). FirstRefused (operations_of changes) ls index refusal) e why)
-admitted_or_refused changes change lines (Err submit.OutOfMemory) few e why = few
+module _ (size : Size) where
+  pub admitted_or_refused : (changes : List Change) (change : Change) (lines : List Line) (r : Result (Unit {0}) SubmitError) → length changes < most_changes size → lines ≡ change.lines → MatchResult r (λ _. AreAllAccepted size (operations_of changes) lines) (IsNotAccepted size (operations_of changes) lines) → MatchResult r (λ _. IsAccepted size changes change) (IsRefused size changes change)
+  admitted_or_refused changes change lines (Ok done) few e all = record {
+    room = few;
+    follow = subst (λ (ls : List Line). AreAllAccepted size (operations_of changes) ls) e all;
+  }
+  admitted_or_refused changes change lines (Err submit.HistoryFull) few e why = absurd why
+  admitted_or_refused changes change lines (Err (submit.Refused index refusal)) few e why = (few, subst (λ (ls : List Line). FirstRefused size (operations_of changes) ls index refusal) e why)
+  admitted_or_refused changes change lines (Err submit.OutOfMemory) few e why = few
 
-pub refused_draft : (r : Result Draft SubmitError) (changes : List Change) (change : Change) (error : SubmitError) → IsErrAnd r (λ e. e ≡ error) → IsRefused changes change error → MatchResult r (IsDraft changes change) (IsRefused changes change)
-refused_draft (Ok d) changes change error same why = absurd same
-refused_draft (Err e) changes change error same why = subst (IsRefused changes change) (sym same) why
+  pub refused_draft : (r : Result Draft SubmitError) (changes : List Change) (change : Change) (error : SubmitError) → IsErrAnd r (λ e. e ≡ error) → IsRefused size changes change error → MatchResult r (IsDraft size changes change) (IsRefused size changes change)
+  refused_draft (Ok d) changes change error same why = absurd same
+  refused_draft (Err e) changes change error same why = subst (IsRefused size changes change) (sym same) why

@@ -16,15 +16,17 @@ use Rattle.change_ops.specs.Operations.{id_of, is_insert, is_mark}
 use Rattle.change_ops.specs.declared.line.Form.{Form}
 use Rattle.change_ops.specs.declared.line.Line.{Line}
 use Rattle.change_ops.specs.declared.line.Line.TheVariants.{Operation, Run}
+use Rattle.change_ops.specs.declared.size.Size.{Size}
 use Rattle.change_ops.specs.declared.operation.Op.{Op}
 use Rattle.change_ops.specs.declared.operation.Op.TheVariants.{Insert}
-use Rattle.char_sequence.specs.Acceptance.{Used, IsStale}
+use Rattle.change_ops.specs.Sizes.{most_characters}
+use Rattle.char_sequence.specs.Acceptance.{Used, IsStale, IsFull, HasNoRoom}
 use Rattle.char_sequence.specs.Newest.{IsLast}
 use Rattle.char_sequence.specs.Tree.{Present}
 use Rattle.char_sequence.proofs.Holding.{count_push}
 use Rattle.mark_anchors.proofs.Lists.{contains_from}
 use Rattle.change_history.specs.Accepted.{MayFollow}
-use Rattle.change_history.specs.Tally.{AreOf, IsTally}
+use Rattle.change_history.specs.Tally.{AreOf, IsTally, IsShort}
 use Rattle.change_history.specs.declared.tally.Tally.{Tally}
 
 -- ---- the characters of two lists of operations
@@ -104,7 +106,7 @@ same_id : (a b : OpId) → a.counter ≡ b.counter → a.node ≡ b.node → a �
 same_id a b counter node = λ i. record { counter = counter i; node = node i }
 
 -- one operation more
-module _ (ops own : List Op) (op : Op) (node : ℕ) (old new : Tally) (t : IsTally ops own node old) (of : (id_of op).node ≡ node) (m : MayFollow (ops ++ own) op) (named : new.node ≡ old.node) (last : new.last ≡ (id_of op).counter) where
+module _ {size : Size} (ops own : List Op) (op : Op) (node : ℕ) (old new : Tally) (t : IsTally ops own node old) (of : (id_of op).node ≡ node) (m : MayFollow size (ops ++ own) op) (named : new.node ≡ old.node) (last : new.last ≡ (id_of op).counter) where
   alone : AreOf node (own ++ op ∷ [])
   alone o h = ⊎_elim (λ (was : Contains own o). t.alone o was) (λ (is : op ≡ o). ap (λ (p : Op). (id_of p).node) (sym is) ∙ of) (Contains-push_cases own op o h)
 
@@ -203,6 +205,15 @@ below_limit p ops op n limit is h full =
     let passes : p op ≡ true = full.0 in
     let many : limit ≤ n = subst (λ (k : ℕ). limit ≤ k) (sym is) full.1 in
     grind (arith, nat_tests)
+
+-- an insert that is not one too many, and that the text has room for
+pub not_full : (size : Size) (ops : List Op) (op : Op) (n : ℕ) → n ≡ count_by is_insert ops → (is_insert op && nat_le (most_characters size) n) ≡ false → IsShort size ops op → IsFull size ops op → ⊥
+not_full size ops op n is h short full =
+    let many : most_characters size ≤ count_by is_insert ops → ⊥ = λ le. below_limit is_insert ops op n (most_characters size) is h (full.0, le) in
+    ⊎_elim many
+    (λ (none : HasNoRoom ops op).
+    ⊎_elim (λ (low : count_by is_insert ops < most_characters size). short low none) many (cases_lt (count_by is_insert ops) (most_characters size)))
+    full.1
 
 -- ---- what a tally tells
 pub tally_begun : (ops : List Op) (node : ℕ) (last : Option ℕ) (tally : Tally) → MatchOption last ((o : Op) → Contains ops o → (id_of o).node ≡ node → ⊥) (IsLast ops node) → tally.node ≡ node → tally.last ≡ unwrap_or last 0 → tally.characters ≡ count_by is_insert ops → tally.marks ≡ count_by is_mark ops → tally.inserted.items ≡ [] → IsTally ops [] node tally

@@ -1,16 +1,23 @@
 -- The edits among operations have all their inserts, so they accept what the operations accept.
-use Rattle.std.proofs.Common.{◌≡◌, List, [], ◌∷◌, Bool, true, false, cond, length, refl, sym, ap, ◌∙◌, subst, ⊎_elim, arith}
-use Rattle.std.specs.List.{filter, count_by, Contains}
+use Rattle.std.proofs.Common.{◌≡◌, List, [], ◌∷◌, Bool, true, false, length, refl, sym, ap, ◌∙◌, subst}
+use Rattle.std.specs.List.{filter, count_by}
 use Rattle.std.proofs.lemmas.Bool.{false≢true}
-use Rattle.std.proofs.lemmas.List.Elements.{All-contains, All-contains_itself, All-filter, filter_passes, Contains-append_cases, Contains-append_left, Contains-append_right, Contains-push_cases}
 use Rattle.std.proofs.lemmas.List.Sums.{length-filter}
 use Rattle.change_ops.specs.declared.operation.Op.{Op}
 use Rattle.change_ops.specs.declared.operation.Op.TheVariants.{Insert, Remove, AddMark, RemoveMark}
-use Rattle.change_ops.specs.Operations.{is_insert, is_edit}
-use Rattle.char_sequence.specs.Acceptance.{Accepts}
+use Rattle.change_ops.specs.Operations.{id_of, is_insert, is_edit}
+use Rattle.char_sequence.specs.Acceptance.{Used, Accepts, Checked}
+use Rattle.char_sequence.specs.declared.sequence.SequenceError.{SequenceError}
+use Rattle.change_ops.specs.declared.id.OpId.{OpId}
+use Rattle.change_history.specs.declared.parts.Parts.{Parts}
+use Rattle.change_history.specs.Kept.{Keeps}
+use Rattle.std.specs.Prelude.{Result, IsTrue, ◌↔◌}
+use Rattle.char_sequence.specs.Order.{Shows}
+use Rattle.char_sequence.specs.declared.sequence.Element.{Element}
 use Rattle.char_sequence.specs.Held.{HasInserts}
 use Rattle.char_sequence.proofs.Parts as parts
 use Rattle.mark_places.proofs.Filters.{kept_was, is_kept}
+use Rattle.change_ops.specs.declared.size.Size.{Size}
 
 -- ---- the edits as a part of the operations
 inserts_among : (ops : List Op) → filter is_insert (filter is_edit ops) ≡ filter is_insert ops
@@ -30,13 +37,21 @@ insert_edits (Remove id t) h = refl
 insert_edits (AddMark id a s e) h = absurd (false≢true h)
 insert_edits (RemoveMark id k s e) h = absurd (false≢true h)
 
-edits_part : (ops : List Op) → HasInserts ops (filter is_edit ops)
+pub edits_part : (ops : List Op) → HasInserts ops (filter is_edit ops)
 edits_part ops = record {
   within = λ o h. kept_was is_edit ops o h;
   inserts = λ o inserts h. is_kept is_edit ops o (insert_edits o inserts) h;
+  removes = λ r x h. is_kept is_edit ops (Remove r x) refl h;
   count = inserts_counted ops;
 }
 
--- ---- acceptance over the edits
-pub accepts_part : (ops : List Op) (op : Op) → Accepts ops op → Accepts (filter is_edit ops) op
-accepts_part ops op a = parts.accepts_part ops (filter is_edit ops) (edits_part ops) op a
+module _ {size : Size} where
+  -- ---- acceptance over the edits
+  pub accepts_part : (ops : List Op) (es : List Element) → Shows es ops → (op : Op) → Accepts size ops op → Accepts size (filter is_edit ops) op
+  accepts_part ops es shows op a = parts.accepts_part ops (filter is_edit ops) (edits_part ops) es shows op a
+
+-- what a check of the sequence says, where no operation used the id
+pub checked_edits : {T : Type 0} (size : Size) (ops : List Op) (op : Op) (kept : Parts) (r : Result T SequenceError) (id : OpId) (used : Bool) → Keeps ops kept → id ≡ id_of op → IsTrue used ↔ Used ops id → used ≡ false → Checked size (filter is_edit ops) op r → Checked size ops op r
+checked_edits size ops op kept r id used k is told unused checked =
+    parts.checked_all size ops (filter is_edit ops) (edits_part ops) kept.sequence.elements k.shows op r
+    (λ u. false≢true (sym unused ∙ told.1 (subst (λ i. Used ops i) (sym is) u))) checked

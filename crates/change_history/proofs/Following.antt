@@ -1,7 +1,7 @@
 -- A version from the one before it.
 use Rattle.std.proofs.Common.{◌≡◌, ◌∙◌, ℕ, List, [], ◌∷◌, ◌++◌, Result, Ok, Err, IfOk, length, sym, ap, subst}
 use Rattle.std.proofs.lemmas.Option.{slice_get_within}
-use Rattle.change_ops.specs.Changes.{Change}
+use Rattle.change_ops.specs.Changes.{Change, operations}
 use Rattle.change_ops.specs.Lines.{ops_of_lines}
 use Rattle.change_ops.specs.declared.line.Line.{Line}
 use Rattle.change_ops.specs.declared.operation.Op.{Op}
@@ -15,8 +15,11 @@ use Rattle.change_history.specs.declared.history.Draft.{Draft}
 use Rattle.change_history.specs.declared.parts.Parts.{Parts}
 use Rattle.change_history.proofs.Chronicle.{operations_of-push}
 use Rattle.change_history.proofs.Keeping.{are_marks}
+use Rattle.change_history.proofs.Sizes.{follow_large}
+use Rattle.change_ops.specs.declared.size.Size.{Size}
+use Rattle.change_ops.specs.declared.size.Size.TheVariants.{Large}
 
-accepts_all : (ops added : List Op) → AllFollow ops added (length added) → AcceptsAll ops added
+accepts_all : (ops added : List Op) → AllFollow Large ops added (length added) → AcceptsAll Large ops added
 accepts_all ops added follow i op here = (follow i op (slice_get_within added i op here) here).accepted
 
 pub is_step : (ops : List Op) (previous : Version) (lines : List Line) (parts : Parts) → AreNextParts ops previous lines parts → IsStep ops previous parts.sequence.elements parts.marks lines
@@ -34,16 +37,17 @@ pub next_kept : {E : Type 0} (r : Result Version E) (previous : Version) (lines 
 next_kept (Ok v) previous lines parts number h = λ ops next. h ops (is_step ops previous lines parts next)
 next_kept (Err e) previous lines parts number h = tt
 
--- the parts of a draft
-pub are_next : (changes : List Change) (change : Change) (previous : Version) (lines : List Line) (draft : Draft) (parts : Parts) → Keeps (operations_of changes) parts → (number : ℕ) × IsVersion (operations_of changes) number previous → IsDraft changes change draft → lines ≡ change.lines
-    → AreNextParts (operations_of changes) previous lines draft.parts
-are_next changes change previous lines draft parts kept version drafted same =
-    subst (λ (ls : List Line). AreNextParts (operations_of changes) previous ls draft.parts) (sym same) (record {
-      before = (parts.sequence.elements, kept.shows);
-      version = version;
-      accepted = drafted.accepted.follow;
-      kept = subst (λ (ops : List Op). Keeps ops draft.parts) (operations_of-push changes change) drafted.kept;
-    })
+module _ {size : Size} where
+  -- the parts of a draft
+  pub are_next : (changes : List Change) (change : Change) (previous : Version) (lines : List Line) (draft : Draft) (parts : Parts) → Keeps (operations_of changes) parts → (number : ℕ) × IsVersion (operations_of changes) number previous → IsDraft size changes change draft → lines ≡ change.lines
+      → AreNextParts (operations_of changes) previous lines draft.parts
+  are_next changes change previous lines draft parts kept version drafted same =
+      subst (λ (ls : List Line). AreNextParts (operations_of changes) previous ls draft.parts) (sym same) (record {
+        before = (parts.sequence.elements, kept.shows);
+        version = version;
+        accepted = follow_large (operations_of changes) (operations change) (length (operations change)) drafted.accepted.follow;
+        kept = subst (λ (ops : List Op). Keeps ops draft.parts) (operations_of-push changes change) drafted.kept;
+      })
 
 pub all_operations : (changes : List Change) (change : Change) (lines : List Line) → lines ≡ change.lines → operations_of changes ++ ops_of_lines lines ≡ operations_of (changes ++ change ∷ [])
 all_operations changes change lines same = ap (λ (ls : List Line). operations_of changes ++ ops_of_lines ls) same ∙ sym (operations_of-push changes change)

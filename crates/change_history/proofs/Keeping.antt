@@ -23,6 +23,8 @@ use Rattle.change_history.specs.Kept.{Keeps}
 use Rattle.char_sequence.proofs.Holding.{shows_other}
 use Rattle.mark_places.proofs.Filters.{kept_was, kept_passes, is_kept}
 use Rattle.change_history.proofs.Placing.{places_hidden}
+use Rattle.change_ops.specs.declared.size.Size.{Size}
+use Rattle.change_ops.specs.declared.size.Size.TheVariants.{Large}
 
 -- one more operation, which passes or doesn't
 pub filter_push_yes : {X : Type 0} (p : X → Bool) (xs : List X) (y : X) → p y ≡ true → filter p (xs ++ y ∷ []) ≡ filter p xs ++ y ∷ []
@@ -41,12 +43,13 @@ keeps_edit ops op old new edit fails k marks newest shows held places = record {
   newest = newest;
 }
 
-pub keeps_removal : {A E : Type 0} (r : Result A E) (ops : List Op) (op : Op) (id target : OpId) (old new : Parts) → op ≡ Remove id target → Keeps ops old → Accepts ops op → new.marks ≡ old.marks → new.places ≡ old.places → IsNewest (ops ++ op ∷ []) new.newest → IfOk r (λ _. Shows new.sequence.elements (ops ++ op ∷ [])) → IfOk r (λ _. Holds new.sequence (filter is_edit ops ++ op ∷ [])) → IfOk r (λ _. Keeps (ops ++ op ∷ []) new)
-keeps_removal (Ok a) ops op id target old new is k accepted marks same newest shows held =
-    keeps_edit ops op old new (ap is_edit is) (ap is_mark is) k marks newest shows held
-    (subst (λ ps. AreMarkPlaces new.sequence.elements old.marks ps) (sym same)
-    (places_hidden old.sequence.elements new.sequence.elements old.marks old.places (removal_hides ops old.sequence.elements new.sequence.elements op id target is k.shows accepted shows) k.places))
-keeps_removal (Err e) ops op id target old new is k accepted marks same newest shows held = tt
+module _ {size : Size} where
+  pub keeps_removal : {A E : Type 0} (r : Result A E) (ops : List Op) (op : Op) (id target : OpId) (old new : Parts) → op ≡ Remove id target → Keeps ops old → Accepts size ops op → new.marks ≡ old.marks → new.places ≡ old.places → IsNewest (ops ++ op ∷ []) new.newest → IfOk r (λ _. Shows new.sequence.elements (ops ++ op ∷ [])) → IfOk r (λ _. Holds new.sequence (filter is_edit ops ++ op ∷ [])) → IfOk r (λ _. Keeps (ops ++ op ∷ []) new)
+  keeps_removal (Ok a) ops op id target old new is k accepted marks same newest shows held =
+      keeps_edit ops op old new (ap is_edit is) (ap is_mark is) k marks newest shows held
+      (subst (λ ps. AreMarkPlaces new.sequence.elements old.marks ps) (sym same)
+      (places_hidden old.sequence.elements new.sequence.elements old.marks old.places (removal_hides ops old.sequence.elements new.sequence.elements op id target is k.shows accepted shows) k.places))
+  keeps_removal (Err e) ops op id target old new is k accepted marks same newest shows held = tt
 
 pub keeps_mark : {A E : Type 0} (r : Result A E) (ops : List Op) (op : Op) (old new : Parts) → is_edit op ≡ false → is_mark op ≡ true → Keeps ops old → new.sequence ≡ old.sequence → IsNewest (ops ++ op ∷ []) new.newest → Shows old.sequence.elements (ops ++ op ∷ []) → IfOk r (λ _. new.marks ≡ old.marks ++ op ∷ []) → IfOk r (λ _. AreMarkPlaces old.sequence.elements (old.marks ++ op ∷ []) new.places) → IfOk r (λ _. Keeps (ops ++ op ∷ []) new)
 keeps_mark (Ok a) ops op old new fails mark k same newest shows marks places = record {
@@ -62,19 +65,20 @@ keeps_mark (Ok a) ops op old new fails mark k same newest shows marks places = r
 }
 keeps_mark (Err e) ops op old new fails mark k same newest shows marks places = tt
 
--- the id of an accepted operation is new among the marks
-pub fresh_mark : (ops : List Op) (op : Op) (marks : List Op) → marks ≡ filter is_mark ops → Accepts ops op → (o : Op) → Contains marks o → id_of o ≡ id_of op → ⊥
-fresh_mark ops op marks e a o held same =
-    a.fresh (inl (o, kept_was is_mark ops o (subst (λ (xs : List Op). Contains xs o) e held), ap (λ (i : OpId). i.node) same, subst (λ (n : ℕ). n ≤ (id_of o).counter) (ap (λ (i : OpId). i.counter) same) search rules))
+module _ {size : Size} where
+  -- the id of an accepted operation is new among the marks
+  pub fresh_mark : (ops : List Op) (op : Op) (marks : List Op) → marks ≡ filter is_mark ops → Accepts size ops op → (o : Op) → Contains marks o → id_of o ≡ id_of op → ⊥
+  fresh_mark ops op marks e a o held same =
+      a.fresh (inl (o, kept_was is_mark ops o (subst (λ (xs : List Op). Contains xs o) e held), ap (λ (i : OpId). i.node) same, subst (λ (n : ℕ). n ≤ (id_of o).counter) (ap (λ (i : OpId). i.counter) same) search rules))
 
-pub mark_room : (ops : List Op) (op : Op) (marks : List Op) → marks ≡ filter is_mark ops → is_mark op ≡ true → (IsMarkTooMany ops op → ⊥) → length marks < 4096
+  pub unused_of : (ops : List Op) (op : Op) (id : OpId) → id ≡ id_of op → Accepts size ops op → Used ops id → ⊥
+  unused_of ops op id e a used = a.fresh (inl (subst (λ (i : OpId). Used ops i) e used))
+
+pub mark_room : (ops : List Op) (op : Op) (marks : List Op) → marks ≡ filter is_mark ops → is_mark op ≡ true → (IsMarkTooMany Large ops op → ⊥) → length marks < 16384
 mark_room ops op marks e mark room =
     let same : length marks ≡ count_by is_mark ops = ap length e ∙ length-filter is_mark ops in
-    let few : 4096 ≤ count_by is_mark ops → ⊥ = λ many. room (mark, many) in
+    let few : 16384 ≤ count_by is_mark ops → ⊥ = λ many. room (mark, many) in
     grind arith
-
-pub unused_of : (ops : List Op) (op : Op) (id : OpId) → id ≡ id_of op → Accepts ops op → Used ops id → ⊥
-unused_of ops op id e a used = a.fresh (inl (subst (λ (i : OpId). Used ops i) e used))
 
 pub no_insert : (op : Op) → is_edit op ≡ false → (x : OpId) (p : Option OpId) (c : ℕ) → op ≡ Insert x p c → ⊥
 no_insert op fails x p c e = false≢true (sym fails ∙ ap is_edit e)
@@ -82,8 +86,9 @@ no_insert op fails x p c e = false≢true (sym fails ∙ ap is_edit e)
 pub no_remove : (op : Op) → is_edit op ≡ false → (r x : OpId) → op ≡ Remove r x → ⊥
 no_remove op fails r x e = false≢true (sym fails ∙ ap is_edit e)
 
-pub shows_mark : (ops : List Op) (op : Op) (old : Parts) → is_edit op ≡ false → Keeps ops old → Accepts ops op → Shows old.sequence.elements (ops ++ op ∷ [])
-shows_mark ops op old fails k a = shows_other ops old.sequence.elements op a (no_insert op fails) (no_remove op fails) k.shows
+module _ {size : Size} where
+  pub shows_mark : (ops : List Op) (op : Op) (old : Parts) → is_edit op ≡ false → Keeps ops old → Accepts size ops op → Shows old.sequence.elements (ops ++ op ∷ [])
+  shows_mark ops op old fails k a = shows_other ops old.sequence.elements op a (no_insert op fails) (no_remove op fails) k.shows
 
 -- the marks kept are the mark operations among all
 pub are_marks : (ops marks : List Op) → marks ≡ filter is_mark ops → AreMarks ops marks

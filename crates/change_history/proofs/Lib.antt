@@ -1,4 +1,8 @@
 pub mod Chronicle
+pub mod Sizes
+pub mod Trying
+pub mod Few
+pub mod Spacing
 pub mod Edits
 pub mod Placing
 pub mod Keeping

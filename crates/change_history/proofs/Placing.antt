@@ -1,10 +1,11 @@
 -- The places of marks, as characters are put into a text and removed from it.
-use Rattle.std.proofs.Common.{◌≡◌, ℕ, ◌+◌, ◌<◌, ◌≤◌, ◌^◌, List, [], ◌∷◌, ◌++◌, true, Option, Some, length, sym, subst, ◌∙◌, arith, ⊎_elim}
+use Rattle.std.proofs.Common.{◌≡◌, ℕ, ◌+◌, ◌<◌, ◌≤◌, ◌^◌, List, [], ◌∷◌, ◌++◌, true, Option, Some, length, sym, subst, ◌∙◌, arith, inl, ⊎_elim}
 use Rattle.std.specs.List.{count_by, Contains}
 use Rattle.std.proofs.lemmas.Bool.{cases_lt}
 use Rattle.std.proofs.lemmas.List.Elements.{Contains-append_left, Contains-append_right, Contains-push}
 use Rattle.change_ops.specs.Operations.{is_insert}
 use Rattle.change_ops.specs.Runs.{inserts_from, next_id}
+use Rattle.change_ops.specs.declared.size.Size.TheVariants.{Large}
 use Rattle.change_ops.specs.declared.id.OpId.{OpId}
 use Rattle.change_ops.specs.declared.operation.Op.{Op}
 use Rattle.change_ops.specs.declared.operation.Op.TheVariants.{Insert}
@@ -67,15 +68,15 @@ run_present (c ∷ cs) ops id parent some =
 pub text_counted : (ops : List Op) (parts : Parts) → Keeps ops parts → length parts.sequence.elements ≡ count_by is_insert ops
 text_counted ops parts k = k.held.size ∙ inserts_counted ops
 
-pub insert_fits : (ops : List Op) (op : Op) (parts : Parts) → is_insert op ≡ true → Keeps ops parts → Accepts ops op → length parts.sequence.elements + 1 < 2 ^ 64
+pub insert_fits : (ops : List Op) (op : Op) (parts : Parts) → is_insert op ≡ true → Keeps ops parts → Accepts Large ops op → length parts.sequence.elements + 1 < 2 ^ 64
 insert_fits ops op parts insert k a =
     let size = text_counted ops parts k in
     ⊎_elim
-    (λ (low : count_by is_insert ops < 32768). omega (arith, size))
-    (λ (full : 32768 ≤ count_by is_insert ops). absurd (a.room (insert, full)))
-    (cases_lt (count_by is_insert ops) 32768)
+    (λ (low : count_by is_insert ops < 262144). omega (arith, size))
+    (λ (full : 262144 ≤ count_by is_insert ops). absurd (a.room (insert, inl full)))
+    (cases_lt (count_by is_insert ops) 262144)
 
-pub run_fits : (ops : List Op) (id : OpId) (parent : Option OpId) (cs : List ℕ) (n : ℕ) (parts : Parts) → n ≤ length cs → Keeps ops parts → AcceptsRun ops id parent cs → length parts.sequence.elements + n < 2 ^ 64
+pub run_fits : (ops : List Op) (id : OpId) (parent : Option OpId) (cs : List ℕ) (n : ℕ) (parts : Parts) → n ≤ length cs → Keeps ops parts → AcceptsRun Large ops id parent cs → length parts.sequence.elements + n < 2 ^ 64
 run_fits ops id parent cs n parts low k a =
     let size = text_counted ops parts k in
     let room = a.room in

@@ -1,25 +1,26 @@
 -- The inserts of a run are applied piece after piece.
 use Rattle.std.proofs.Common.{inr, inl, ⊎_elim, false, ◌≡◌, ℕ, zero, suc, ◌+◌, ◌-◌, ◌<◌, ◌≤◌, List, [], ◌∷◌, ◌++◌, Option, Some, length, take, drop, refl, sym, ap, ◌∙◌, subst, arith, append_assoc}
-use Rattle.std.specs.List.{count_by, slice_get, filter}
+use Rattle.std.specs.List.{count_by, slice_get, filter, Contains}
+use Rattle.std.specs.Prelude.{encode_utf8_all}
 use Rattle.std.proofs.lemmas.List.{append-nil, length-drop}
-use Rattle.std.proofs.lemmas.List.Elements.{filter-append}
+use Rattle.std.proofs.lemmas.List.Elements.{filter-append, Contains-push, Contains-push_cases}
 use Rattle.std.proofs.lemmas.Bool.{cases_lt, false≢true}
 use Rattle.std.proofs.lemmas.Option.{none-some, same_Some, slice_get_within}
 use Rattle.change_ops.specs.declared.id.OpId.{OpId}
 use Rattle.change_ops.specs.declared.operation.Op.{Op}
 use Rattle.change_ops.specs.declared.operation.Op.TheVariants.{Insert}
 use Rattle.change_ops.specs.declared.line.Line.TheVariants.{Run}
-use Rattle.change_ops.specs.Operations.{id_of, is_insert, is_edit, is_mark}
+use Rattle.change_ops.specs.Operations.{id_of, is_insert, is_edit, is_mark, Names}
 use Rattle.change_ops.specs.Runs.{next_id, inserts_from}
 use Rattle.change_ops.proofs.SpelledLines.{ops_count}
-use Rattle.char_sequence.specs.Acceptance.{Used, Accepts}
+use Rattle.char_sequence.specs.Acceptance.{Used, IsStale, HasNoRoom, Accepts}
 use Rattle.char_sequence.specs.Held.{Holds}
 use Rattle.char_sequence.specs.Newest.{IsNewest}
 use Rattle.char_sequence.specs.Order.{Shows}
 use Rattle.char_sequence.specs.RunElements.{later_id, AcceptsRun}
 use Rattle.char_sequence.proofs.Ids.{same_ids}
 use Rattle.char_sequence.proofs.RunHeld.{run_noted}
-use Rattle.char_sequence.proofs.RunKept.{run_accepted, run_accepted_only}
+use Rattle.char_sequence.proofs.RunKept.{run_accepted_only}
 use Rattle.char_sequence.proofs.RunPlaced.{accepts_run_other}
 use Rattle.char_sequence.proofs.RunSteps.{later_zero}
 use Rattle.mark_places.specs.Places.{AreMarkPlaces}
@@ -29,6 +30,14 @@ use Rattle.change_history.specs.Kept.{Keeps, StandAt, IsApplied, parent_at}
 use Rattle.change_history.proofs.Chronicle.{take_push}
 use Rattle.change_history.proofs.Edits.{inserts_counted}
 use Rattle.mark_places.proofs.Filters.{kept_was, is_kept}
+use Rattle.change_ops.specs.declared.size.Size.{Size}
+use Rattle.change_ops.specs.declared.size.Size.TheVariants.{Large}
+use Rattle.change_ops.specs.Sizes.{most_characters, most_bytes}
+use Rattle.char_sequence.specs.Tree.{Present}
+use Rattle.char_sequence.specs.Visible.{visible_text}
+use Rattle.char_sequence.proofs.Holding.{count_push}
+use Rattle.char_sequence.proofs.OneOrder.{one_text_of_set}
+use Rattle.change_history.specs.Tally.{AreShort}
 
 -- ---- the inserts of a run
 run_count : (id : OpId) (parent : Option OpId) (cs : List ℕ) → length (inserts_from id parent cs) ≡ length cs
@@ -99,7 +108,7 @@ taken_on added next at (suc i) stand low =
     ∙ ap (λ n. take at added ++ take n next) one
 
 -- ---- acceptance
-pub accepts_next : (ops added : List Op) (at : ℕ) (parts : Parts) (id : OpId) (parent : Option OpId) (cs : List ℕ) → 0 < length cs → IsApplied ops added at parts → StandAt added at (inserts_from id parent cs) → AcceptsRun (ops ++ take at added) id parent cs
+pub accepts_next : (ops added : List Op) (at : ℕ) (parts : Parts) (id : OpId) (parent : Option OpId) (cs : List ℕ) → 0 < length cs → IsApplied ops added at parts → StandAt added at (inserts_from id parent cs) → AcceptsRun Large (ops ++ take at added) id parent cs
 accepts_next ops added at parts id parent [] some a stand = absurd (omega arith)
 accepts_next ops added at parts id parent (c ∷ cs) some a stand =
     let next = inserts_from id parent (c ∷ cs) in
@@ -107,26 +116,32 @@ accepts_next ops added at parts id parent (c ∷ cs) some a stand =
     (λ i op g.
     let here = stand i op g in
     let low = slice_get_within next i op g in
-    subst (λ l. Accepts l op) (ap (λ l. ops ++ l) (taken_on added next at i stand (omega (arith, low))) ∙ sym (append_assoc ops (take at added) (take i next)))
+    subst (λ l. Accepts Large l op) (ap (λ l. ops ++ l) (taken_on added next at i stand (omega (arith, low))) ∙ sym (append_assoc ops (take at added) (take i next)))
     (a.follow (at + i) op (slice_get_within added (at + i) op here) here).accepted)
 
-pub accepts_edits : (ops : List Op) (id : OpId) (parent : Option OpId) (cs : List ℕ) → AcceptsRun ops id parent cs → AcceptsRun (filter is_edit ops) id parent cs
-accepts_edits ops id parent cs a = record {
-  fresh = λ used. a.fresh (used.0, kept_was is_edit ops used.0 used.1, used.2, used.3);
-  above = a.above;
-  known = λ x e. let there = a.known x e in (there.0, (there.1.0, is_kept is_edit ops (Insert x there.0 there.1.0) refl there.1.1));
-  room = let room = a.room in let same = inserts_counted ops in omega (arith, room, same);
-}
+module _ {size : Size} where
+  accepts_edits : (ops : List Op) (parts : Parts) (id : OpId) (parent : Option OpId) (cs : List ℕ) → Keeps ops parts → AcceptsRun size ops id parent cs → AcceptsRun size (filter is_edit ops) id parent cs
+  accepts_edits ops parts id parent cs k a = record {
+    fresh = λ used. a.fresh (used.0, kept_was is_edit ops used.0 used.1, used.2, used.3);
+    above = a.above;
+    known = λ x e. let there = a.known x e in (there.0, (there.1.0, is_kept is_edit ops (Insert x there.0 there.1.0) refl there.1.1));
+    room = let room = a.room in let same = inserts_counted ops in omega (arith, room, same);
+    space =
+        λ es shows.
+        let edits = filter is_edit ops in
+        let one : parts.sequence.elements ≡ es = one_text_of_set parts.sequence.elements es edits edits k.held.shows shows (record { forth = λ o h. h; back = λ o h. h }) in
+        subst (λ xs. length (visible_text xs) + length (encode_utf8_all cs) ≤ most_bytes) one (a.space parts.sequence.elements k.shows);
+  }
 
-pub accepts_held : (ops others : List Op) (parts : Parts) (id : OpId) (parent : Option OpId) (cs : List ℕ) → Keeps ops parts → AcceptsRun ops id parent cs → Holds parts.sequence others → AcceptsRun others id parent cs
-accepts_held ops others parts id parent cs k a h = accepts_run_other parts.sequence (filter is_edit ops) others id parent cs k.held h (accepts_edits ops id parent cs a)
+  pub accepts_held : (ops others : List Op) (parts : Parts) (id : OpId) (parent : Option OpId) (cs : List ℕ) → Keeps ops parts → AcceptsRun size ops id parent cs → Holds parts.sequence others → AcceptsRun size others id parent cs
+  accepts_held ops others parts id parent cs k a h = accepts_run_other parts.sequence (filter is_edit ops) others id parent cs k.held h (accepts_edits ops parts id parent cs k a)
 
--- the last id of a run's first characters is not used
-pub last_unused : (ops : List Op) (id last : OpId) (parent : Option OpId) (cs : List ℕ) (by : ℕ) → last ≡ later_id id by → AcceptsRun ops id parent cs → Used ops last → ⊥
-last_unused ops id last parent cs by is a used =
-    let u = subst (λ z. Used ops z) is used in
-    let high : id.counter + by ≤ (id_of u.0).counter = u.3 in
-    a.fresh (u.0, u.1, u.2, omega (arith, high))
+  -- the last id of a run's first characters is not used
+  pub last_unused : (ops : List Op) (id last : OpId) (parent : Option OpId) (cs : List ℕ) (by : ℕ) → last ≡ later_id id by → AcceptsRun size ops id parent cs → Used ops last → ⊥
+  last_unused ops id last parent cs by is a used =
+      let u = subst (λ z. Used ops z) is used in
+      let high : id.counter + by ≤ (id_of u.0).counter = u.3 in
+      a.fresh (u.0, u.1, u.2, omega (arith, high))
 
 -- ---- the parts after a piece
 pub keeps_run : (ops : List Op) (id last : OpId) (parent : Option OpId) (cs : List ℕ) (old new : Parts) → 0 < length cs → last ≡ later_id id (length cs - 1) → Keeps ops old → new.marks ≡ old.marks → ((op : Op) → id_of op ≡ last → IsNewest (ops ++ op ∷ []) new.newest) → Shows new.sequence.elements (ops ++ inserts_from id parent cs) → Holds new.sequence (filter is_edit ops ++ inserts_from id parent cs) → AreMarkPlaces new.sequence.elements old.marks new.places → Keeps (ops ++ inserts_from id parent cs) new
@@ -172,35 +187,99 @@ no_mark [] id parent i op g = absurd (none-some op g)
 no_mark (c ∷ cs) id parent zero op g = ap is_mark (sym (same_Some (Insert id parent c) op g))
 no_mark (c ∷ cs) id parent (suc i) op g = no_mark cs (next_id id) (Some id) i op g
 
--- where the first is accepted and there is room for all, the run is accepted
-pub accepts_by_first : (cs : List ℕ) (ops : List Op) (id : OpId) (parent : Option OpId) (op : Op) → slice_get (inserts_from id parent cs) 0 ≡ Some op → Accepts ops op → count_by is_insert ops + length cs ≤ 32768 → AcceptsRun ops id parent cs
-unfolding inserts_from
-accepts_by_first [] ops id parent op g a room = absurd (none-some op g)
-accepts_by_first (c ∷ cs) ops id parent op g a room =
-    let first : Accepts ops (Insert id parent c) = subst (λ o. Accepts ops o) (sym (same_Some (Insert id parent c) op g)) a in
-    record {
-      fresh = λ used. first.fresh (inl used);
-      above = λ x e le. first.fresh (inr (x, e, le));
-      known = λ x e. first.known x e;
-      room = room;
-    }
+-- what counting tells of an insert
+record IsCounted (size : Size) (ops : List Op) (op : Op) : Type 0 where
+  fresh : IsStale ops op → ⊥
+  known : (x : OpId) → Names op x → Present ops x
+  few : count_by is_insert ops < most_characters size
 
-pub follow_run : (ops added : List Op) (from : ℕ) (id : OpId) (parent : Option OpId) (cs : List ℕ) → AllFollow ops added from → StandAt added from (inserts_from id parent cs) → AcceptsRun (ops ++ take from added) id parent cs → AllFollow ops added (from + length (inserts_from id parent cs))
-follow_run ops added from id parent cs before stand a = λ i op low g.
-    let next = inserts_from id parent cs in
-    ⊎_elim
-    (λ (less : i < from). before i op less g)
-    (λ (more : from ≤ i).
-    let on : from + (i - from) ≡ i = omega arith in
-    let x = reaches next (i - from) (omega arith) in
-    let same : x.0 ≡ op = same_Some x.0 op (sym (stand (i - from) x.0 x.1) ∙ ap (slice_get added) on ∙ g) in
-    let here : slice_get next (i - from) ≡ Some op = x.1 ∙ ap Some same in
-    record {
-      accepted =
-          subst (λ l. Accepts l op)
-          (append_assoc ops (take from added) (take (i - from) next)
-          ∙ ap (λ l. ops ++ l) (sym (taken_on added next from (i - from) stand (omega arith)) ∙ ap (λ n. take n added) on))
-          (run_accepted cs (ops ++ take from added) id parent a (i - from) op here);
-      room = λ many. false≢true (sym (no_mark cs id parent (i - from) op here) ∙ many.0);
-    })
-    (cases_lt i from)
+-- and of a run: all that its acceptance asks but room for its bytes
+pub record IsRunCounted (size : Size) (ops : List Op) (id : OpId) (parent : Option OpId) (characters : List ℕ) : Type 0 where
+  pub fresh : Used ops id → ⊥
+  pub above : (x : OpId) → parent ≡ Some x → id.counter ≤ x.counter → ⊥
+  pub known : (x : OpId) → parent ≡ Some x → Present ops x
+  pub room : count_by is_insert ops + length characters ≤ most_characters size
+
+module _ {size : Size} where
+  first_counted : (ops : List Op) (id : OpId) (parent : Option OpId) (c : ℕ) (cs : List ℕ) → IsRunCounted size ops id parent (c ∷ cs) → IsCounted size ops (Insert id parent c)
+  first_counted ops id parent c cs a = record {
+    fresh = λ stale. ⊎_elim (λ (u : Used ops id). a.fresh u) (λ (u : (x : OpId) × Names (Insert id parent c) x × (id.counter ≤ x.counter)). a.above u.0 u.1 u.2) stale;
+    known = λ x n. a.known x n;
+    few = let room = a.room in omega (arith, room);
+  }
+
+  rest_counted : (ops : List Op) (id : OpId) (parent : Option OpId) (c : ℕ) (cs : List ℕ) → IsRunCounted size ops id parent (c ∷ cs) → IsRunCounted size (ops ++ Insert id parent c ∷ []) (next_id id) (Some id) cs
+  rest_counted ops id parent c cs a = record {
+    fresh =
+        λ used.
+        ⊎_elim
+        (λ (old : Contains ops used.0). let le : id.counter + 1 ≤ (id_of used.0).counter = used.3 in a.fresh (used.0, old, used.2, omega arith))
+        (λ (new : Insert id parent c ≡ used.0).
+        let same : id.counter ≡ (id_of used.0).counter = ap (λ o. (id_of o).counter) new in
+        let le : id.counter + 1 ≤ (id_of used.0).counter = used.3 in
+        absurd (omega arith))
+        (Contains-push_cases ops (Insert id parent c) used.0 used.1);
+    above =
+        λ x e le.
+        let same : id.counter ≡ x.counter = ap (λ z. z.counter) (same_Some id x e) in
+        let more : id.counter + 1 ≤ x.counter = le in
+        absurd (omega arith);
+    known = λ x e. subst (λ z. Present (ops ++ Insert id parent c ∷ []) z) (same_Some id x e) (parent, (c, Contains-push ops (Insert id parent c)));
+    room =
+        let have : count_by is_insert ops + length (c ∷ cs) ≤ most_characters size = a.room in
+        let count : count_by is_insert (ops ++ Insert id parent c ∷ []) ≡ count_by is_insert ops + 1 = count_push is_insert ops (Insert id parent c) in
+        omega arith;
+  }
+
+  run_counted : (cs : List ℕ) (ops : List Op) (id : OpId) (parent : Option OpId) → IsRunCounted size ops id parent cs → (i : ℕ) (op : Op) → slice_get (inserts_from id parent cs) i ≡ Some op → IsCounted size (ops ++ take i (inserts_from id parent cs)) op
+  unfolding inserts_from
+  run_counted [] ops id parent a i op g = absurd (none-some op g)
+  run_counted (c ∷ cs) ops id parent a zero op g =
+      subst (λ o. IsCounted size (ops ++ []) o) (same_Some (Insert id parent c) op g) (subst (λ l. IsCounted size l (Insert id parent c)) (sym (append-nil ops)) (first_counted ops id parent c cs a))
+  run_counted (c ∷ cs) ops id parent a (suc i) op g =
+      subst (λ l. IsCounted size l op) (append_assoc ops (Insert id parent c ∷ []) (take i (inserts_from (next_id id) (Some id) cs)))
+      (run_counted cs (ops ++ Insert id parent c ∷ []) (next_id id) (Some id) (rest_counted ops id parent c cs a) i op g)
+
+  -- where the first is accepted and there is room for all, the run is counted
+  pub counted_by_first : (cs : List ℕ) (ops : List Op) (id : OpId) (parent : Option OpId) (op : Op) → slice_get (inserts_from id parent cs) 0 ≡ Some op → Accepts size ops op → count_by is_insert ops + length cs ≤ most_characters size → IsRunCounted size ops id parent cs
+  unfolding inserts_from
+  counted_by_first [] ops id parent op g a room = absurd (none-some op g)
+  counted_by_first (c ∷ cs) ops id parent op g a room =
+      let first : Accepts size ops (Insert id parent c) = subst (λ o. Accepts size ops o) (sym (same_Some (Insert id parent c) op g)) a in
+      record {
+        fresh = λ used. first.fresh (inl used);
+        above = λ x e le. first.fresh (inr (x, e, le));
+        known = λ x e. first.known x e;
+        room = room;
+      }
+
+  -- the visible text has room for its characters
+  pub follow_run : (ops added : List Op) (from : ℕ) (id : OpId) (parent : Option OpId) (cs : List ℕ) → AreShort size ops added → AllFollow size ops added from → StandAt added from (inserts_from id parent cs) → IsRunCounted size (ops ++ take from added) id parent cs → AllFollow size ops added (from + length (inserts_from id parent cs))
+  follow_run ops added from id parent cs short before stand a = λ i op low g.
+      let next = inserts_from id parent cs in
+      ⊎_elim
+      (λ (less : i < from). before i op less g)
+      (λ (more : from ≤ i).
+      let on : from + (i - from) ≡ i = omega arith in
+      let x = reaches next (i - from) (omega arith) in
+      let same : x.0 ≡ op = same_Some x.0 op (sym (stand (i - from) x.0 x.1) ∙ ap (slice_get added) on ∙ g) in
+      let here : slice_get next (i - from) ≡ Some op = x.1 ∙ ap Some same in
+      let one : IsCounted size (ops ++ take i added) op =
+      subst (λ l. IsCounted size l op)
+      (append_assoc ops (take from added) (take (i - from) next)
+      ∙ ap (λ l. ops ++ l) (sym (taken_on added next from (i - from) stand (omega arith)) ∙ ap (λ n. take n added) on))
+      (run_counted cs (ops ++ take from added) id parent a (i - from) op here) in
+      record {
+        accepted = record {
+          fresh = one.fresh;
+          known = one.known;
+          room =
+              λ full.
+              ⊎_elim
+              (λ (many : most_characters size ≤ count_by is_insert (ops ++ take i added)). let few = one.few in absurd (omega (arith, few, many)))
+              (λ (none : HasNoRoom (ops ++ take i added) op). short i op g one.few none)
+              full.1;
+        };
+        room = λ many. false≢true (sym (no_mark cs id parent (i - from) op here) ∙ many.0);
+      })
+      (cases_lt i from)

@@ -11,6 +11,8 @@ use Rattle.char_sequence.specs.Newest.{IsNewest}
 use Rattle.char_sequence.specs.RunElements.{later_id}
 use Rattle.mark_places.specs.Places.{AreMarkPlaces}
 use Rattle.change_ops.specs.Changes.{Change}
+use Rattle.change_ops.specs.declared.size.Size.{Size}
+use Rattle.change_ops.specs.declared.size.Size.TheVariants.{Large}
 use Rattle.change_ops.specs.Lines.{ops_of_lines}
 use Rattle.change_ops.specs.declared.line.Line.{Line}
 use Rattle.change_history.specs.declared.parts.Parts.{Parts}
@@ -45,18 +47,18 @@ error_at index (apply.Refused refusal) = Refused index refusal
 error_at index apply.OutOfMemory = OutOfMemory
 
 -- the operations of lines are accepted, one after the other
-abbrev pub AreAllAccepted : List Op → List Line → Type 0
-AreAllAccepted ops lines = AllFollow ops (ops_of_lines lines) (length (ops_of_lines lines))
+abbrev pub AreAllAccepted : Size → List Op → List Line → Type 0
+AreAllAccepted size ops lines = AllFollow size ops (ops_of_lines lines) (length (ops_of_lines lines))
 
 -- why they are not: the first that is refused
-abbrev pub IsNotAccepted : List Op → List Line → SubmitError → Type 0
-IsNotAccepted ops lines HistoryFull = ⊥
-IsNotAccepted ops lines (Refused index refusal) = FirstRefused ops lines index refusal
-IsNotAccepted ops lines OutOfMemory = Unit {0}
+abbrev pub IsNotAccepted : Size → List Op → List Line → SubmitError → Type 0
+IsNotAccepted size ops lines HistoryFull = ⊥
+IsNotAccepted size ops lines (Refused index refusal) = FirstRefused size ops lines index refusal
+IsNotAccepted size ops lines OutOfMemory = Unit {0}
 
--- all of the operations are accepted, and the first `count` are applied
+-- all of the operations are accepted at the large size, as those of any size are, and the first `count` are applied
 pub record IsApplied (ops added : List Op) (count : ℕ) (parts : Parts) : Type 0 where
-  pub follow : AllFollow ops added (length added)
+  pub follow : AllFollow Large ops added (length added)
   pub kept : Keeps (ops ++ take count added) parts
 
 -- the operations are the next ones of several that are accepted
@@ -71,8 +73,8 @@ Applies next old new result =
     → IfOk result (λ _. IsApplied ops added (from + length next) new)
 
 -- the changes were accepted one after another, and these are the parts of their operations
-pub record IsHistory (changes : List Change) (parts : Parts) : Type 0 where
-  pub accepted : AreAccepted changes
+pub record IsHistory (size : Size) (changes : List Change) (parts : Parts) : Type 0 where
+  pub accepted : AreAccepted size changes
   pub kept : Keeps (operations_of changes) parts
 
 -- spare parts are those of all changes but the last
@@ -81,7 +83,7 @@ IsSpare changes spare =
     (parts : Parts) → spare ≡ Some parts → Keeps (operations_of (take (length changes - 1) changes)) parts
 
 -- the draft is of this change, which is accepted after these, and has the parts of them all
-pub record IsDraft (changes : List Change) (change : Change) (draft : Draft) : Type 0 where
+pub record IsDraft (size : Size) (changes : List Change) (change : Change) (draft : Draft) : Type 0 where
   pub added : draft.added ≡ change ∷ []
-  pub accepted : IsAccepted changes change
+  pub accepted : IsAccepted size changes change
   pub kept : Keeps (operations_of (changes ++ change ∷ [])) draft.parts

@@ -3,6 +3,7 @@ use Rattle.std.specs.Prelude.{ℕ, List, ◌++◌}
 use Rattle.change_ops.specs.Lines.{ops_of_lines}
 use Rattle.change_ops.specs.declared.line.Line.{Line}
 use Rattle.change_ops.specs.declared.operation.Op.{Op}
+use Rattle.change_ops.specs.declared.size.Size.TheVariants.{Large}
 use Rattle.char_sequence.specs.Order.{Shows}
 use Rattle.char_sequence.specs.declared.sequence.Element.{Element}
 use Rattle.span_flatten.specs.Version.{Version, IsVersion}
@@ -13,5 +14,5 @@ use Rattle.change_history.specs.declared.parts.Parts.{Parts}
 pub record AreNextParts (ops : List Op) (previous : Version) (lines : List Line) (parts : Parts) : Type 0 where
   pub before : (es : List Element) × Shows es ops
   pub version : (number : ℕ) × IsVersion ops number previous
-  pub accepted : AreAllAccepted ops lines
+  pub accepted : AreAllAccepted Large ops lines
   pub kept : Keeps (ops ++ ops_of_lines lines) parts

@@ -4,7 +4,10 @@ ghost use Rattle.change_ops.specs.Changes.{Change, operations};
 ghost use Rattle.change_ops.specs.Operations.{is_insert, is_mark};
 ghost use Rattle.change_ops.specs.Runs.{inserts_of};
 ghost use Rattle.change_ops.specs.Lines.{ops_of, ops_of_lines};
+ghost use Rattle.change_ops.specs.Sizes.{most_characters, most_marks, most_changes};
 ghost use Rattle.change_ops.specs.declared.operation.Op.{Op};
+ghost use Rattle.change_ops.specs.declared.size.Size.{Size};
+ghost use Rattle.change_ops.specs.declared.size.Size.TheVariants.{Small, Large};
 ghost use Rattle.char_sequence.specs.Order.{SameSet};
 ghost use Rattle.char_sequence.specs.Tree.{Present};
 ghost use Rattle.char_sequence.specs.Newest.{IsLastCounter};
@@ -23,6 +26,7 @@ use change_ops::change::Change;
 use change_ops::id::OpId;
 use change_ops::line::Line;
 use change_ops::run::Run;
+use change_ops::size::Size;
 use char_sequence::runs::later;
 use mark_anchors::format::Format;
 use std::alloc::{AllocError, Global};
@@ -31,11 +35,9 @@ use std::marker::Model;
 use std::mem::replace;
 use version_blocks::version::BlockVersion;
 
-/// The most changes that are accepted.
-pub const CHANGE_LIMIT: usize = 4096;
-
 /// The changes that were accepted, in their order, and the text that they make.
 pub struct History {
+    size: Size,
     // A linked list, since a draft brings the node of its change: to append it takes no memory.
     changes: LinkedList<Change>,
     parts: Parts,
@@ -48,6 +50,7 @@ pub struct History {
 impl Drop for History {
     fn drop(self) {
         let History {
+            size: _,
             changes: _,
             parts: _,
             spare: _,
@@ -56,15 +59,14 @@ impl Drop for History {
 }
 
 impl Model for History {
-    ghost use Rattle.std.specs.Prelude.{List};
-    ghost use Rattle.change_ops.specs.Changes.{Change};
+    ghost use Rattle.change_history.specs.Chronicle.{Chronicle};
     ghost use Rattle.change_history.specs.Kept.{IsHistory, IsSpare};
 
-    ghost Value = { List Change };
+    ghost Value = { Chronicle };
 
-    ghost view = { λ h. h.changes };
+    ghost view = { λ h. record { size = h.size; changes = h.changes } };
 
-    ghost invariant = { λ h. IsHistory h.changes h.parts × IsSpare h.changes h.spare };
+    ghost invariant = { λ h. IsHistory h.size h.changes h.parts × IsSpare h.changes h.spare };
 }
 
 /// What the character of a run at an index stands after.
@@ -121,8 +123,8 @@ fn apply_line(parts: &mut Parts, line: &Line) -> Result<(), AllocError>
 
 /// Applies lines whose operations are accepted; after an error the parts are of no use.
 fn apply_all(parts: &mut Parts, lines: &[Line]) -> Result<(), AllocError>
-    requires { (ops : List Op) × Keeps ops parts.old × AreAllAccepted ops lines.now }
-    ensures { (ops : List Op) → Keeps ops parts.old → AreAllAccepted ops lines.now
+    requires { (ops : List Op) × Keeps ops parts.old × AreAllAccepted Large ops lines.now }
+    ensures { (ops : List Op) → Keeps ops parts.old → AreAllAccepted Large ops lines.now
         → IfOk result (λ _. Keeps (ops ++ ops_of_lines lines.now) parts.new) }
 {
     for index in 0..lines.len() {
@@ -134,7 +136,7 @@ fn apply_all(parts: &mut Parts, lines: &[Line]) -> Result<(), AllocError>
 /// Applies the last of the changes to the parts of those before it.
 fn catch_up(parts: &mut Parts, changes: &LinkedList<Change>) -> Result<(), AllocError>
     requires kept { Keeps (operations_of (take (length changes.now - 1) changes.now)) parts.old }
-    requires accepted { AreAccepted changes.now }
+    requires accepted { AreAccepted Large changes.now }
     ensures { IfOk result (λ _. Keeps (operations_of changes.now) parts.new) }
 {
     match changes.back() {
@@ -175,28 +177,36 @@ fn alone(alloc: Global, change: Change) -> Result<LinkedList<Change>, AllocError
 
 impl History {
     /// No change.
-    pub fn new(alloc: Global) -> History
-        ensures { result ≡ [] }
+    pub fn new(alloc: Global, size: Size) -> History
+        ensures { result ≡ record { size = size; changes = [] } }
     {
         History {
+            size,
             changes: LinkedList::new(alloc),
             parts: Parts::new(alloc),
             spare: None,
         }
     }
 
+    /// The size that it was made with.
+    pub fn size(&self) -> Size
+        ensures { result ≡ self.now.size }
+    {
+        self.size
+    }
+
     /// The number of changes that were accepted.
     pub fn len(&self) -> usize
-        ensures value { result ≡ length self.now }
-        ensures most { result ≤ 4096 }
-        ensures accepted { AreAccepted self.now }
+        ensures value { result ≡ length self.now.changes }
+        ensures most { result ≤ most_changes self.now.size }
+        ensures accepted { AreAccepted self.now.size self.now.changes }
     {
         self.changes.len()
     }
 
     /// Parts of all operations that may be changed: the spare ones, brought up to date, or else a copy.
     fn working_parts(&mut self) -> Result<Parts, AllocError>
-        ensures kept { IfOk result (Keeps (operations_of self.old)) }
+        ensures kept { IfOk result (Keeps (operations_of self.old.changes)) }
         ensures same { self.new ≡ self.old }
     {
         if let Some(mut spare) = self.spare.take() {
@@ -209,8 +219,8 @@ impl History {
 
     /// The parts that follow the lines, whose operations are accepted next.
     fn parts_after(&mut self, lines: &[Line]) -> Result<Parts, AllocError>
-        requires { AreAllAccepted (operations_of self.old) lines.now }
-        ensures applied { IfOk result (Keeps (operations_of self.old ++ ops_of_lines lines.now)) }
+        requires { AreAllAccepted Large (operations_of self.old.changes) lines.now }
+        ensures applied { IfOk result (Keeps (operations_of self.old.changes ++ ops_of_lines lines.now)) }
         ensures same { self.new ≡ self.old }
     {
         let mut parts = self.working_parts()?;
@@ -220,13 +230,15 @@ impl History {
 
     /// Whether the change is accepted next, which is found before anything is changed.
     fn admit(&self, change: &Change) -> Result<(), SubmitError>
-        ensures { MatchResult result (λ _. IsAccepted self.now change.now) (IsRefused self.now change.now) }
+        ensures { MatchResult result (λ _. IsAccepted self.now.size self.now.changes change.now)
+            (IsRefused self.now.size self.now.changes change.now) }
     {
-        if self.changes.len() >= CHANGE_LIMIT {
+        if self.changes.len() >= self.size.changes() {
             return Err(SubmitError::HistoryFull);
         }
         admit_all(
             *self.changes.allocator(),
+            self.size,
             &self.parts,
             change.node(),
             change.lines(),
@@ -235,7 +247,8 @@ impl History {
 
     /// The change with all that it takes to append it, if it is accepted next; nothing is appended yet.
     pub fn draft(&mut self, change: Change) -> Result<Draft, SubmitError>
-        ensures drafted { MatchResult result (IsDraft self.old change) (IsRefused self.old change) }
+        ensures drafted { MatchResult result (IsDraft self.old.size self.old.changes change)
+            (IsRefused self.old.size self.old.changes change) }
         ensures same { self.new ≡ self.old }
     {
         self.admit(&change)?;
@@ -246,8 +259,9 @@ impl History {
 
     /// Appends a draft, which takes no memory.
     pub fn put(&mut self, mut draft: Draft)
-        requires { (change : Change) × IsDraft self.old change draft }
-        ensures { (change : Change) → IsDraft self.old change draft → self.new ≡ self.old ++ change ∷ [] }
+        requires { (change : Change) × IsDraft self.old.size self.old.changes change draft }
+        ensures { (change : Change) → IsDraft self.old.size self.old.changes change draft
+            → self.new ≡ record { size = self.old.size; changes = self.old.changes ++ change ∷ [] } }
     {
         self.changes.append(&mut draft.added).unwrap();
         self.spare = Some(replace(&mut self.parts, draft.parts));
@@ -255,8 +269,11 @@ impl History {
 
     /// Takes a change in after those before it, whole; where it is refused the history stays as it was.
     pub fn accept(&mut self, change: Change) -> Result<(), SubmitError>
-        ensures { MatchResult result (λ _. (self.new ≡ self.old ++ change ∷ []) × IsAccepted self.old change)
-            (λ error. (self.new ≡ self.old) × IsRefused self.old change error) }
+        ensures { MatchResult result (λ _. (self.new ≡ record {
+          size = self.old.size;
+          changes = self.old.changes ++ change ∷ [];
+        }) × IsAccepted self.old.size self.old.changes change)
+            (λ error. (self.new ≡ self.old) × IsRefused self.old.size self.old.changes change error) }
     {
         let draft = self.draft(change)?;
         self.put(draft);
@@ -270,10 +287,10 @@ impl History {
         previous: &BlockVersion,
         draft: &Draft,
     ) -> Result<BlockVersion, AllocError>
-        requires drafted { (change : Change) × IsDraft self.now change draft.now }
-        requires previous { (number : ℕ) × IsVersion (operations_of self.now) number previous.now }
-        ensures { IfOk result (λ version. (change : Change) → IsDraft self.now change draft.now
-            → IsVersion (operations_of (self.now ++ change ∷ [])) (length self.now + 1) version) }
+        requires drafted { (change : Change) × IsDraft self.now.size self.now.changes change draft.now }
+        requires previous { (number : ℕ) × IsVersion (operations_of self.now.changes) number previous.now }
+        ensures { IfOk result (λ version. (change : Change) → IsDraft self.now.size self.now.changes change draft.now
+            → IsVersion (operations_of (self.now.changes ++ change ∷ [])) (length self.now.changes + 1) version) }
     {
         // The type keeps that these are the parts of the changes, which the proof needs.
         let _parts = &self.parts;
@@ -285,38 +302,38 @@ impl History {
 
     /// The version that the changes make: its number is how many they are.
     pub fn version(&self, alloc: Global) -> Result<BlockVersion, AllocError>
-        ensures { IfOk result (IsVersion (operations_of self.now) (length self.now)) }
+        ensures { IfOk result (IsVersion (operations_of self.now.changes) (length self.now.changes)) }
     {
         self.parts.version(alloc, self.len() as u64)
     }
 
     /// The format of a character, a removed one too; None where no accepted operation inserted it.
     pub fn format_at(&self, alloc: Global, id: OpId) -> Result<Option<Format>, AllocError>
-        ensures { IfOk result (λ format. MatchOption format (Present (operations_of self.now) id
-            → ⊥) (IsFormat (operations_of self.now) id)) }
+        ensures { IfOk result (λ format. MatchOption format (Present (operations_of self.now.changes) id
+            → ⊥) (IsFormat (operations_of self.now.changes) id)) }
     {
         self.parts.format_at(alloc, id)
     }
 
     /// How many characters the accepted operations inserted, removed ones too.
     pub fn inserted(&self) -> usize
-        ensures count { result ≡ count_by is_insert (operations_of self.now) }
-        ensures few { result ≤ 32768 }
+        ensures count { result ≡ count_by is_insert (operations_of self.now.changes) }
+        ensures few { result ≤ most_characters self.now.size }
     {
         self.parts.inserted()
     }
 
     /// How many of the accepted operations are of marks.
     pub fn mark_count(&self) -> usize
-        ensures count { result ≡ count_by is_mark (operations_of self.now) }
-        ensures few { result ≤ 4096 }
+        ensures count { result ≡ count_by is_mark (operations_of self.now.changes) }
+        ensures few { result ≤ most_marks self.now.size }
     {
         self.parts.mark_count()
     }
 
     /// The greatest counter of a peer's accepted operations, 0 where it has none.
     pub fn last_counter(&self, node: u16) -> u64
-        ensures { IsLastCounter (operations_of self.now) node result }
+        ensures { IsLastCounter (operations_of self.now.changes) node result }
     {
         self.parts.last_counter(node)
     }
@@ -324,8 +341,10 @@ impl History {
     /// The law that replicas converge: histories of one set of operations have equal spans, in whatever
     /// order and in however many changes the operations were accepted.
     pub fn same_set_same_spans(&self, other: &History)
-        ensures { (spans others : List Span) → SameSet (operations_of self.now) (operations_of other.now)
-            → AreSpans (operations_of self.now) spans → AreSpans (operations_of other.now) others → spans ≡ others }
+        ensures { (spans others : List Span)
+            → SameSet (operations_of self.now.changes) (operations_of other.now.changes)
+            → AreSpans (operations_of self.now.changes) spans → AreSpans (operations_of other.now.changes) others
+            → spans ≡ others }
     {
         self.parts.same_set_same_spans();
     }
@@ -335,4 +354,11 @@ impl History {
 /// version, in whatever lines the operations stand.
 pub fn forms_are_alike()
     ensures { FormsAreAlike }
+{}
+
+/// The law that what is accepted at the small size is accepted at the large one.
+pub fn small_is_large()
+    ensures accepted { (changes : List Change) (change : Change) → IsAccepted Small changes change
+        → IsAccepted Large changes change }
+    ensures all { (changes : List Change) → AreAccepted Small changes → AreAccepted Large changes }
 {}

@@ -6,3 +6,4 @@ pub mod history;
 mod parts;
 pub mod refusal;
 mod tally;
+mod trial;

@@ -4,8 +4,10 @@ ghost use Rattle.change_ops.specs.Lines.{ops_of_lines};
 ghost use Rattle.change_ops.specs.Operations.{id_of, is_insert, is_mark, Names};
 ghost use Rattle.change_ops.specs.Runs.{inserts_from};
 ghost use Rattle.change_ops.specs.declared.operation.Op.{Op};
+ghost use Rattle.change_ops.specs.declared.size.Size.TheVariants.{Large};
 ghost use Rattle.char_sequence.specs.Order.{SameSet, Shows};
 ghost use Rattle.char_sequence.specs.Tree.{Present};
+ghost use Rattle.char_sequence.specs.Visible.{visible_text};
 ghost use Rattle.char_sequence.specs.Newest.{IsLastCounter};
 ghost use Rattle.char_sequence.specs.RunElements.{AcceptsRun};
 ghost use Rattle.mark_anchors.specs.Format.{IsFormat};
@@ -16,7 +18,7 @@ ghost use Rattle.change_history.specs.Accepted.{MayFollow, MayNotFollow};
 ghost use Rattle.char_sequence.specs.Acceptance.{IsUnknown};
 ghost use Rattle.change_history.specs.Kept.{Keeps};
 ghost use Rattle.change_history.specs.Next.{AreNextParts};
-ghost use Rattle.change_history.specs.Tally.{IsTally, AreNext, Admits};
+ghost use Rattle.change_history.specs.Tally.{IsTally, IsShort, AreNext, Admits};
 
 use crate::refusal::{ApplyError, Refusal};
 use crate::tally::Tally;
@@ -24,9 +26,10 @@ use change_ops::character::Character;
 use change_ops::id::OpId;
 use change_ops::line::Line;
 use change_ops::operation::{Named, Op};
+use change_ops::size::Size;
 use char_sequence::newest::Newest;
 use char_sequence::runs::later;
-use char_sequence::sequence::Sequence;
+use char_sequence::sequence::{Sequence, SequenceError};
 use mark_anchors::format::Format;
 use mark_anchors::marks::{Marks, MarksError};
 use mark_places::boundary::place_of;
@@ -66,7 +69,7 @@ fn add_mark(
 ) -> Result<(), AllocError>
     requires mark { is_mark op.now ≡ true }
     requires fresh { (o : Op) → Contains marks.old o → id_of o ≡ id_of op.now → ⊥ }
-    requires room { length marks.old < 4096 }
+    requires room { length marks.old < 16384 }
     requires there { (ops : List Op) × Shows sequence.now.elements ops
         × ((x : OpId) → Names op.now x → Present ops x) }
     ensures marks { IfOk result (λ _. marks.new ≡ marks.old ++ op.now ∷ []) }
@@ -137,11 +140,12 @@ impl Parts {
         !self.is_there(tally, first) || !self.is_there(tally, second)
     }
 
-    /// Whether a peer's operation is accepted after those applied and those counted since.
-    pub fn check(&self, tally: &Tally, op: &Op) -> Result<(), Refusal>
+    /// Whether a peer's operation, which the visible text has room for, is accepted after those applied and those
+    /// counted since.
+    pub fn check(&self, size: Size, tally: &Tally, op: &Op) -> Result<(), Refusal>
         ensures { (ops own : List Op) (node : ℕ) → Keeps ops self.now → IsTally ops own node tally.now
-            → (id_of op.now).node ≡ node
-            → MatchResult result (λ _. MayFollow (ops ++ own) op.now) (MayNotFollow (ops ++ own) op.now) }
+            → (id_of op.now).node ≡ node → IsShort size (ops ++ own) op.now
+            → MatchResult result (λ _. MayFollow size (ops ++ own) op.now) (MayNotFollow size (ops ++ own) op.now) }
     {
         if tally.is_stale(op) {
             return Err(Refusal::StaleCounter);
@@ -149,21 +153,51 @@ impl Parts {
         if self.is_unknown(tally, op) {
             return Err(Refusal::UnknownRef);
         }
-        if tally.is_character_too_many(op) {
+        if tally.is_character_too_many(size, op) {
             return Err(Refusal::DocumentFull);
         }
-        if tally.is_mark_too_many(op) {
+        if tally.is_mark_too_many(size, op) {
             return Err(Refusal::MarksFull);
         }
         Ok(())
     }
 
-    /// Counts a peer's next operation, if it is accepted; after an error the tally is of no use.
-    pub fn admit(&self, tally: &mut Tally, op: &Op) -> Result<(), ApplyError>
-        requires { AreNext (op.now ∷ []) self.now tally.old }
-        ensures { Admits (op.now ∷ []) self.now tally.old tally.new result }
+    /// Whether an operation is accepted after those applied.
+    pub fn check_applied(&self, size: Size, op: &Op) -> Result<(), Refusal>
+        ensures { (ops : List Op) → Keeps ops self.now
+            → MatchResult result (λ _. MayFollow size ops op.now) (MayNotFollow size ops op.now) }
     {
-        if let Err(refusal) = self.check(tally, op) {
+        // The sequence has noted the edits alone.
+        if self.newest.is_used(op.id()) {
+            return Err(Refusal::StaleCounter);
+        }
+        match self.sequence.check(size, op) {
+            Err(SequenceError::StaleCounter) => Err(Refusal::StaleCounter),
+            Err(SequenceError::UnknownRef) => Err(Refusal::UnknownRef),
+            Err(SequenceError::DocumentFull) => Err(Refusal::DocumentFull),
+            Ok(()) => {
+                if op.is_mark() && self.marks.operations().len() >= size.marks() {
+                    return Err(Refusal::MarksFull);
+                }
+                Ok(())
+            }
+        }
+    }
+
+    /// How many bytes the visible text has.
+    pub fn bytes(&self) -> usize
+        ensures value { result ≡ length (visible_text self.now.sequence.elements) }
+        ensures limit { result ≤ 131072 }
+    {
+        self.sequence.bytes()
+    }
+
+    /// Counts a peer's next operation, if it is accepted; after an error the tally is of no use.
+    pub fn admit(&self, size: Size, tally: &mut Tally, op: &Op) -> Result<(), ApplyError>
+        requires { AreNext size (op.now ∷ []) self.now tally.old }
+        ensures { Admits size (op.now ∷ []) self.now tally.old tally.new result }
+    {
+        if let Err(refusal) = self.check(size, tally, op) {
             return Err(ApplyError::Refused(refusal));
         }
         match tally.note(op) {
@@ -174,8 +208,8 @@ impl Parts {
 
     /// Adds an accepted operation to the parts that it belongs to; after an error they are of no use.
     pub fn add(&mut self, op: &Op) -> Result<(), AllocError>
-        requires { (ops : List Op) × Keeps ops self.old × MayFollow ops op.now }
-        ensures { (ops : List Op) → Keeps ops self.old → MayFollow ops op.now
+        requires { (ops : List Op) × Keeps ops self.old × MayFollow Large ops op.now }
+        ensures { (ops : List Op) → Keeps ops self.old → MayFollow Large ops op.now
             → IfOk result (λ _. Keeps (ops ++ op.now ∷ []) self.new) }
     {
         self.newest.note(op.id())?;
@@ -205,9 +239,9 @@ impl Parts {
     ) -> Result<usize, AllocError>
         requires some { 0 < length characters.now }
         requires counters { id.counter + length characters.now ≤ 2 ^ 48 }
-        requires accepted { (ops : List Op) × Keeps ops self.old × AcceptsRun ops id parent characters.now }
+        requires accepted { (ops : List Op) × Keeps ops self.old × AcceptsRun Large ops id parent characters.now }
         ensures count { IfOk result (λ n. (0 < n) × (n ≤ length characters.now)) }
-        ensures kept { (ops : List Op) → Keeps ops self.old → AcceptsRun ops id parent characters.now
+        ensures kept { (ops : List Op) → Keeps ops self.old → AcceptsRun Large ops id parent characters.now
             → IfOk result (λ n. Keeps (ops ++ inserts_from id parent (take n characters.now)) self.new) }
     {
         let count = self.sequence.insert_some(id, parent, characters)?;
@@ -223,8 +257,6 @@ impl Parts {
         ensures { IfOk result (λ version. (ops : List Op) → Keeps ops self.now → IsVersion ops number version) }
     {
         let whole = flatten(alloc, &self.sequence, &self.marks, number)?;
-        // Its contract bounds the characters, which the proof needs.
-        let _count = self.sequence.len();
         let version = BlockVersion::from_version(alloc, &whole)?;
         Ok(version)
     }
@@ -267,7 +299,7 @@ impl Parts {
     /// How many characters were inserted, removed ones too.
     pub fn inserted(&self) -> usize
         ensures count { (ops : List Op) → Keeps ops self.now → result ≡ count_by is_insert ops }
-        ensures few { result ≤ 32768 }
+        ensures few { result ≤ 262144 }
     {
         self.sequence.len()
     }
@@ -275,7 +307,7 @@ impl Parts {
     /// How many mark operations there are.
     pub fn mark_count(&self) -> usize
         ensures count { (ops : List Op) → Keeps ops self.now → result ≡ count_by is_mark ops }
-        ensures few { result ≤ 4096 }
+        ensures few { result ≤ 16384 }
     {
         // Tells the proof how many there are at most.
         let _ = self.marks.is_full();

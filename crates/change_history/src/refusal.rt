@@ -1,3 +1,6 @@
+ghost use Rattle.std.specs.Prelude.{◌≡◌};
+ghost use Rattle.change_history.specs.Kept.{error_at};
+
 use refusal_titles::{
     DOCUMENT_FULL, HISTORY_FULL, MARKS_FULL, OUT_OF_MEMORY, STALE_COUNTER, UNKNOWN_REF,
 };
@@ -13,10 +16,10 @@ pub enum Refusal {
     /// A character that the operation names isn't there.
     #[error("{UNKNOWN_REF}")]
     UnknownRef,
-    /// 32,768 characters were inserted.
+    /// As many characters were inserted as the size allows, or the visible text has no room for its bytes.
     #[error("{DOCUMENT_FULL}")]
     DocumentFull,
-    /// 4,096 mark operations were accepted.
+    /// As many mark operations were accepted as the size allows.
     #[error("{MARKS_FULL}")]
     MarksFull,
 }
@@ -28,10 +31,20 @@ pub enum ApplyError {
     OutOfMemory,
 }
 
+/// The error of a line as one of its change.
+pub(crate) fn at_index(index: usize, error: ApplyError) -> SubmitError
+    ensures { result ≡ error_at index error }
+{
+    match error {
+        ApplyError::Refused(refusal) => SubmitError::Refused { index, refusal },
+        ApplyError::OutOfMemory => SubmitError::OutOfMemory,
+    }
+}
+
 /// Why a change was not accepted.
 #[derive(Clone, Copy, Debug, PartialEq, Eq, Error)]
 pub enum SubmitError {
-    /// 4,096 changes were accepted.
+    /// As many changes were accepted as the size allows.
     #[error("{HISTORY_FULL}")]
     HistoryFull,
     /// The first operation that is refused is of the line at this index, from 0.

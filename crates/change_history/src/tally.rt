@@ -1,6 +1,8 @@
 //! What acceptance asks of the operations before a peer's next one.
 ghost use Rattle.std.specs.Prelude.{◌≡◌, ◌↔◌, ◌++◌, ◌∷◌, [], ◌&&◌, ℕ, List, Contains, true, false, IsTrue, IfOk};
 ghost use Rattle.std.specs.Prelude.{◌+◌, nat_le};
+ghost use Rattle.change_ops.specs.Sizes.{most_characters, most_marks};
+ghost use Rattle.change_ops.specs.declared.size.Size.{Size};
 ghost use Rattle.std.specs.List.Sorted.{IsStrictlyIncreasing};
 ghost use Rattle.change_ops.specs.Operations.{id_of, is_insert, is_mark};
 ghost use Rattle.change_ops.specs.declared.operation.Op.{Op};
@@ -11,8 +13,8 @@ ghost use Rattle.change_history.specs.Tally.{IsTally};
 
 use change_ops::id::OpId;
 use change_ops::operation::Op;
-use char_sequence::sequence::{CHARACTER_LIMIT, is_above_named};
-use mark_anchors::marks::MARK_LIMIT;
+use change_ops::size::Size;
+use char_sequence::sequence::is_above_named;
 use std::alloc::AllocError;
 
 /// What is counted of the operations that were applied, and of the peer's own that follow them and are not applied yet.
@@ -56,32 +58,34 @@ impl Tally {
     }
 
     /// Whether the operation inserts one character too many.
-    pub fn is_character_too_many(&self, op: &Op) -> bool
-        ensures { result ≡ (is_insert op.now && nat_le 32768 self.now.characters) }
+    pub fn is_character_too_many(&self, size: Size, op: &Op) -> bool
+        ensures { result ≡ (is_insert op.now && nat_le (most_characters size) self.now.characters) }
     {
-        op.is_insert() && self.characters >= CHARACTER_LIMIT
+        op.is_insert() && self.characters >= size.characters()
     }
 
     /// Whether so many characters more are not too many.
-    pub fn has_room(&self, count: usize) -> bool
-        ensures { result ≡ nat_le (self.now.characters + count) 32768 }
+    pub fn has_room(&self, size: Size, count: usize) -> bool
+        ensures { result ≡ nat_le (self.now.characters + count) (most_characters size) }
     {
-        count <= CHARACTER_LIMIT && self.characters <= CHARACTER_LIMIT - count
+        let limit = size.characters();
+        count <= limit && self.characters <= limit - count
     }
 
     /// Whether the operation is one mark operation too many.
-    pub fn is_mark_too_many(&self, op: &Op) -> bool
-        ensures { result ≡ (is_mark op.now && nat_le 4096 self.now.marks) }
+    pub fn is_mark_too_many(&self, size: Size, op: &Op) -> bool
+        ensures { result ≡ (is_mark op.now && nat_le (most_marks size) self.now.marks) }
     {
-        op.is_mark() && self.marks >= MARK_LIMIT
+        op.is_mark() && self.marks >= size.marks()
     }
 
     /// Counts the peer's next operation, which is accepted; after an error the tally is of no use.
     pub fn note(&mut self, op: &Op) -> Result<(), AllocError>
-        requires { (ops : List Op) × ((own : List Op)
-            × ((node : ℕ) × IsTally ops own node self.old × MayFollow (ops ++ own) op.now)) }
-        ensures { (ops own : List Op) (node : ℕ) → IsTally ops own node self.old → (id_of op.now).node ≡ node
-            → MayFollow (ops ++ own) op.now → IfOk result (λ _. IsTally ops (own ++ op.now ∷ []) node self.new) }
+        requires { (size : Size) × ((ops : List Op) × ((own : List Op)
+            × ((node : ℕ) × IsTally ops own node self.old × MayFollow size (ops ++ own) op.now))) }
+        ensures { (size : Size) (ops own : List Op) (node : ℕ) → IsTally ops own node self.old
+            → (id_of op.now).node ≡ node → MayFollow size (ops ++ own) op.now
+            → IfOk result (λ _. IsTally ops (own ++ op.now ∷ []) node self.new) }
     {
         let counter = op.id().counter();
         self.last = counter;

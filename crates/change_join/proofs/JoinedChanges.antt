@@ -3,6 +3,7 @@ use Rattle.std.proofs.Common.{◌≡◌, ◌≤◌, Bool, true, false, List, [],
 use Rattle.std.specs.Prelude.{All}
 use Rattle.std.specs.List.{flat_map}
 use Rattle.std.proofs.lemmas.List.Elements.{All-nil, All-cons, All-head, All-tail}
+use Rattle.change_ops.specs.declared.size.Size.{Size}
 use Rattle.change_ops.specs.Changes.{Change, IsChange, operations}
 use Rattle.change_ops.specs.declared.operation.Op.{Op}
 use Rattle.change_history.specs.Accepted.{operations_of, AllFollow, IsAccepted}
@@ -69,20 +70,21 @@ of_is_flat (change ∷ changes) = ap (λ (ops : List Op). operations change ++ o
 same_operations : (changes : List Change) → operations_of (joined changes) ≡ operations_of changes
 same_operations changes = of_is_flat (joined changes) ∙ joined_operations changes ∙ sym (of_is_flat changes)
 
-same_follow : (changes new : List Change) → operations_of new ≡ operations_of changes → length new ≤ length changes → (change : Change) → IsAccepted changes change → IsAccepted new change
-same_follow changes new same few change h = record {
-  room = let room = h.room in omega (arith, room, few);
-  follow = subst (λ (ops : List Op). AllFollow ops (operations change) (length (operations change))) (sym same) h.follow;
-}
+module _ {size : Size} where
+  same_follow : (changes new : List Change) → operations_of new ≡ operations_of changes → length new ≤ length changes → (change : Change) → IsAccepted size changes change → IsAccepted size new change
+  same_follow changes new same few change h = record {
+    room = let room = h.room in omega (arith, room, few);
+    follow = subst (λ (ops : List Op). AllFollow size ops (operations change) (length (operations change))) (sym same) h.follow;
+  }
 
-pub replaces : (changes : List Change) → Replaces changes (joined changes)
-replaces changes =
+pub replaces : (size : Size) (changes : List Change) → Replaces size changes (joined changes)
+replaces size changes =
     let same = same_operations changes in
     let few = no_more changes in
     record {
       same = same;
       limited = joined_limits changes;
       fewer = few;
-      accepted = λ all. accepted_again changes (joined changes) same few all;
+      accepted = λ all. accepted_again size changes (joined changes) same few all;
       later = same_follow changes (joined changes) same few;
     }

@@ -3,6 +3,7 @@ ghost use Rattle.std.specs.List.{flat_map};
 ghost use Rattle.std.specs.String.{string_bytes};
 ghost use Rattle.change_ops.specs.Changes.{Change as ChangeValue};
 ghost use Rattle.change_ops.specs.Spelling.{change_text};
+ghost use Rattle.change_ops.specs.declared.size.Size.{Size};
 ghost use Rattle.change_join.specs.Groups.{AreGroups};
 ghost use Rattle.change_join.specs.Joined.{joined};
 ghost use Rattle.change_join.specs.Replacing.{Replaces};
@@ -33,9 +34,9 @@ pub fn joined_text(alloc: Global, changes: &[Change]) -> Result<String, AllocErr
     Ok(text)
 }
 
-/// The joined changes have the same operations, and are accepted where the changes are.
+/// The joined changes have the same operations, and are accepted where the changes are, at each size.
 pub fn joined_replace()
-    ensures { (changes : List ChangeValue) → Replaces changes (joined changes) }
+    ensures { (size : Size) (changes : List ChangeValue) → Replaces size changes (joined changes) }
 {}
 
 /// However whole neighboring changes are put together, no fewer are enough.

@@ -3,6 +3,7 @@ use Rattle.std.proofs.Common.{◌≡◌, ℕ, ◌+◌, List, [], ◌∷◌, ◌+
 use Rattle.std.specs.Prelude.{slice_get, suc, IfOk, IfErr}
 use Rattle.std.proofs.lemmas.List.{map-append, length_push}
 use Rattle.change_ops.specs.Changes.{Change}
+use Rattle.change_ops.specs.declared.size.Size.{Size}
 use Rattle.change_ops.specs.Spelling.{change_text}
 use Rattle.change_history.specs.Accepted.{IsRefused}
 use Rattle.change_history.specs.declared.refusal.SubmitError.{SubmitError}
@@ -15,17 +16,17 @@ use Rattle.change_keeping.specs.declared.keeper.KeepError.{KeepError}
 use Rattle.change_keeping.specs.Groups.{AreSpelled, AreTold, told_of, outcome_of}
 
 -- what answers leave begins with what was there before
-one_grown : (old : List Change) (change : Change) (answer : Result Accepted SubmitError) (new : List Change) → IsAnswered old change answer new → (rest : List Change) × (new ≡ old ++ rest)
-one_grown old change (Ok accepted) new is = (change ∷ [], is.1)
-one_grown old change (Err error) new is = ([], is.1 ∙ sym (append-nil old))
+one_grown : (size : Size) (old : List Change) (change : Change) (answer : Result Accepted SubmitError) (new : List Change) → IsAnswered size old change answer new → (rest : List Change) × (new ≡ old ++ rest)
+one_grown size old change (Ok accepted) new is = (change ∷ [], is.1)
+one_grown size old change (Err error) new is = ([], is.1 ∙ sym (append-nil old))
 
-grown : (old changes : List Change) (answers : List (Result Accepted SubmitError)) (new : List Change) → AreAnswered old changes answers new → (rest : List Change) × (new ≡ old ++ rest)
-grown old [] [] new are = ([], are ∙ sym (append-nil old))
-grown old [] (answer ∷ answers) new are = absurd are
-grown old (change ∷ changes) [] new are = absurd are
-grown old (change ∷ changes) (answer ∷ answers) new are =
-    let first = one_grown old change answer are.0 are.1 in
-    let more = grown are.0 changes answers new are.2 in
+grown : (size : Size) (old changes : List Change) (answers : List (Result Accepted SubmitError)) (new : List Change) → AreAnswered size old changes answers new → (rest : List Change) × (new ≡ old ++ rest)
+grown size old [] [] new are = ([], are ∙ sym (append-nil old))
+grown size old [] (answer ∷ answers) new are = absurd are
+grown size old (change ∷ changes) [] new are = absurd are
+grown size old (change ∷ changes) (answer ∷ answers) new are =
+    let first = one_grown size old change answer are.0 are.1 in
+    let more = grown size are.0 changes answers new are.2 in
     (first.0 ++ more.0, more.1 ∙ ap (λ l. l ++ more.0) first.1 ∙ append_assoc old first.0 more.0)
 
 take_front : {X : Type 0} (front rest : List X) → take (length front) (front ++ rest) ≡ front
@@ -53,7 +54,7 @@ unkept kept text HistoryFull down = down
 unkept kept text (Refused index refusal) down = down
 unkept kept text OutOfMemory down = tt
 
-told_one : (kept : Kept) (old : List Change) (change : Change) (answer : Result Accepted SubmitError) (mid all : List Change) (rest : List Change) (text : List ℕ) → AreStored kept all → IsAnswered old change answer mid → all ≡ mid ++ rest
+told_one : (kept : Kept) (old : List Change) (change : Change) (answer : Result Accepted SubmitError) (mid all : List Change) (rest : List Change) (text : List ℕ) → AreStored kept all → IsAnswered kept.size old change answer mid → all ≡ mid ++ rest
     → IsTextOf text change → IsToldOf kept text (told_of answer)
 told_one kept old change (Ok accepted) mid all rest text stored is whole spelled = record {
   changes = all;
@@ -70,11 +71,11 @@ told_one kept old change (Err error) mid all rest text stored is whole spelled =
       count = length old;
       change = change;
       spelled = spelled;
-      refused = subst (λ (l : List Change). IsRefused l change error) (sym (ap (take (length old)) (whole ∙ ap (λ l. l ++ rest) is.1) ∙ take_front old rest)) is.0;
+      refused = subst (λ (l : List Change). IsRefused kept.size l change error) (sym (ap (take (length old)) (whole ∙ ap (λ l. l ++ rest) is.1) ∙ take_front old rest)) is.0;
     })
 
 -- each of these texts may be told its answer
-pub told_all : (kept : Kept) (old changes : List Change) (answers : List (Result Accepted SubmitError)) (new : List Change) (texts : List (List ℕ)) → AreStored kept new → AreAnswered old changes answers new → AreSpelled texts changes
+pub told_all : (kept : Kept) (old changes : List Change) (answers : List (Result Accepted SubmitError)) (new : List Change) (texts : List (List ℕ)) → AreStored kept new → AreAnswered kept.size old changes answers new → AreSpelled texts changes
     → AreTold kept texts answers
 told_all kept old [] [] new [] stored are spelled = tt
 told_all kept old [] [] new (text ∷ texts) stored are spelled = absurd spelled
@@ -82,7 +83,7 @@ told_all kept old [] (answer ∷ answers) new texts stored are spelled = absurd 
 told_all kept old (change ∷ changes) [] new texts stored are spelled = absurd are
 told_all kept old (change ∷ changes) (answer ∷ answers) new [] stored are spelled = absurd spelled
 told_all kept old (change ∷ changes) (answer ∷ answers) new (text ∷ texts) stored are spelled =
-    let more = grown are.0 changes answers new are.2 in
+    let more = grown kept.size are.0 changes answers new are.2 in
     (told_one kept old change answer are.0 new more.0 text stored are.1 more.1 spelled.0, told_all kept are.0 changes answers new texts stored are.2 spelled.1)
 
 -- the only text is told the only answer
@@ -109,11 +110,11 @@ told_alone kept text (Err error) r told is = subst (λ (o : Result ℕ KeepError
 
 -- a change alone, by its own text
 pub told_change : (kept : Kept) (old : List Change) (change : Change) (changes : List Change) (answers before : List (Result Accepted SubmitError)) (answer : Result Accepted SubmitError) (new : List Change) → AreStored kept new
-    → AreAnswered old changes answers new → changes ≡ change ∷ [] → answers ≡ before ++ answer ∷ [] → IsTextOf (change_text change) change → IsToldOf kept (change_text change) (told_of answer)
+    → AreAnswered kept.size old changes answers new → changes ≡ change ∷ [] → answers ≡ before ++ answer ∷ [] → IsTextOf (change_text change) change → IsToldOf kept (change_text change) (told_of answer)
 told_change kept old change changes answers before answer new stored are alone last spelled =
     told_last kept (change_text change) before answer
     (told_all kept old (change ∷ []) (before ++ answer ∷ []) new (change_text change ∷ []) stored
-    (subst (λ (cs : List Change). AreAnswered old cs (before ++ answer ∷ []) new) alone (subst (λ (told : List (Result Accepted SubmitError)). AreAnswered old changes told new) last are)) (spelled, tt))
+    (subst (λ (cs : List Change). AreAnswered kept.size old cs (before ++ answer ∷ []) new) alone (subst (λ (told : List (Result Accepted SubmitError)). AreAnswered kept.size old changes told new) last are)) (spelled, tt))
 
 -- the same, as it is left by the calls that add the two
 pub spelled_next : (texts texts' : List (List ℕ)) (changes changes' : List Change) (text lent : List ℕ) (change : Change) → AreSpelled texts changes → texts' ≡ texts ++ text ∷ [] → changes' ≡ changes ++ change ∷ []

@@ -2,6 +2,7 @@
 use Rattle.std.specs.Prelude.{◌≡◌, ℕ, ◌+◌, Bool, true, List, Option, None, Some, Result, Ok, Err, ⊤, map, take}
 use Rattle.std.specs.Prelude.{slice_get, IsTrue, IsFalse}
 use Rattle.change_ops.specs.Changes.{Change}
+use Rattle.change_ops.specs.declared.size.Size.{Size}
 use Rattle.change_ops.specs.Spelling.{change_text}
 use Rattle.change_history.specs.Accepted.{AreAccepted, IsRefused}
 use Rattle.change_history.specs.declared.refusal.SubmitError.{SubmitError}
@@ -10,22 +11,23 @@ use Rattle.stored_history.specs.Texts.{IsTextOf}
 use Rattle.change_keeping.specs.declared.keeper.KeepError.{KeepError}
 use Rattle.change_keeping.specs.declared.keeper.KeepError.TheVariants.{Refused, Failed}
 
--- what the texts that are kept meet
-abbrev pub Kept : Type 1
-Kept = List (List ℕ) → Type 0
+-- at which size changes are kept, and what their texts meet
+pub record Kept : Type 1 where
+  pub size : Size
+  pub texts : List (List ℕ) → Type 0
 
--- where nothing is kept, nothing is said
-abbrev pub none_kept : Kept
-none_kept _ = ⊤
+-- where nothing is kept, nothing is said of texts
+abbrev pub none_kept : Size → Kept
+none_kept size = record { size = size; texts = λ _. ⊤ }
 
 -- some log keeps them
-abbrev pub some_log : {L : Type 0} → (L → List (List ℕ) → Type 0) → Kept
-some_log {L} kept texts = (log : L) × kept log texts
+abbrev pub some_log : {L : Type 0} → Size → (L → List (List ℕ) → Type 0) → Kept
+some_log {L} size kept = record { size = size; texts = λ texts. (log : L) × kept log texts }
 
 -- changes of which each was accepted after those before it, and whose texts are kept
 pub record AreStored (kept : Kept) (changes : List Change) : Type 0 where
-  pub accepted : AreAccepted changes
-  pub texts : kept (map change_text changes)
+  pub accepted : AreAccepted kept.size changes
+  pub texts : kept.texts (map change_text changes)
 
 -- the text of this number, counted from 1, among those that are kept
 pub record IsStored (kept : Kept) (number : ℕ) (text : List ℕ) : Type 0 where
@@ -42,7 +44,7 @@ pub record IsTurnedDown (kept : Kept) (text : List ℕ) (error : SubmitError) : 
   pub count : ℕ
   pub change : Change
   pub spelled : IsTextOf text change
-  pub refused : IsRefused (take count changes) change error
+  pub refused : IsRefused kept.size (take count changes) change error
 
 -- why a text is not kept; for want of memory it may not have been looked at
 abbrev pub IsUnkept : Kept → List ℕ → SubmitError → Type 0

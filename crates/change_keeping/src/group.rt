@@ -160,9 +160,11 @@ fn accept<N: Keeping, L: ChangeLog>(
     requests: &[Request<N>],
     changes: Vec<Change>,
 ) -> Result<Vec<Answer>, AcceptError>
-    requires kept { (texts : List (List ℕ)) (log : L) → L.kept log texts → N.kept texts }
+    requires size { stored.old.size ≡ N.kept.size }
+    requires kept { (texts : List (List ℕ)) (log : L) → L.kept log texts → N.kept.texts texts }
     requires spelled { AreSpelled requests.now changes.items }
-    ensures { IfOk result (λ answers. AreTold N.kept requests.now answers.items) }
+    ensures told { IfOk result (λ answers. AreTold N.kept requests.now answers.items) }
+    ensures size { stored.new.size ≡ stored.old.size }
 {
     let _ = requests;
     let answers = stored.accept(changes)?;
@@ -179,7 +181,9 @@ pub(crate) fn keep_group<N: Keeping, L: ChangeLog, R: Wait>(
     stored: &mut StoredHistory<L>,
     group: Vec<Request<N>>,
 ) -> Result<(), Failed>
-    requires { (texts : List (List ℕ)) (log : L) → L.kept log texts → N.kept texts }
+    requires size { stored.old.size ≡ N.kept.size }
+    requires kept { (texts : List (List ℕ)) (log : L) → L.kept log texts → N.kept.texts texts }
+    ensures { stored.new.size ≡ stored.old.size }
 {
     let Some(Reading { requests, changes }) = read_all(rt, alloc, group) else {
         return Ok(());

@@ -13,11 +13,11 @@ pub enum KeepError {
 
 /// Keeps changes for good before they are shown, or has nothing to keep.
 pub trait Keeper {
-    ghost use Rattle.std.specs.Prelude.{◌≡◌, Bool, ℕ, List, IfOk, IfErr};
-    ghost use Rattle.change_keeping.specs.Kept.{IsKeptAs, IsNotKept};
+    ghost use Rattle.std.specs.Prelude.{◌≡◌, Bool, IfOk, IfErr};
+    ghost use Rattle.change_keeping.specs.Kept.{Kept, IsKeptAs, IsNotKept};
 
-    /// What the texts that are kept meet.
-    ghost kept: { List (List ℕ) → Type 0 };
+    /// At which size changes are kept, and what their texts meet.
+    ghost kept: { Kept };
 
     /// Whether it keeps any.
     ghost stores: { Self → Bool };
@@ -33,14 +33,16 @@ pub trait Keeper {
         ensures same { stores self.new ≡ stores self.old };
 }
 
-/// No store: nothing is kept.
+/// No store: nothing is kept, at whatever size.
 #[derive(Clone, Copy)]
 pub struct NoStore;
 
 impl Keeper for NoStore {
-    ghost use Rattle.std.specs.Prelude.{⊤, false};
+    ghost use Rattle.std.specs.Prelude.{false};
+    ghost use Rattle.change_ops.specs.declared.size.Size.TheVariants.{Small};
+    ghost use Rattle.change_keeping.specs.Kept.{none_kept};
 
-    ghost kept = { λ _. ⊤ };
+    ghost kept = { none_kept Small };
 
     ghost stores = { λ _. false };
 

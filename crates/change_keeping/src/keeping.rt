@@ -1,14 +1,15 @@
 use std::marker::Brand;
 
-/// What keeps the texts of the hub `N`'s changes. A program picks it once for each hub.
+/// At which size the hub `N`'s changes are kept, and what keeps their texts. A program picks it once for each hub.
 pub trait Keeping {
-    ghost use Rattle.std.specs.Prelude.{ℕ, List};
+    ghost use Rattle.change_keeping.specs.Kept.{Kept};
 
-    ghost kept: { List (List ℕ) → Type 0 };
+    ghost kept: { Kept };
 }
 
 impl Keeping for Brand {
-    ghost use Rattle.std.specs.Prelude.{⊤};
+    ghost use Rattle.change_ops.specs.declared.size.Size.TheVariants.{Small};
+    ghost use Rattle.change_keeping.specs.Kept.{none_kept};
 
-    ghost kept = { λ _. ⊤ };
+    ghost kept = { none_kept Small };
 }

@@ -7,20 +7,24 @@ ghost use Rattle.change_keeping.specs.Groups.{outcome_of};
 
 use crate::clerk::text_of;
 use crate::keeper::{KeepError, Keeper};
+use crate::keeping::Keeping;
 use change_history::refusal::SubmitError;
 use change_log::log::ChangeLog;
 use change_ops::change::{Change, read_change};
 use std::alloc::{AllocError, Global};
+use std::marker::PhantomData;
 use stored_history::answer::Answer;
 use stored_history::error::AcceptError;
 use stored_history::history::StoredHistory;
 
-/// Keeps the changes of one session in a store of its own.
+/// Keeps the changes of one session of the hub `N` in a store of its own, at the size at which `N` keeps them.
 #[derive(Drop)]
-pub struct OwnStore<L: ChangeLog> {
+pub struct OwnStore<L: ChangeLog, N: Keeping> {
     alloc: Global,
     stored: StoredHistory<L>,
     is_failed: bool,
+    of: PhantomData<N>,
+    ghost sized: { stored.size ≡ N.kept.size },
 }
 
 /// A copy of a change, alone in a list.
@@ -53,8 +57,9 @@ fn keep_one<L: ChangeLog>(
     stored: &mut StoredHistory<L>,
     change: &Change,
 ) -> Result<u64, KeepError>
-    ensures ok { IfOk result (λ number. IsStored (some_log L.kept) number (change_text change.now)) }
-    ensures err { IfErr result (IsErrorOf (some_log L.kept) (change_text change.now)) }
+    ensures ok { IfOk result (λ number. IsStored (some_log stored.old.size L.kept) number (change_text change.now)) }
+    ensures err { IfErr result (IsErrorOf (some_log stored.old.size L.kept) (change_text change.now)) }
+    ensures size { stored.new.size ≡ stored.old.size }
 {
     let Ok(changes) = alone(alloc, change) else {
         return Err(KeepError::Refused(SubmitError::OutOfMemory));
@@ -72,12 +77,15 @@ fn keep_one<L: ChangeLog>(
     outcome(answer)
 }
 
-impl<L: ChangeLog> OwnStore<L> {
-    pub fn new(alloc: Global, stored: StoredHistory<L>) -> OwnStore<L> {
+impl<L: ChangeLog, N: Keeping> OwnStore<L, N> {
+    pub fn new(alloc: Global, stored: StoredHistory<L>) -> OwnStore<L, N>
+        requires { stored.size ≡ N.kept.size }
+    {
         OwnStore {
             alloc,
             stored,
             is_failed: false,
+            of: PhantomData,
         }
     }
 
@@ -92,11 +100,11 @@ impl<L: ChangeLog> OwnStore<L> {
     }
 }
 
-impl<L: ChangeLog> Keeper for OwnStore<L> {
+impl<L: ChangeLog, N: Keeping> Keeper for OwnStore<L, N> {
     ghost use Rattle.std.specs.Prelude.{true};
     ghost use Rattle.change_keeping.specs.Kept.{some_log};
 
-    ghost kept = { some_log L.kept };
+    ghost kept = { some_log N.kept.size L.kept };
 
     ghost stores = { λ _. true };
 

@@ -1,5 +1,5 @@
 //! The thread that has the store.
-ghost use Rattle.std.specs.Prelude.{ℕ, List};
+ghost use Rattle.std.specs.Prelude.{◌≡◌, ℕ, List};
 
 use crate::desk::{Arrival, Desk, Request, TEXT_LIMIT};
 use crate::group::{keep_group, tell_all_failed, tell_no_memory};
@@ -34,8 +34,10 @@ fn keep_next<N: Keeping, L: ChangeLog, R: Wait, F: Fn()>(
     first: Request<N>,
     on_failure: &F,
 ) -> bool
-    requires kept { (texts : List (List ℕ)) (log : L) → L.kept log texts → N.kept texts }
+    requires size { stored.old.size ≡ N.kept.size }
+    requires kept { (texts : List (List ℕ)) (log : L) → L.kept log texts → N.kept.texts texts }
     requires failure { F.IsAlwaysCallable on_failure.now }
+    ensures size { stored.new.size ≡ stored.old.size }
 {
     let Ok(mut group) = Vec::with_capacity(alloc, TEXT_LIMIT) else {
         tell_no_memory(rt, first);
@@ -60,7 +62,8 @@ pub fn keep_all<N: Keeping, L: ChangeLog, R: Wait, F: Fn()>(
     stored: &mut StoredHistory<L>,
     on_failure: F,
 ) -> Result<(), KeepingFailed>
-    requires kept { (texts : List (List ℕ)) (log : L) → L.kept log texts → N.kept texts }
+    requires size { stored.old.size ≡ N.kept.size }
+    requires kept { (texts : List (List ℕ)) (log : L) → L.kept log texts → N.kept.texts texts }
     requires failure { F.IsAlwaysCallable on_failure }
 {
     for _ in rt.forever() {

@@ -11,3 +11,4 @@ pub mod Spelling
 pub mod Forms
 pub mod FirstForm
 pub mod Refusals
+pub mod Sizes

@@ -14,4 +14,5 @@ pub mod operation;
 pub mod refusal;
 pub mod run;
 mod run_reading;
+pub mod size;
 pub mod writing;

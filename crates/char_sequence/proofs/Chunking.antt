@@ -400,7 +400,7 @@ no_length (n ∷ names) e = absurd (omega (arith, e))
 take_drop_is : (c : List Element) (at : ℕ) → c ≡ take at c ++ drop at c
 take_drop_is c at = grind (arith, common_steps)
 
-pub kept_put : (cs : List (List Element)) (names : List ℕ) (index more : OpId → Option ℕ) (p at n count : ℕ) (c d : List Element) (e : Element) → IsKept cs names index count → slice_get cs p ≡ Some c → slice_get names p ≡ Some n → at ≤ length c → d ≡ insert c at e → length (joined cs) < 32768 → more e.id ≡ Some n → ((q : OpId) → same_id e.id q ≡ false → more q ≡ index q) → IsKept (set cs p d) names more (count + 1)
+pub kept_put : (cs : List (List Element)) (names : List ℕ) (index more : OpId → Option ℕ) (p at n count : ℕ) (c d : List Element) (e : Element) → IsKept cs names index count → slice_get cs p ≡ Some c → slice_get names p ≡ Some n → at ≤ length c → d ≡ insert c at e → length (joined cs) < 262144 → more e.id ≡ Some n → ((q : OpId) → same_id e.id q ≡ false → more q ≡ index q) → IsKept (set cs p d) names more (count + 1)
 kept_put cs names index more p at n count c d e ok here name h is few new other =
     let whole = joined_insert cs p c d at e here h is in
     let spot = start_within cs p in
@@ -471,7 +471,7 @@ kept_split cs ds names names' index more p at m count c a b ok here left right f
     record {
       indexed = subst (λ z. IsIndexed z names' more) (sym ds_is) (subst (λ z. IsIndexed (insert (set cs p a) (suc p) b) z more) (sym names_is) (indexed_split cs names index more p m c a b ok.indexed here is fresh renamed kept));
       counted = ok.counted ∙ ap length (sym same);
-      few = subst (λ z. length z ≤ 32768) (sym same) ok.few;
+      few = subst (λ z. length z ≤ 262144) (sym same) ok.few;
     }
 
 pub split_same : (cs ds : List (List Element)) (p at : ℕ) (c : List Element) → slice_get cs p ≡ Some c → ds ≡ insert (set cs p (take at c)) (p + 1) (drop at c) → joined ds ≡ joined cs

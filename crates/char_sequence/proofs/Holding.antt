@@ -8,6 +8,7 @@ use Rattle.std.proofs.lemmas.List.Elements.{Contains-append_left, Contains-push,
 use Rattle.change_ops.specs.declared.id.OpId.{OpId}
 use Rattle.change_ops.specs.declared.operation.Op.{Op}
 use Rattle.change_ops.specs.declared.operation.Op.TheVariants.{Insert, Remove}
+use Rattle.change_ops.specs.declared.size.Size.{Size}
 use Rattle.char_sequence.specs.declared.sequence.Element.{Element}
 use Rattle.change_ops.specs.Ids.{Less}
 use Rattle.change_ops.specs.Operations.{id_of, Names}
@@ -38,10 +39,10 @@ inserts_cases ops op x p i =
     (λ (h : op ≡ Insert x p i.0). inr (i.0, h))
     (Contains-push_cases ops op (Insert x p i.0) i.1)
 
-pub not_present : (ops : List Op) (op : Op) → Accepts ops op → Present ops (id_of op) → ⊥
+pub not_present : {size : Size} (ops : List Op) (op : Op) → Accepts size ops op → Present ops (id_of op) → ⊥
 not_present ops op a h = a.fresh (inl (Insert (id_of op) h.0 h.1.0, h.1.1, refl, omega arith))
 
-pub above_named : (ops : List Op) (op : Op) → Accepts ops op → (x : OpId) → Names op x → Less x (id_of op)
+pub above_named : {size : Size} (ops : List Op) (op : Op) → Accepts size ops op → (x : OpId) → Names op x → Less x (id_of op)
 above_named ops op a x n =
     ⊎_elim
     (λ (h : x.counter < (id_of op).counter). less_by_counter x (id_of op) h)
@@ -52,13 +53,13 @@ above_named ops op a x n =
 new_id : (op : Op) (x : OpId) (p : Option OpId) (c : ℕ) → op ≡ Insert x p c → id_of op ≡ x
 new_id op x p c e = ap id_of e
 
-rooted_new : (ops : List Op) → IsTree ops → (op : Op) → Accepts ops op → (p : Option OpId) → ((m : OpId) → p ≡ Some m → Present ops m) → Within (ops ++ op ∷ []) None p
+rooted_new : {size : Size} (ops : List Op) → IsTree ops → (op : Op) → Accepts size ops op → (p : Option OpId) → ((m : OpId) → p ≡ Some m → Present ops m) → Within (ops ++ op ∷ []) None p
 rooted_new ops t op a None known = itself
 rooted_new ops t op a (Some m) known =
     let h = known m refl in
     within_kept ops (ops ++ op ∷ []) (grows_push ops op) None (Some m) (below (t.rooted m h.0 h.1) h.1)
 
-pub tree_push : (ops : List Op) → IsTree ops → (op : Op) → Accepts ops op → IsTree (ops ++ op ∷ [])
+pub tree_push : {size : Size} (ops : List Op) → IsTree ops → (op : Op) → Accepts size ops op → IsTree (ops ++ op ∷ [])
 tree_push ops t op a = record {
   one =
       λ x p q i j.
@@ -92,19 +93,19 @@ tree_push ops t op a = record {
       (inserts_cases ops op x p i);
 }
 
-pub named_push : (ops : List Op) (op : Op) → Accepts ops op → ((o : Op) (x : OpId) → Contains ops o → Names o x → Present ops x) → (o : Op) (x : OpId) → Contains (ops ++ op ∷ []) o → Names o x → Present (ops ++ op ∷ []) x
+pub named_push : {size : Size} (ops : List Op) (op : Op) → Accepts size ops op → ((o : Op) (x : OpId) → Contains ops o → Names o x → Present ops x) → (o : Op) (x : OpId) → Contains (ops ++ op ∷ []) o → Names o x → Present (ops ++ op ∷ []) x
 named_push ops op a named o x h n =
     ⊎_elim
     (λ (k : Contains ops o). present_push ops op x (named o x k n))
     (λ (k : op ≡ o). present_push ops op x (a.known x (subst (λ z. Names z x) (sym k) n)))
     (Contains-push_cases ops op o h)
 
-fresh_id : (ops : List Op) (op : Op) → Accepts ops op → (o : Op) → Contains ops o → id_of o ≡ id_of op → ⊥
+fresh_id : {size : Size} (ops : List Op) (op : Op) → Accepts size ops op → (o : Op) → Contains ops o → id_of o ≡ id_of op → ⊥
 fresh_id ops op a o h e =
     let c : (id_of o).counter ≡ (id_of op).counter = ap (λ z. z.counter) e in
     a.fresh (inl (o, h, ap (λ z. z.node) e, omega arith))
 
-pub distinct_push : (ops : List Op) (op : Op) → Accepts ops op → ((o p : Op) → Contains ops o → Contains ops p → id_of o ≡ id_of p → o ≡ p) → (o p : Op) → Contains (ops ++ op ∷ []) o → Contains (ops ++ op ∷ []) p → id_of o ≡ id_of p → o ≡ p
+pub distinct_push : {size : Size} (ops : List Op) (op : Op) → Accepts size ops op → ((o p : Op) → Contains ops o → Contains ops p → id_of o ≡ id_of p → o ≡ p) → (o p : Op) → Contains (ops ++ op ∷ []) o → Contains (ops ++ op ∷ []) p → id_of o ≡ id_of p → o ≡ p
 distinct_push ops op a distinct o p h k e =
     ⊎_elim
     (λ (x : Contains ops o).
@@ -133,7 +134,7 @@ present_at ops es text i y g =
 insert_not_remove : (x : OpId) (p : Option OpId) (c : ℕ) (r t : OpId) → Insert x p c ≡ Remove r t → ⊥
 insert_not_remove x p c r t e = cc
 
-pub text_insert : (ops : List Op) (es : List Element) (id : OpId) (p : Option OpId) (c : ℕ) → IsTree ops → ((o : Op) (x : OpId) → Contains ops o → Names o x → Present ops x) → IsText ops es → Accepts ops (Insert id p c) → (start k : ℕ) → IsStart ops es p start → IsPast es id start k → k ≤ length es → (e : Element) → e.id ≡ id → e.character ≡ c → e.visible ≡ true → IsText (ops ++ Insert id p c ∷ []) (insert es k e)
+pub text_insert : {size : Size} (ops : List Op) (es : List Element) (id : OpId) (p : Option OpId) (c : ℕ) → IsTree ops → ((o : Op) (x : OpId) → Contains ops o → Names o x → Present ops x) → IsText ops es → Accepts size ops (Insert id p c) → (start k : ℕ) → IsStart ops es p start → IsPast es id start k → k ≤ length es → (e : Element) → e.id ≡ id → e.character ≡ c → e.visible ≡ true → IsText (ops ++ Insert id p c ∷ []) (insert es k e)
 text_insert ops es id p c t named text a start k st past h e is_id is_character is_visible =
     let op = Insert id p c in
     let new = ops ++ op ∷ [] in
@@ -322,7 +323,7 @@ text_other ops es op no_insert no_removal text = record {
   hidden = λ i e g hides. removed_push ops op e.id (text.hidden i e g hides);
 }
 
-pub shows_other : (ops : List Op) (es : List Element) (op : Op) → Accepts ops op → ((x : OpId) (p : Option OpId) (c : ℕ) → op ≡ Insert x p c → ⊥) → ((r x : OpId) → op ≡ Remove r x → ⊥) → Shows es ops → Shows es (ops ++ op ∷ [])
+pub shows_other : {size : Size} (ops : List Op) (es : List Element) (op : Op) → Accepts size ops op → ((x : OpId) (p : Option OpId) (c : ℕ) → op ≡ Insert x p c → ⊥) → ((r x : OpId) → op ≡ Remove r x → ⊥) → Shows es ops → Shows es (ops ++ op ∷ [])
 shows_other ops es op a no_insert no_removal h = record {
   tree = tree_push ops h.tree op a;
   distinct = distinct_push ops op a h.distinct;

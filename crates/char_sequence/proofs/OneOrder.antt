@@ -11,7 +11,7 @@ use Rattle.char_sequence.specs.Tree.{Present, Removed, IsTree}
 use Rattle.char_sequence.specs.Order.{Before, IsText, Shows, SameSet}
 use Rattle.char_sequence.proofs.TreeLaws.{before_asym, before_kept}
 use Rattle.char_sequence.proofs.Lists.{same_in_order, MembersOf}
-use Rattle.char_sequence.proofs.Steps.{stands}
+use Rattle.char_sequence.proofs.Holding.{listed_ids}
 
 -- a text of one list of the set is one of each other
 pub text_of_set : (ops others : List Op) → SameSet ops others → (es : List Element) → IsText others es → IsText ops es
@@ -23,7 +23,7 @@ text_of_set ops others s es text = record {
   hidden = λ i e g hides. let r = text.hidden i e g hides in (r.0, s.back (Remove r.0 e.id) r.1);
 }
 
-same_elements : (a b : Element) → a.id ≡ b.id → a.character ≡ b.character → a.visible ≡ b.visible → a ≡ b
+pub same_elements : (a b : Element) → a.id ≡ b.id → a.character ≡ b.character → a.visible ≡ b.visible → a ≡ b
 same_elements a b e f g =
     let mk : OpId → ℕ → Bool → Element = λ i c v. record { id = i; character = c; visible = v } in
     ap (λ i. mk i a.character a.visible) e ∙ ap (λ c. mk b.id c a.visible) f ∙ ap (λ v. mk b.id b.character v) g
@@ -60,8 +60,8 @@ one_text_of_set first second ops others h k s = one_text ops h.tree first second
 -- of two characters one stands before the other
 pub before_total : (ops : List Op) (es : List Element) → IsText ops es → (a b : OpId) → Present ops a → Present ops b → (a ≡ b) ⊎ (Before ops (Some a) b ⊎ Before ops (Some b) a)
 before_total ops es text a b pa pb =
-    let r = stands ops es text a pa in
-    let q = stands ops es text b pb in
+    let r = listed_ids ops es text a pa.0 pa.1 in
+    let q = listed_ids ops es text b pb.0 pb.1 in
     ⊎_elim
     (λ (l : r.0 < q.0). inr (inl (subst (λ z. Before ops (Some z) b) r.1.2 (subst (λ z. Before ops (Some r.1.0.id) z) q.1.2 (text.ordered r.0 q.0 r.1.0 q.1.0 l r.1.1 q.1.1)))))
     (λ (ge : q.0 ≤ r.0).

@@ -143,7 +143,7 @@ next_left cs rest p start read to count view sum at reached back is =
     ∙ ap (drop count) is
 
 -- what is left to read has no more elements than were there
-pub rest_within : (cs rest : List (List Element)) (p start to : ℕ) → start ≡ start_of cs p → start ≤ to → to ≤ length (joined cs) → rest ≡ drop p cs → length (joined cs) ≤ 32768 → (to - start ≤ length (joined rest)) × (length (joined rest) ≤ 32768)
+pub rest_within : (cs rest : List (List Element)) (p start to : ℕ) → start ≡ start_of cs p → start ≤ to → to ≤ length (joined cs) → rest ≡ drop p cs → length (joined cs) ≤ 262144 → (to - start ≤ length (joined rest)) × (length (joined rest) ≤ 262144)
 rest_within cs rest p start to at reached within back few =
     let whole = ap length (joined_cut cs p) ∙ length-append (joined (take p cs)) (joined (drop p cs)) in
     let same = ap (λ z. length (joined z)) back in

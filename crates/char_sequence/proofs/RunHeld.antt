@@ -11,6 +11,7 @@ use Rattle.change_ops.specs.Runs.{next_id, inserts_from}
 use Rattle.change_ops.specs.declared.id.OpId.{OpId}
 use Rattle.change_ops.specs.declared.operation.Op.{Op}
 use Rattle.change_ops.specs.declared.operation.Op.TheVariants.{Insert}
+use Rattle.change_ops.specs.declared.size.Size.{Size}
 use Rattle.char_sequence.specs.declared.sequence.Element.{Element}
 use Rattle.char_sequence.specs.Held.{Holds}
 use Rattle.char_sequence.specs.Newest.{IsNewest}
@@ -97,7 +98,7 @@ run_noted cs ops id parent later some noted =
 
 -- A sequence that holds the operations holds those of the run too, once the run's elements stand as one piece where its first one goes, and
 -- its last id is noted.
-pub run_held : (cs : List ℕ) (ops : List Op) (front back : List Element) (id : OpId) (parent : Option OpId) (start : ℕ) (newest later : FinMap nat_cmp ℕ) → 0 < length cs → Holds (record { elements = front ++ back; newest = newest }) ops → AcceptsRun ops id parent cs → IsStart ops (front ++ back) parent start → IsPast (front ++ back) id start (length front) → ((op : Op) → ((id_of op).node ≡ id.node) → ((id_of op).counter + 1 ≡ id.counter + length cs) → IsNewest (ops ++ op ∷ []) later) → Holds (record { elements = front ++ (elements_from id cs ++ back); newest = later }) (ops ++ inserts_from id parent cs)
+pub run_held : {size : Size} (cs : List ℕ) (ops : List Op) (front back : List Element) (id : OpId) (parent : Option OpId) (start : ℕ) (newest later : FinMap nat_cmp ℕ) → 0 < length cs → Holds (record { elements = front ++ back; newest = newest }) ops → AcceptsRun size ops id parent cs → IsStart ops (front ++ back) parent start → IsPast (front ++ back) id start (length front) → ((op : Op) → ((id_of op).node ≡ id.node) → ((id_of op).counter + 1 ≡ id.counter + length cs) → IsNewest (ops ++ op ∷ []) later) → Holds (record { elements = front ++ (elements_from id cs ++ back); newest = later }) (ops ++ inserts_from id parent cs)
 run_held cs ops front back id parent start newest later some h a st past noted =
     let size : length (front ++ back) ≡ count_by is_insert ops = h.size in
     record {

@@ -1,6 +1,7 @@
 -- A run that is inserted whole.
-use Rattle.std.proofs.Common.{◌≡◌, ℕ, zero, suc, ◌+◌, ◌<◌, ◌≤◌, true, List, [], ◌∷◌, ◌++◌, Option, Some, inl, inr, length, take, refl, sym, ap, subst, ◌∙◌, arith, ⊎_elim, append_assoc, length-append}
+use Rattle.std.proofs.Common.{◌≡◌, ℕ, zero, suc, ◌+◌, ◌<◌, ◌≤◌, true, List, [], ◌∷◌, ◌++◌, Option, Some, inl, inr, length, take, refl, sym, ap, subst, ◌∙◌, arith, ⊎_elim, append_assoc, length-append, encode_utf8_all}
 use Rattle.std.specs.List.{slice_get, Contains, count_by}
+use Rattle.std.specs.Char.{encode_utf8}
 use Rattle.std.proofs.lemmas.Bool.{cases_lt}
 use Rattle.std.proofs.lemmas.Option.{same_Some, none-some}
 use Rattle.std.proofs.lemmas.List.{append-nil}
@@ -10,27 +11,40 @@ use Rattle.change_ops.specs.Runs.{next_id, inserts_from}
 use Rattle.change_ops.specs.declared.id.OpId.{OpId}
 use Rattle.change_ops.specs.declared.operation.Op.{Op}
 use Rattle.change_ops.specs.declared.operation.Op.TheVariants.{Insert}
+use Rattle.change_ops.specs.declared.size.Size.{Size}
+use Rattle.change_ops.specs.Sizes.{most_characters, most_bytes}
 use Rattle.char_sequence.specs.declared.sequence.Element.{Element}
 use Rattle.char_sequence.specs.Tree.{Present}
 use Rattle.char_sequence.specs.Order.{Shows}
-use Rattle.char_sequence.specs.Acceptance.{Used, Accepts, AcceptsAll}
+use Rattle.char_sequence.specs.Acceptance.{Used, HasNoRoom, Accepts, AcceptsAll}
+use Rattle.char_sequence.specs.Visible.{visible_text}
 use Rattle.char_sequence.specs.Places.{IsStart, IsPast}
 use Rattle.char_sequence.proofs.Ids.{less_trans, less_by_counter}
 use Rattle.char_sequence.proofs.Inserting.{start_after}
 use Rattle.char_sequence.proofs.Holding.{tree_push, distinct_push, named_push, text_insert, count_push}
 use Rattle.char_sequence.specs.RunElements.{elements_from, AcceptsRun}
 use Rattle.char_sequence.proofs.Lists.{insert_append}
+use Rattle.char_sequence.proofs.Growing.{one_inserted, inserted_bytes, bytes_room}
 
 -- ---- which runs are accepted
-first_accepted : (ops : List Op) (id : OpId) (parent : Option OpId) (c : ℕ) (cs : List ℕ) → AcceptsRun ops id parent (c ∷ cs) → Accepts ops (Insert id parent c)
-first_accepted ops id parent c cs a = record {
+first_accepted : {size : Size} (ops : List Op) (id : OpId) (parent : Option OpId) (c : ℕ) (cs : List ℕ) → AcceptsRun size ops id parent (c ∷ cs) → Accepts size ops (Insert id parent c)
+first_accepted {size} ops id parent c cs a = record {
   fresh = λ stale. ⊎_elim (λ (u : Used ops id). a.fresh u) (λ (u : (x : OpId) × Names (Insert id parent c) x × (id.counter ≤ x.counter)). a.above u.0 u.1 u.2) stale;
   known = λ x n. a.known x n;
-  room = λ full. let have = a.room in let none : 32768 ≤ count_by is_insert ops = full.1 in absurd (omega arith);
+  room =
+      λ full.
+      ⊎_elim
+      (λ (many : most_characters size ≤ count_by is_insert ops). let have = a.room in absurd (omega (arith, have)))
+      (λ (none : HasNoRoom ops (Insert id parent c)).
+      let space = a.space none.0 none.1 in
+      let more : most_bytes < length (visible_text none.0) + length (encode_utf8 c) = none.2 in
+      let both = length-append (encode_utf8 c) (encode_utf8_all cs) in
+      absurd (omega (arith, space, more, both)))
+      full.1;
 }
 
-rest_accepted : (ops : List Op) (id : OpId) (parent : Option OpId) (c : ℕ) (cs : List ℕ) → AcceptsRun ops id parent (c ∷ cs) → AcceptsRun (ops ++ Insert id parent c ∷ []) (next_id id) (Some id) cs
-rest_accepted ops id parent c cs a = record {
+rest_accepted : {size : Size} (ops : List Op) (es : List Element) (id : OpId) (parent : Option OpId) (c : ℕ) (cs : List ℕ) → Shows es ops → AcceptsRun size ops id parent (c ∷ cs) → AcceptsRun size (ops ++ Insert id parent c ∷ []) (next_id id) (Some id) cs
+rest_accepted {size} ops es id parent c cs h a = record {
   fresh =
       λ used.
       ⊎_elim
@@ -47,23 +61,30 @@ rest_accepted ops id parent c cs a = record {
       absurd (omega arith);
   known = λ x e. subst (λ z. Present (ops ++ Insert id parent c ∷ []) z) (same_Some id x e) (parent, (c, Contains-push ops (Insert id parent c)));
   room =
-      let have : count_by is_insert ops + length (c ∷ cs) ≤ 32768 = a.room in
+      let have : count_by is_insert ops + length (c ∷ cs) ≤ most_characters size = a.room in
       let count : count_by is_insert (ops ++ Insert id parent c ∷ []) ≡ count_by is_insert ops + 1 = count_push is_insert ops (Insert id parent c) in
       omega arith;
+  space =
+      λ later shown.
+      let grown = inserted_bytes ops es later id parent c h (first_accepted ops id parent c cs a) shown in
+      let space = a.space es h in
+      let both = length-append (encode_utf8 c) (encode_utf8_all cs) in
+      omega (arith, grown, space, both);
 }
 
 -- Of a run that is accepted whole, each insert is accepted after those before it.
-pub run_accepted : (cs : List ℕ) (ops : List Op) (id : OpId) (parent : Option OpId) → AcceptsRun ops id parent cs → AcceptsAll ops (inserts_from id parent cs)
+pub run_accepted : {size : Size} (cs : List ℕ) (ops : List Op) (es : List Element) (id : OpId) (parent : Option OpId) → Shows es ops → AcceptsRun size ops id parent cs → AcceptsAll size ops (inserts_from id parent cs)
 unfolding inserts_from
-run_accepted [] ops id parent a i op g = absurd (none-some op g)
-run_accepted (c ∷ cs) ops id parent a zero op g =
-    subst (λ o. Accepts (ops ++ []) o) (same_Some (Insert id parent c) op g) (subst (λ l. Accepts l (Insert id parent c)) (sym (append-nil ops)) (first_accepted ops id parent c cs a))
-run_accepted (c ∷ cs) ops id parent a (suc i) op g =
-    subst (λ l. Accepts l op) (append_assoc ops (Insert id parent c ∷ []) (take i (inserts_from (next_id id) (Some id) cs)))
-    (run_accepted cs (ops ++ Insert id parent c ∷ []) (next_id id) (Some id) (rest_accepted ops id parent c cs a) i op g)
+run_accepted [] ops es id parent h a i op g = absurd (none-some op g)
+run_accepted {size} (c ∷ cs) ops es id parent h a zero op g =
+    subst (λ o. Accepts size (ops ++ []) o) (same_Some (Insert id parent c) op g) (subst (λ l. Accepts size l (Insert id parent c)) (sym (append-nil ops)) (first_accepted ops id parent c cs a))
+run_accepted {size} (c ∷ cs) ops es id parent h a (suc i) op g =
+    let next = one_inserted ops es id parent c h (first_accepted ops id parent c cs a) in
+    subst (λ l. Accepts size l op) (append_assoc ops (Insert id parent c ∷ []) (take i (inserts_from (next_id id) (Some id) cs)))
+    (run_accepted cs (ops ++ Insert id parent c ∷ []) next.0 (next_id id) (Some id) next.1 (rest_accepted ops es id parent c cs h a) i op g)
 
 -- ---- where it stands
-one_shown : (ops : List Op) (front back : List Element) (id : OpId) (parent : Option OpId) (c start : ℕ) → Shows (front ++ back) ops → Accepts ops (Insert id parent c) → IsStart ops (front ++ back) parent start → IsPast (front ++ back) id start (length front) → Shows (front ++ record { id = id; character = c; visible = true } ∷ back) (ops ++ Insert id parent c ∷ [])
+one_shown : {size : Size} (ops : List Op) (front back : List Element) (id : OpId) (parent : Option OpId) (c start : ℕ) → Shows (front ++ back) ops → Accepts size ops (Insert id parent c) → IsStart ops (front ++ back) parent start → IsPast (front ++ back) id start (length front) → Shows (front ++ record { id = id; character = c; visible = true } ∷ back) (ops ++ Insert id parent c ∷ [])
 one_shown ops front back id parent c start h a st past =
     let e : Element = record { id = id; character = c; visible = true } in
     subst (λ l. Shows l (ops ++ Insert id parent c ∷ [])) (insert_append front back e)
@@ -88,7 +109,7 @@ element_behind (y ∷ front) back e x g =
     element_behind front back e x (ap (slice_get (y ∷ (front ++ e ∷ back))) same ∙ g)
 
 -- A run stands as one piece where its first character goes.
-pub run_shown : (cs : List ℕ) (ops : List Op) (front back : List Element) (id : OpId) (parent : Option OpId) (start : ℕ) → Shows (front ++ back) ops → AcceptsRun ops id parent cs → IsStart ops (front ++ back) parent start → IsPast (front ++ back) id start (length front) → Shows (front ++ (elements_from id cs ++ back)) (ops ++ inserts_from id parent cs)
+pub run_shown : {size : Size} (cs : List ℕ) (ops : List Op) (front back : List Element) (id : OpId) (parent : Option OpId) (start : ℕ) → Shows (front ++ back) ops → AcceptsRun size ops id parent cs → IsStart ops (front ++ back) parent start → IsPast (front ++ back) id start (length front) → Shows (front ++ (elements_from id cs ++ back)) (ops ++ inserts_from id parent cs)
 unfolding inserts_from
 run_shown [] ops front back id parent start h a st past = subst (λ l. Shows (front ++ back) l) (sym (append-nil ops)) h
 run_shown (c ∷ cs) ops front back id parent start h a st past =
@@ -105,7 +126,7 @@ run_shown (c ∷ cs) ops front back id parent start h a st past =
     let same = split_push front back e in
     let rest : Shows ((front ++ e ∷ []) ++ (elements_from (next_id id) cs ++ back)) ((ops ++ op ∷ []) ++ inserts_from (next_id id) (Some id) cs) =
     run_shown cs (ops ++ op ∷ []) (front ++ e ∷ []) back (next_id id) (Some id) (length front + 1)
-    (subst (λ l. Shows l (ops ++ op ∷ [])) same one) (rest_accepted ops id parent c cs a)
+    (subst (λ l. Shows l (ops ++ op ∷ [])) same one) (rest_accepted ops (front ++ back) id parent c cs h a)
     (subst (λ l. IsStart (ops ++ op ∷ []) l (Some id) (length front + 1)) same begins)
     (subst (λ n. IsPast ((front ++ e ∷ []) ++ back) (next_id id) (length front + 1) n) (sym size) (subst (λ l. IsPast l (next_id id) (length front + 1) (length front + 1)) same past')) in
     subst (λ l. Shows l (ops ++ inserts_from id parent (c ∷ cs))) (append_assoc front (e ∷ []) (elements_from (next_id id) cs ++ back))
@@ -113,30 +134,42 @@ run_shown (c ∷ cs) ops front back id parent start h a st past =
 
 -- ---- no others are accepted
 -- A run of which each insert is accepted after those before it is accepted whole.
-pub run_accepted_only : (cs : List ℕ) (c : ℕ) (ops : List Op) (id : OpId) (parent : Option OpId) → AcceptsAll ops (inserts_from id parent (c ∷ cs)) → AcceptsRun ops id parent (c ∷ cs)
+pub run_accepted_only : {size : Size} (cs : List ℕ) (c : ℕ) (ops : List Op) (id : OpId) (parent : Option OpId) → AcceptsAll size ops (inserts_from id parent (c ∷ cs)) → AcceptsRun size ops id parent (c ∷ cs)
 unfolding inserts_from
-run_accepted_only [] c ops id parent all =
-    let first : Accepts ops (Insert id parent c) = subst (λ l. Accepts l (Insert id parent c)) (append-nil ops) (all 0 (Insert id parent c) refl) in
+run_accepted_only {size} [] c ops id parent all =
+    let first : Accepts size ops (Insert id parent c) = subst (λ l. Accepts size l (Insert id parent c)) (append-nil ops) (all 0 (Insert id parent c) refl) in
     record {
       fresh = λ used. first.fresh (inl used);
       above = λ x e le. first.fresh (inr (x, e, le));
       known = λ x e. first.known x e;
       room =
           ⊎_elim
-          (λ (low : count_by is_insert ops < 32768). omega arith)
-          (λ (full : 32768 ≤ count_by is_insert ops). absurd (first.room (refl, full)))
-          (cases_lt (count_by is_insert ops) 32768);
+          (λ (low : count_by is_insert ops < most_characters size). omega arith)
+          (λ (full : most_characters size ≤ count_by is_insert ops). absurd (first.room (refl, inl full)))
+          (cases_lt (count_by is_insert ops) (most_characters size));
+      space =
+          λ es h.
+          let fits : length (visible_text es) + length (encode_utf8 c) ≤ most_bytes = bytes_room ops es (Insert id parent c) refl h first in
+          let both = length-append (encode_utf8 c) [] in
+          omega (arith, fits, both);
     }
-run_accepted_only (d ∷ cs) c ops id parent all =
-    let first : Accepts ops (Insert id parent c) = subst (λ l. Accepts l (Insert id parent c)) (append-nil ops) (all 0 (Insert id parent c) refl) in
-    let rest : AcceptsRun (ops ++ Insert id parent c ∷ []) (next_id id) (Some id) (d ∷ cs) =
+run_accepted_only {size} (d ∷ cs) c ops id parent all =
+    let first : Accepts size ops (Insert id parent c) = subst (λ l. Accepts size l (Insert id parent c)) (append-nil ops) (all 0 (Insert id parent c) refl) in
+    let rest : AcceptsRun size (ops ++ Insert id parent c ∷ []) (next_id id) (Some id) (d ∷ cs) =
     run_accepted_only cs d (ops ++ Insert id parent c ∷ []) (next_id id) (Some id)
-    (λ i op g. subst (λ l. Accepts l op) (sym (append_assoc ops (Insert id parent c ∷ []) (take i (inserts_from (next_id id) (Some id) (d ∷ cs))))) (all (suc i) op g)) in
+    (λ i op g. subst (λ l. Accepts size l op) (sym (append_assoc ops (Insert id parent c ∷ []) (take i (inserts_from (next_id id) (Some id) (d ∷ cs))))) (all (suc i) op g)) in
     let count : count_by is_insert (ops ++ Insert id parent c ∷ []) ≡ count_by is_insert ops + 1 = count_push is_insert ops (Insert id parent c) in
-    let room : count_by is_insert (ops ++ Insert id parent c ∷ []) + length (d ∷ cs) ≤ 32768 = rest.room in
+    let room : count_by is_insert (ops ++ Insert id parent c ∷ []) + length (d ∷ cs) ≤ most_characters size = rest.room in
     record {
       fresh = λ used. first.fresh (inl used);
       above = λ x e le. first.fresh (inr (x, e, le));
       known = λ x e. first.known x e;
       room = omega arith;
+      space =
+          λ es h.
+          let next = one_inserted ops es id parent c h first in
+          let space = rest.space next.0 next.1 in
+          let grown = next.2 in
+          let both = length-append (encode_utf8 c) (encode_utf8_all (d ∷ cs)) in
+          omega (arith, space, grown, both);
     }

@@ -111,7 +111,7 @@ entered_rest old more id count name all = record {
       (same_id_cases id q);
 }
 
-pub kept_run : (chs : List ℕ) (cs : List (List Element)) (names : List ℕ) (index more : OpId → Option ℕ) (p at n count : ℕ) (c : List Element) (id : OpId) → IsKept cs names index count → slice_get cs p ≡ Some c → slice_get names p ≡ Some n → at ≤ length c → length (joined cs) + length chs ≤ 32768 → AreEntered index more id (length chs) n → IsKept (set cs p (insert_all c at (elements_from id chs))) names more (count + length chs)
+pub kept_run : (chs : List ℕ) (cs : List (List Element)) (names : List ℕ) (index more : OpId → Option ℕ) (p at n count : ℕ) (c : List Element) (id : OpId) → IsKept cs names index count → slice_get cs p ≡ Some c → slice_get names p ≡ Some n → at ≤ length c → length (joined cs) + length chs ≤ 262144 → AreEntered index more id (length chs) n → IsKept (set cs p (insert_all c at (elements_from id chs))) names more (count + length chs)
 kept_run [] cs names index more p at n count c id ok here name h few all =
     let same : count ≡ count + 0 = omega arith in
     subst (λ z. IsKept z names more (count + 0)) (sym (set_here cs p c here))

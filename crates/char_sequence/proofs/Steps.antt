@@ -12,10 +12,13 @@ use Rattle.change_ops.specs.Operations.{id_of, is_insert, Names}
 use Rattle.change_ops.specs.declared.id.OpId.{OpId}
 use Rattle.change_ops.specs.declared.operation.Op.{Op}
 use Rattle.change_ops.specs.declared.operation.Op.TheVariants.{Insert, Remove}
+use Rattle.change_ops.specs.declared.size.Size.{Size}
+use Rattle.change_ops.specs.Sizes.{most_characters, most_bytes}
 use Rattle.char_sequence.specs.declared.sequence.Element.{Element}
 use Rattle.char_sequence.specs.Tree.{Present, Removed, IsTree}
 use Rattle.char_sequence.specs.Order.{IsAt, IsText, Shows}
-use Rattle.char_sequence.specs.Acceptance.{Used, IsUnknown, Accepts}
+use Rattle.char_sequence.specs.Acceptance.{Used, IsUnknown, HasNoRoom, bytes_of, Accepts}
+use Rattle.char_sequence.specs.Visible.{visible_text}
 use Rattle.char_sequence.specs.Newest.{IsNewest}
 use Rattle.char_sequence.specs.Held.{Sequence, Holds}
 use Rattle.char_sequence.specs.Places.{IsStart, IsPast, IsAfter}
@@ -23,6 +26,8 @@ use Rattle.char_sequence.specs.Index.{HasId}
 use Rattle.char_sequence.specs.Named.{IsAboveAll}
 use Rattle.char_sequence.proofs.Counters.{used_other}
 use Rattle.char_sequence.proofs.Inserting.{start_root, start_after}
+use Rattle.char_sequence.proofs.OneOrder.{one_text}
+use Rattle.char_sequence.proofs.VisibleText.{bytes_hidden}
 use Rattle.char_sequence.proofs.Holding.{present_at, listed_ids, text_insert, text_remove, tree_push, distinct_push, named_push, count_push}
 
 -- ---- places
@@ -59,7 +64,7 @@ begins ops es None start t text e = subst (λ n. IsStart ops es None n) (sym e) 
 begins ops es (Some m) start t text (k, (x, g, is), e) = subst (λ n. IsStart ops es (Some m) n) (sym e) (start_after ops es text.ordered k x m g is)
 
 -- the elements with the new one put in
-pub placed_text : (es ds es' : List Element) (id : OpId) (p : Option OpId) (c start k : ℕ) → IsAfter es p start → IsPast es id start k → k ≤ length es → ds ≡ es → es' ≡ insert ds k (record { id = id; character = c; visible = true }) → (ops : List Op) → IsTree ops → ((o : Op) (x : OpId) → Contains ops o → Names o x → Present ops x) → IsText ops es → Accepts ops (Insert id p c) → IsText (ops ++ Insert id p c ∷ []) es'
+pub placed_text : {size : Size} (es ds es' : List Element) (id : OpId) (p : Option OpId) (c start k : ℕ) → IsAfter es p start → IsPast es id start k → k ≤ length es → ds ≡ es → es' ≡ insert ds k (record { id = id; character = c; visible = true }) → (ops : List Op) → IsTree ops → ((o : Op) (x : OpId) → Contains ops o → Names o x → Present ops x) → IsText ops es → Accepts size ops (Insert id p c) → IsText (ops ++ Insert id p c ∷ []) es'
 placed_text es ds es' id p c start k after past within same new ops t named text a =
     let e : Element = record { id = id; character = c; visible = true } in
     subst (λ z. IsText (ops ++ Insert id p c ∷ []) z) (sym (new ∙ ap (λ z. insert z k e) same))
@@ -78,9 +83,16 @@ text_hidden es fs target (k, at, new) ops id t text present = hidden_text es fs 
 pub hidden_size : (es fs : List Element) (target : OpId) (k : ℕ) → IsAt es target k → ((x : Element) → slice_get es k ≡ Some x → fs ≡ set es k (record { id = x.id; character = x.character; visible = false })) → length fs ≡ length es
 hidden_size es fs target k (x, g, is) new = ap length (new x g) ∙ length-set es k (record { id = x.id; character = x.character; visible = false })
 
+pub hidden_bytes : (es fs : List Element) (target : OpId) → (k : ℕ) × IsAt es target k × ((x : Element) → slice_get es k ≡ Some x → fs ≡ set es k (record { id = x.id; character = x.character; visible = false })) → length (visible_text fs) ≤ length (visible_text es)
+hidden_bytes es fs target (k, (x, g, is), new) =
+    let e : Element = record { id = x.id; character = x.character; visible = false } in
+    let less = bytes_hidden es k x e g refl in
+    let same = ap (λ l. length (visible_text l)) (new x g) in
+    omega (arith, less, same)
+
 -- ---- whole operations
 -- what is shown of the operations with one more, where its text is
-pub pushed_shows : (ops : List Op) (es es' : List Element) (op : Op) → Shows es ops → Accepts ops op → IsText (ops ++ op ∷ []) es' → Shows es' (ops ++ op ∷ [])
+pub pushed_shows : {size : Size} (ops : List Op) (es es' : List Element) (op : Op) → Shows es ops → Accepts size ops op → IsText (ops ++ op ∷ []) es' → Shows es' (ops ++ op ∷ [])
 pushed_shows ops es es' op h a text = record {
   tree = tree_push ops h.tree op a;
   distinct = distinct_push ops op a h.distinct;
@@ -88,18 +100,18 @@ pushed_shows ops es es' op h a text = record {
   text = text;
 }
 
-pub inserted_shows : (es es' : List Element) (op : Op) (id : OpId) (p : Option OpId) (c : ℕ) → op ≡ Insert id p c → ((ops : List Op) → IsTree ops → ((o : Op) (x : OpId) → Contains ops o → Names o x → Present ops x) → IsText ops es → Accepts ops (Insert id p c) → IsText (ops ++ Insert id p c ∷ []) es') → (ops : List Op) → Shows es ops → Accepts ops op → Shows es' (ops ++ op ∷ [])
-inserted_shows es es' op id p c is text ops h a =
-    pushed_shows ops es es' op h a (subst (λ o. IsText (ops ++ o ∷ []) es') (sym is) (text ops h.tree h.named h.text (subst (λ o. Accepts ops o) is a)))
+pub inserted_shows : {size : Size} (es es' : List Element) (op : Op) (id : OpId) (p : Option OpId) (c : ℕ) → op ≡ Insert id p c → ((ops : List Op) → IsTree ops → ((o : Op) (x : OpId) → Contains ops o → Names o x → Present ops x) → IsText ops es → Accepts size ops (Insert id p c) → IsText (ops ++ Insert id p c ∷ []) es') → (ops : List Op) → Shows es ops → Accepts size ops op → Shows es' (ops ++ op ∷ [])
+inserted_shows {size} es es' op id p c is text ops h a =
+    pushed_shows ops es es' op h a (subst (λ o. IsText (ops ++ o ∷ []) es') (sym is) (text ops h.tree h.named h.text (subst (λ o. Accepts size ops o) is a)))
 
-pub removed_shows : (es es' : List Element) (op : Op) (id target : OpId) → op ≡ Remove id target → ((ops : List Op) (id : OpId) → IsTree ops → IsText ops es → Present ops target → IsText (ops ++ Remove id target ∷ []) es') → (ops : List Op) → Shows es ops → Accepts ops op → Shows es' (ops ++ op ∷ [])
+pub removed_shows : {size : Size} (es es' : List Element) (op : Op) (id target : OpId) → op ≡ Remove id target → ((ops : List Op) (id : OpId) → IsTree ops → IsText ops es → Present ops target → IsText (ops ++ Remove id target ∷ []) es') → (ops : List Op) → Shows es ops → Accepts size ops op → Shows es' (ops ++ op ∷ [])
 removed_shows es es' op id target is text ops h a =
     pushed_shows ops es es' op h a (subst (λ o. IsText (ops ++ o ∷ []) es') (sym is) (text ops id h.tree h.text (a.known target (subst (λ o. Names o target) (sym is) refl))))
 
-pub not_used : (ops : List Op) (op : Op) (id : OpId) → id_of op ≡ id → Accepts ops op → Used ops id → ⊥
+pub not_used : {size : Size} (ops : List Op) (op : Op) (id : OpId) → id_of op ≡ id → Accepts size ops op → Used ops id → ⊥
 not_used ops op id is a u = a.fresh (inl (subst (λ z. Used ops z) (sym is) u))
 
-pub inserted_held : (es es' : List Element) (last last' : FinMap nat_cmp ℕ) (op : Op) (id : OpId) (p : Option OpId) (c : ℕ) → op ≡ Insert id p c → ((ops : List Op) → IsTree ops → ((o : Op) (x : OpId) → Contains ops o → Names o x → Present ops x) → IsText ops es → Accepts ops (Insert id p c) → IsText (ops ++ Insert id p c ∷ []) es') → length es' ≡ length es + 1 → ((ops : List Op) (o : Op) → id_of o ≡ id → IsNewest ops last → IsNewest (ops ++ o ∷ []) last') → (ops : List Op) → Holds (record { elements = es; newest = last }) ops → Accepts ops op → Holds (record { elements = es'; newest = last' }) (ops ++ op ∷ [])
+pub inserted_held : {size : Size} (es es' : List Element) (last last' : FinMap nat_cmp ℕ) (op : Op) (id : OpId) (p : Option OpId) (c : ℕ) → op ≡ Insert id p c → ((ops : List Op) → IsTree ops → ((o : Op) (x : OpId) → Contains ops o → Names o x → Present ops x) → IsText ops es → Accepts size ops (Insert id p c) → IsText (ops ++ Insert id p c ∷ []) es') → length es' ≡ length es + 1 → ((ops : List Op) (o : Op) → id_of o ≡ id → IsNewest ops last → IsNewest (ops ++ o ∷ []) last') → (ops : List Op) → Holds (record { elements = es; newest = last }) ops → Accepts size ops op → Holds (record { elements = es'; newest = last' }) (ops ++ op ∷ [])
 inserted_held es es' last last' op id p c is text size note ops h a =
     let counted = count_push is_insert ops op in
     let one : is_insert op ≡ true = ap is_insert is in
@@ -109,7 +121,7 @@ inserted_held es es' last last' op id p c is text size note ops h a =
       size = size ∙ ap (λ n. n + 1) h.size ∙ sym (counted ∙ ap (λ b. count_by is_insert ops + cond b 1 0) one);
     }
 
-pub removed_held : (es es' : List Element) (last last' : FinMap nat_cmp ℕ) (op : Op) (id target : OpId) → op ≡ Remove id target → ((ops : List Op) (id : OpId) → IsTree ops → IsText ops es → Present ops target → IsText (ops ++ Remove id target ∷ []) es') → length es' ≡ length es → ((ops : List Op) (o : Op) → id_of o ≡ id → IsNewest ops last → IsNewest (ops ++ o ∷ []) last') → (ops : List Op) → Holds (record { elements = es; newest = last }) ops → Accepts ops op → Holds (record { elements = es'; newest = last' }) (ops ++ op ∷ [])
+pub removed_held : {size : Size} (es es' : List Element) (last last' : FinMap nat_cmp ℕ) (op : Op) (id target : OpId) → op ≡ Remove id target → ((ops : List Op) (id : OpId) → IsTree ops → IsText ops es → Present ops target → IsText (ops ++ Remove id target ∷ []) es') → length es' ≡ length es → ((ops : List Op) (o : Op) → id_of o ≡ id → IsNewest ops last → IsNewest (ops ++ o ∷ []) last') → (ops : List Op) → Holds (record { elements = es; newest = last }) ops → Accepts size ops op → Holds (record { elements = es'; newest = last' }) (ops ++ op ∷ [])
 removed_held es es' last last' op id target is text size note ops h a =
     let counted = count_push is_insert ops op in
     let none : is_insert op ≡ false = ap is_insert is in
@@ -120,16 +132,22 @@ removed_held es es' last last' op id target is text size note ops h a =
     }
 
 -- an accepted insert has room
-pub has_room : (ops : List Op) (op : Op) (n m : ℕ) → m ≡ n + 1 → n ≡ count_by is_insert ops → is_insert op ≡ true → Accepts ops op → m ≤ 32768
-has_room ops op n m one size i a =
+pub has_room : {size : Size} (ops : List Op) (op : Op) (n m : ℕ) → m ≡ n + 1 → n ≡ count_by is_insert ops → is_insert op ≡ true → Accepts size ops op → m ≤ most_characters size
+has_room {size} ops op n m one count i a =
     ⊎_elim
-    (λ (less : n < 32768). omega arith)
-    (λ (full : 32768 ≤ n). absurd (a.room (i, omega arith)))
-    (cases_lt n 32768)
+    (λ (less : n < most_characters size). omega arith)
+    (λ (full : most_characters size ≤ n). absurd (a.room (i, inl (omega arith))))
+    (cases_lt n (most_characters size))
+
+-- the elements say how much room there is, whatever the operations are
+pub no_room_other : (es : List Element) (ops others : List Op) (op : Op) → Shows es ops → Shows es others → HasNoRoom others op → HasNoRoom ops op
+no_room_other es ops others op h k (fs, shown, more) =
+    let same : fs ≡ es = one_text others k.tree fs es shown.text k.text in
+    (es, h, subst (λ l. most_bytes < length (visible_text l) + bytes_of op) same more)
 
 -- what is held decides which operations are accepted, whatever the operations are
-pub accepts_other : (c : Sequence) (ops others : List Op) (op : Op) → Holds c ops → Holds c others → Accepts ops op → Accepts others op
-accepts_other c ops others op h k a = record {
+pub accepts_other : {size : Size} (c : Sequence) (ops others : List Op) (op : Op) → Holds c ops → Holds c others → Accepts size ops op → Accepts size others op
+accepts_other {size} c ops others op h k a = record {
   fresh =
       λ s.
       ⊎_elim
@@ -144,8 +162,13 @@ accepts_other c ops others op h k a = record {
       λ full.
       let here = h.size in
       let there = k.size in
-      let many : 32768 ≤ count_by is_insert others = full.1 in
-      a.room (full.0, omega arith);
+      a.room (
+        full.0,
+        ⊎_elim
+            (λ (many : most_characters size ≤ count_by is_insert others). inl (omega arith))
+            (λ (none : HasNoRoom others op). inr (no_room_other c.elements ops others op h.shows k.shows none))
+            full.1,
+      );
 }
 
 -- ---- checks
@@ -167,7 +190,7 @@ not_true true e = sym e
 not_true false e = refl
 
 -- the id of an accepted operation is above those of its node's elements
-pub above_all : (ops : List Op) (op : Op) (es ds : List Element) (id : OpId) → id_of op ≡ id → ds ≡ es → IsText ops es → Accepts ops op → IsAboveAll ds id
+pub above_all : {size : Size} (ops : List Op) (op : Op) (es ds : List Element) (id : OpId) → id_of op ≡ id → ds ≡ es → IsText ops es → Accepts size ops op → IsAboveAll ds id
 above_all ops op es ds id is same text a k e g node =
     let there : slice_get es k ≡ Some e = ap (λ z. slice_get z k) (sym same) ∙ g in
     let from = text.inserted k e there in

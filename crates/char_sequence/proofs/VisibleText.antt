@@ -1,13 +1,18 @@
 -- The visible text of lists.
-use Rattle.std.proofs.Common.{◌≡◌, ℕ, ◌+◌, ◌*◌, ◌<◌, ◌≤◌, true, false, cond, List, [], ◌∷◌, ◌++◌, length, map, get_or, take, drop, ap, refl, ◌∙◌, arith, encode_utf8_all, append-nil, length-append}
-use Rattle.std.specs.List.{filter}
+use Rattle.std.proofs.Common.{◌≡◌, ℕ, zero, suc, ◌+◌, ◌*◌, ◌<◌, ◌≤◌, true, false, cond, List, [], ◌∷◌, ◌++◌, Some, length, map, set, get_or, take, drop, ap, refl, sym, ◌∙◌, arith, encode_utf8_all, append-nil, length-append}
+use Rattle.std.specs.List.{filter, slice_get, insert}
 use Rattle.std.specs.Char.{encode_utf8}
 use Rattle.std.proofs.lemmas.Str.{encodes-append, length-encode, len_utf8_bounds}
-use Rattle.std.proofs.lemmas.List.{map-append}
+use Rattle.std.proofs.lemmas.List.{map-append, take-append-drop}
+use Rattle.std.proofs.lemmas.Option.{none-some}
+use Rattle.std.proofs.lemmas.List.Edits.{length-insert}
 use Rattle.std.proofs.lemmas.List.Elements.{filter-append}
 use Rattle.std.proofs.lemmas.Grind.{common_steps}
+use Rattle.change_ops.specs.Runs.{next_id}
+use Rattle.change_ops.specs.declared.id.OpId.{OpId}
 use Rattle.char_sequence.specs.declared.sequence.Element.{Element}
 use Rattle.char_sequence.specs.Visible.{visible_text}
+use Rattle.char_sequence.specs.RunElements.{elements_from, insert_all}
 
 pub visible_none : visible_text [] ≡ []
 unfolding visible_text
@@ -69,3 +74,59 @@ visible_most (e ∷ es) =
     in
     let one = one_most e in
     omega arith
+
+-- ---- as elements change
+pub bytes_append : (xs ys : List Element) → length (visible_text (xs ++ ys)) ≡ length (visible_text xs) + length (visible_text ys)
+bytes_append xs ys = ap length (visible_append xs ys) ∙ length-append (visible_text xs) (visible_text ys)
+
+pub bytes_next : (x : Element) (xs : List Element) → length (visible_text (x ∷ xs)) ≡ length (visible_text (x ∷ [])) + length (visible_text xs)
+bytes_next x xs = bytes_append (x ∷ []) xs
+
+pub bytes_insert : (es : List Element) (k : ℕ) (e : Element) → k ≤ length es → length (visible_text (insert es k e)) ≡ length (visible_text es) + length (visible_text (e ∷ []))
+bytes_insert es zero e h = let one = bytes_next e es in omega (arith, one)
+bytes_insert [] (suc k) e h = absurd (omega arith)
+bytes_insert (x ∷ xs) (suc k) e h =
+    let rest = bytes_insert xs k e (omega arith) in
+    let new = bytes_next x (insert xs k e) in
+    let old = bytes_next x xs in
+    omega (arith, rest, new, old)
+
+pub bytes_insert_all : (added es : List Element) (k : ℕ) → k ≤ length es → length (visible_text (insert_all es k added)) ≡ length (visible_text es) + length (visible_text added)
+bytes_insert_all [] es k h = let none = ap length visible_none in omega (arith, none)
+bytes_insert_all (e ∷ added) es k h =
+    let size = length-insert es k e h in
+    let rest = bytes_insert_all added (insert es k e) (k + 1) (omega (arith, size)) in
+    let first = bytes_insert es k e h in
+    let both = bytes_next e added in
+    omega (arith, rest, first, both)
+
+-- an element that is hidden makes the text no longer
+pub bytes_hidden : (es : List Element) (k : ℕ) (x e : Element) → slice_get es k ≡ Some x → e.visible ≡ false → length (visible_text (set es k e)) ≤ length (visible_text es)
+bytes_hidden [] k x e g f = absurd (none-some x g)
+bytes_hidden (y ∷ ys) zero x e g f =
+    let none = ap length (hidden_one e f) in
+    let new = bytes_next e ys in
+    let old = bytes_next y ys in
+    omega (arith, none, new, old)
+bytes_hidden (y ∷ ys) (suc k) x e g f =
+    let rest = bytes_hidden ys k x e g f in
+    let new = bytes_next y (set ys k e) in
+    let old = bytes_next y ys in
+    omega (arith, rest, new, old)
+
+-- ---- runs
+pub run_text : (cs : List ℕ) (id : OpId) → visible_text (elements_from id cs) ≡ encode_utf8_all cs
+run_text [] id = visible_none
+run_text (c ∷ cs) id =
+    let e : Element = record { id = id; character = c; visible = true } in
+    visible_append (e ∷ []) (elements_from (next_id id) cs)
+    ∙ ap (λ bs. bs ++ visible_text (elements_from (next_id id) cs)) (visible_one e refl)
+    ∙ ap (λ bs. encode_utf8 c ++ bs) (run_text cs (next_id id))
+
+-- no front of them has a longer text
+pub front_bytes : (n : ℕ) (cs : List ℕ) → length (encode_utf8_all (take n cs)) ≤ length (encode_utf8_all cs)
+front_bytes n cs =
+    let whole : length (encode_utf8_all cs) ≡ length (encode_utf8_all (take n cs)) + length (encode_utf8_all (drop n cs)) =
+    ap (λ l. length (encode_utf8_all l)) (sym (take-append-drop n cs)) ∙ ap length (encodes-append (take n cs) (drop n cs)) ∙ length-append (encode_utf8_all (take n cs)) (encode_utf8_all (drop n cs))
+    in
+    omega (arith, whole)

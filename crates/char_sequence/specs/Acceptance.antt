@@ -1,12 +1,18 @@
 -- Which operations are accepted after others (Peritext, CSCW 2022).
-use Rattle.std.specs.Prelude.{◌≡◌, ◌≤◌, ◌++◌, ◌⊎◌, ℕ, List, Contains, true, Some, count_by, take, slice_get}
-use Rattle.std.specs.Prelude.{Result, Ok, Err}
+use Rattle.std.specs.Prelude.{◌≡◌, ◌≤◌, ◌<◌, ◌+◌, ◌++◌, ◌⊎◌, ℕ, List, Contains, true, Some, count_by, take, slice_get}
+use Rattle.std.specs.Prelude.{Result, Ok, Err, length, encode_utf8}
 use Rattle.change_ops.specs.Operations.{id_of, is_insert, Names}
 use Rattle.change_ops.specs.declared.id.OpId.{OpId}
 use Rattle.change_ops.specs.declared.operation.Op.{Op}
+use Rattle.change_ops.specs.declared.operation.Op.TheVariants.{Insert, Remove, AddMark, RemoveMark}
+use Rattle.change_ops.specs.declared.size.Size.{Size}
+use Rattle.change_ops.specs.Sizes.{most_characters, most_bytes}
+use Rattle.char_sequence.specs.declared.sequence.Element.{Element}
 use Rattle.char_sequence.specs.declared.sequence.SequenceError.{SequenceError}
 use Rattle.char_sequence.specs.declared.sequence.SequenceError.TheVariants.{StaleCounter, UnknownRef, DocumentFull}
 use Rattle.char_sequence.specs.Tree.{Present}
+use Rattle.char_sequence.specs.Order.{Shows}
+use Rattle.char_sequence.specs.Visible.{visible_text}
 
 -- an operation of the same peer has a counter as great
 abbrev pub Used : List Op → OpId → Type 0
@@ -20,22 +26,33 @@ IsStale ops op = Used ops (id_of op) ⊎ ((x : OpId) × Names op x × ((id_of op
 abbrev pub IsUnknown : List Op → Op → Type 0
 IsUnknown ops op = (x : OpId) × Names op x × (Present ops x → ⊥)
 
--- an insert after 32,768 inserts
-abbrev pub IsFull : List Op → Op → Type 0
-IsFull ops op = (is_insert op ≡ true) × (32768 ≤ count_by is_insert ops)
+-- how many bytes of text an operation adds
+abbrev pub bytes_of : Op → ℕ
+bytes_of (Insert id parent character) = length (encode_utf8 character)
+bytes_of (Remove id target) = 0
+bytes_of (AddMark id attribute start end) = 0
+bytes_of (RemoveMark id key start end) = 0
 
-pub record Accepts (ops : List Op) (op : Op) : Type 0 where
+-- the visible text would have more than 131,072 bytes
+abbrev pub HasNoRoom : List Op → Op → Type 0
+HasNoRoom ops op = (es : List Element) × Shows es ops × (most_bytes < length (visible_text es) + bytes_of op)
+
+-- an insert after as many as the size allows, or one whose character the visible text has no room for
+abbrev pub IsFull : Size → List Op → Op → Type 0
+IsFull size ops op = (is_insert op ≡ true) × ((most_characters size ≤ count_by is_insert ops) ⊎ HasNoRoom ops op)
+
+pub record Accepts (size : Size) (ops : List Op) (op : Op) : Type 0 where
   pub fresh : IsStale ops op → ⊥
   pub known : (x : OpId) → Names op x → Present ops x
-  pub room : IsFull ops op → ⊥
+  pub room : IsFull size ops op → ⊥
 
 -- each of several operations is accepted after those before it
-abbrev pub AcceptsAll : List Op → List Op → Type 0
-AcceptsAll ops added = (i : ℕ) (op : Op) → slice_get added i ≡ Some op → Accepts (ops ++ take i added) op
+abbrev pub AcceptsAll : Size → List Op → List Op → Type 0
+AcceptsAll size ops added = (i : ℕ) (op : Op) → slice_get added i ≡ Some op → Accepts size (ops ++ take i added) op
 
 -- what a check answers: the first refusal that applies
-abbrev pub Checked : {T : Type 0} → List Op → Op → Result T SequenceError → Type 0
-Checked ops op (Ok x) = Accepts ops op
-Checked ops op (Err StaleCounter) = IsStale ops op
-Checked ops op (Err UnknownRef) = (IsStale ops op → ⊥) × IsUnknown ops op
-Checked ops op (Err DocumentFull) = (IsStale ops op → ⊥) × (IsUnknown ops op → ⊥) × IsFull ops op
+abbrev pub Checked : {T : Type 0} → Size → List Op → Op → Result T SequenceError → Type 0
+Checked size ops op (Ok x) = Accepts size ops op
+Checked size ops op (Err StaleCounter) = IsStale ops op
+Checked size ops op (Err UnknownRef) = (IsStale ops op → ⊥) × IsUnknown ops op
+Checked size ops op (Err DocumentFull) = (IsStale ops op → ⊥) × (IsUnknown ops op → ⊥) × IsFull size ops op

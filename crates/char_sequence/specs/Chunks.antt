@@ -74,4 +74,4 @@ pub record IsSpotOf (chunks : List (List Element)) (id : OpId) (position at : �
 pub record IsKept (chunks : List (List Element)) (names : List ℕ) (index : OpId → Option ℕ) (count : ℕ) : Type 0 where
   pub indexed : IsIndexed chunks names index
   pub counted : count ≡ length (joined chunks)
-  pub few : length (joined chunks) ≤ 32768
+  pub few : length (joined chunks) ≤ 262144

@@ -3,7 +3,9 @@ use Rattle.std.specs.Prelude.{◌≡◌, ℕ, List, true, length, count_by, Cont
 use Rattle.std.specs.Ordering.{nat_cmp}
 use Rattle.std.specs.FinMap.{FinMap}
 use Rattle.change_ops.specs.Operations.{is_insert}
+use Rattle.change_ops.specs.declared.id.OpId.{OpId}
 use Rattle.change_ops.specs.declared.operation.Op.{Op}
+use Rattle.change_ops.specs.declared.operation.Op.TheVariants.{Remove}
 use Rattle.char_sequence.specs.declared.sequence.Element.{Element}
 use Rattle.char_sequence.specs.Order.{Shows}
 use Rattle.char_sequence.specs.Newest.{IsNewest}
@@ -19,8 +21,10 @@ pub record Holds (c : Sequence) (ops : List Op) : Type 0 where
   pub newest : IsNewest ops c.newest
   pub size : length c.elements ≡ count_by is_insert ops
 
--- the part of the operations has all their inserts, as what a sequence is handed while marks are kept apart
+-- the part of the operations has all their inserts and removals, as what a sequence is handed while marks are kept
+-- apart
 pub record HasInserts (all part : List Op) : Type 0 where
   pub within : (o : Op) → Contains part o → Contains all o
   pub inserts : (o : Op) → is_insert o ≡ true → Contains all o → Contains part o
+  pub removes : (r x : OpId) → Contains all (Remove r x) → Contains part (Remove r x)
   pub count : count_by is_insert part ≡ count_by is_insert all

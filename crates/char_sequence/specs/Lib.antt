@@ -1,12 +1,12 @@
 pub mod Tree
 pub mod Order
+pub mod Visible
 pub mod Acceptance
 pub mod Newest
 pub mod Held
 pub mod Places
 pub mod Index
 pub mod Named
-pub mod Visible
 pub mod Chunks
 pub mod Rooms
 pub mod PlaceTables

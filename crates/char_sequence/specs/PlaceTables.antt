@@ -26,7 +26,7 @@ pub record IsPlaceTable (chunks : List (List Element)) (index : OpId → Option 
       → (at : ChunkStart) × (slice_get starts name ≡ Some at) × IsStartOf chunks id at
   pub missing : (id : OpId) → index id ≡ None → HasId (joined chunks) id → ⊥
   pub counted : count ≡ length (joined chunks)
-  pub few : length (joined chunks) ≤ 32768
+  pub few : length (joined chunks) ≤ 262144
 
 -- the place is in the chunk that stands there, or there is no chunk from there on
 pub record IsChunkAt (chunks : List (List Element)) (place : ℕ) (at : ChunkStart) : Type 0 where

@@ -147,7 +147,8 @@ impl Chunk {
 
     /// The visible text.
     pub(crate) fn text(&self) -> &str
-        ensures { result.now ≡ visible_text self.now }
+        ensures value { result.now ≡ visible_text self.now }
+        ensures few { length result.now ≤ 256 }
     {
         self.text.as_str()
     }

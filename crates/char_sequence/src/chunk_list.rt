@@ -11,6 +11,7 @@ ghost use Rattle.char_sequence.specs.Newest.{IsNewest};
 ghost use Rattle.char_sequence.specs.Index.{same_id, HasId};
 ghost use Rattle.char_sequence.specs.Places.{IsPast, IsAfter};
 ghost use Rattle.char_sequence.specs.Chunks.{joined, start_of};
+ghost use Rattle.char_sequence.specs.Visible.{visible_text};
 ghost use Rattle.char_sequence.specs.Named.{name_of, IsAboveAll};
 ghost use Rattle.char_sequence.specs.RunElements.{elements_from, insert_all, AreEntered};
 
@@ -80,14 +81,18 @@ pub(crate) struct ChunkList {
     // The name of each element's chunk.
     index: Index,
     count: usize,
+    // How many bytes their visible text has.
+    bytes: usize,
     // Where the last element was put, so that who types on finds it at once. Splits move elements, so it is only tried.
     last: Spot,
 }
 
 impl Model for ChunkList {
     ghost use Rattle.std.specs.Prelude.{◌-◌, min, vec_len, vec_capacity};
-    ghost use Rattle.char_sequence.specs.Chunks.{ChunkList as ChunkListValue, IsKept};
+    ghost use Rattle.std.specs.Prelude.{◌≡◌, length};
+    ghost use Rattle.char_sequence.specs.Chunks.{ChunkList as ChunkListValue, IsKept, joined};
     ghost use Rattle.char_sequence.specs.Named.{name_of};
+    ghost use Rattle.char_sequence.specs.Visible.{visible_text};
 
     ghost Value = { ChunkListValue };
 
@@ -96,7 +101,8 @@ impl Model for ChunkList {
       room = min (vec_capacity l.chunks - vec_len l.chunks) (vec_capacity l.names - vec_len l.names);
     } };
 
-    ghost invariant = { λ l. IsKept l.chunks.items l.names.items (name_of l.index) l.count };
+    ghost invariant = { λ l. IsKept l.chunks.items l.names.items (name_of l.index) l.count
+        × (l.bytes ≡ length (visible_text (joined l.chunks.items))) };
 }
 
 ghost use Rattle.char_sequence.specs.Chunks.{IsSpot, IsSpotOf};
@@ -231,6 +237,7 @@ impl ChunkList {
             names: Vec::new(alloc),
             index: Index::new(alloc),
             count: 0,
+            bytes: 0,
             last: Spot { position: 0, at: 0 },
         }
     }
@@ -247,6 +254,13 @@ impl ChunkList {
         ensures { result ≡ length (joined self.now.chunks) }
     {
         self.count
+    }
+
+    /// The number of bytes of the visible text.
+    pub(crate) fn bytes(&self) -> usize
+        ensures { result ≡ length (visible_text (joined self.now.chunks)) }
+    {
+        self.bytes
     }
 
     /// Whether the index has an element of this id.
@@ -417,7 +431,9 @@ impl ChunkList {
     {
         enter(&mut self.index, newest, element.id, 0)?;
         self.names.push_reserved(0);
-        self.chunks.push_reserved(Chunk::one(blank, element));
+        let chunk = Chunk::one(blank, element);
+        self.bytes = chunk.text().len();
+        self.chunks.push_reserved(chunk);
         self.count = 1;
         self.last = Spot { position: 0, at: 0 };
         Ok(())
@@ -431,7 +447,7 @@ impl ChunkList {
     ) -> Result<(), AllocError>
         requires there { (chunk : List Element) × (slice_get self.old.chunks spot.position ≡ Some chunk)
             × (length chunk < 64) × (spot.at ≤ length chunk) }
-        requires few { length (joined self.old.chunks) < 32768 }
+        requires few { length (joined self.old.chunks) < 262144 }
         requires fresh { (ops : List Op) × IsNewest ops newest.old × (Used ops element.id → ⊥) }
         requires above { IsAboveAll (joined self.old.chunks) element.id }
         ensures ok { (chunk : List Element) → slice_get self.old.chunks spot.position ≡ Some chunk
@@ -442,7 +458,10 @@ impl ChunkList {
     {
         let name = self.names[spot.position];
         enter(&mut self.index, newest, element.id, name)?;
-        self.chunks[spot.position].insert(spot.at, element);
+        let chunk = &mut self.chunks[spot.position];
+        let before = chunk.text().len();
+        chunk.insert(spot.at, element);
+        self.bytes = self.bytes - before + chunk.text().len();
         self.count += 1;
         self.last = spot;
         Ok(())
@@ -457,7 +476,7 @@ impl ChunkList {
         element: Element,
     ) -> Result<(), AllocError>
         requires room { (place : ℕ) × IsRoom self.old room place }
-        requires few { length (joined self.old.chunks) < 32768 }
+        requires few { length (joined self.old.chunks) < 262144 }
         requires fresh { (ops : List Op) × IsNewest ops newest.old × (Used ops element.id → ⊥) }
         requires above { IsAboveAll (joined self.old.chunks) element.id }
         ensures ok { (place : ℕ) → IsRoom self.old room place
@@ -484,7 +503,7 @@ impl ChunkList {
         requires there { (chunk : List Element) × (slice_get self.old.chunks spot.position ≡ Some chunk)
             × (length chunk + length characters.now ≤ 64) × (spot.at ≤ length chunk) }
         requires some { 0 < length characters.now }
-        requires few { length (joined self.old.chunks) + length characters.now ≤ 32768 }
+        requires few { length (joined self.old.chunks) + length characters.now ≤ 262144 }
         requires counters { id.counter + length characters.now ≤ 2 ^ 48 }
         requires fresh { (ops : List Op) × IsNewest ops newest.old × (Used ops id → ⊥) }
         requires above { IsAboveAll (joined self.old.chunks) id }
@@ -499,7 +518,10 @@ impl ChunkList {
         let count = characters.len();
         let name = self.names[spot.position];
         enter_run(&mut self.index, newest, id, count, name)?;
-        self.chunks[spot.position].insert_run(spot.at, id, characters);
+        let chunk = &mut self.chunks[spot.position];
+        let before = chunk.text().len();
+        chunk.insert_run(spot.at, id, characters);
+        self.bytes = self.bytes - before + chunk.text().len();
         self.count += count;
         self.last = Spot {
             position: spot.position,
@@ -533,7 +555,7 @@ impl ChunkList {
     ) -> Result<usize, AllocError>
         requires room { (place : ℕ) × IsRoom self.old room place }
         requires some { 0 < length characters.now }
-        requires few { length (joined self.old.chunks) + length characters.now ≤ 32768 }
+        requires few { length (joined self.old.chunks) + length characters.now ≤ 262144 }
         requires counters { id.counter + length characters.now ≤ 2 ^ 48 }
         requires fresh { (ops : List Op) × IsNewest ops newest.old × (Used ops id → ⊥) }
         requires above { IsAboveAll (joined self.old.chunks) id }
@@ -572,7 +594,10 @@ impl ChunkList {
             ≡ set (joined self.old.chunks) place (record { id = x.id; character = x.character; visible = false })) }
     {
         let spot = self.spot_of(id).unwrap();
-        self.chunks[spot.position].hide(spot.at);
+        let chunk = &mut self.chunks[spot.position];
+        let with_it = chunk.text().len();
+        chunk.hide(spot.at);
+        self.bytes = self.bytes - with_it + chunk.text().len();
     }
 
     /// The number of chunks, and the length of the longest.
@@ -607,6 +632,7 @@ impl Clone for ChunkList {
             names,
             index,
             count: self.count,
+            bytes: self.bytes,
             last: self.last,
         })
     }

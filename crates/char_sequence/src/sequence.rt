@@ -1,6 +1,6 @@
 ghost use Rattle.std.specs.Prelude.{◌≡◌, ℕ, ◌<◌, ◌≤◌, ◌*◌, ◌==◌, ◌++◌, ◌∷◌, [], List, true, false, IsTrue, ◌↔◌, length};
 ghost use Rattle.std.specs.Prelude.{slice_get, slice_range, string_bytes, MatchOption, IfOk, IfErr, OnOk, OnErr, Some};
-ghost use Rattle.std.specs.Prelude.{◌+◌, ◌^◌, Contains, insert, take, drop};
+ghost use Rattle.std.specs.Prelude.{◌+◌, ◌^◌, Contains, insert, take, drop, count_by, map, sum};
 
 use crate::chunk_list::ChunkList;
 use crate::counting::count_before;
@@ -11,6 +11,7 @@ use crate::visible_cursor::VisibleCursor;
 use change_ops::character::Character;
 use change_ops::id::OpId;
 use change_ops::operation::{Named, Op};
+use change_ops::size::{BYTE_LIMIT, Size};
 use refusal_titles::{DOCUMENT_FULL, STALE_COUNTER, UNKNOWN_REF};
 use std::alloc::{AllocError, Global};
 use std::marker::Model;
@@ -39,8 +40,8 @@ pub enum SequenceError {
     DocumentFull,
 }
 
-/// The most characters that a text has, removed ones too.
-pub const CHARACTER_LIMIT: usize = 32768;
+/// The most characters that a text has at any size, removed ones too.
+pub const CHARACTER_LIMIT: usize = 262144;
 
 /// The characters of a text in order, and the last counter of each peer, as a set of inserts and removals makes them.
 #[derive(Drop)]
@@ -57,7 +58,9 @@ impl Model for Sequence {
     ghost use Rattle.change_ops.specs.declared.operation.Op.{Op};
     ghost use Rattle.char_sequence.specs.Held.{Sequence as SequenceValue, Holds};
     ghost use Rattle.char_sequence.specs.Chunks.{joined};
+    ghost use Rattle.char_sequence.specs.Visible.{visible_text};
     ghost use Rattle.char_sequence.specs.declared.sequence.TheConstants.{CHARACTER_LIMIT};
+    ghost use Rattle.change_ops.specs.declared.size.TheConstants.{BYTE_LIMIT};
 
     ghost Value = { SequenceValue };
 
@@ -66,6 +69,7 @@ impl Model for Sequence {
     ghost view = { λ s. record { elements = joined s.elements.chunks; newest = s.newest } };
 
     ghost invariant = { λ s. (length (joined s.elements.chunks) ≤ CHARACTER_LIMIT)
+        × (length (visible_text (joined s.elements.chunks)) ≤ BYTE_LIMIT)
         × ((ops : List Op) × Holds (record { elements = joined s.elements.chunks; newest = s.newest }) ops) };
 }
 
@@ -74,7 +78,10 @@ ghost use Rattle.change_ops.specs.Operations.{id_of, is_insert, Names};
 ghost use Rattle.change_ops.specs.Runs.{inserts_from};
 ghost use Rattle.char_sequence.specs.Tree.{Present, Removed, IsTree};
 ghost use Rattle.char_sequence.specs.Order.{IsAt, IsText, Shows, SameSet};
-ghost use Rattle.char_sequence.specs.Acceptance.{IsStale, IsUnknown, Accepts, Checked};
+ghost use Rattle.change_ops.specs.declared.size.Size.TheVariants.{Small, Large};
+ghost use Rattle.change_ops.specs.declared.size.TheConstants.{BYTE_LIMIT};
+ghost use Rattle.change_ops.specs.Sizes.{most_characters};
+ghost use Rattle.char_sequence.specs.Acceptance.{IsStale, IsUnknown, HasNoRoom, bytes_of, Accepts, Checked};
 ghost use Rattle.char_sequence.specs.Newest.{IsNewest};
 ghost use Rattle.char_sequence.specs.Held.{Holds};
 ghost use Rattle.char_sequence.specs.Index.{HasId};
@@ -142,9 +149,10 @@ impl Sequence {
         }
     }
 
-    /// Whether an operation is accepted after those held; the error is the first reason, in the order of their numbers.
-    pub fn check(&self, op: &Op) -> Result<(), SequenceError>
-        ensures { (ops : List Op) → Holds self.now ops → Checked ops op.now result }
+    /// Whether an operation is accepted at a size after those held; the error is the first reason, in the order of their
+    /// numbers.
+    pub fn check(&self, size: Size, op: &Op) -> Result<(), SequenceError>
+        ensures { (ops : List Op) → Holds self.now ops → Checked size ops op.now result }
     {
         if is_stale(&self.newest, op) {
             return Err(SequenceError::StaleCounter);
@@ -152,18 +160,39 @@ impl Sequence {
         if is_unknown(&self.elements, op) {
             return Err(SequenceError::UnknownRef);
         }
-        if op.is_insert() && self.elements.len() >= CHARACTER_LIMIT {
+        if op.is_insert() && (self.elements.len() >= size.characters() || self.has_no_room(op)) {
             return Err(SequenceError::DocumentFull);
         }
         Ok(())
     }
 
+    /// How many bytes the visible text has.
+    pub fn bytes(&self) -> usize
+        ensures value { result ≡ length (visible_text self.now.elements) }
+        ensures limit { result ≤ BYTE_LIMIT }
+    {
+        self.elements.bytes()
+    }
+
+    /// Whether the visible text has no room for the character of an insert.
+    pub fn has_no_room(&self, op: &Op) -> bool
+        ensures { (ops : List Op) → Shows self.now.elements ops → is_insert op.now ≡ true
+            → IsTrue result ↔ HasNoRoom ops op.now }
+    {
+        match op {
+            Op::Insert { character, .. } => {
+                self.elements.bytes() + character.value().len_utf8() > BYTE_LIMIT
+            }
+            _ => false,
+        }
+    }
+
     /// Adds an insert that passed `check`; the error is want of memory, and changes nothing.
     pub fn insert(&mut self, op: &Op) -> Result<(), AllocError>
         requires insert { is_insert op.now ≡ true }
-        requires accepted { (ops : List Op) → Holds self.old ops → Accepts ops op.now }
+        requires accepted { (ops : List Op) → Holds self.old ops → Accepts Large ops op.now }
         ensures held { (ops : List Op) → Holds self.old ops → IfOk result (λ _. Holds self.new (ops ++ op.now ∷ [])) }
-        ensures shows { (ops : List Op) → Shows self.old.elements ops → Accepts ops op.now
+        ensures shows { (ops : List Op) → Shows self.old.elements ops → Accepts Large ops op.now
             → IfOk result (λ _. Shows self.new.elements (ops ++ op.now ∷ [])) }
         ensures err { IfErr result (λ _. self.new ≡ self.old) }
     {
@@ -196,11 +225,11 @@ impl Sequence {
     ) -> Result<usize, AllocError>
         requires some { 0 < length characters.now }
         requires counters { id.counter + length characters.now ≤ 2 ^ 48 }
-        requires accepted { (ops : List Op) → Holds self.old ops → AcceptsRun ops id parent characters.now }
+        requires accepted { (ops : List Op) → Holds self.old ops → AcceptsRun Large ops id parent characters.now }
         ensures count { IfOk result (λ n. (0 < n) × (n ≤ length characters.now)) }
         ensures held { (ops : List Op) → Holds self.old ops
             → IfOk result (λ n. Holds self.new (ops ++ inserts_from id parent (take n characters.now))) }
-        ensures shows { (ops : List Op) → Shows self.old.elements ops → AcceptsRun ops id parent characters.now
+        ensures shows { (ops : List Op) → Shows self.old.elements ops → AcceptsRun Large ops id parent characters.now
             → IfOk result (λ n. Shows self.new.elements (ops ++ inserts_from id parent (take n characters.now))) }
         ensures err { IfErr result (λ _. self.new ≡ self.old) }
     {
@@ -214,9 +243,9 @@ impl Sequence {
     /// Adds a removal that passed `check`; the error is want of memory, and changes nothing.
     pub fn remove(&mut self, op: &Op) -> Result<(), AllocError>
         requires removal { (r : OpId) × ((x : OpId) × (op.now ≡ Op.Remove r x)) }
-        requires accepted { (ops : List Op) → Holds self.old ops → Accepts ops op.now }
+        requires accepted { (ops : List Op) → Holds self.old ops → Accepts Large ops op.now }
         ensures held { (ops : List Op) → Holds self.old ops → IfOk result (λ _. Holds self.new (ops ++ op.now ∷ [])) }
-        ensures shows { (ops : List Op) → Shows self.old.elements ops → Accepts ops op.now
+        ensures shows { (ops : List Op) → Shows self.old.elements ops → Accepts Large ops op.now
             → IfOk result (λ _. Shows self.new.elements (ops ++ op.now ∷ [])) }
         ensures err { IfErr result (λ _. self.new ≡ self.old) }
     {
@@ -268,6 +297,7 @@ impl Sequence {
     pub fn len(&self) -> usize
         ensures value { result ≡ length self.now.elements }
         ensures limit { length self.now.elements ≤ CHARACTER_LIMIT }
+        ensures bytes { length (visible_text self.now.elements) ≤ BYTE_LIMIT }
         ensures held { (ops : List Op) × Holds self.now ops }
     {
         self.elements.len()
@@ -284,6 +314,7 @@ impl Sequence {
     pub fn elements(&self) -> Elements<'_>
         ensures value { result ≡ self.now.elements }
         ensures limit { length self.now.elements ≤ CHARACTER_LIMIT }
+        ensures bytes { length (visible_text self.now.elements) ≤ BYTE_LIMIT }
         ensures held { (ops : List Op) × Holds self.now ops }
     {
         Elements {
@@ -346,4 +377,21 @@ impl Clone for Sequence {
 pub fn same_set_same_text(first: &Sequence, second: &Sequence)
     ensures { (ops others : List Op) → Shows first.now.elements ops → Shows second.now.elements others
         → SameSet ops others → first.now.elements ≡ second.now.elements }
+{}
+
+/// The law that what is accepted at the small size is accepted at the large one.
+pub fn small_is_large()
+    ensures { (ops : List Op) (op : Op) → Accepts Small ops op → Accepts Large ops op }
+{}
+
+/// The law that as many characters as the small size allows always have room for their bytes.
+pub fn small_has_room(sequence: &Sequence)
+    ensures { (ops : List Op) (op : Op) → Holds sequence.now ops → count_by is_insert ops < most_characters Small
+        → HasNoRoom ops op → ⊥ }
+{}
+
+/// The law that more operations lengthen the visible text by no more bytes than they insert.
+pub fn text_grows_by()
+    ensures { (ops added : List Op) (es later : List Element) → Shows es ops → Shows later (ops ++ added)
+        → length (visible_text later) ≤ length (visible_text es) + sum (map bytes_of added) }
 {}

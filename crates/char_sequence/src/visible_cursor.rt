@@ -28,7 +28,7 @@ impl<'a> Model for VisibleCursor<'a> {
 
     ghost view = { λ c. drop c.read (joined c.chunks.now) };
 
-    ghost invariant = { λ c. (c.read ≤ length (joined c.chunks.now)) × (length (joined c.chunks.now) ≤ 32768) };
+    ghost invariant = { λ c. (c.read ≤ length (joined c.chunks.now)) × (length (joined c.chunks.now) ≤ 262144) };
 }
 
 /// The chunk that a place is in, or the end of the chunks.

@@ -153,6 +153,9 @@ Example, of a program whose second instruction stands last:
 /// What `check --explain` can be asked for; the first without a word.
 static EXPLANATIONS: [&str; 2] = ["slot", "all"];
 
+/// What `--size` can be; the first where it is left out.
+static SIZES: [&str; 2] = ["small", "large"];
+
 /// The options of `run` whose fields have 32 bits, with their defaults and what they say of the span.
 static FIELDS: [(&str, &str, &str); 5] = [
     (
@@ -293,7 +296,18 @@ into the same bytes.",
         .after_help(AFTER_DIS)
 }
 
-fn spans<'a>(alloc: Global) -> Command<'a> {
+/// How much the text may hold.
+fn size<'a>(alloc: Global) -> Arg<'a> {
+    Arg::new(alloc, "size")
+        .long("size")
+        .value_name("SIZE")
+        .action(ArgAction::Set)
+        .value_parser(SIZES.as_slice())
+        .default_value("small")
+        .help("How much the text may hold over its life, small or large (docs/LIMITS.md)")
+}
+
+fn spans<'a>(alloc: Global) -> Result<Command<'a>, AllocError> {
     Command::new(alloc, "spans")
         .about("Prints the spans that changes make")
         .long_about(
@@ -303,21 +317,23 @@ empty input is no change. Printed are the spans of the last version, each as a
 line `<index> <format> <text>`.",
         )
         .after_help(AFTER_SPANS)
+        .arg(size(alloc))
 }
 
-fn join<'a>(alloc: Global) -> Command<'a> {
+fn join<'a>(alloc: Global) -> Result<Command<'a>, AllocError> {
     Command::new(alloc, "join")
         .about("Prints changes joined, as few changes of the same operations")
         .long_about(
             "Prints changes joined, as few changes of the same operations. A hub accepts at most
-4,096 changes, whatever their size. Standard input is the texts of changes back to
-back, in the order in which they are to be accepted (docs/CHANGE_FORMAT.md); empty
-input is no change. Printed are the texts of changes in the same form: neighboring
-ones of one peer stand in one, of at most 256 operations. They have the same
-operations with the same ids, in the same order, so a hub that accepts them has the
-same text, and peers go on with the ids that they have.",
+4,096 changes, or 65,536 with --size large, however long they are. Standard input is
+the texts of changes back to back, in the order in which they are to be accepted
+(docs/CHANGE_FORMAT.md); empty input is no change. Printed are the texts of changes
+in the same form: neighboring ones of one peer stand in one, of at most 256
+operations. They have the same operations with the same ids, in the same order, so a
+hub that accepts them has the same text, and peers go on with the ids that they have.",
         )
         .after_help(AFTER_JOIN)
+        .arg(size(alloc))
 }
 
 fn straighten<'a>(alloc: Global) -> Command<'a> {
@@ -383,6 +399,7 @@ changes, and subscriptions of programs. Printed are the replies. A request that 
 refused is answered `no <number> <Name>`, and the session goes on.",
         )
         .after_help(AFTER_REPLAY)
+        .arg(size(alloc))?
         .arg(store(alloc))?
         .arg(workers(alloc))?
         .arg(read(alloc))?
@@ -523,6 +540,7 @@ keeps its changes.",
         )
         .after_help(AFTER_SERVE);
     with_web(alloc, with_doors(alloc, serve)?)?
+        .arg(size(alloc))?
         .arg(store(alloc))?
         .arg(sessions(alloc))?
         .arg(at_once(alloc)?)?
@@ -550,10 +568,10 @@ command but `serve` reads standard input, in the form that its own help tells (a
         .subcommand(asm(alloc))?
         .subcommand(check(alloc)?)?
         .subcommand(dis(alloc))?
-        .subcommand(join(alloc))?
+        .subcommand(join(alloc)?)?
         .subcommand(replay(alloc)?)?
         .subcommand(run(alloc)?)?
         .subcommand(serve(alloc)?)?
-        .subcommand(spans(alloc))?
+        .subcommand(spans(alloc)?)?
         .subcommand(straighten(alloc))
 }

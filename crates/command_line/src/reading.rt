@@ -1,5 +1,6 @@
 use crate::grammar::hub;
 use change_ops::attribute::Link;
+use change_ops::size::Size;
 use clap::error::ErrorKind;
 use clap::{ArgMatches, Error};
 use hub_requests::limits::{SessionLimits, SessionOptions};
@@ -116,6 +117,14 @@ fn shown(matches: &ArgMatches<'_>) -> Shown {
         Shown::Steps
     } else {
         Shown::Outcome
+    }
+}
+
+/// How much the text may hold.
+fn size(matches: &ArgMatches<'_>) -> Size {
+    match matches.get_str("size") {
+        Some("large") => Size::Large,
+        _ => Size::Small,
     }
 }
 
@@ -240,6 +249,7 @@ fn terms(matches: &ArgMatches<'_>, options: SessionOptions) -> Option<Terms> {
     Some(Terms {
         service: service(matches)?,
         workers: workers(matches),
+        size: size(matches),
         options,
         idle: idle(matches),
         is_logged: matches.get_flag("log"),
@@ -267,8 +277,9 @@ fn request_of(alloc: Global, matches: &ArgMatches<'_>) -> Result<Request, Unread
             profile: profile(check),
         })),
         Some(("dis", _)) => Some(Request::Perform(Command::Dis)),
-        Some(("join", _)) => Some(Request::Perform(Command::Join)),
+        Some(("join", join)) => Some(Request::Perform(Command::Join { size: size(join) })),
         Some(("replay", replay)) => Some(Request::Replay {
+            size: size(replay),
             workers: workers(replay),
             options: session_options(alloc, replay)?,
             store: text(alloc, replay, "store")?,
@@ -279,7 +290,7 @@ fn request_of(alloc: Global, matches: &ArgMatches<'_>) -> Result<Request, Unread
             options: span_options(alloc, run)?,
         })),
         Some(("serve", serve)) => serving(alloc, serve)?,
-        Some(("spans", _)) => Some(Request::Perform(Command::Spans)),
+        Some(("spans", spans)) => Some(Request::Perform(Command::Spans { size: size(spans) })),
         Some(("straighten", _)) => Some(Request::Perform(Command::Straighten)),
         _ => None,
     };

@@ -1,5 +1,6 @@
 -- A history goes on by a call.
 use Rattle.std.proofs.Common.{◌≡◌, Option, Some, List, [], ◌∷◌, ◌++◌, refl, sym, subst, inr}
+use Rattle.change_ops.specs.declared.size.Size.{Size}
 use Rattle.feeds.specs.Batches.{Item}
 use Rattle.hub_core.specs.Machine.{Core}
 use Rattle.hub_core.specs.Consistent.{IsConsistent}
@@ -13,25 +14,26 @@ module _ {S : Type 0} (sent : S → List Item) (full : S → Type 0) where
   run_on s (entry.Called c' r' ∷ log) m c r t run step ok = (run.0, run.1, run.2, run_on run.0 log m c r t run.3 step ok)
   run_on s (entry.Started first ∷ log) m c r t run step ok = absurd run
 
+module _ {S : Type 0} (size : Size) (sent : S → List Item) (full : S → Type 0) where
   run_of : (log : List (CoreEntry S)) (m : Core S) (c : CoreCall S) (r : CoreReply) (t : Core S)
-      → IsRunOf sent full log m → Happens sent full m c r t → IsConsistent sent full t → IsRunOf sent full (log ++ called c r ∷ []) t
-  run_of (entry.Started first ∷ log) m c r t run step ok = (run.0, run_on (started first) log m c r t run.1 step ok)
+      → IsRunOf size sent full log m → Happens sent full m c r t → IsConsistent sent full t → IsRunOf size sent full (log ++ called c r ∷ []) t
+  run_of (entry.Started first ∷ log) m c r t run step ok = (run.0, run_on sent full (started size first) log m c r t run.1 step ok)
   run_of (entry.Called c' r' ∷ log) m c r t run step ok = absurd run
   run_of [] m c r t run step ok = absurd run
 
   -- the call that has led to this state may come next
   pub may_follow : (log : List (CoreEntry S)) (e : Option (CoreEntry S)) (t : Core S)
-      → LedTo sent full log e t → IsConsistent sent full t → (x : CoreEntry S) × (e ≡ Some x) × IsLegal sent full (log ++ x ∷ [])
+      → LedTo size sent full log e t → IsConsistent sent full t → (x : CoreEntry S) × (e ≡ Some x) × IsLegal size sent full (log ++ x ∷ [])
   may_follow log e t led ok = (called led.1 led.2, led.3, inr (t, run_of log led.0 led.1 led.2 t led.4 led.5 ok))
 
   -- and then the history leads there
   pub leads : (log log' : List (CoreEntry S)) (e : Option (CoreEntry S)) (t : Core S)
-      → LedTo sent full log e t → IsConsistent sent full t → ((x : CoreEntry S) → e ≡ Some x → log' ≡ log ++ x ∷ []) → IsRunOf sent full log' t
+      → LedTo size sent full log e t → IsConsistent sent full t → ((x : CoreEntry S) → e ≡ Some x → log' ≡ log ++ x ∷ []) → IsRunOf size sent full log' t
   leads log log' e t led ok more =
-      subst (λ l. IsRunOf sent full l t) (sym (more (called led.1 led.2) led.3)) (run_of log led.0 led.1 led.2 t led.4 led.5 ok)
+      subst (λ l. IsRunOf size sent full l t) (sym (more (called led.1 led.2) led.3)) (run_of log led.0 led.1 led.2 t led.4 led.5 ok)
 
   -- a call under another name has led to this state
   pub led_as : (log : List (CoreEntry S)) (s : Core S) (c asked : CoreCall S) (r : CoreReply) (t : Core S)
-      → asked ≡ c → IsRunOf sent full log s → Happens sent full s c r t → LedTo sent full log (Some (called asked r)) t
+      → asked ≡ c → IsRunOf size sent full log s → Happens sent full s c r t → LedTo size sent full log (Some (called asked r)) t
   led_as log s c asked r t same run step =
       (s, asked, r, refl, run, subst (λ a. Happens sent full s a r t) (sym same) step)

@@ -1,5 +1,6 @@
 -- A history begins with the start of a core.
 use Rattle.std.proofs.Common.{◌≡◌, ℕ, Option, None, Some, List, [], ◌∷◌, ◌++◌, length, sym, ap, ◌∙◌, subst, inr, arith, length-append}
+use Rattle.change_ops.specs.declared.size.Size.{Size}
 use Rattle.span_flatten.specs.Version.{Version}
 use Rattle.version_history.specs.Tokens.{Token}
 use Rattle.feeds.specs.Batches.{Item}
@@ -16,46 +17,46 @@ entry_of (first ∷ more) = Some (entry.Started first)
 abbrev pub first_entry : {S : Type 0} → Core S → Option (CoreEntry S)
 first_entry s = entry_of s.versions
 
-is_started : {S : Type 0} (s : Core S) (start : IsStart s) → s ≡ started start.version.0
-is_started s start = λ i. record { changes = start.changes i; versions = start.version.1 i; subscribers = start.subscribers i }
+is_started : {S : Type 0} (size : Size) (s : Core S) (start : IsStart size s) → s ≡ started size start.version.0
+is_started size s start = λ i. record { size = start.of i; changes = start.changes i; versions = start.version.1 i; subscribers = start.subscribers i }
 
-entry_is : {S : Type 0} (s : Core S) (start : IsStart s) → first_entry s ≡ Some (entry.Started start.version.0)
-entry_is s start = ap entry_of start.version.1
+entry_is : {S : Type 0} (size : Size) (s : Core S) (start : IsStart size s) → first_entry s ≡ Some (entry.Started start.version.0)
+entry_is size s start = ap entry_of start.version.1
 
-module _ {S : Type 0} (sent : S → List Item) (full : S → Type 0) where
-  run_started : (s : Core S) (start : IsStart s) → IsRunOf sent full (entry.Started start.version.0 ∷ []) s
-  run_started s start = (subst IsStart (is_started s start) start, is_started s start)
+module _ {S : Type 0} (size : Size) (sent : S → List Item) (full : S → Type 0) where
+  run_started : (s : Core S) (start : IsStart size s) → IsRunOf size sent full (entry.Started start.version.0 ∷ []) s
+  run_started s start = (subst (IsStart size) (is_started size s start) start, is_started size s start)
 
-  pub may_start : (s : Core S) → IsStart s → (log : List (CoreEntry S)) → log ≡ []
-      → (x : CoreEntry S) × (first_entry s ≡ Some x) × IsLegal sent full (log ++ x ∷ [])
+  pub may_start : (s : Core S) → IsStart size s → (log : List (CoreEntry S)) → log ≡ []
+      → (x : CoreEntry S) × (first_entry s ≡ Some x) × IsLegal size sent full (log ++ x ∷ [])
   may_start s start log none = (
     entry.Started start.version.0,
-    entry_is s start,
-    subst (λ l. IsLegal sent full (l ++ entry.Started start.version.0 ∷ [])) (sym none) (inr (s, run_started s start)),
+    entry_is size s start,
+    subst (λ l. IsLegal size sent full (l ++ entry.Started start.version.0 ∷ [])) (sym none) (inr (s, run_started s start)),
   )
 
-  pub begun : (s : Core S) → IsStart s → (log log' : List (CoreEntry S)) → log ≡ []
-      → ((x : CoreEntry S) → first_entry s ≡ Some x → log' ≡ log ++ x ∷ []) → IsRunOf sent full log' s
+  pub begun : (s : Core S) → IsStart size s → (log log' : List (CoreEntry S)) → log ≡ []
+      → ((x : CoreEntry S) → first_entry s ≡ Some x → log' ≡ log ++ x ∷ []) → IsRunOf size sent full log' s
   begun s start log log' none more =
       let one : CoreEntry S = entry.Started start.version.0 in
-      let history : log' ≡ one ∷ [] = more one (entry_is s start) ∙ ap (λ l. l ++ one ∷ []) none in
-      subst (λ l. IsRunOf sent full l s) (sym history) (run_started s start)
+      let history : log' ≡ one ∷ [] = more one (entry_is size s start) ∙ ap (λ l. l ++ one ∷ []) none in
+      subst (λ l. IsRunOf size sent full l s) (sym history) (run_started s start)
 
-  pub starts : (s : Core S) → IsStart s → (parts : ℕ) (log log' : List (CoreEntry S)) (v w : Holds (CoreEntry S)) → log ≡ [] → v ≡ nothing parts
+  pub starts : (s : Core S) → IsStart size s → (parts : ℕ) (log log' : List (CoreEntry S)) (v w : Holds (CoreEntry S)) → log ≡ [] → v ≡ nothing parts
       → ((x : CoreEntry S) → first_entry s ≡ Some x → log' ≡ log ++ x ∷ [])
-      → ((x : CoreEntry S) → first_entry s ≡ Some x → Extends (IsLegal sent full) v x w)
-      → w.seen ≡ log' → Starts s parts (record { core = s; history = log' }) w
+      → ((x : CoreEntry S) → first_entry s ≡ Some x → Extends (IsLegal size sent full) v x w)
+      → w.seen ≡ log' → Starts size s parts (record { core = s; history = log' }) w
   starts s start parts log log' v w none idle more mine seen =
       let first = start.version.0 in
       let one : CoreEntry S = entry.Started first in
-      let history : log' ≡ one ∷ [] = more one (entry_is s start) ∙ ap (λ l. l ++ one ∷ []) none in
-      let own = subst (λ u. Extends (IsLegal sent full) u one w) idle (mine one (entry_is s start)) in
+      let history : log' ≡ one ∷ [] = more one (entry_is size s start) ∙ ap (λ l. l ++ one ∷ []) none in
+      let own = subst (λ u. Extends (IsLegal size sent full) u one w) idle (mine one (entry_is size s start)) in
       let all : w.seen ≡ one ∷ [] = seen ∙ history in
       let before : length own.between ≡ 0 = omega (arith, length-append own.between (one ∷ []), ap length own.seen, ap length all) in
       record {
         first = first;
         start = start;
-        core = is_started s start;
+        core = is_started size s start;
         recorded = λ i. record { core = s; history = history i };
         all = λ i. record { seen = all i; own = (own.own ∙ ap (λ n. n ∷ []) before) i; parts = own.parts i };
       }

@@ -1,5 +1,6 @@
 -- The one history of a core: what each call does, and what it adds.
 use Rattle.std.specs.Prelude.{◌≡◌, ◌⊎◌, ℕ, Option, Some, List, [], ◌∷◌, ◌++◌, length}
+use Rattle.change_ops.specs.declared.size.Size.{Size}
 use Rattle.semantics.specs.Step.{Program}
 use Rattle.span_flatten.specs.Version.{Version}
 use Rattle.version_history.specs.Tokens.{Token}
@@ -27,22 +28,25 @@ CoreEntry S = Entry (Token Program) S (Token Version) Job
 abbrev pub called : {S : Type 0} → CoreCall S → CoreReply → CoreEntry S
 called c r = entry.Called c r
 
--- a core with no change and no subscriber, with this token of version 0
-abbrev pub started : {S : Type 0} → Token Version → Core S
-started first = record { changes = []; versions = first ∷ []; subscribers = [] }
+-- a core of a size with no change and no subscriber, with this token of version 0
+abbrev pub started : {S : Type 0} → Size → Token Version → Core S
+started size first = record { size = size; changes = []; versions = first ∷ []; subscribers = [] }
 
 -- a core with the history that has led to it
 pub record Recorded (S : Type 0) : Type 0 where
   pub core : Core S
   pub history : List (CoreEntry S)
 
--- a core at its start was recorded: this is the only entry of the history, and the own call of the token of all parts
-pub record Starts {S : Type 0} (s : Core S) (parts : ℕ) (new : Recorded S) (w : Holds (CoreEntry S)) : Type 0 where
-  pub first : Token Version
-  pub start : IsStart s
-  pub core : s ≡ started first
-  pub recorded : new ≡ record { core = s; history = entry.Started first ∷ [] }
-  pub all : w ≡ record { seen = entry.Started first ∷ []; own = 0 ∷ []; parts = parts }
+-- a core of a size was recorded at its start: this is the only entry of the history, and the own call of the token of
+-- all parts
+pub record Starts {S : Type 0} (size : Size) (s : Core S) (parts : ℕ) (new : Recorded S)
+    (w : Holds (CoreEntry S)) : Type 0
+  where
+    pub first : Token Version
+    pub start : IsStart size s
+    pub core : s ≡ started size first
+    pub recorded : new ≡ record { core = s; history = entry.Started first ∷ [] }
+    pub all : w ≡ record { seen = entry.Started first ∷ []; own = 0 ∷ []; parts = parts }
 
 module _ {S : Type 0} (sent : S → List Item) (full : S → Type 0) where
   -- what a call does that is answered so
@@ -65,9 +69,11 @@ module _ {S : Type 0} (sent : S → List Item) (full : S → Type 0) where
       (mid : Core S) × Happens s c r mid × IsConsistent sent full mid × IsRun mid log t
   IsRun s (entry.Started first ∷ log) t = ⊥
 
-  -- the history begins with the start of a core, and its calls lead from there to this state
+module _ {S : Type 0} (size : Size) (sent : S → List Item) (full : S → Type 0) where
+  -- the history begins with the start of a core of this size, and its calls lead from there to this state
   abbrev pub IsRunOf : List (CoreEntry S) → Core S → Type 0
-  IsRunOf (entry.Started first ∷ log) t = IsStart (started {S = S} first) × IsRun (started first) log t
+  IsRunOf (entry.Started first ∷ log) t =
+      IsStart size (started {S = S} size first) × IsRun sent full (started size first) log t
   IsRunOf (entry.Called c r ∷ log) t = ⊥
   IsRunOf [] t = ⊥
 
@@ -80,7 +86,7 @@ module _ {S : Type 0} (sent : S → List Item) (full : S → Type 0) where
   pub record Records (old : Recorded S) (v : Holds (CoreEntry S)) (c : CoreCall S) (r : CoreReply) (new : Recorded S)
       (w : Holds (CoreEntry S)) : Type 0
     where
-      pub happens : Happens old.core c r new.core
+      pub happens : Happens sent full old.core c r new.core
       pub history : new.history ≡ old.history ++ called c r ∷ []
       pub extends : Extends IsLegal v (called c r) w
       pub seen : w.seen ≡ new.history
@@ -88,4 +94,5 @@ module _ {S : Type 0} (sent : S → List Item) (full : S → Type 0) where
   -- the entry is that of a call that led from the end of the history to this state
   abbrev pub LedTo : List (CoreEntry S) → Option (CoreEntry S) → Core S → Type 0
   LedTo log e t =
-      (s : Core S) × (c : CoreCall S) × (r : CoreReply) × (e ≡ Some (called c r)) × IsRunOf log s × Happens s c r t
+      (s : Core S) × (c : CoreCall S) × (r : CoreReply) × (e ≡ Some (called c r)) × IsRunOf log s
+      × Happens sent full s c r t

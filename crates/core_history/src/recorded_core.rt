@@ -16,7 +16,6 @@ use crate::asked::Asked;
 use crate::entry::{CoreBoard, CoreEntry, CorePass, CoreToken};
 use call_history::history::History;
 use call_history::knowledge::{HistoryNaming, NextEntry};
-use change_history::history::CHANGE_LIMIT;
 use change_history::refusal::SubmitError;
 use change_ops::change::Change;
 use feeds::batch::Batch;
@@ -55,7 +54,7 @@ impl<'p, N: Naming + HistoryNaming + Ledger, S: Sink<Item<N>>> Model for Recorde
 
     ghost view = { λ r. record { core = r.core; history = r.history } };
 
-    ghost invariant = { λ r. IsRunOf S.sent S.full r.history r.core };
+    ghost invariant = { λ r. IsRunOf N.size S.sent S.full r.history r.core };
 }
 
 /// Records the call by which a core has come to its state. `C` names the entry, by what it is about.
@@ -67,10 +66,10 @@ fn record<N: Naming + HistoryNaming + Ledger, S: Sink<Item<N>>, C: NextEntry<Cor
     about: &X,
 )
     requires here { board.now.table.shared.table_id ≡ N.table }
-    requires led { LedTo S.sent S.full history.old C.entry core.now }
-    ensures run { IsRunOf S.sent S.full history.new core.now }
+    requires led { LedTo N.size S.sent S.full history.old C.entry core.now }
+    ensures run { IsRunOf N.size S.sent S.full history.new core.now }
     ensures history { (e : Entered S) → C.entry ≡ Some e → history.new ≡ history.old ++ e ∷ [] }
-    ensures extends { (e : Entered S) → C.entry ≡ Some e → Extends (IsLegal S.sent S.full) me.old e me.new }
+    ensures extends { (e : Entered S) → C.entry ≡ Some e → Extends (IsLegal N.size S.sent S.full) me.old e me.new }
     ensures seen { me.new.seen ≡ history.new }
 {
     core.stays_consistent();
@@ -79,9 +78,9 @@ fn record<N: Naming + HistoryNaming + Ledger, S: Sink<Item<N>>, C: NextEntry<Cor
 
 /// Why a change is refused where memory is wanting: a history that is full needs none.
 fn refusal_without_memory<N: Naming, S: Sink<Item<N>>>(core: &Core<'_, N, S>) -> SubmitError
-    ensures { (change : ChangeValue) → IsRefused core.now.changes change result }
+    ensures { (change : ChangeValue) → IsRefused core.now.size core.now.changes change result }
 {
-    if core.count() >= CHANGE_LIMIT {
+    if core.count() >= core.size().changes() {
         SubmitError::HistoryFull
     } else {
         SubmitError::OutOfMemory
@@ -96,13 +95,13 @@ impl<'p, N: Naming + HistoryNaming + Ledger, S: Sink<Item<N>>> RecordedCore<'p, 
         recorder: CorePass<N, S>,
         blank: Blank,
     ) -> (RecordedCore<'p, N, S>, CoreToken<N, S>)
-        requires start { IsStart core }
+        requires start { IsStart N.size core }
         requires name { blank.name ≡ N.name }
         requires parts { (blank.parts ≡ N.parts) × (0 < N.parts) }
         requires here { board.now.table.shared.table_id ≡ N.table }
         requires recorder { (recorder.table_id ≡ N.table) × (recorder.me.1 ≡ [])
             × (view_of recorder ≡ recording []) }
-        ensures { Starts core.entry N.parts result.0 result.1 }
+        ensures { Starts N.size core.entry N.parts result.0 result.1 }
     {
         let (mut history, mut all) = History::new(board, recorder, blank);
         history.append::<Brand, _>(board, &mut all, &core);
@@ -112,7 +111,7 @@ impl<'p, N: Naming + HistoryNaming + Ledger, S: Sink<Item<N>>> RecordedCore<'p, 
     /// The core, for what reads it.
     pub fn core(&self) -> &Core<'p, N, S>
         ensures core { result.now ≡ self.now.core }
-        ensures run { IsRunOf S.sent S.full self.now.history self.now.core }
+        ensures run { IsRunOf N.size S.sent S.full self.now.history self.now.core }
     {
         &self.core
     }
@@ -127,7 +126,8 @@ impl<'p, N: Naming + HistoryNaming + Ledger, S: Sink<Item<N>>> RecordedCore<'p, 
         change: Change,
     ) -> Result<VersionToken<N>, SubmitError>
         requires { board.now.table.shared.table_id ≡ N.table }
-        ensures { Records S.sent S.full self.old me.old (call.Submit change) (reply.Submitted result) self.new me.new }
+        ensures { Records N.size S.sent S.full self.old me.old (call.Submit change)
+            (reply.Submitted result) self.new me.new }
     {
         self.submit_as::<R, Brand>(rt, board, me, change)
     }
@@ -142,7 +142,7 @@ impl<'p, N: Naming + HistoryNaming + Ledger, S: Sink<Item<N>>> RecordedCore<'p, 
     ) -> Result<VersionToken<N>, SubmitError>
         requires here { board.now.table.shared.table_id ≡ N.table }
         requires call { A.call ≡ call.Submit change }
-        ensures { Records S.sent S.full self.old me.old A.call (reply.Submitted result) self.new me.new }
+        ensures { Records N.size S.sent S.full self.old me.old A.call (reply.Submitted result) self.new me.new }
     {
         let submitted = self.core.submit(rt, change);
         record::<N, S, Brand, _>(&self.core, &mut self.history, board, me, &submitted);
@@ -158,7 +158,7 @@ impl<'p, N: Naming + HistoryNaming + Ledger, S: Sink<Item<N>>> RecordedCore<'p, 
         change: &Change,
     ) -> SubmitError
         requires { board.now.table.shared.table_id ≡ N.table }
-        ensures { Records S.sent S.full self.old me.old (call.Submit change.now) (reply.Submitted (Err result))
+        ensures { Records N.size S.sent S.full self.old me.old (call.Submit change.now) (reply.Submitted (Err result))
             self.new me.new }
     {
         let refusal = refusal_without_memory(&self.core);
@@ -174,7 +174,7 @@ impl<'p, N: Naming + HistoryNaming + Ledger, S: Sink<Item<N>>> RecordedCore<'p, 
         id: usize,
     ) -> Result<(), NoSubscriber>
         requires { board.now.table.shared.table_id ≡ N.table }
-        ensures { Records S.sent S.full self.old me.old (call.Close id) (reply.Closed result) self.new me.new }
+        ensures { Records N.size S.sent S.full self.old me.old (call.Close id) (reply.Closed result) self.new me.new }
     {
         let closed = self.core.close(id);
         record::<N, S, Brand, _>(&self.core, &mut self.history, board, me, &(id, closed));
@@ -192,8 +192,8 @@ impl<'p, N: Naming + HistoryNaming + Ledger, S: Sink<Item<N>>> RecordedCore<'p, 
     ) -> Result<usize, SubscribeError>
         requires here { board.now.table.shared.table_id ≡ N.table }
         requires none { S.sent sink ≡ [] }
-        requires suits { Suits (S.promise sink) program.value (length self.old.core.changes) }
-        ensures { Records S.sent S.full self.old me.old (call.Subscribe program sink)
+        requires suits { Suits (S.promise sink) N.size program.value (length self.old.core.changes) }
+        ensures { Records N.size S.sent S.full self.old me.old (call.Subscribe program sink)
             (reply.Subscribed result) self.new me.new }
     {
         self.subscribe_as::<Brand>(board, me, program, sink)
@@ -210,8 +210,8 @@ impl<'p, N: Naming + HistoryNaming + Ledger, S: Sink<Item<N>>> RecordedCore<'p, 
         requires here { board.now.table.shared.table_id ≡ N.table }
         requires call { A.call ≡ call.Subscribe program sink }
         requires none { S.sent sink ≡ [] }
-        requires suits { Suits (S.promise sink) program.value (length self.old.core.changes) }
-        ensures { Records S.sent S.full self.old me.old A.call (reply.Subscribed result) self.new me.new }
+        requires suits { Suits (S.promise sink) N.size program.value (length self.old.core.changes) }
+        ensures { Records N.size S.sent S.full self.old me.old A.call (reply.Subscribed result) self.new me.new }
     {
         let subscribed = self.core.subscribe(program, sink);
         record::<N, S, Brand, _>(&self.core, &mut self.history, board, me, &subscribed);
@@ -230,8 +230,8 @@ impl<'p, N: Naming + HistoryNaming + Ledger, S: Sink<Item<N>>> RecordedCore<'p, 
     ) -> Result<usize, SubscribeError>
         requires here { board.now.table.shared.table_id ≡ N.table }
         requires none { S.sent sink ≡ [] }
-        requires suits { Suits (S.promise sink) program.value first }
-        ensures { Records S.sent S.full self.old me.old (call.SubscribeFrom program sink first)
+        requires suits { Suits (S.promise sink) N.size program.value first }
+        ensures { Records N.size S.sent S.full self.old me.old (call.SubscribeFrom program sink first)
             (reply.Subscribed result) self.new me.new }
     {
         self.subscribe_from_as::<Brand>(board, me, program, sink, first)
@@ -249,8 +249,8 @@ impl<'p, N: Naming + HistoryNaming + Ledger, S: Sink<Item<N>>> RecordedCore<'p, 
         requires here { board.now.table.shared.table_id ≡ N.table }
         requires call { A.call ≡ call.SubscribeFrom program sink first }
         requires none { S.sent sink ≡ [] }
-        requires suits { Suits (S.promise sink) program.value first }
-        ensures { Records S.sent S.full self.old me.old A.call (reply.Subscribed result) self.new me.new }
+        requires suits { Suits (S.promise sink) N.size program.value first }
+        ensures { Records N.size S.sent S.full self.old me.old A.call (reply.Subscribed result) self.new me.new }
     {
         let subscribed = self.core.subscribe_from(program, sink, first);
         record::<N, S, Brand, _>(&self.core, &mut self.history, board, me, &subscribed);
@@ -260,7 +260,7 @@ impl<'p, N: Naming + HistoryNaming + Ledger, S: Sink<Item<N>>> RecordedCore<'p, 
     /// Hands out a version that a subscriber's program is to be run on; None only where there is none.
     pub fn take_job(&mut self, board: &CoreBoard<N, S>, me: &mut CoreToken<N, S>) -> Option<Job<N>>
         requires { board.now.table.shared.table_id ≡ N.table }
-        ensures { Records S.sent S.full self.old me.old call.TakeJob (reply.Handed result) self.new me.new }
+        ensures { Records N.size S.sent S.full self.old me.old call.TakeJob (reply.Handed result) self.new me.new }
     {
         let job = self.core.take_job();
         record::<N, S, Brand, _>(&self.core, &mut self.history, board, me, &job);
@@ -275,7 +275,7 @@ impl<'p, N: Naming + HistoryNaming + Ledger, S: Sink<Item<N>>> RecordedCore<'p, 
         batch: Batch<N>,
     ) -> Result<(), CommitError>
         requires { board.now.table.shared.table_id ≡ N.table }
-        ensures records { Records S.sent S.full self.old me.old (call.Commit batch)
+        ensures records { Records N.size S.sent S.full self.old me.old (call.Commit batch)
             (reply.Committed result) self.new me.new }
         ensures takes_no_memory { ¬ (result ≡ Err CommitError.OutOfMemory) }
     {
@@ -291,7 +291,7 @@ impl<'p, N: Naming + HistoryNaming + Ledger, S: Sink<Item<N>>> RecordedCore<'p, 
     ) -> Result<(), CommitError>
         requires here { board.now.table.shared.table_id ≡ N.table }
         requires call { A.call ≡ call.Commit batch }
-        ensures records { Records S.sent S.full self.old me.old A.call (reply.Committed result) self.new me.new }
+        ensures records { Records N.size S.sent S.full self.old me.old A.call (reply.Committed result) self.new me.new }
         ensures takes_no_memory { ¬ (result ≡ Err CommitError.OutOfMemory) }
     {
         let committed = self.core.commit(batch);
@@ -307,7 +307,7 @@ impl<'p, N: Naming + HistoryNaming + Ledger, S: Sink<Item<N>>> RecordedCore<'p, 
         id: usize,
     ) -> Result<usize, NoSubscriber>
         requires { board.now.table.shared.table_id ≡ N.table }
-        ensures { Records S.sent S.full self.old me.old (call.Pump id) (reply.Pumped result) self.new me.new }
+        ensures { Records N.size S.sent S.full self.old me.old (call.Pump id) (reply.Pumped result) self.new me.new }
     {
         let pumped = self.core.pump(id);
         record::<N, S, Brand, _>(&self.core, &mut self.history, board, me, &(id, pumped));
@@ -322,7 +322,8 @@ impl<'p, N: Naming + HistoryNaming + Ledger, S: Sink<Item<N>>> RecordedCore<'p, 
         id: usize,
     ) -> Result<(), NoSubscriber>
         requires { board.now.table.shared.table_id ≡ N.table }
-        ensures { Records S.sent S.full self.old me.old (call.Reissue id) (reply.Reissued result) self.new me.new }
+        ensures { Records N.size S.sent S.full self.old me.old (call.Reissue id)
+            (reply.Reissued result) self.new me.new }
     {
         let reissued = self.core.reissue(id);
         record::<N, S, Brand, _>(&self.core, &mut self.history, board, me, &(id, reissued));
@@ -334,7 +335,7 @@ impl<'p, N: Naming + HistoryNaming + Ledger, S: Sink<Item<N>>> RecordedCore<'p, 
         requires { board.now.table.shared.table_id ≡ N.table }
         ensures same { self.new ≡ self.old }
         ensures begins { IsPrefix me.old.seen self.old.history }
-        ensures run { IsRunOf S.sent S.full self.old.history self.old.core }
+        ensures run { IsRunOf N.size S.sent S.full self.old.history self.old.core }
         ensures me { me.new ≡ looked me.old self.old.history }
     {
         self.history.look(board, me);
@@ -349,7 +350,7 @@ impl<'p, N: Naming + HistoryNaming + Ledger, S: Sink<Item<N>>> RecordedCore<'p, 
     )
         requires { board.now.table.shared.table_id ≡ N.table }
         ensures same { self.new ≡ self.old }
-        ensures me { TakesIn (IsLegal S.sent S.full) me.old other me.new }
+        ensures me { TakesIn (IsLegal N.size S.sent S.full) me.old other me.new }
         ensures seen { me.new.seen ≡ self.old.history }
     {
         self.history.take_in(board, me, other);
@@ -361,8 +362,8 @@ impl<'p, N: Naming + HistoryNaming + Ledger, S: Sink<Item<N>>> RecordedCore<'p, 
         requires here { board.now.table.shared.table_id ≡ N.table }
         requires all { all.parts ≡ N.parts }
         ensures same { self.new ≡ self.old }
-        ensures run { IsRunOf S.sent S.full self.old.history self.old.core }
-        ensures whole { IsWhole (IsLegal S.sent S.full) self.old.history all }
+        ensures run { IsRunOf N.size S.sent S.full self.old.history self.old.core }
+        ensures whole { IsWhole (IsLegal N.size S.sent S.full) self.old.history all }
     {
         self.history.settle(board, all);
     }

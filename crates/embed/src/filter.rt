@@ -3,6 +3,7 @@ use anyhow::{Context, Result};
 use bpf_words::words::Words;
 use change_history::history::History;
 use change_ops::change::read_change;
+use change_ops::size::Size;
 use feeds::batch::verdict;
 use span_context::profile::Profile;
 use span_view::view::spans;
@@ -19,7 +20,7 @@ pub fn accepted(alloc: Global, digits: &str) -> Result<Verified> {
 
 /// The verdict on each span of the text that the changes make. Whoever has the same changes finds the same.
 pub fn verdicts(alloc: Global, program: &Verified, changes: &[&str]) -> Result<Vec<u64>> {
-    let mut history = History::new(alloc);
+    let mut history = History::new(alloc, Size::Small); // how much the text may hold: up to 32,768 characters
     for text in changes {
         let (change, _rest) = read_change(alloc, text)?; // 40 to 45: the first line at fault
         history.accept(change)?; // 45 to 50: what is refused changes nothing

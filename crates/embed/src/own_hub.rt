@@ -1,7 +1,9 @@
 //! A hub with a subscriber, whose batches are computed on several threads.
+ghost use Rattle.change_ops.specs.declared.size.Size.TheVariants.{Small};
 ghost use Rattle.std.specs.Prelude.{◌≡◌};
 
 use anyhow::{Context, Result};
+use change_ops::size::Size;
 use feeds::item::Finding;
 use filter_workers::gate::Open;
 use filter_workers::work::work;
@@ -77,10 +79,10 @@ fn on_lists<N: Naming + Ledger + Send + Sync, R: Threads + Wait + Copy + Send + 
     program: Verified,
     changes: &[&str],
 ) -> Result<Vec<Finding>>
-    requires named { (versions.now ≡ N.versions) × (programs.now ≡ N.programs) }
+    requires named { (N.size ≡ Small) × (versions.now ≡ N.versions) × (programs.now ≡ N.programs) }
     requires blank { (blank.name ≡ N.name) × (blank.parts ≡ N.parts) × (N.parts ≡ 1) }
 {
-    let published = Published::<N>::new(versions, programs);
+    let published = Published::<N>::new(Size::Small, versions, programs);
     let (hub, mut shares) = Hub::new(rt, alloc, blank, &published, 1)?; // a share for each thread that ingests
     let share = shares.first_mut().context("no share")?;
     findings(rt, alloc, &hub, &published, share, program, changes)

@@ -6,9 +6,11 @@ use Rattle.std.proofs.lemmas.List.{map-append}
 use Rattle.std.proofs.lemmas.List.Concat.{flat_map-append}
 use Rattle.std.proofs.lemmas.Option.{slice_get_within}
 use Rattle.change_ops.specs.Changes.{Change}
+use Rattle.change_ops.specs.declared.size.Size.{Size}
 use Rattle.semantics.specs.Step.{Program}
 use Rattle.span_flatten.specs.Version.{Version}
 use Rattle.version_history.specs.Tokens.{Token}
+use Rattle.change_history.specs.Accepted.{AreAccepted}
 use Rattle.feeds.specs.declared.item.Finding.{Finding}
 use Rattle.feeds.specs.Batches.{Item, Job, items_of}
 use Rattle.feeds.specs.Orderly.{RisesFrom, items_of_all}
@@ -48,27 +50,27 @@ promised_front (Some p) xs ys h =
     })) h
 
 -- the items of a subscriber's versions from its first one on are promised
-promised_items : (promise : Option Promise) (p : Token Program) (first : ℕ) (ts : List (Token Version)) (items rest : List Item) → Suits promise p.value first → AreOfChanges ts
+promised_items : (promise : Option Promise) (size : Size) (p : Token Program) (first : ℕ) (ts : List (Token Version)) (items rest : List Item) → Suits promise size p.value first → AreOfChanges size ts
     → first ≤ length ts → items ++ rest ≡ items_of_all p (drop first ts) → IsPromised promise items
-promised_items None p first ts items rest suits of behind is = tt
-promised_items (Some m) p first ts items rest suits of behind is = inr (record {
+promised_items None size p first ts items rest suits of behind is = tt
+promised_items (Some m) size p first ts items rest suits of behind is = inr (record {
   changes = of.changes;
-  accepted = of.accepted;
+  accepted = subst (λ (s : Size). AreAccepted s of.changes) (sym suits.0) of.accepted;
   first = first;
-  named = suits.1;
-  begins = subst (λ (q : Program). BeginsStream q of.changes first (length of.changes) (map (λ (e : Item). e.what) items)) (sym suits.0)
+  named = suits.2;
+  begins = subst (λ (q : Program). BeginsStream q of.changes first (length of.changes) (map (λ (e : Item). e.what) items)) (sym suits.1)
       (begins_stream p of.changes ts first items rest of.all of.are behind is);
 })
 
 -- the numbers of such tokens rise from 0
-pub changes_rise : (ts : List (Token Version)) → AreOfChanges ts → RisesFrom 0 ts
-changes_rise ts of = rises_are 0 ts (λ n t e. (of.are n t e).numbered ∙ sym (zero-add n))
+pub changes_rise : (size : Size) (ts : List (Token Version)) → AreOfChanges size ts → RisesFrom 0 ts
+changes_rise size ts of = rises_are 0 ts (λ n t e. (of.are n t e).numbered ∙ sym (zero-add n))
 
 module _ {S : Type 0} (sent : S → List Item) (full : S → Type 0) where
   -- the rest of the batch at the cursor is promised
-  pub may_promise : (promise : Option Promise) (ts : List (Token Version)) (s : Subscriber S) (b : Job) → Suits promise s.program.value s.first → AreOfChanges ts → IsFed sent full ts s
+  pub may_promise : (promise : Option Promise) (size : Size) (ts : List (Token Version)) (s : Subscriber S) (b : Job) → Suits promise size s.program.value s.first → AreOfChanges size ts → IsFed sent full ts s
       → slice_get s.held 0 ≡ Some (Some b) → IsPromised promise (sent s.sink ++ drop s.count (items_of b.program b.version))
-  may_promise promise ts s b suits of fed at =
+  may_promise promise size ts s b suits of fed at =
       let begun = fed.begun in
       let within : s.cursor < length ts = slice_get_within ts s.cursor b.version (owed_here sent full ts s b fed at).1 in
       let p = s.program in
@@ -77,7 +79,7 @@ module _ {S : Type 0} (sent : S → List Item) (full : S → Type 0) where
       let is : items ++ rest ≡ items_of_all p (drop s.first ts) =
       ap (λ l. l ++ rest) (whole sent full ts s b fed at) ∙ sym (flat_map-append (items_of p) (drop s.first (take (s.cursor + 1) ts)) (drop (s.cursor + 1) ts))
       ∙ ap (items_of_all p) (drop_split s.first (s.cursor + 1) ts (omega arith) (omega arith)) in
-      promised_items promise p s.first ts items rest suits of (omega arith) is
+      promised_items promise size p s.first ts items rest suits of (omega arith) is
 
 -- what is sent with the next item is a beginning of what may be sent
 pub promised_next : (promise promise' : Option Promise) (old now items : List Item) (from at : ℕ) (x : Item) → IsPromised promise (old ++ drop from items) → promise' ≡ promise

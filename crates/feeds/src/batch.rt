@@ -38,7 +38,7 @@ impl<N: Naming> Model for Batch<N> {
 
     ghost view = { λ b. b.job };
 
-    ghost invariant = { λ b. (b.items.items ≡ items_of b.job.program b.job.version) × (vec_len b.items ≤ 32769) };
+    ghost invariant = { λ b. (b.items.items ≡ items_of b.job.program b.job.version) × (vec_len b.items ≤ 131073) };
 }
 
 /// The verdict of a program on a span, and on each that agrees with it on what the program reads.
@@ -163,7 +163,7 @@ impl<N: Naming> Batch<N> {
     /// A hit for each span whose verdict is not 0, by rising index, and the version's end.
     pub fn items(&self) -> &[Item<N>]
         ensures items { result.now ≡ items_of self.now.program self.now.version }
-        ensures most { length result.now ≤ 32769 }
+        ensures most { length result.now ≤ 131073 }
     {
         self.items.as_slice()
     }

@@ -47,7 +47,7 @@ impl<N: Naming, S: Sink<Item<N>>> Model for Subscriber<N, S> {
       sink = s.sink;
     } };
 
-    ghost invariant = { λ s. Suits (S.promise s.sink) s.program.value s.first };
+    ghost invariant = { λ s. Suits (S.promise s.sink) N.size s.program.value s.first };
 }
 
 /// Sends the items of a batch from one on, until the sink is full. It answers how many items of the batch are sent
@@ -128,11 +128,11 @@ fn let_go<N: Naming>(held: &mut [Option<Batch<N>>])
 impl<N: Naming, S: Sink<Item<N>>> Subscriber<N, S> {
     /// Sends what it can of the batch at the cursor. It answers how many items, and whether the batch is all sent.
     fn send_next(&mut self, versions: &[VersionToken<N>]) -> (usize, bool)
-        requires published { AreOfChanges versions.now }
+        requires published { AreOfChanges N.size versions.now }
         requires fed { IsFed S.sent S.full versions.now self.old }
         ensures fed { IsFed S.sent S.full versions.now self.new }
         ensures moved { Moved S.sent S.full self.old result.0 self.new }
-        ensures few { result.0 ≤ 32769 }
+        ensures few { result.0 ≤ 131073 }
         ensures on { result.1 ≡ true → self.new.cursor ≡ self.old.cursor + 1 }
         ensures stop { result.1 ≡ false → Stops S.sent S.full self.new }
     {
@@ -155,7 +155,7 @@ impl<N: Naming, S: Sink<Item<N>>> Subscriber<N, S> {
 
     /// Sends what it can. It answers how many items.
     pub fn pump(&mut self, versions: &[VersionToken<N>]) -> usize
-        requires published { AreOfChanges versions.now }
+        requires published { AreOfChanges N.size versions.now }
         requires fed { IsFed S.sent S.full versions.now self.old }
         ensures fed { IsFed S.sent S.full versions.now self.new }
         ensures moved { Moved S.sent S.full self.old result self.new }
@@ -242,7 +242,7 @@ impl<N: Naming, S: Sink<Item<N>>> Subscriber<N, S> {
         first: u64,
         sink: S,
     ) -> Result<Subscriber<N, S>, AllocError>
-        requires { Suits (S.promise sink) program.value first }
+        requires { Suits (S.promise sink) N.size program.value first }
         ensures { IfOk result (λ subscriber. subscriber ≡ fresh program first sink) }
     {
         let held = no_batches(alloc)?;
@@ -284,7 +284,7 @@ impl<N: Naming, S: Sink<Item<N>>> Subscriber<N, S> {
     fn missing_from(&self, handed: u64, latest: u64) -> Option<u64>
         requires wide { length self.now.held ≡ 8 }
         requires behind { self.now.cursor ≤ latest + 1 }
-        requires few { latest ≤ 4096 }
+        requires few { latest ≤ 65536 }
         ensures { Finds latest (record self.now { handed = handed }) result }
     {
         let from = handed.max(self.cursor);
@@ -301,7 +301,7 @@ impl<N: Naming, S: Sink<Item<N>>> Subscriber<N, S> {
     pub fn next_version(&self, latest: u64) -> Option<u64>
         requires wide { length self.now.held ≡ 8 }
         requires behind { self.now.cursor ≤ latest + 1 }
-        requires few { latest ≤ 4096 }
+        requires few { latest ≤ 65536 }
         ensures { Finds latest self.now result }
     {
         self.missing_from(self.handed, latest)
@@ -311,7 +311,7 @@ impl<N: Naming, S: Sink<Item<N>>> Subscriber<N, S> {
     pub fn missing_version(&self, latest: u64) -> Option<u64>
         requires wide { length self.now.held ≡ 8 }
         requires behind { self.now.cursor ≤ latest + 1 }
-        requires few { latest ≤ 4096 }
+        requires few { latest ≤ 65536 }
         ensures { Finds latest (rewound self.now) result }
     {
         self.missing_from(self.cursor, latest)
@@ -320,7 +320,7 @@ impl<N: Naming, S: Sink<Item<N>>> Subscriber<N, S> {
     /// The job of a version.
     pub fn job_of(&self, id: usize, number: u64, versions: &[VersionToken<N>]) -> Job<N>
         requires there { number < length versions.now }
-        requires few { length versions.now ≤ 4097 }
+        requires few { length versions.now ≤ 65537 }
         ensures of { (result.subscriber ≡ id) × (result.number ≡ number) × (result.program ≡ self.now.program) }
         ensures version { slice_get versions.now number ≡ Some result.version }
     {
@@ -335,7 +335,7 @@ impl<N: Naming, S: Sink<Item<N>>> Subscriber<N, S> {
     /// The job of a version. The next one is handed out for a version after it.
     pub fn hand_out(&mut self, id: usize, number: u64, versions: &[VersionToken<N>]) -> Job<N>
         requires there { number < length versions.now }
-        requires few { length versions.now ≤ 4097 }
+        requires few { length versions.now ≤ 65537 }
         ensures of { (result.subscriber ≡ id) × (result.number ≡ number) × (result.program ≡ self.old.program) }
         ensures version { slice_get versions.now number ≡ Some result.version }
         ensures handed { self.new ≡ record self.old { handed = number + 1 } }

@@ -87,7 +87,7 @@ fn answer<N: Naming + Ledger, R: Threads + Wait + Copy + Sync>(
     job: &Job<N>,
     workers: usize,
 ) -> Result<TurnEnd, AllocError>
-    ensures { IfOk result (Ends job.now) }
+    ensures { IfOk result (Ends N.size job.now) }
 {
     let batch = batch_of(rt, alloc, hub, published, job, workers)?;
     match hub.commit(rt, batch) {
@@ -107,7 +107,7 @@ fn serve<N: Naming + Ledger, R: Threads + Wait + Copy + Sync>(
     job: &Job<N>,
     workers: usize,
 ) -> Result<TurnEnd, AllocError>
-    ensures { IfOk result (λ end. Ends job.now end × IsPumped job.now.subscriber) }
+    ensures { IfOk result (λ end. Ends N.size job.now end × IsPumped N.size job.now.subscriber) }
 {
     match answer(rt, alloc, hub, published, job, workers) {
         Ok(end) => {
@@ -130,7 +130,7 @@ fn turn<N: Naming + Ledger, R: Threads + Wait + Copy + Sync, G: Gate<N>>(
     gate: &G,
     workers: usize,
 ) -> Result<Option<TurnEnd>, AllocError>
-    ensures { IfOk result Turns }
+    ensures { IfOk result (Turns N.size) }
 {
     let Some(job) = hub.take_job(rt) else {
         return Ok(None);
@@ -152,7 +152,7 @@ fn work_alone<N: Naming + Ledger, R: Threads + Wait + Copy + Sync, G: Gate<N>>(
     workers: usize,
     turns: u32,
 ) -> Result<u64, AllocError>
-    ensures { IfOk result (AreCommitted turns) }
+    ensures { IfOk result (AreCommitted N.size turns) }
 {
     let mut committed = 0;
     for _turn in 0..turns {
@@ -166,10 +166,10 @@ fn work_alone<N: Naming + Ledger, R: Threads + Wait + Copy + Sync, G: Gate<N>>(
 
 /// What all workers committed together, or want of memory where one met it.
 #[tactic(auto, using(crate::proofs::Committed::none_yet, crate::proofs::Committed::together))]
-fn total(counts: &[Result<u64, AllocError>], turns: u64) -> Result<u64, AllocError>
-    requires each { All (λ count. IfOk count (AreCommitted turns)) counts.now }
+fn total<N: Naming>(counts: &[Result<u64, AllocError>], turns: u64) -> Result<u64, AllocError>
+    requires each { All (λ count. IfOk count (AreCommitted N.size turns)) counts.now }
     requires fits { length counts.now * turns < 2 ^ 64 }
-    ensures { IfOk result (AreCommitted (length counts.now * turns)) }
+    ensures { IfOk result (AreCommitted N.size (length counts.now * turns)) }
 {
     let mut sum = 0;
     for count in counts {
@@ -193,7 +193,7 @@ pub fn work<N: Naming + Ledger + Send + Sync, R: Threads + Wait + Copy + Send + 
 ) -> Result<u64, AllocError>
     requires { (1 ≤ workers) × (workers ≤ 16) }
     ensures none { turns ≡ 0 → result ≡ Ok 0 }
-    ensures committed { IfOk result (AreCommitted (workers * turns)) }
+    ensures committed { IfOk result (AreCommitted N.size (workers * turns)) }
 {
     if turns == 0 {
         return Ok(0);
@@ -203,10 +203,10 @@ pub fn work<N: Naming + Ledger + Send + Sync, R: Threads + Wait + Copy + Send + 
         alloc,
         workers,
         &|_| -> Result<u64, AllocError>
-            ensures { IfOk result (AreCommitted turns) }
+            ensures { IfOk result (AreCommitted N.size turns) }
         { work_alone(rt, alloc, hub, published, gate, workers, turns) },
     )?;
-    total(counts.as_slice(), u64::from(turns))
+    total::<N>(counts.as_slice(), u64::from(turns))
 }
 
 /// Takes a job, whichever subscriber it is of. If it takes at most `most` steps its batch is computed and committed; a
@@ -219,7 +219,7 @@ pub fn help<N: Naming + Ledger, R: Threads + Wait + Copy + Sync>(
     published: &Published<'_, N>,
     most: usize,
 ) -> Result<bool, AllocError>
-    ensures { IfOk result (Helps most) }
+    ensures { IfOk result (Helps N.size most) }
 {
     let Some(job) = hub.take_job(rt) else {
         return Ok(false);
@@ -244,7 +244,7 @@ pub fn catch_up<N: Naming + Ledger, R: Threads + Wait + Copy + Sync>(
     workers: usize,
 ) -> Result<bool, AllocError>
     requires { (1 ≤ workers) × (workers ≤ 16) }
-    ensures { IfOk result (CatchesUp subscriber last) }
+    ensures { IfOk result (CatchesUp N.size subscriber last) }
 {
     let Some(job) = hub.missing_job(rt, subscriber) else {
         return Ok(false);

@@ -6,6 +6,7 @@ use Rattle.std.specs.Str.{IsUtf8}
 use Rattle.std.proofs.lemmas.List.{append-nil}
 use Rattle.std.proofs.lemmas.List.Elements.{All-head, All-tail}
 use Rattle.change_ops.specs.Changes.{Change, IsChange}
+use Rattle.change_ops.specs.declared.size.Size.{Size}
 use Rattle.change_ops.specs.Spelling.{header_text, lines_text, change_text, Spells}
 use Rattle.change_join.specs.Joined.{joined}
 use Rattle.hub_commands.specs.Answers.{Answer, IsWritten, IsAnswered, done}
@@ -61,47 +62,48 @@ left_done all read rest none left = go left.others left.whole left.spelt where
 
 -- ---- from piece to piece
 pub kept_more : {E : Type 0} (result : Result (Unit {0}) E) (old new : KeptInput) (piece : List ℕ) → new.bytes.items ≡ old.bytes.items ++ piece
-    → OnOk result ((input : List ℕ) → IsChangesInput input old.changes → IsChangesInput (input ++ piece) new.changes) → OnOk result ((input : List ℕ) → IsKept input old → IsKept (input ++ piece) new)
-kept_more (Ok done_) old new piece more h = λ input kept. record { read = h input kept.read; bytes = more ∙ ap (λ (l : List ℕ). l ++ piece) kept.bytes }
+    → OnOk result ((size : Size) (input : List ℕ) → IsChangesInput size input old.changes → IsChangesInput size (input ++ piece) new.changes)
+    → OnOk result ((size : Size) (input : List ℕ) → IsKept size input old → IsKept size (input ++ piece) new)
+kept_more (Ok done_) old new piece more h = λ size input kept. record { read = h size input kept.read; bytes = more ∙ ap (λ (l : List ℕ). l ++ piece) kept.bytes }
 kept_more (Err e) old new piece more h = tt
 
-pub kept_read : (known : Option (List ℕ)) (kept new : KeptInput) → new.bytes.items ≡ kept.bytes.items → IfSome known (λ input. IsKept input kept)
-    → ((input : List ℕ) → IsChangesInput input kept.changes → IsWholeInput input new.changes) → IfSome known (λ input. IsKeptWhole input new)
-kept_read None kept new same read is = tt
-kept_read (Some input) kept new same read is = record { read = is input read.read; bytes = same ∙ read.bytes }
+pub kept_read : (size : Size) (known : Option (List ℕ)) (kept new : KeptInput) → new.bytes.items ≡ kept.bytes.items → IfSome known (λ input. IsKept size input kept)
+    → ((size : Size) (input : List ℕ) → IsChangesInput size input kept.changes → IsWholeInput size input new.changes) → IfSome known (λ input. IsKeptWhole size input new)
+kept_read size None kept new same read is = tt
+kept_read size (Some input) kept new same read is = record { read = is size input read.read; bytes = same ∙ read.bytes }
 
 -- ---- what is answered
 pub replied_joined : (bytes text made : List ℕ) (read : List Change) (reply : Answer) → text ≡ bytes → ((changes : List Change) → All IsChange changes → text ≡ flat_map change_text changes → read ≡ changes)
-    → made ≡ flat_map change_text (joined read) → reply ≡ done made → (changes : List Change) → Begins bytes changes [] → IsJoinReply bytes reply
-replied_joined bytes text made read reply same all made_is reply_is changes begins =
+    → made ≡ flat_map change_text (joined read) → reply ≡ done made → (size : Size) (changes : List Change) → Begins size bytes changes [] → IsJoinReply size bytes reply
+replied_joined bytes text made read reply same all made_is reply_is size changes begins =
     let spelt : text ≡ flat_map change_text changes = same ∙ begins.spelt ∙ append-nil (flat_map change_text changes) in
     let read_is : read ≡ changes = all changes begins.limited spelt in
     joined_all changes begins (reply_is ∙ ap done (made_is ∙ ap (λ (l : List Change). flat_map change_text (joined l)) read_is))
 
-pub replied_fault : (input : List ℕ) (changes : List Change) (known : Option Fault) (fault : Fault) (reply : Answer) → known ≡ Some fault → reply ≡ fault_reply fault → Concludes input changes known
-    → IsJoinReply input reply
-replied_fault input changes known NotText reply is e h =
-    let P : Option Fault → Type 0 = λ f. Concludes input changes f in
+pub replied_fault : (size : Size) (input : List ℕ) (changes : List Change) (known : Option Fault) (fault : Fault) (reply : Answer) → known ≡ Some fault → reply ≡ fault_reply fault → Concludes size input changes known
+    → IsJoinReply size input reply
+replied_fault size input changes known NotText reply is e h =
+    let P : Option Fault → Type 0 = λ f. Concludes size input changes f in
     no_text (subst P is h) e
-replied_fault input changes known (BadChange reason) reply is e h =
-    let P : Option Fault → Type 0 = λ f. Concludes input changes f in
-    let found : IsUtf8 input × Stops input reason = subst P is h in
+replied_fault size input changes known (BadChange reason) reply is e h =
+    let P : Option Fault → Type 0 = λ f. Concludes size input changes f in
+    let found : IsUtf8 input × Stops size input reason = subst P is h in
     stopped reason found.0 found.1 e
 
-pub replied_none : (input bytes : List ℕ) (changes : List Change) (known : Option Fault) (reply : Answer) → known ≡ None → bytes ≡ input
-    → ((all : List Change) → Begins bytes all [] → IsJoinReply bytes reply) → Concludes input changes known → IsJoinReply input reply
-replied_none input bytes changes known reply is same all h =
-    let P : Option Fault → Type 0 = λ f. Concludes input changes f in
-    let begins : Begins input changes [] = subst P is h in
-    let Q : List ℕ → Type 0 = λ l. Begins l changes [] in
-    subst (λ (l : List ℕ). IsJoinReply l reply) same (all changes (subst Q (sym same) begins))
+pub replied_none : (size : Size) (input bytes : List ℕ) (changes : List Change) (known : Option Fault) (reply : Answer) → known ≡ None → bytes ≡ input
+    → ((size : Size) (all : List Change) → Begins size bytes all [] → IsJoinReply size bytes reply) → Concludes size input changes known → IsJoinReply size input reply
+replied_none size input bytes changes known reply is same all h =
+    let P : Option Fault → Type 0 = λ f. Concludes size input changes f in
+    let begins : Begins size input changes [] = subst P is h in
+    let Q : List ℕ → Type 0 = λ l. Begins size l changes [] in
+    subst (λ (l : List ℕ). IsJoinReply size l reply) same (all size changes (subst Q (sym same) begins))
 
-pub kept_answered : (known old new : Option (List ℕ)) (kept : KeptInput) (reply : Answer) (status : ℕ) → IfSome known (λ input. IsKeptWhole input kept)
-    → ((input : List ℕ) → IsKeptWhole input kept → IsJoinReply input reply) → IsWritten reply old new status → IsAnswered IsJoinReply known old new status
-kept_answered None old new kept reply status read is written = tt
-kept_answered (Some input) old new kept reply status read is written = (reply, is input read, written)
+pub kept_answered : (size : Size) (known old new : Option (List ℕ)) (kept : KeptInput) (reply : Answer) (status : ℕ) → IfSome known (λ input. IsKeptWhole size input kept)
+    → ((size : Size) (input : List ℕ) → IsKeptWhole size input kept → IsJoinReply size input reply) → IsWritten reply old new status → IsAnswered (IsJoinReply size) known old new status
+kept_answered size None old new kept reply status read is written = tt
+kept_answered size (Some input) old new kept reply status read is written = (reply, is size input read, written)
 
-pub kept_hinted : (known : Option (List ℕ)) (kept : KeptInput) (hint : Option Hint) → IfSome known (λ input. IsKeptWhole input kept)
-    → ((input : List ℕ) → IsWholeInput input kept.changes → hint ≡ text_hint input) → IfSome known (λ input. hint ≡ text_hint input)
-kept_hinted None kept hint read is = tt
-kept_hinted (Some input) kept hint read is = is input read.read
+pub kept_hinted : (size : Size) (known : Option (List ℕ)) (kept : KeptInput) (hint : Option Hint) → IfSome known (λ input. IsKeptWhole size input kept)
+    → ((size : Size) (input : List ℕ) → IsWholeInput size input kept.changes → hint ≡ text_hint input) → IfSome known (λ input. hint ≡ text_hint input)
+kept_hinted size None kept hint read is = tt
+kept_hinted size (Some input) kept hint read is = is size input read.read

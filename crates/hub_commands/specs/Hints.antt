@@ -42,7 +42,7 @@ abbrev pub hint_to : Command → List ℕ → Option Hint
 hint_to Asm = source_hint
 hint_to (Check detail profile) = digits_hint
 hint_to Dis = digits_hint
-hint_to Join = text_hint
+hint_to (Join size) = text_hint
 hint_to (Run shown digits options) = λ input. pairs_hint (string_bytes digits)
-hint_to Spans = text_hint
+hint_to (Spans size) = text_hint
 hint_to Straighten = digits_hint

@@ -13,6 +13,7 @@ use crate::pieces::{Gather, append, read_pieces};
 use crate::spans::{Stop, take_change};
 use change_history::history::History;
 use change_ops::refusal::ChangeError;
+use change_ops::size::Size;
 use refusals::reason::{ChangeReason, Reason};
 use std::alloc::{AllocError, Global};
 use std::io::Read;
@@ -91,8 +92,10 @@ fn take_changes<'a>(
     history: &mut History,
     text: &'a str,
 ) -> Result<(&'a str, Option<ChangeReason>), AllocError>
-    ensures taken { IfOk result (λ x. Advances history.old text.now history.new x.0.now) }
-    ensures ended { IfOk result (λ x. EndsWith history.new x.0.now x.1) }
+    ensures taken { IfOk result (λ x. Advances history.old.size history.old.changes text.now
+        history.new.changes x.0.now) }
+    ensures ended { IfOk result (λ x. EndsWith history.old.size history.new.changes x.0.now x.1) }
+    ensures size { history.new.size ≡ history.old.size }
 {
     let mut rest: &str = text;
     while !rest.is_empty() {
@@ -111,7 +114,9 @@ fn take_lines<'a>(
     history: &mut History,
     lines: &'a str,
 ) -> Result<(&'a str, Option<ChangeReason>), AllocError>
-    ensures { IfOk result (λ x. TakesLines history.old lines.now history.new x.0.now x.1) }
+    ensures taken { IfOk result (λ x. TakesLines history.old.size history.old.changes lines.now
+        history.new.changes x.0.now x.1) }
+    ensures size { history.new.size ≡ history.old.size }
 {
     let (rest, refusal) = take_changes(alloc, history, lines)?;
     if let Some(reason) = refusal {
@@ -123,14 +128,14 @@ fn take_lines<'a>(
 }
 
 impl ChangesInput {
-    /// No byte yet.
-    pub(crate) fn new(alloc: Global) -> ChangesInput
-        ensures { IsChangesInput [] result }
+    /// No byte yet, for a document of the size.
+    pub(crate) fn new(alloc: Global, size: Size) -> ChangesInput
+        ensures { IsChangesInput size [] result }
     {
         ChangesInput {
             alloc,
             front: Vec::new(alloc),
-            history: History::new(alloc),
+            history: History::new(alloc, size),
             fault: None,
             left: Vec::new(alloc),
         }
@@ -138,7 +143,8 @@ impl ChangesInput {
 
     /// Reads the lines that have ended.
     fn read_lines(&mut self) -> Result<(), AllocError>
-        ensures { OnOk result ((input : List ℕ) → IsChangesInput input self.old → IsChangesInput input self.new) }
+        ensures { OnOk result ((size : Size) (input : List ℕ) → IsChangesInput size input self.old
+            → IsChangesInput size input self.new) }
     {
         let Some(last) = last_line_feed(&self.left) else {
             return Ok(());
@@ -163,7 +169,8 @@ impl ChangesInput {
 
     /// The end of the input: what is left has to be UTF-8, and changes.
     pub(crate) fn finish(&mut self) -> Result<(), AllocError>
-        ensures { OnOk result ((input : List ℕ) → IsChangesInput input self.old → IsWholeInput input self.new) }
+        ensures { OnOk result ((size : Size) (input : List ℕ) → IsChangesInput size input self.old
+            → IsWholeInput size input self.new) }
     {
         let Ok(text) = std::str::from_utf8(&self.left) else {
             self.fault = Some(Fault::NotText);
@@ -179,10 +186,14 @@ impl ChangesInput {
     }
 
     /// Reads to the end of the input.
-    pub(crate) fn read<R: Read>(alloc: Global, reader: &mut R) -> Result<ChangesInput, Failure>
-        ensures { IfOk result (λ read. IfSome (R.remaining reader.old) (λ input. IsWholeInput input read)) }
+    pub(crate) fn read<R: Read>(
+        alloc: Global,
+        size: Size,
+        reader: &mut R,
+    ) -> Result<ChangesInput, Failure>
+        ensures { IfOk result (λ read. IfSome (R.remaining reader.old) (λ input. IsWholeInput size input read)) }
     {
-        let mut read = ChangesInput::new(alloc);
+        let mut read = ChangesInput::new(alloc, size);
         read_pieces(alloc, reader, &mut read)?;
         read.finish()?;
         Ok(read)
@@ -190,14 +201,17 @@ impl ChangesInput {
 
     /// The hint to the input.
     pub(crate) fn hint(&self) -> Option<Hint>
-        ensures { (input : List ℕ) → IsWholeInput input self.now → result ≡ text_hint input }
+        ensures { (size : Size) (input : List ℕ) → IsWholeInput size input self.now → result ≡ text_hint input }
     {
         text_hint(&self.front)
     }
 }
 
 impl Gather for ChangesInput {
+    ghost use Rattle.change_ops.specs.declared.size.Size.{Size};
     ghost use Rattle.hub_commands.specs.ChangesInput.{IsChangesInput};
+
+    ghost Terms = { Size };
 
     ghost keeps = { IsChangesInput };
 

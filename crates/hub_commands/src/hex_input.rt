@@ -76,7 +76,9 @@ impl HexInput {
 impl Gather for HexInput {
     ghost use Rattle.hub_commands.specs.HexInput.{IsHexInput};
 
-    ghost keeps = { IsHexInput };
+    ghost Terms = { Unit {0} };
+
+    ghost keeps = { λ _. IsHexInput };
 
     fn push_piece(&mut self, piece: &[u8]) -> Result<(), AllocError> {
         for byte in piece {

@@ -14,7 +14,9 @@ struct Whole {
 impl Gather for Whole {
     ghost use Rattle.std.specs.Prelude.{◌≡◌};
 
-    ghost keeps = { λ input whole. whole.bytes.items ≡ input };
+    ghost Terms = { Unit {0} };
+
+    ghost keeps = { λ _ input whole. whole.bytes.items ≡ input };
 
     fn push_piece(&mut self, piece: &[u8]) -> Result<(), AllocError> {
         append(&mut self.bytes, piece)

@@ -18,6 +18,7 @@ use crate::pieces::{Gather, append, read_pieces};
 use crate::spans::fault_answer;
 use change_join::joining::joined_text;
 use change_ops::change::{Change, read_change};
+use change_ops::size::Size;
 use std::alloc::{AllocError, Global};
 use std::io::{Read, Write};
 
@@ -29,7 +30,10 @@ pub(crate) struct KeptInput {
 }
 
 impl Gather for KeptInput {
+    ghost use Rattle.change_ops.specs.declared.size.Size.{Size};
     ghost use Rattle.hub_commands.specs.KeptInput.{IsKept};
+
+    ghost Terms = { Size };
 
     ghost keeps = { IsKept };
 
@@ -41,11 +45,11 @@ impl Gather for KeptInput {
 
 impl KeptInput {
     /// Reads to the end of the input.
-    fn read<R: Read>(alloc: Global, reader: &mut R) -> Result<KeptInput, Failure>
-        ensures { IfOk result (λ kept. IfSome (R.remaining reader.old) (λ input. IsKeptWhole input kept)) }
+    fn read<R: Read>(alloc: Global, size: Size, reader: &mut R) -> Result<KeptInput, Failure>
+        ensures { IfOk result (λ kept. IfSome (R.remaining reader.old) (λ input. IsKeptWhole size input kept)) }
     {
         let mut kept = KeptInput {
-            changes: ChangesInput::new(alloc),
+            changes: ChangesInput::new(alloc, size),
             bytes: Vec::new(alloc),
         };
         read_pieces(alloc, reader, &mut kept)?;
@@ -73,8 +77,8 @@ fn changes_of(alloc: Global, text: &str) -> Result<Vec<Change>, AllocError>
 
 /// What `join` answers to accepted changes.
 fn joined_answer(alloc: Global, bytes: &[u8]) -> Result<Answer, AllocError>
-    ensures { IfOk result (λ answer. (changes : List ChangeValue) → Begins bytes.now changes []
-        → IsJoinReply bytes.now answer) }
+    ensures { IfOk result (λ answer. (size : Size) (changes : List ChangeValue) → Begins size bytes.now changes []
+        → IsJoinReply size bytes.now answer) }
 {
     let Ok(text) = std::str::from_utf8(bytes) else {
         return fault_answer(alloc, Fault::NotText);
@@ -86,7 +90,8 @@ fn joined_answer(alloc: Global, bytes: &[u8]) -> Result<Answer, AllocError>
 
 /// What `join` answers to its input.
 fn join_answer(alloc: Global, input: &KeptInput) -> Result<Answer, AllocError>
-    ensures { IfOk result (λ answer. (bytes : List ℕ) → IsKeptWhole bytes input.now → IsJoinReply bytes answer) }
+    ensures { IfOk result (λ answer. (size : Size) (bytes : List ℕ) → IsKeptWhole size bytes input.now
+        → IsJoinReply size bytes answer) }
 {
     match input.changes.fault {
         None => joined_answer(alloc, &input.bytes),
@@ -94,17 +99,18 @@ fn join_answer(alloc: Global, input: &KeptInput) -> Result<Answer, AllocError>
     }
 }
 
-/// The command `join`: the changes of the input, joined.
+/// The command `join`: the changes of the input, for a document of the size, joined.
 pub fn join<R: Read, W: Write>(
     alloc: Global,
+    size: Size,
     reader: &mut R,
     writer: &mut W,
 ) -> Result<Ended, Failure>
-    ensures answered { IfOk result (λ ended. IsAnswered IsJoinReply (R.remaining reader.old)
+    ensures answered { IfOk result (λ ended. IsAnswered (IsJoinReply size) (R.remaining reader.old)
         (W.contents writer.old) (W.contents writer.new) ended.status) }
     ensures hinted { IfOk result (λ ended. IfSome (R.remaining reader.old) (λ input. ended.hint ≡ text_hint input)) }
 {
-    let input = KeptInput::read(alloc, reader)?;
+    let input = KeptInput::read(alloc, size, reader)?;
     let answer = join_answer(alloc, &input)?;
     let status = write_answer(writer, &answer)?;
     Ok(Ended {

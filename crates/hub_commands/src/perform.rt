@@ -38,7 +38,7 @@ pub fn perform<R: Read, W: Write>(
             Detail::Listing => explain(alloc, *profile, true, reader, writer),
         },
         Command::Dis => dis(alloc, reader, writer),
-        Command::Join => join(alloc, reader, writer),
+        Command::Join { size } => join(alloc, *size, reader, writer),
         Command::Run {
             shown,
             digits,
@@ -48,7 +48,7 @@ pub fn perform<R: Read, W: Write>(
             hint: pairs_hint(digits.as_bytes()),
             word: None,
         }),
-        Command::Spans => spans(alloc, reader, writer),
+        Command::Spans { size } => spans(alloc, *size, reader, writer),
         Command::Straighten => straighten(alloc, reader, writer),
     }
 }

@@ -11,12 +11,16 @@ const PIECE_BYTES: usize = 1 << 16;
 
 /// What is kept of an input while it is read.
 pub(crate) trait Gather {
-    // What is kept where these bytes were read.
-    ghost keeps: { List ℕ → Self → Type 0 };
+    // What is settled before anything is read.
+    ghost Terms: { Type 0 };
+
+    // What is kept on these terms where these bytes were read.
+    ghost keeps: { Terms → List ℕ → Self → Type 0 };
 
     /// Takes in the next bytes.
     fn push_piece(&mut self, piece: &[u8]) -> Result<(), AllocError>
-        ensures { OnOk result ((input : List ℕ) → keeps input self.old → keeps (input ++ piece.now) self.new) };
+        ensures { OnOk result ((terms : Terms) (input : List ℕ) → keeps terms input self.old
+            → keeps terms (input ++ piece.now) self.new) };
 }
 
 /// Appends a piece. Room is made for a quarter more than is there, so that at most a quarter is held beside the bytes.
@@ -35,9 +39,9 @@ fn take_from<R: Read, G: Gather>(
     piece: &mut [u8],
     kept: &mut G,
 ) -> Result<(), Failure>
-    requires new { G.keeps [] kept.old }
-    requires room { 0 < length piece.old }
-    ensures { OnOk result (IfSome (R.remaining reader.old) (λ input. G.keeps input kept.new)) }
+    requires { 0 < length piece.old }
+    ensures { OnOk result ((terms : G.Terms) → G.keeps terms [] kept.old
+        → IfSome (R.remaining reader.old) (λ input. G.keeps terms input kept.new)) }
 {
     for _ in 0..u64::MAX {
         match reader.read(piece) {
@@ -59,8 +63,8 @@ pub(crate) fn read_pieces<R: Read, G: Gather>(
     reader: &mut R,
     kept: &mut G,
 ) -> Result<(), Failure>
-    requires { G.keeps [] kept.old }
-    ensures { OnOk result (IfSome (R.remaining reader.old) (λ input. G.keeps input kept.new)) }
+    ensures { OnOk result ((terms : G.Terms) → G.keeps terms [] kept.old
+        → IfSome (R.remaining reader.old) (λ input. G.keeps terms input kept.new)) }
 {
     let mut piece = vec![in alloc; 0u8; PIECE_BYTES]?;
     take_from(reader, &mut piece, kept)

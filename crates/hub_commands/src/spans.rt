@@ -23,6 +23,7 @@ use change_history::history::History;
 use change_history::refusal::SubmitError;
 use change_ops::change::read_change;
 use change_ops::refusal::ChangeError;
+use change_ops::size::Size;
 use refusals::reason::{ChangeReason, Reason};
 use span_lines::printing::lines_of;
 use std::alloc::{AllocError, Global};
@@ -71,8 +72,10 @@ pub(crate) fn take_change<'a>(
     history: &mut History,
     text: &'a str,
 ) -> Result<&'a str, Stop>
-    ensures taken { MatchResult result (λ rest. Takes history.old text.now history.new rest.now)
-        (StopsAt history.old text.now) }
+    ensures taken { MatchResult result
+        (λ rest. Takes history.old.size history.old.changes text.now history.new.changes rest.now)
+        (StopsAt history.old.size history.old.changes text.now) }
+    ensures size { history.new.size ≡ history.old.size }
     ensures text { IfOk result (λ rest. IsUtf8 rest.now) }
     ensures shorter { IfOk result (λ rest. length rest.now < length text.now) }
     ensures unchanged { OnErr result (history.new ≡ history.old) }
@@ -90,7 +93,7 @@ pub(crate) fn take_change<'a>(
 
 /// The spans that the changes of a history make.
 fn shown(alloc: Global, history: &History) -> Result<Answer, AllocError>
-    ensures { IfOk result (λ answer. (spans : List Span) × AreSpans (operations_of history.now) spans
+    ensures { IfOk result (λ answer. (spans : List Span) × AreSpans (operations_of history.now.changes) spans
         × (answer ≡ done (span_lines spans))) }
 {
     let version = history.version(alloc)?;
@@ -110,7 +113,8 @@ pub(crate) fn fault_answer(alloc: Global, fault: Fault) -> Result<Answer, AllocE
 
 /// What `spans` answers to its input.
 fn spans_answer(alloc: Global, input: &ChangesInput) -> Result<Answer, AllocError>
-    ensures { IfOk result (λ answer. (bytes : List ℕ) → IsWholeInput bytes input.now → IsSpansReply bytes answer) }
+    ensures { IfOk result (λ answer. (size : Size) (bytes : List ℕ) → IsWholeInput size bytes input.now
+        → IsSpansReply size bytes answer) }
 {
     match input.fault {
         None => shown(alloc, &input.history),
@@ -118,17 +122,18 @@ fn spans_answer(alloc: Global, input: &ChangesInput) -> Result<Answer, AllocErro
     }
 }
 
-/// The command `spans`: the spans of the last version that the changes of the input make.
+/// The command `spans`: the spans of the last version that the changes of the input make, in a document of the size.
 pub fn spans<R: Read, W: Write>(
     alloc: Global,
+    size: Size,
     reader: &mut R,
     writer: &mut W,
 ) -> Result<Ended, Failure>
-    ensures answered { IfOk result (λ ended. IsAnswered IsSpansReply (R.remaining reader.old)
+    ensures answered { IfOk result (λ ended. IsAnswered (IsSpansReply size) (R.remaining reader.old)
         (W.contents writer.old) (W.contents writer.new) ended.status) }
     ensures hinted { IfOk result (λ ended. IfSome (R.remaining reader.old) (λ input. ended.hint ≡ text_hint input)) }
 {
-    let input = ChangesInput::read(alloc, reader)?;
+    let input = ChangesInput::read(alloc, size, reader)?;
     let answer = spans_answer(alloc, &input)?;
     let status = write_answer(writer, &answer)?;
     Ok(Ended {

@@ -1,3 +1,4 @@
+pub mod Sizes
 pub mod Sound
 pub mod Streams
 pub mod Running

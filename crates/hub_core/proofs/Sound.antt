@@ -5,6 +5,8 @@ use Rattle.std.proofs.lemmas.List.{take-append-le, take_all, get_or_default, set
 use Rattle.std.proofs.lemmas.List.Elements.{All-set, All-push, All-weaker, All-get_or}
 use Rattle.std.proofs.lemmas.Option.{slice_get_within, slice_get_read, slice_get_past, same_Some, none-some}
 use Rattle.change_ops.specs.Changes.{Change}
+use Rattle.change_ops.specs.declared.size.Size.{Size}
+use Rattle.change_ops.specs.Sizes.{most_changes}
 use Rattle.semantics.specs.Step.{Program}
 use Rattle.semantics.specs.Safe.{Safe}
 use Rattle.span_flatten.specs.Version.{Version, IsVersion}
@@ -42,10 +44,10 @@ module _ {S : Type 0} (sent : S → List Item) (full : S → Type 0) where
       (r.0, r.1, sound.versions_are (length s.changes) r.0 r.1)
 
   -- the tokens are of all versions of the changes
-  pub of_changes : (s : Core S) → IsSound sent full s → AreAccepted s.changes → AreOfChanges s.versions
+  pub of_changes : (s : Core S) → IsSound sent full s → AreAccepted s.size s.changes → AreOfChanges s.size s.versions
   of_changes s sound accepted = record { changes = s.changes; accepted = accepted; all = sound.named; are = sound.versions_are }
 
-  pub sound_submit : (s : Core S) (c : Change) (t : Token Version) → IsSound sent full s → length s.changes < 4096 → IsVersionAt (s.changes ++ c ∷ []) (length s.changes + 1) t.value
+  pub sound_submit : (s : Core S) (c : Change) (t : Token Version) → IsSound sent full s → length s.changes < most_changes s.size → IsVersionAt (s.changes ++ c ∷ []) (length s.changes + 1) t.value
       → IsSound sent full (record s { changes = s.changes ++ c ∷ []; versions = s.versions ++ t ∷ [] })
   sound_submit s c t sound room is =
       record {
@@ -67,7 +69,7 @@ module _ {S : Type 0} (sent : S → List Item) (full : S → Type 0) where
   pub sound_start : (s : Core S) (t : Token Version) → s.changes ≡ [] → s.versions ≡ [] ++ t ∷ [] → s.subscribers ≡ [] → IsVersionAt [] 0 t.value → IsSound sent full s
   sound_start s t changes versions subscribers is =
       let no_subs : All (IsFed sent full (t ∷ [])) [] = search rules in
-      subst (λ (x : List Change × List (Token Version) × List (Subscriber S)). IsSound sent full (record { changes = x.0; versions = x.1; subscribers = x.2 }))
+      subst (λ (x : List Change × List (Token Version) × List (Subscriber S)). IsSound sent full (record { size = s.size; changes = x.0; versions = x.1; subscribers = x.2 }))
       (λ i. (sym changes i, sym versions i, sym subscribers i))
       (record {
         named = refl;
@@ -79,13 +81,13 @@ module _ {S : Type 0} (sent : S → List Item) (full : S → Type 0) where
       })
 
   -- both lists have one more, or stay as they were
-  pub sound_accepted : (s : Core S) (c : Change) (r : Result (Token Version) SubmitError) (changes : List Change) (versions : List (Token Version)) → IsSound sent full s
-      → Accepts s.changes s.versions c r changes versions → IsSound sent full (record s { changes = changes; versions = versions })
-  sound_accepted s c (Ok t) changes versions sound h =
-      subst (λ (x : List Change × List (Token Version)). IsSound sent full (record s { changes = x.0; versions = x.1 })) (λ i. (sym h.2 i, sym h.3 i))
+  pub sound_accepted : (s : Core S) (c : Change) (r : Result (Token Version) SubmitError) (size : Size) (changes : List Change) (versions : List (Token Version)) → IsSound sent full s
+      → Accepts s.size s.changes s.versions c r changes versions → size ≡ s.size → IsSound sent full (record s { size = size; changes = changes; versions = versions })
+  sound_accepted s c (Ok t) size changes versions sound h same =
+      subst (λ (x : Size × List Change × List (Token Version)). IsSound sent full (record s { size = x.0; changes = x.1; versions = x.2 })) (λ i. (sym same i, sym h.2 i, sym h.3 i))
       (sound_submit s c t sound h.0.room h.1)
-  sound_accepted s c (Err e) changes versions sound h =
-      subst (λ (x : List Change × List (Token Version)). IsSound sent full (record s { changes = x.0; versions = x.1 })) (λ i. (sym h.0 i, sym h.1 i)) sound
+  sound_accepted s c (Err e) size changes versions sound h same =
+      subst (λ (x : Size × List Change × List (Token Version)). IsSound sent full (record s { size = x.0; changes = x.1; versions = x.2 })) (λ i. (sym same i, sym h.0 i, sym h.1 i)) sound
 
   pub sound_set : (s : Core S) (id : ℕ) (b : Subscriber S) → IsSound sent full s → IsFed sent full s.versions b → IsSound sent full (record s { subscribers = set s.subscribers id b })
   sound_set s id b sound fed = record {
@@ -164,14 +166,14 @@ module _ {S : Type 0} (sent : S → List Item) (full : S → Type 0) where
       sound_set sent full s id a' sound (subst (IsFed sent full s.versions) (sym made) (fed_closed sent full s.versions a (fed_at sent full s id a sound within at)))
 
 module _ {S : Type 0} where
-  pub submitted : (o s : Core S) (c : Change) (r : Result (Token Version) SubmitError) (changes : List Change) (versions : List (Token Version)) → s ≡ o
-      → Accepts s.changes s.versions c r changes versions → Submits o c r (record s { changes = changes; versions = versions })
-  submitted o s c (Ok t) changes versions same h =
-      subst (λ (y : Core S). Submits y c (Ok t) (record s { changes = changes; versions = versions })) same
-      (h.0, h.1, λ i. record s { changes = h.2 i; versions = h.3 i })
-  submitted o s c (Err e) changes versions same h =
-      subst (λ (y : Core S). Submits y c (Err e) (record s { changes = changes; versions = versions })) same
-      (λ i. record s { changes = h.0 i; versions = h.1 i }, h.2)
+  pub submitted : (o s : Core S) (c : Change) (r : Result (Token Version) SubmitError) (size : Size) (changes : List Change) (versions : List (Token Version)) → s ≡ o
+      → Accepts s.size s.changes s.versions c r changes versions → size ≡ s.size → Submits o c r (record s { size = size; changes = changes; versions = versions })
+  submitted o s c (Ok t) size changes versions same h kept =
+      subst (λ (y : Core S). Submits y c (Ok t) (record s { size = size; changes = changes; versions = versions })) same
+      (h.0, h.1, λ i. record s { size = kept i; changes = h.2 i; versions = h.3 i })
+  submitted o s c (Err e) size changes versions same h kept =
+      subst (λ (y : Core S). Submits y c (Err e) (record s { size = size; changes = changes; versions = versions })) same
+      (λ i. record s { size = kept i; changes = h.0 i; versions = h.1 i }, h.2)
 
   reads : (s : Core S) (id : ℕ) (a : Subscriber S) → id < length s.subscribers → a ≡ get_or s.subscribers id a → slice_get s.subscribers id ≡ Some a
   reads s id a within at = slice_get_read s.subscribers (length s.subscribers) id a refl within at

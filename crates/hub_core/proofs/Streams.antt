@@ -50,5 +50,5 @@ module _ {S : Type 0} (sent : S → List Item) (full : S → Type 0) where
   begins o s same sound id a = begins_here o id a (subst (IsSound sent full) same sound)
 
   -- and the state is consistent
-  pub consistent : (o s : Core S) → s ≡ o → IsSound sent full s → AreAccepted s.changes → IsConsistent sent full o
+  pub consistent : (o s : Core S) → s ≡ o → IsSound sent full s → AreAccepted s.size s.changes → IsConsistent sent full o
   consistent o s same sound accepted = subst (IsConsistent sent full) same (record { sound = sound; accepted = accepted; streams = begins s s refl sound })

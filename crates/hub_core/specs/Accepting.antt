@@ -1,6 +1,7 @@
 -- What becomes of the lists of changes and of their versions' tokens.
 use Rattle.std.specs.Prelude.{◌≡◌, ◌+◌, Result, Ok, Err, Some, List, [], ◌∷◌, ◌++◌, length, slice_get}
 use Rattle.change_ops.specs.Changes.{Change}
+use Rattle.change_ops.specs.declared.size.Size.{Size}
 use Rattle.span_flatten.specs.Version.{Version}
 use Rattle.version_history.specs.Tokens.{Token}
 use Rattle.change_history.specs.Accepted.{IsAccepted, IsRefused}
@@ -14,10 +15,10 @@ HasLatest changes versions =
     × IsVersionAt changes (length changes) token.value
 
 -- both have one more, or stay as they were
-abbrev pub Accepts : List Change → List (Token Version) → Change → Result (Token Version) SubmitError → List Change
-    → List (Token Version) → Type 0
-Accepts changes versions change (Ok token) changes' versions' =
-    IsAccepted changes change × IsVersionAt (changes ++ change ∷ []) (length changes + 1) token.value
+abbrev pub Accepts : Size → List Change → List (Token Version) → Change → Result (Token Version) SubmitError
+    → List Change → List (Token Version) → Type 0
+Accepts size changes versions change (Ok token) changes' versions' =
+    IsAccepted size changes change × IsVersionAt (changes ++ change ∷ []) (length changes + 1) token.value
     × (changes' ≡ changes ++ change ∷ []) × (versions' ≡ versions ++ token ∷ [])
-Accepts changes versions change (Err error) changes' versions' =
-    (changes' ≡ changes) × (versions' ≡ versions) × IsRefused changes change error
+Accepts size changes versions change (Err error) changes' versions' =
+    (changes' ≡ changes) × (versions' ≡ versions) × IsRefused size changes change error

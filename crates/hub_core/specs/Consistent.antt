@@ -10,6 +10,6 @@ use Rattle.hub_core.specs.Machine.{Core, IsSound}
 -- beginning of its program's stream
 pub record IsConsistent {S : Type 0} (sent : S → List Item) (full : S → Type 0) (s : Core S) : Type 0 where
   pub sound : IsSound sent full s
-  pub accepted : AreAccepted s.changes
+  pub accepted : AreAccepted s.size s.changes
   pub streams : (id : ℕ) (a : Subscriber S) → slice_get s.subscribers id ≡ Some a
       → BeginsStream a.program.value s.changes a.first (length s.changes) (map (λ item. item.what) (sent a.sink))

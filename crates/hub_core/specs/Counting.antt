@@ -1,6 +1,8 @@
 -- How much there is of a hub.
 use Rattle.std.specs.Prelude.{◌≡◌, ℕ, ◌+◌, ◌-◌, ◌≤◌, max, Bool, not, if◌then◌else◌, List, [], ◌∷◌, length, count_by}
 use Rattle.change_ops.specs.Operations.{is_insert, is_mark}
+use Rattle.change_ops.specs.declared.size.Size.{Size}
+use Rattle.change_ops.specs.Sizes.{most_characters, most_marks, most_changes}
 use Rattle.change_history.specs.Accepted.{operations_of}
 use Rattle.feeds.specs.Feed.{Subscriber}
 use Rattle.hub_core.specs.Machine.{Core}
@@ -29,8 +31,8 @@ pub record AreCounts {S : Type 0} (s : Core S) (counts : Counts) : Type 0 where
   pub lag : counts.lag ≡ greatest_lag (length s.changes) s.subscribers
 
 -- none is above its limit
-pub record AreWithinLimits (counts : Counts) : Type 0 where
-  pub changes : counts.changes ≤ 4096
-  pub inserted : counts.inserted ≤ 32768
-  pub marks : counts.marks ≤ 4096
+pub record AreWithinLimits (size : Size) (counts : Counts) : Type 0 where
+  pub changes : counts.changes ≤ most_changes size
+  pub inserted : counts.inserted ≤ most_characters size
+  pub marks : counts.marks ≤ most_marks size
   pub subscribed : counts.subscribed ≤ 64

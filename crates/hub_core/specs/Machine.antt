@@ -2,6 +2,8 @@
 use Rattle.std.specs.Prelude.{◌≡◌, ℕ, ◌+◌, ◌<◌, ◌≤◌, false, true, Option, None, Some, Result, Ok, Err, List, [], ◌∷◌}
 use Rattle.std.specs.Prelude.{◌++◌, length, slice_get, slice_set, All}
 use Rattle.change_ops.specs.Changes.{Change}
+use Rattle.change_ops.specs.declared.size.Size.{Size}
+use Rattle.change_ops.specs.Sizes.{most_changes}
 use Rattle.semantics.specs.Step.{Program}
 use Rattle.span_flatten.specs.Version.{Version}
 use Rattle.version_history.specs.Tokens.{Token}
@@ -17,9 +19,10 @@ use Rattle.hub_core.specs.declared.error.CommitError.{CommitError}
 use Rattle.hub_core.specs.declared.error.CommitError.TheVariants as commit
 use Rattle.hub_core.specs.declared.error.NoSubscriber.{NoSubscriber}
 
--- the accepted changes, the tokens of their versions from version 0 on, and the subscribers, whose ids are their
--- indexes in this list
+-- how much the document may hold, the accepted changes, the tokens of their versions from version 0 on, and the
+-- subscribers, whose ids are their indexes in this list
 pub record Core (S : Type 0) : Type 0 where
+  pub size : Size
   pub changes : List Change
   pub versions : List (Token Version)
   pub subscribers : List (Subscriber S)
@@ -36,8 +39,9 @@ HasNone {S} s id = (a : Subscriber S) → slice_get s.subscribers id ≡ Some a 
 abbrev pub with_subscriber : {S : Type 0} → Core S → ℕ → Subscriber S → Core S
 with_subscriber s id a = record s { subscribers = slice_set s.subscribers id a }
 
--- a core at its start: no change, no subscriber, and the token of version 0
-pub record IsStart {S : Type 0} (s : Core S) : Type 0 where
+-- a core of a size at its start: no change, no subscriber, and the token of version 0
+pub record IsStart {S : Type 0} (size : Size) (s : Core S) : Type 0 where
+  pub of : s.size ≡ size
   pub changes : s.changes ≡ []
   pub subscribers : s.subscribers ≡ []
   pub version : (t : Token Version) × (s.versions ≡ t ∷ []) × IsVersionAt [] 0 t.value
@@ -45,9 +49,9 @@ pub record IsStart {S : Type 0} (s : Core S) : Type 0 where
 -- a change is accepted after those before it, and its version's token is answered; or it is refused
 abbrev pub Submits : {S : Type 0} → Core S → Change → Result (Token Version) SubmitError → Core S → Type 0
 Submits s c (Ok t) s' =
-    IsAccepted s.changes c × IsVersionAt (s.changes ++ c ∷ []) (length s.changes + 1) t.value
+    IsAccepted s.size s.changes c × IsVersionAt (s.changes ++ c ∷ []) (length s.changes + 1) t.value
     × (s' ≡ record s { changes = s.changes ++ c ∷ []; versions = s.versions ++ t ∷ [] })
-Submits s c (Err e) s' = (s' ≡ s) × IsRefused s.changes c e
+Submits s c (Err e) s' = (s' ≡ s) × IsRefused s.size s.changes c e
 
 -- a program is subscribed, from this version on, which is the latest or an earlier one
 abbrev pub Subscribes : {S : Type 0} → Core S → ℕ → Token Program → S → Result ℕ SubscribeError → Core S → Type 0
@@ -126,7 +130,7 @@ module _ {S : Type 0} (sent : S → List Item) (full : S → Type 0) where
   -- what the core's type keeps
   pub record IsSound (s : Core S) : Type 0 where
     pub named : length s.versions ≡ length s.changes + 1
-    pub few : length s.changes ≤ 4096
+    pub few : length s.changes ≤ most_changes s.size
     pub few_subscribers : length s.subscribers ≤ 64
     pub versions_are : (n : ℕ) (t : Token Version) → slice_get s.versions n ≡ Some t → IsVersionAt s.changes n t.value
     pub fed : All (IsFed sent full s.versions) s.subscribers

@@ -1,5 +1,6 @@
 -- Runs of the core: events one after another, with their replies.
 use Rattle.std.specs.Prelude.{◌≡◌, ℕ, Option, None, Some, Result, Err, List, [], ◌∷◌, ◌++◌, length, slice_get}
+use Rattle.change_ops.specs.declared.size.Size.{Size}
 use Rattle.semantics.specs.Step.{Program}
 use Rattle.span_flatten.specs.Version.{Version}
 use Rattle.version_history.specs.Tokens.{Token}
@@ -57,9 +58,10 @@ module _ {S : Type 0} (sent : S → List Item) (full : S → Type 0) where
 
 -- a sink that is subscribed was sent nothing, and nothing is promised of it but this program's stream from the first
 -- version on
-abbrev pub IsFreshEvent : {S : Type 0} → (S → List Item) → (S → Option Promise) → Event (Token Program) S → Type 0
-IsFreshEvent sent promise (event.Subscribe program sink) =
-    (sent sink ≡ []) × ((first : ℕ) → Suits (promise sink) program.value first)
-IsFreshEvent sent promise (event.SubscribeFrom program sink first) =
-    (sent sink ≡ []) × Suits (promise sink) program.value first
-IsFreshEvent sent promise _ = Unit {0}
+abbrev pub IsFreshEvent : {S : Type 0} → (S → List Item) → (S → Option Promise) → Size → Event (Token Program) S
+    → Type 0
+IsFreshEvent sent promise size (event.Subscribe program sink) =
+    (sent sink ≡ []) × ((first : ℕ) → Suits (promise sink) size program.value first)
+IsFreshEvent sent promise size (event.SubscribeFrom program sink first) =
+    (sent sink ≡ []) × Suits (promise sink) size program.value first
+IsFreshEvent sent promise size _ = Unit {0}

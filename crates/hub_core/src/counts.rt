@@ -26,7 +26,7 @@ pub struct Counts {
 
 /// How many versions, the latest of which has this number, an open subscriber was not sent whole; 0 of a closed one.
 fn lag_of<N: Naming, S: Sink<Item<N>>>(latest: u64, subscriber: &Subscriber<N, S>) -> u64
-    requires { latest ≤ 4096 }
+    requires { latest ≤ 65536 }
     ensures { result ≡ lag_of latest subscriber.now }
 {
     if subscriber.is_closed() {
@@ -40,7 +40,7 @@ pub(crate) fn greatest_lag<N: Naming, S: Sink<Item<N>>>(
     latest: u64,
     subscribers: &[Subscriber<N, S>],
 ) -> u64
-    requires { latest ≤ 4096 }
+    requires { latest ≤ 65536 }
     ensures { result ≡ greatest_lag latest subscribers.now }
 {
     let mut greatest = 0;

@@ -1,6 +1,7 @@
 ghost use Rattle.std.specs.Prelude.{◌≡◌, ◌+◌, ◌<◌, ◌≤◌, ◌↔◌, ◌++◌, ◌∷◌, [], Some, length, map, slice_get, IsTrue, IfOk};
 ghost use Rattle.std.specs.Prelude.{OnOk, MatchOption, vec_len, vec_capacity};
 ghost use Rattle.change_ops.specs.Changes.{Change};
+ghost use Rattle.change_ops.specs.Sizes.{most_changes};
 ghost use Rattle.char_sequence.specs.Newest.{IsLastCounter};
 ghost use Rattle.semantics.specs.Safe.{Safe};
 ghost use Rattle.span_flatten.specs.Version.{IsVersion};
@@ -22,6 +23,7 @@ use crate::error::{CommitError, NoSubscriber, SubscribeError};
 use change_history::history::{Draft, History};
 use change_history::refusal::SubmitError;
 use change_ops::change::Change;
+use change_ops::size::Size;
 use feeds::batch::Batch;
 use feeds::item::{Item, Job};
 use feeds::sink::Sink;
@@ -57,6 +59,7 @@ impl<'p, N: Naming, S: Sink<Item<N>>> Drop for Core<'p, N, S> {
 }
 
 impl<'p, N: Naming, S: Sink<Item<N>>> Model for Core<'p, N, S> {
+    ghost use Rattle.std.specs.Prelude.{◌≡◌};
     ghost use Rattle.std.specs.Coded.{codes};
     ghost use Rattle.hub_core.specs.Machine.{Core as CoreValue, IsSound};
 
@@ -65,13 +68,19 @@ impl<'p, N: Naming, S: Sink<Item<N>>> Model for Core<'p, N, S> {
     ghost coded = { Prim.hlevel (codes, S.code) };
 
     ghost view = { λ c. record {
-      changes = c.history;
+      size = c.history.size;
+      changes = c.history.changes;
       versions = c.versions.items;
       subscribers = c.subscribers.items;
     } };
 
-    ghost invariant = { λ c. IsSound S.sent S.full
-        (record { changes = c.history; versions = c.versions.items; subscribers = c.subscribers.items }) };
+    ghost invariant = { λ c. (c.history.size ≡ N.size) × IsSound S.sent S.full
+        (record {
+          size = c.history.size;
+          changes = c.history.changes;
+          versions = c.versions.items;
+          subscribers = c.subscribers.items;
+        }) };
 }
 
 /// Publishes the version that the changes make with the one of a draft, made from the latest one, once there is room
@@ -84,10 +93,12 @@ fn publish_draft<N: Naming, R: Wait>(
     draft: &Draft,
     versions: &mut Vec<VersionToken<N>>,
 ) -> Result<VersionToken<N>, AllocError>
-    requires drafted { (change : Change) × IsDraft history.now change draft.now }
-    requires published { HasLatest history.now versions.old.items }
-    ensures token { IfOk result (λ token. (change : Change) → IsDraft history.now change draft.now
-        → IsVersion (operations_of (history.now ++ change ∷ [])) (length history.now + 1) token.value) }
+    requires drafted { (change : Change) × IsDraft history.now.size history.now.changes change draft.now }
+    requires published { HasLatest history.now.changes versions.old.items }
+    ensures token { IfOk result (λ token. (change : Change)
+        → IsDraft history.now.size history.now.changes change draft.now
+        → IsVersion (operations_of (history.now.changes ++ change ∷ [])) (length history.now.changes + 1)
+        token.value) }
     ensures room { OnOk result (vec_len versions.new < vec_capacity versions.new) }
     ensures same { versions.new.items ≡ versions.old.items }
 {
@@ -111,8 +122,10 @@ fn accept<N: Naming, R: Wait>(
     versions: &mut Vec<VersionToken<N>>,
     change: Change,
 ) -> Result<VersionToken<N>, SubmitError>
-    requires { HasLatest history.old versions.old.items }
-    ensures { Accepts history.old versions.old.items change result history.new versions.new.items }
+    requires { HasLatest history.old.changes versions.old.items }
+    ensures accepts { Accepts history.old.size history.old.changes versions.old.items change result
+        history.new.changes versions.new.items }
+    ensures size { history.new.size ≡ history.old.size }
 {
     let draft = history.draft(change)?;
     let Ok(token) = publish_draft(rt, alloc, published, history, &draft, versions) else {
@@ -131,7 +144,7 @@ fn publish_start<N: Naming, R: Wait>(
 ) -> Result<VersionToken<N>, AllocError>
     ensures { IfOk result (λ token. IsVersionAt [] 0 token.value) }
 {
-    let version = History::new(alloc).version(alloc)?;
+    let version = History::new(alloc, published.size()).version(alloc)?;
     match published.publish(rt, version) {
         Ok(token) => Ok(token),
         Err(_) => Err(AllocError),
@@ -140,7 +153,8 @@ fn publish_start<N: Naming, R: Wait>(
 
 /// The number of the latest version of a history.
 fn latest(history: &History) -> u64
-    ensures { result ≡ length history.now }
+    ensures value { result ≡ length history.now.changes }
+    ensures few { result ≤ 65536 }
 {
     history.len() as u64
 }
@@ -152,7 +166,7 @@ impl<'p, N: Naming, S: Sink<Item<N>>> Core<'p, N, S> {
         alloc: Global,
         published: &Published<'p, N>,
     ) -> Result<Core<'p, N, S>, AllocError>
-        ensures { IfOk result IsStart }
+        ensures { IfOk result (IsStart N.size) }
     {
         let mut versions = Vec::new(alloc);
         versions.reserve(1)?;
@@ -161,7 +175,7 @@ impl<'p, N: Naming, S: Sink<Item<N>>> Core<'p, N, S> {
         Ok(Core {
             alloc,
             published: published.again(),
-            history: History::new(alloc),
+            history: History::new(alloc, published.size()),
             versions,
             subscribers: Vec::new(alloc),
         })
@@ -186,11 +200,19 @@ impl<'p, N: Naming, S: Sink<Item<N>>> Core<'p, N, S> {
         )
     }
 
+    /// How much the document may hold, which never changes.
+    pub fn size(&self) -> Size
+        ensures value { result ≡ self.now.size }
+        ensures named { result ≡ N.size }
+    {
+        self.history.size()
+    }
+
     /// How many changes were accepted.
     pub fn count(&self) -> usize
         ensures count { result ≡ length self.now.changes }
-        ensures most { result ≤ 4096 }
-        ensures accepted { AreAccepted self.now.changes }
+        ensures most { result ≤ most_changes N.size }
+        ensures accepted { AreAccepted N.size self.now.changes }
     {
         self.history.len()
     }
@@ -213,7 +235,7 @@ impl<'p, N: Naming, S: Sink<Item<N>>> Core<'p, N, S> {
     /// How much there is of it.
     pub fn counts(&self) -> Counts
         ensures counts { AreCounts self.now result }
-        ensures few { AreWithinLimits result }
+        ensures few { AreWithinLimits N.size result }
     {
         let changes = latest(&self.history);
         let subscribers = self.subscribers.as_slice();
@@ -234,10 +256,11 @@ impl<'p, N: Naming, S: Sink<Item<N>>> Core<'p, N, S> {
         self.history.last_counter(node)
     }
 
-    /// The law of what is so of a core between any two calls: what each sink was sent, with which tokens, and what is
-    /// held.
+    /// The law of what is so of a core between any two calls: what each sink was sent, with which tokens, what is
+    /// held, and that its size is the hub's.
     pub fn stays_consistent(&self)
-        ensures { IsConsistent S.sent S.full self.now }
+        ensures consistent { IsConsistent S.sent S.full self.now }
+        ensures size { self.now.size ≡ N.size }
     {
         let _ = self.history.len();
     }
@@ -253,7 +276,7 @@ impl<'p, N: Naming, S: Sink<Item<N>>> Core<'p, N, S> {
     /// but this program's stream. Ids rise from 0.
     pub fn subscribe(&mut self, program: ProgramToken<N>, sink: S) -> Result<usize, SubscribeError>
         requires none { S.sent sink ≡ [] }
-        requires suits { Suits (S.promise sink) program.value (length self.old.changes) }
+        requires suits { Suits (S.promise sink) N.size program.value (length self.old.changes) }
         ensures { Subscribes self.old (length self.old.changes) program sink result self.new }
     {
         let first = latest(&self.history);
@@ -276,7 +299,7 @@ impl<'p, N: Naming, S: Sink<Item<N>>> Core<'p, N, S> {
         first: u64,
     ) -> Result<usize, SubscribeError>
         requires none { S.sent sink ≡ [] }
-        requires suits { Suits (S.promise sink) program.value first }
+        requires suits { Suits (S.promise sink) N.size program.value first }
         ensures { Subscribes self.old first program sink result self.new }
     {
         let id = self.subscribers.len();
@@ -306,7 +329,7 @@ impl<'p, N: Naming, S: Sink<Item<N>>> Core<'p, N, S> {
         if sub.is_closed() {
             return None;
         }
-        sub.next_version(self.history.len() as u64)
+        sub.next_version(latest(&self.history))
     }
 
     /// An open subscriber that a version is due to, the one with the least id, and its next version.

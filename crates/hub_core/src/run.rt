@@ -65,7 +65,7 @@ fn run_event<N: Naming, S: Sink<Item<N>>, R: Wait>(
     jobs: &mut Vec<Job<N>>,
     event: Event<ProgramToken<N>, S>,
 ) -> Reply<VersionToken<N>, Job<N>>
-    requires fresh { IsFreshEvent S.sent S.promise event }
+    requires fresh { IsFreshEvent S.sent S.promise N.size event }
     requires room { vec_len jobs.old < vec_capacity jobs.old }
     ensures happens { Happens S.sent S.full core.old jobs.old.items event result core.new }
     ensures jobs { jobs.new.items ≡ jobs.old.items ++ handed_by result }
@@ -94,7 +94,7 @@ pub fn run_events<N: Naming, S: Sink<Item<N>>, R: Wait>(
     events: Vec<Event<ProgramToken<N>, S>>,
     replies: &mut Vec<Reply<VersionToken<N>, Job<N>>>,
 ) -> Result<(), AllocError>
-    requires { All (IsFreshEvent S.sent S.promise) events.items }
+    requires { All (IsFreshEvent S.sent S.promise N.size) events.items }
     ensures ok { OnOk result (AppendsRun S.sent S.full replies.old.items core.old events.items replies.new.items
         core.new) }
     ensures err { OnErr result ((replies.new.items ≡ replies.old.items) × (core.new ≡ core.old)) }

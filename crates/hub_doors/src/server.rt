@@ -117,13 +117,15 @@ fn serve_and_keep<
     J: Surroundings + Send + Sync,
     L: ChangeLog,
 >(house: &House<'_, '_, '_, '_, N, R, J>, desk: &Desk<N>, stored: &mut StoredHistory<L>)
-    requires { (texts : List (List ℕ)) (log : L) → L.kept log texts → N.kept texts }
+    requires kept { (texts : List (List ℕ)) (log : L) → L.kept log texts → N.kept.texts texts }
+    requires size { stored.old.size ≡ N.kept.size }
 {
     thread::scope(
         thread::scope_env(),
         &house.rt,
         move |scope|
-            requires { (texts : List (List ℕ)) (log : L) → L.kept log texts → N.kept texts }
+            requires kept { (texts : List (List ℕ)) (log : L) → L.kept log texts → N.kept.texts texts }
+            requires size { stored.now.size ≡ N.kept.size }
         {
             let serving = move || {
                 serve_doors(house);
@@ -200,11 +202,11 @@ fn serve_on<
     plan: &Plan<'_, J>,
     writer: &mut W,
 ) -> Result<(), ServeError>
-    requires named { (versions.now ≡ N.versions) × (programs.now ≡ N.programs) }
+    requires named { (plan.now.terms.now.size ≡ N.size) × (versions.now ≡ N.versions) × (programs.now ≡ N.programs) }
     requires blank { (blank.name ≡ N.name) × (blank.parts ≡ N.parts) × (N.parts ≡ sessions) }
     requires sessions { (1 ≤ sessions) × (sessions ≤ 64) }
 {
-    let published = Published::<N>::new(versions, programs);
+    let published = Published::<N>::new(plan.terms.size, versions, programs);
     let (hub, shares) = Hub::new(&rt, alloc, blank, &published, sessions)?;
     let common = Common::new(alloc, shares)?;
     let doors = open(&rt, alloc, plan.doors, writer)?;
@@ -280,7 +282,8 @@ fn serve_stored<
     plan: &Plan<'_, J>,
     writer: &mut W,
 ) -> Result<(), ServeError>
-    requires { (texts : List (List ℕ)) (log : L) → L.kept log texts → N.kept texts }
+    requires kept { (texts : List (List ℕ)) (log : L) → L.kept log texts → N.kept.texts texts }
+    requires size { stored.old.size ≡ N.kept.size }
 {
     let common = Common::new(alloc, shares)?;
     let desk = Desk::new(alloc)?;
@@ -334,14 +337,15 @@ fn serve_kept_on<
     progress: P,
     writer: &mut W,
 ) -> Result<Served<L>, NotServed<L>>
-    requires named { (versions.now ≡ N.versions) × (programs.now ≡ N.programs) }
+    requires named { (plan.now.terms.now.size ≡ N.size) × (versions.now ≡ N.versions) × (programs.now ≡ N.programs) }
     requires blank { (blank.name ≡ N.name) × (blank.parts ≡ N.parts) × (N.parts ≡ sessions) }
     requires sessions { (1 ≤ sessions) × (sessions ≤ 64) }
     requires log { (texts : List (List ℕ)) × L.kept log texts }
     requires progress { P.IsAlwaysCallable progress }
-    requires kept { (texts : List (List ℕ)) (log : L) → L.kept log texts → N.kept texts }
+    requires kept { (texts : List (List ℕ)) (log : L) → L.kept log texts → N.kept.texts texts }
+    requires size { N.kept.size ≡ N.size }
 {
-    let published = Published::<N>::new(versions, programs);
+    let published = Published::<N>::new(plan.terms.size, versions, programs);
     let Ok((hub, mut shares)) = Hub::new(&rt, alloc, blank, &published, sessions) else {
         return Err(NotServed::OutOfMemory(log));
     };

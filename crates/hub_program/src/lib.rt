@@ -194,6 +194,7 @@ fn asked<
     match request {
         Request::Perform(command) => performed(alloc, command, reader, writer, errors),
         Request::Replay {
+            size,
             workers,
             options,
             store,
@@ -201,6 +202,7 @@ fn asked<
             rt,
             alloc,
             system,
+            *size,
             workers,
             *options,
             store.as_ref(),

@@ -6,6 +6,7 @@ use crate::errors::{Errors, Progress};
 use crate::fault::Fault;
 use crate::system::{InMemory, Opened, System};
 use change_log::log::ChangeLog;
+use change_ops::size::Size;
 use hub_doors::journal::Surroundings;
 use hub_requests::Workers;
 use hub_requests::limits::SessionOptions;
@@ -59,6 +60,7 @@ fn replay_from<
     alloc: Global,
     journal: &J,
     log: L,
+    size: Size,
     workers: &Workers,
     options: SessionOptions,
     reader: &mut R,
@@ -70,6 +72,7 @@ fn replay_from<
     replay_kept(
         rt,
         alloc,
+        size,
         log,
         |done, all| progress.tell(done, all),
         &mut *reader,
@@ -90,6 +93,7 @@ fn replayed_kept<
     rt: &H,
     alloc: Global,
     system: &Y,
+    size: Size,
     workers: &Workers,
     mut options: SessionOptions,
     store: &str,
@@ -105,7 +109,9 @@ fn replayed_kept<
     let none = InMemory { alloc };
     let errors = Errors::new(&none, errors);
     options.hub = Some(hub);
-    match replay_from(rt, alloc, &errors, log, workers, options, reader, writer) {
+    match replay_from(
+        rt, alloc, &errors, log, size, workers, options, reader, writer,
+    ) {
         Ok(
             Replayed {
                 log,
@@ -143,6 +149,7 @@ pub(crate) fn replayed<
     rt: &H,
     alloc: Global,
     system: &Y,
+    size: Size,
     workers: &Workers,
     options: SessionOptions,
     store: Option<&String>,
@@ -155,6 +162,7 @@ pub(crate) fn replayed<
             rt,
             alloc,
             system,
+            size,
             workers,
             options,
             path.as_str(),
@@ -163,7 +171,7 @@ pub(crate) fn replayed<
             errors,
         ),
         None => {
-            replay(rt, alloc, reader, writer, workers.count(), options)?;
+            replay(rt, alloc, size, reader, writer, workers.count(), options)?;
             Ok(0)
         }
     }

@@ -41,6 +41,7 @@ fn terms_of(terms: &Terms, hub: HubId) -> Terms {
     Terms {
         service: terms.service,
         workers: terms.workers,
+        size: terms.size,
         options,
         idle: terms.idle,
         is_logged: terms.is_logged,

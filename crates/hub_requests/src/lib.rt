@@ -11,6 +11,7 @@ ghost use Rattle.std.specs.Prelude.{◌≡◌, ◌≤◌, SomeIff};
 use crate::limits::SessionOptions;
 use crate::serving::{Doors, Terms};
 use change_ops::attribute::Link;
+use change_ops::size::Size;
 use span_context::profile::Profile;
 use std::marker::Model;
 
@@ -61,16 +62,20 @@ pub enum Command {
     },
     /// To print the text of the program that it is in hexadecimal.
     Dis,
-    /// To print its changes joined, as few changes of the same operations.
-    Join,
+    /// To print its changes joined, as few changes of the same operations, where a text of this size holds them.
+    Join {
+        size: Size,
+    },
     /// To run a program, in hexadecimal, on the span whose text it is.
     Run {
         shown: Shown,
         digits: String,
         options: SpanOptions,
     },
-    /// To print the spans that its changes make.
-    Spans,
+    /// To print the spans that its changes make, where a text of this size holds them.
+    Spans {
+        size: Size,
+    },
     /// To print a program of the same meaning as the one that it is in hexadecimal, without jumps back.
     Straighten,
 }
@@ -174,6 +179,7 @@ pub enum Request {
     Perform(Command),
     /// To answer the session that its input is, line by line, and to keep its changes in a file.
     Replay {
+        size: Size,
         workers: Workers,
         options: SessionOptions,
         store: Option<String>,

@@ -1,6 +1,7 @@
 //! Where sessions come in, and on what terms they are served.
 use crate::limits::SessionOptions;
 use crate::{Sessions, Workers};
+use change_ops::size::Size;
 use std::net::IpAddr;
 use std::time::Duration;
 
@@ -51,6 +52,8 @@ pub struct Doors {
 pub struct Terms {
     pub service: Service,
     pub workers: Workers,
+    /// How much the text that the sessions share may hold.
+    pub size: Size,
     pub options: SessionOptions,
     /// A session ends where its client says nothing for so long.
     pub idle: Option<Duration>,

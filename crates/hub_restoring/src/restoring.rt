@@ -33,7 +33,7 @@ fn restore_one<N: Naming + Ledger, R: Wait + Copy>(
     share: &mut Share<N>,
     change: Change,
 ) -> Result<(), AllocError>
-    ensures ok { OnOk result (InOneHolding (λ old new. Ingests old change (Ok share.new) new)) }
+    ensures ok { OnOk result (InOneHolding N.size (λ old new. Ingests old change (Ok share.new) new)) }
     ensures share { OnOk result (share.new ≡ share.old + 1) }
 {
     match ingest_change(rt, hub, share, change) {
@@ -51,7 +51,7 @@ fn restore_all<N: Naming + Ledger, R: Wait + Copy, P: FnMut(usize, usize)>(
     progress: P,
 ) -> Result<(), AllocError>
     requires progress { P.IsAlwaysCallable progress }
-    ensures ok { OnOk result (AreIngested share.old changes.items) }
+    ensures ok { OnOk result (AreIngested N.size share.old changes.items) }
     ensures share { OnOk result (share.new ≡ share.old + length changes.items) }
 {
     let mut progress = progress;
@@ -65,8 +65,8 @@ fn restore_all<N: Naming + Ledger, R: Wait + Copy, P: FnMut(usize, usize)>(
     Ok(())
 }
 
-/// Accepts the changes whose texts a log keeps, in order, and then in a new hub, before any session. `progress` is told
-/// how many of how many.
+/// Accepts the changes whose texts a log keeps, in order, at the hub's size, and then in a new hub, before any session.
+/// `progress` is told how many of how many.
 pub fn restore<N: Naming + Ledger, R: Wait + Copy, L: ChangeLog, P: FnMut(usize, usize)>(
     rt: &R,
     alloc: Global,
@@ -77,13 +77,14 @@ pub fn restore<N: Naming + Ledger, R: Wait + Copy, L: ChangeLog, P: FnMut(usize,
 ) -> Result<StoredHistory<L>, NotRestored<L>>
     requires log { (texts : List (List ℕ)) × L.kept log texts }
     requires progress { P.IsAlwaysCallable progress }
-    ensures restored { IfOk result (λ stored. AreIngested share.old stored.changes × AreAccepted stored.changes
+    ensures restored { IfOk result (λ stored. AreIngested N.size share.old stored.changes × AreAccepted N.size stored.changes
         × L.kept stored.log (map change_text stored.changes)) }
+    ensures size { IfOk result (λ stored. stored.size ≡ N.size) }
     ensures share { IfOk result (λ stored. share.new ≡ share.old + length stored.changes) }
     ensures same { (texts : List (List ℕ)) → L.kept log texts → IfOk result (λ stored. L.kept stored.log texts) }
-    ensures err { IfErr result (λ left. IsNotOpened L.kept left.log left.error) }
+    ensures err { IfErr result (λ left. IsNotOpened N.size L.kept left.log left.error) }
 {
-    let Opened { stored, changes } = match StoredHistory::open(alloc, log) {
+    let Opened { stored, changes } = match StoredHistory::open(alloc, hub.size(), log) {
         Ok(opened) => opened,
         Err(NotOpened { log, error }) => return Err(NotRestored { log, error }),
     };

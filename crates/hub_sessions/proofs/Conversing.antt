@@ -15,6 +15,7 @@ use Rattle.session_subscribers.specs.Items.{TakesShort}
 use Rattle.session_subscribers.specs.Holding.{Pulls, PullsAny, PullsShort}
 use Rattle.session_reads.specs.Found.{found_text}
 use Rattle.session_reads.specs.declared.found.Found.{Found}
+use Rattle.change_ops.specs.declared.size.Size.{Size}
 use Rattle.change_keeping.specs.Kept.{Kept}
 use Rattle.hub_sessions.specs.Sessions.{SessionState, Exchange, IsExchange, Answers, AreApart, Follow, Converses, found_in, read_in, TakesTurn, BreaksTurn, IsUnwritten, FallsShort, Ends, EndsAfter, EndsShort, printed, reply_line}
 use Rattle.hub_sessions.specs.declared.conversation.SessionFault.{SessionFault}
@@ -24,22 +25,22 @@ use Rattle.hub_sessions.specs.declared.conversation.Turn.TheVariants.{More, Last
 use Rattle.hub_sessions.specs.declared.conversation.TurnFault.{TurnFault}
 use Rattle.hub_sessions.specs.declared.conversation.TurnFault.TheVariants as broken
 
-printed_both : {kept : Kept} (one more : List (Exchange kept)) → flat_map printed (one ++ more) ≡ flat_map printed one ++ flat_map printed more
+printed_both : {size : Size} {kept : Kept} (one more : List (Exchange size kept)) → flat_map printed (one ++ more) ≡ flat_map printed one ++ flat_map printed more
 printed_both [] more = refl
 printed_both (e ∷ one) more = ap (λ l. printed e ++ l) (printed_both one more) ∙ sym (append_assoc (printed e) (flat_map printed one) (flat_map printed more))
 
-printed_more : {kept : Kept} (one : List (Exchange kept)) (e : Exchange kept) → flat_map printed (one ++ e ∷ []) ≡ flat_map printed one ++ printed e
+printed_more : {size : Size} {kept : Kept} (one : List (Exchange size kept)) (e : Exchange size kept) → flat_map printed (one ++ e ∷ []) ≡ flat_map printed one ++ printed e
 printed_more one e = printed_both one (e ∷ []) ∙ ap (λ l. flat_map printed one ++ l) (append-nil (printed e))
 
-follow_more : {kept : Kept} (s : SessionState kept) (left : Option (List ℕ)) (one : List (Exchange kept)) (s' : SessionState kept) (left' : Option (List ℕ)) (e : Exchange kept)
+follow_more : {size : Size} {kept : Kept} (s : SessionState size kept) (left : Option (List ℕ)) (one : List (Exchange size kept)) (s' : SessionState size kept) (left' : Option (List ℕ)) (e : Exchange size kept)
     → Follow s left one s' left' → IsExchange s' left' e → Follow s left (one ++ e ∷ []) e.state e.left
 follow_more s left [] s' left' e p q = (subst (λ z. IsExchange z left e) p.0 (subst (λ z. IsExchange s' z e) p.1 q), (refl, refl))
 follow_more s left (x ∷ one) s' left' e p q = (p.0, follow_more x.state x.left one s' left' e p.1 q)
 
-pub begun : {kept : Kept} (s : SessionState kept) (left w : Option (List ℕ)) → Converses s left w s left w
+pub begun : {size : Size} {kept : Kept} (s : SessionState size kept) (left w : Option (List ℕ)) → Converses s left w s left w
 begun s left w = record { exchanges = []; follow = (refl, refl); written = Appends-nil w }
 
-turned_more : {kept : Kept} (s : SessionState kept) (left old : Option (List ℕ)) (s' : SessionState kept) (left' mid : Option (List ℕ)) (found : Found) (text : List ℕ) (s'' : SessionState kept) (left'' new : Option (List ℕ))
+turned_more : {size : Size} {kept : Kept} (s : SessionState size kept) (left old : Option (List ℕ)) (s' : SessionState size kept) (left' mid : Option (List ℕ)) (found : Found) (text : List ℕ) (s'' : SessionState size kept) (left'' new : Option (List ℕ))
     → Converses s left old s' left' mid → TakesTurn (More found) s' left' text s'' left'' → Appends mid new text → Converses s left old s'' left'' new
 turned_more s left old s' left' mid found text s'' left'' new c t a =
     let e = t.0 in
@@ -51,7 +52,7 @@ turned_more s left old s' left' mid found text s'' left'' new c t a =
     }
 
 -- a turn of which it is known that it was not the last: what it found was written, and then its lines
-pub turned : {kept : Kept} (s : SessionState kept) (left old : Option (List ℕ)) (s' : SessionState kept) (left' mid : Option (List ℕ)) (r : Result Turn TurnFault) (found : Found) (lines : List ℕ) (s'' : SessionState kept) (left'' new : Option (List ℕ))
+pub turned : {size : Size} {kept : Kept} (s : SessionState size kept) (left old : Option (List ℕ)) (s' : SessionState size kept) (left' mid : Option (List ℕ)) (r : Result Turn TurnFault) (found : Found) (lines : List ℕ) (s'' : SessionState size kept) (left'' new : Option (List ℕ))
     → Converses s left old s' left' mid → r ≡ Ok (More found) → IfOk r (λ turn. TakesTurn turn s' left' (found_in turn ++ lines) s'' left'') → Appends mid new (read_in r ++ lines)
     → Converses s left old s'' left'' new
 turned s left old s' left' mid r found lines s'' left'' new c is t a =
@@ -60,7 +61,7 @@ turned s left old s' left' mid r found lines s'' left'' new c is t a =
     (subst (λ z. Appends mid new (read_in z ++ lines)) is a)
 
 -- a turn of which it is known that it was the last
-pub ended : {kept : Kept} (s : SessionState kept) (left old : Option (List ℕ)) (s' : SessionState kept) (left' mid : Option (List ℕ)) (r : Result Turn TurnFault) (text : List ℕ) (s'' : SessionState kept) (left'' new : Option (List ℕ))
+pub ended : {size : Size} {kept : Kept} (s : SessionState size kept) (left old : Option (List ℕ)) (s' : SessionState size kept) (left' mid : Option (List ℕ)) (r : Result Turn TurnFault) (text : List ℕ) (s'' : SessionState size kept) (left'' new : Option (List ℕ))
     → Converses s left old s' left' mid → r ≡ Ok Last → IfOk r (λ turn. TakesTurn turn s' left' (found_in turn ++ text) s'' left'') → Appends mid new (read_in r ++ text)
     → EndsAfter s left old s''.count new
 ended s left old s' left' mid r text s'' left'' new c is t a =
@@ -77,7 +78,7 @@ ended s left old s' left' mid r text s'' left'' new c is t a =
       counted = ap (λ z. z.count) last.1;
     }
 
-pub short : {kept : Kept} (s : SessionState kept) (left old : Option (List ℕ)) (s' : SessionState kept) (left' mid : Option (List ℕ)) (part : List ℕ) (s'' : SessionState kept) (middle new : Option (List ℕ))
+pub short : {size : Size} {kept : Kept} (s : SessionState size kept) (left old : Option (List ℕ)) (s' : SessionState size kept) (left' mid : Option (List ℕ)) (part : List ℕ) (s'' : SessionState size kept) (middle new : Option (List ℕ))
     → Converses s left old s' left' mid → FallsShort s' part s'' → Appends mid middle part → Appends middle new (reply_line (reply.Refused reason.OutOfMemory)) → EndsShort s left old new
 short s left old s' left' mid part s'' middle new c f a b = record {
   state = s';
@@ -91,7 +92,7 @@ short s left old s' left' mid part s'' middle new c f a b = record {
 }
 
 -- a write that failed
-pub write_failed : {kept : Kept} (r : Result ⊤ SessionFault) (e : SessionFault) (s : SessionState kept) (left old : Option (List ℕ)) (count : ℕ) (new : Option (List ℕ))
+pub write_failed : {size : Size} {kept : Kept} (r : Result ⊤ SessionFault) (e : SessionFault) (s : SessionState size kept) (left old : Option (List ℕ)) (count : ℕ) (new : Option (List ℕ))
     → IsErrAnd r (λ y. y ≡ e) → IsUnwritten e → Ends r s left old count new
 write_failed (Ok t) e s left old count new is p = absurd is
 write_failed (Err y) (fault.Read error) s left old count new is p = absurd p
@@ -102,7 +103,7 @@ pub refused_line : (a b : List ℕ) (r r' : Reason) → b ≡ a ++ reply_line (r
 refused_line a b r r' is none same = is ∙ ap (λ l. l ++ reply_line (reply.Refused r)) none ∙ ap (λ z. reply_line (reply.Refused z)) same
 
 -- no memory was found after some exchanges, and a part of what answers the next was written
-pub unfinished : {kept : Kept} (r : Result ⊤ SessionFault) (s : SessionState kept) (left old : Option (List ℕ)) (s' : SessionState kept) (left' mid : Option (List ℕ)) (part : List ℕ) (s'' : SessionState kept) (middle new : Option (List ℕ)) (count : ℕ)
+pub unfinished : {size : Size} {kept : Kept} (r : Result ⊤ SessionFault) (s : SessionState size kept) (left old : Option (List ℕ)) (s' : SessionState size kept) (left' mid : Option (List ℕ)) (part : List ℕ) (s'' : SessionState size kept) (middle new : Option (List ℕ)) (count : ℕ)
     → Converses s left old s' left' mid → FallsShort s' part s'' → Appends mid middle part → OnOk r (Appends middle new (reply_line (reply.Refused reason.OutOfMemory))) → IfErr r IsUnwritten
     → Ends r s left old count new
 unfinished (Ok t) s left old s' left' mid part s'' middle new count c f a b e = inr (short s left old s' left' mid part s'' middle new c f a b)
@@ -110,7 +111,7 @@ unfinished (Err (fault.Read error)) s left old s' left' mid part s'' middle new 
 unfinished (Err (fault.Write error)) s left old s' left' mid part s'' middle new count c f a b e = tt
 
 -- nor for the first
-pub not_begun : {kept : Kept} (r : Result ⊤ SessionFault) (s : SessionState kept) (left old new : Option (List ℕ)) (count : ℕ)
+pub not_begun : {size : Size} {kept : Kept} (r : Result ⊤ SessionFault) (s : SessionState size kept) (left old new : Option (List ℕ)) (count : ℕ)
     → OnOk r (Appends old new (reply_line (reply.Refused reason.OutOfMemory))) → IfErr r IsUnwritten → Ends r s left old count new
 not_begun r s left old new count b e = unfinished r s left old s left old [] s old new count (begun s left old) (inl refl) (Appends-nil old) b e
 
@@ -120,7 +121,7 @@ last_is_none [] last all = all 0 0 (omega arith)
 last_is_none (x ∷ others) last all = last_is_none others last (λ k d low. all (suc k) d (omega (arith, low)))
 
 -- a turn of which it is known that it met want of memory: nothing was found, and what it has of its lines was written
-pub broke : {kept : Kept} (r : Result Turn TurnFault) (s : SessionState kept) (text : List ℕ) (s' : SessionState kept) (mid new : Option (List ℕ)) → r ≡ Err broken.Memory
+pub broke : {size : Size} {kept : Kept} (r : Result Turn TurnFault) (s : SessionState size kept) (text : List ℕ) (s' : SessionState size kept) (mid new : Option (List ℕ)) → r ≡ Err broken.Memory
     → IfErr r (λ f. BreaksTurn f s text s') → Appends mid new (read_in r ++ text) → FallsShort s text s' × Appends mid new text
 broke r s text s' mid new is p a = (
   subst (λ z. IfErr z (λ f. BreaksTurn f s text s')) is p,
@@ -128,13 +129,13 @@ broke r s text s' mid new is p a = (
 )
 
 -- a turn that changed and printed nothing, whatever broke it
-pub broke_still : {kept : Kept} (r : Result Turn TurnFault) (s : SessionState kept) (text : List ℕ) → text ≡ [] → IfErr r (λ f. BreaksTurn f s text s)
+pub broke_still : {size : Size} {kept : Kept} (r : Result Turn TurnFault) (s : SessionState size kept) (text : List ℕ) → text ≡ [] → IfErr r (λ f. BreaksTurn f s text s)
 broke_still (Ok t) s text none = tt
 broke_still (Err (broken.Read error)) s text none = (refl, none)
 broke_still (Err broken.Memory) s text none = inl none
 
 -- a turn that met want of memory
-pub broke_short : {kept : Kept} (r : Result Turn TurnFault) (s : SessionState kept) (text : List ℕ) (s' : SessionState kept) → IsErrAnd r (λ f. f ≡ broken.Memory) → FallsShort s text s' → IfErr r (λ f. BreaksTurn f s text s')
+pub broke_short : {size : Size} {kept : Kept} (r : Result Turn TurnFault) (s : SessionState size kept) (text : List ℕ) (s' : SessionState size kept) → IsErrAnd r (λ f. f ≡ broken.Memory) → FallsShort s text s' → IfErr r (λ f. BreaksTurn f s text s')
 broke_short (Ok t) s text s' is p = tt
 broke_short (Err f) s text s' is p = subst (λ z. BreaksTurn z s text s') (sym is) p
 
@@ -150,7 +151,7 @@ whole_lines count end end' out out' answer p = record {
 }
 
 -- a request was done and its last line not printed: the lines that are there then
-pub unanswered : {kept : Kept} (request : SessionRequest) (s : SessionState kept) (text lines : List ℕ) (answer : Reply) (s' : SessionState kept)
+pub unanswered : {size : Size} {kept : Kept} (request : SessionRequest) (s : SessionState size kept) (text lines : List ℕ) (answer : Reply) (s' : SessionState size kept)
     → Answers request s [] (text ++ lines) answer s' → AreApart request text lines → FallsShort s lines s'
 unanswered (asked.Change change) s text lines answer s' met none = inl (sym (ap (λ l. l ++ lines) none) ∙ met.2)
 unanswered (asked.Subscribe profile capacity program first) s text lines answer s' met none = inl (sym (ap (λ l. l ++ lines) none) ∙ met.2)

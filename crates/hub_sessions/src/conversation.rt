@@ -131,15 +131,15 @@ fn answer<'s, N: Naming + Ledger + Send + Sync, R: Threads + Wait + Copy + Send 
 ) -> Result<Answer<'s>, AllocError>
     requires { string_bytes out.old ≡ [] }
     ensures answers { IfOk result (λ answer. Answers request
-        (session_state K.kept (K.stores keeper.old) share.old held.old.items left.old hub.now.options)
+        (session_state N.size K.kept (K.stores keeper.old) share.old held.old.items left.old hub.now.options)
         (string_bytes out.old)
         (found_text answer.found ++ string_bytes out.new)
-        answer.reply (session_state K.kept (K.stores keeper.new) share.new held.new.items left.new hub.now.options)) }
+        answer.reply (session_state N.size K.kept (K.stores keeper.new) share.new held.new.items left.new hub.now.options)) }
     ensures apart { IfOk result (λ answer. AreApart request (found_text answer.found) (string_bytes out.new)) }
     ensures short { OnErr result (FallsShort
-        (session_state K.kept (K.stores keeper.old) share.old held.old.items left.old hub.now.options)
+        (session_state N.size K.kept (K.stores keeper.old) share.old held.old.items left.old hub.now.options)
         (string_bytes out.new)
-        (session_state K.kept (K.stores keeper.new) share.new held.new.items left.new hub.now.options)) }
+        (session_state N.size K.kept (K.stores keeper.new) share.new held.new.items left.new hub.now.options)) }
     ensures share { share.old ≤ share.new }
     ensures same { K.stores keeper.new ≡ K.stores keeper.old }
 {
@@ -195,13 +195,13 @@ fn take_turn<
     out: &mut String,
 ) -> Result<Turn<'s>, TurnFault>
     ensures ok { IfOk result (λ turn. TakesTurn turn
-        (session_state K.kept (K.stores keeper.old) share.old held.old.items left.old hub.now.options)
+        (session_state N.size K.kept (K.stores keeper.old) share.old held.old.items left.old hub.now.options)
         lines.old.left (found_in turn ++ string_bytes out.new)
-        (session_state K.kept (K.stores keeper.new) share.new held.new.items left.new hub.now.options) lines.new.left) }
+        (session_state N.size K.kept (K.stores keeper.new) share.new held.new.items left.new hub.now.options) lines.new.left) }
     ensures err { IfErr result (λ fault. BreaksTurn fault
-        (session_state K.kept (K.stores keeper.old) share.old held.old.items left.old hub.now.options)
+        (session_state N.size K.kept (K.stores keeper.old) share.old held.old.items left.old hub.now.options)
         (string_bytes out.new)
-        (session_state K.kept (K.stores keeper.new) share.new held.new.items left.new hub.now.options)) }
+        (session_state N.size K.kept (K.stores keeper.new) share.new held.new.items left.new hub.now.options)) }
     ensures share { share.old ≤ share.new }
     ensures same { K.stores keeper.new ≡ K.stores keeper.old }
 {
@@ -242,7 +242,7 @@ fn converse<
     writer: &mut O,
 ) -> Result<(), SessionFault>
     ensures ends { Ends result
-        (session_state K.kept (K.stores keeper.old) share.old held.old.items left.old hub.now.options) lines.old.left
+        (session_state N.size K.kept (K.stores keeper.old) share.old held.old.items left.old hub.now.options) lines.old.left
         (O.contents writer.old) share.new (O.contents writer.new) }
     ensures share { share.old ≤ share.new }
     ensures same { K.stores keeper.new ≡ K.stores keeper.old }
@@ -277,7 +277,7 @@ fn begin<
     writer: &mut O,
 ) -> Result<(), SessionFault>
     ensures ends { Ends result
-        (session_state K.kept (K.stores keeper.old) share.old held.old.items left.old hub.now.options)
+        (session_state N.size K.kept (K.stores keeper.old) share.old held.old.items left.old hub.now.options)
         (I.remaining reader)
         (O.contents writer.old) share.new (O.contents writer.new) }
     ensures share { share.old ≤ share.new }
@@ -314,7 +314,7 @@ pub fn session<
     options: SessionOptions,
 ) -> Result<(), SessionFault>
     requires workers { (1 ≤ workers) × (workers ≤ 16) }
-    ensures ends { Ends result (begins K.kept (K.stores keeper.old) share.old options) (I.remaining reader)
+    ensures ends { Ends result (begins N.size K.kept (K.stores keeper.old) share.old options) (I.remaining reader)
         (O.contents writer.old) share.new (O.contents writer.new) }
     ensures share { share.old ≤ share.new }
     ensures same { K.stores keeper.new ≡ K.stores keeper.old }

@@ -5,8 +5,10 @@ ghost use Rattle.hub_sessions.specs.declared.replaying.ReplayError.TheVariants a
 
 use crate::conversation::{SessionFault, session};
 use change_keeping::keeper::NoStore;
+use change_keeping::keeping::Keeping;
 use change_keeping::own::OwnStore;
 use change_log::log::ChangeLog;
+use change_ops::size::Size;
 use hub_requests::limits::SessionOptions;
 use hub_restoring::restoring::{NotRestored, restore};
 use ingest_workers::hub::Hub;
@@ -46,6 +48,7 @@ fn replay_on<
 >(
     rt: &R,
     alloc: Global,
+    size: Size,
     blank: Blank,
     versions: &boxcar::Vec<BlockVersion>,
     programs: &boxcar::Vec<Verified>,
@@ -54,12 +57,12 @@ fn replay_on<
     workers: usize,
     options: SessionOptions,
 ) -> Result<(), ReplayError>
-    requires named { (versions.now ≡ N.versions) × (programs.now ≡ N.programs) }
+    requires named { (size ≡ N.size) × (versions.now ≡ N.versions) × (programs.now ≡ N.programs) }
     requires blank { (blank.name ≡ N.name) × (blank.parts ≡ N.parts) × (N.parts ≡ 1) }
     requires workers { (1 ≤ workers) × (workers ≤ 16) }
-    ensures { Replays options result (I.remaining reader) (O.contents writer.old) (O.contents writer.new) }
+    ensures { Replays size options result (I.remaining reader) (O.contents writer.old) (O.contents writer.new) }
 {
-    let published = Published::<N>::new(versions, programs);
+    let published = Published::<N>::new(size, versions, programs);
     let (hub, mut shares) = Hub::new(rt, alloc, blank, &published, 1)?;
     let Some(mut share) = shares.pop() else {
         unreachable!()
@@ -81,23 +84,25 @@ fn replay_on<
     }
 }
 
-/// Runs one session on a new hub of its own.
+/// Runs one session on a new hub of its own, which is of this size.
 pub fn replay<R: Threads + Wait + Copy + Send + Sync, I: Read + Drop, O: Write>(
     rt: &R,
     alloc: Global,
+    size: Size,
     reader: I,
     writer: &mut O,
     workers: usize,
     options: SessionOptions,
 ) -> Result<(), ReplayError>
     requires workers { (1 ≤ workers) × (workers ≤ 16) }
-    ensures { Replays options result (I.remaining reader) (O.contents writer.old) (O.contents writer.new) }
+    ensures { Replays size options result (I.remaining reader) (O.contents writer.old) (O.contents writer.new) }
 {
     let versions = boxcar::Vec::new(alloc)?;
     let programs = boxcar::Vec::new(alloc)?;
     replay_on::<Brand, _, _, _>(
         rt,
         alloc,
+        size,
         Blank::new(1),
         &versions,
         &programs,
@@ -128,7 +133,7 @@ pub enum NotReplayed<L: ChangeLog> {
 
 /// Runs a session on the hub `N`, whose changes a log keeps.
 fn replay_kept_on<
-    N: Naming + Ledger + Send + Sync,
+    N: Naming + Ledger + Keeping + Send + Sync,
     R: Threads + Wait + Copy + Send + Sync,
     L: ChangeLog,
     I: Read + Drop,
@@ -137,6 +142,7 @@ fn replay_kept_on<
 >(
     rt: &R,
     alloc: Global,
+    size: Size,
     blank: Blank,
     versions: &boxcar::Vec<BlockVersion>,
     programs: &boxcar::Vec<Verified>,
@@ -147,16 +153,17 @@ fn replay_kept_on<
     workers: usize,
     options: SessionOptions,
 ) -> Result<Replayed<L>, NotReplayed<L>>
-    requires named { (versions.now ≡ N.versions) × (programs.now ≡ N.programs) }
+    requires named { (size ≡ N.size) × (versions.now ≡ N.versions) × (programs.now ≡ N.programs) }
     requires blank { (blank.name ≡ N.name) × (blank.parts ≡ N.parts) × (N.parts ≡ 1) }
+    requires kept { N.kept.size ≡ size }
     requires workers { (1 ≤ workers) × (workers ≤ 16) }
     requires log { (texts : List (List ℕ)) × L.kept log texts }
     requires progress { P.IsAlwaysCallable progress }
-    ensures ok { IfOk result (λ replayed. ReplaysKept L.kept options replayed.ended (I.remaining reader)
+    ensures ok { IfOk result (λ replayed. ReplaysKept size L.kept options replayed.ended (I.remaining reader)
         (O.contents writer.old) (O.contents writer.new)) }
     ensures err { OnErr result (Keeps (O.contents writer.old) (O.contents writer.new)) }
 {
-    let published = Published::<N>::new(versions, programs);
+    let published = Published::<N>::new(size, versions, programs);
     let Ok((hub, mut shares)) = Hub::new(rt, alloc, blank, &published, 1) else {
         return Err(NotReplayed::OutOfMemory(log));
     };
@@ -167,7 +174,7 @@ fn replay_kept_on<
         Ok(stored) => stored,
         Err(not) => return Err(NotReplayed::NotRestored(not)),
     };
-    let mut keeper = OwnStore::new(alloc, stored);
+    let mut keeper = OwnStore::<L, N>::new(alloc, stored);
     let ended = session(
         rt,
         alloc,
@@ -187,8 +194,8 @@ fn replay_kept_on<
     })
 }
 
-/// Runs one session on a hub of its own, whose changes a log keeps: first those that the log keeps are accepted again,
-/// and `progress` is told how many of how many.
+/// Runs one session on a hub of its own, which is of this size and whose changes a log keeps: first those that the log
+/// keeps are accepted again, and `progress` is told how many of how many.
 pub fn replay_kept<
     R: Threads + Wait + Copy + Send + Sync,
     L: ChangeLog,
@@ -198,6 +205,7 @@ pub fn replay_kept<
 >(
     rt: &R,
     alloc: Global,
+    size: Size,
     log: L,
     progress: P,
     reader: I,
@@ -208,7 +216,7 @@ pub fn replay_kept<
     requires workers { (1 ≤ workers) × (workers ≤ 16) }
     requires log { (texts : List (List ℕ)) × L.kept log texts }
     requires progress { P.IsAlwaysCallable progress }
-    ensures ok { IfOk result (λ replayed. ReplaysKept L.kept options replayed.ended (I.remaining reader)
+    ensures ok { IfOk result (λ replayed. ReplaysKept size L.kept options replayed.ended (I.remaining reader)
         (O.contents writer.old) (O.contents writer.new)) }
     ensures err { OnErr result (Keeps (O.contents writer.old) (O.contents writer.new)) }
 {
@@ -221,6 +229,7 @@ pub fn replay_kept<
     replay_kept_on::<Brand, _, _, _, _, _>(
         rt,
         alloc,
+        size,
         Blank::new(1),
         &versions,
         &programs,

@@ -1,5 +1,6 @@
 //! The changes that a session submits.
 ghost use Rattle.std.specs.Prelude.{◌≡◌, ◌⊎◌, ◌+◌, ◌≤◌, None, Some, Ok, IfOk, IfErr, OnErr, length};
+ghost use Rattle.change_ops.specs.declared.size.Size.{Size};
 ghost use Rattle.change_ops.specs.Spelling.{change_text};
 ghost use Rattle.ingest_workers.specs.Holdings.{InOneHolding, Ingests};
 ghost use Rattle.hub_requests.specs.Limits.{takes_change, after_change};
@@ -52,8 +53,8 @@ fn check_jump<N: Naming + Ledger, R: Wait + Copy>(
     jump: u64,
     change: &Change,
 ) -> Result<(), Reason>
-    ensures ok { IfOk result (λ _. IsInReach (Some jump) change.now) }
-    ensures err { IfErr result (λ why. (left : Limits) → IsNotAdmitted (Some jump) change.now left why) }
+    ensures ok { IfOk result (λ _. IsInReach N.size (Some jump) change.now) }
+    ensures err { IfErr result (λ why. (left : Limits) → IsNotAdmitted N.size (Some jump) change.now left why) }
 {
     let greatest = hub.hub.greatest_counter(&hub.rt);
     match first_jump(change, greatest, jump) {
@@ -67,9 +68,9 @@ fn check_counters<N: Naming + Ledger, R: Wait + Copy>(
     hub: &SessionHub<'_, '_, N, R>,
     change: &Change,
 ) -> Result<(), Reason>
-    ensures ok { IfOk result (λ _. IsInReach hub.now.options.counter_jump change.now) }
+    ensures ok { IfOk result (λ _. IsInReach N.size hub.now.options.counter_jump change.now) }
     ensures err { IfErr result (λ why. (left : Limits)
-        → IsNotAdmitted hub.now.options.counter_jump change.now left why) }
+        → IsNotAdmitted N.size hub.now.options.counter_jump change.now left why) }
 {
     match hub.options.counter_jump {
         None => Ok(()),
@@ -83,12 +84,12 @@ fn admit<N: Naming + Ledger, R: Wait + Copy>(
     left: SessionLimits,
     change: &Change,
 ) -> Result<u64, Reason>
-    ensures admitted { IfOk result (λ _. IsAdmitted hub.now.options.counter_jump change.now left) }
+    ensures admitted { IfOk result (λ _. IsAdmitted N.size hub.now.options.counter_jump change.now left) }
     ensures takes { IfOk result (λ bytes. takes_change left bytes
         ≡ takes_change left (length (change_text change.now))) }
     ensures after { IfOk result (λ bytes. after_change left bytes
         ≡ after_change left (length (change_text change.now))) }
-    ensures err { IfErr result (IsNotAdmitted hub.now.options.counter_jump change.now left) }
+    ensures err { IfErr result (IsNotAdmitted N.size hub.now.options.counter_jump change.now left) }
 {
     check_counters(hub, change)?;
     let Ok(bytes) = counted_bytes(hub.alloc, left, change) else {
@@ -105,7 +106,8 @@ fn admit<N: Naming + Ledger, R: Wait + Copy>(
 #[tactic(auto, using(crate::proofs::Keeping::refused_by))]
 fn keep<K: Keeper>(keeper: &mut K, change: &Change) -> Result<Option<u64>, Reason>
     ensures ok { IfOk result (IsKeptAs K.kept (K.stores keeper.old) change.now) }
-    ensures err { IfErr result (IsNotAccepted K.kept (K.stores keeper.old) change.now) }
+    ensures err { IfErr result (λ why. (size : Size)
+        → IsNotAccepted size K.kept (K.stores keeper.old) change.now why) }
     ensures same { K.stores keeper.new ≡ K.stores keeper.old }
 {
     match keeper.keep(change) {
@@ -124,7 +126,7 @@ fn show_kept<N: Naming + Ledger, R: Wait + Copy>(
     kept: u64,
 ) -> Result<u64, Reason>
     ensures ok { IfOk result (λ number. (number ≡ kept) × (share.new ≡ share.old + 1) × (share.new ≤ number)
-        × InOneHolding (λ old new. Ingests old change (Ok number) new)) }
+        × InOneHolding N.size (λ old new. Ingests old change (Ok number) new)) }
     ensures err { IfErr result (λ why. (why ≡ reason.StoreFailed)
         × ((share.new ≡ share.old) ⊎ (share.new ≡ share.old + 1))) }
     ensures share { share.old ≤ share.new }
@@ -146,10 +148,10 @@ fn show<N: Naming + Ledger, R: Wait + Copy, K: Keeper>(
 ) -> Result<u64, Reason>
     requires { IsKeptAs K.kept (K.stores keeper.old) change kept }
     ensures ok { IfOk result (λ number. (share.new ≡ share.old + 1) × (share.new ≤ number)
-        × InOneHolding (λ old new. Ingests old change (Ok number) new)
+        × InOneHolding N.size (λ old new. Ingests old change (Ok number) new)
         × IsKeptIf K.kept (K.stores keeper.old) number change) }
     ensures err { IfErr result (λ why. IsCountAfter share.old why share.new
-        × IsNotAccepted K.kept (K.stores keeper.old) change why) }
+        × IsNotAccepted N.size K.kept (K.stores keeper.old) change why) }
     ensures share { share.old ≤ share.new }
     ensures same { K.stores keeper.new ≡ K.stores keeper.old }
 {
@@ -167,7 +169,7 @@ fn show<N: Naming + Ledger, R: Wait + Copy, K: Keeper>(
 }
 
 /// Submits a change, and counts it where it is accepted.
-#[tactic(auto, using(crate::proofs::Keeping::kept_still, crate::proofs::Keeping::turned_away, crate::proofs::Keeping::not_kept, crate::proofs::Keeping::not_shown, crate::proofs::Keeping::shown))]
+#[tactic(auto, using(crate::proofs::Keeping::kept_still, crate::proofs::Keeping::turned_away, crate::proofs::Keeping::not_shown, crate::proofs::Keeping::shown))]
 pub(crate) fn submit<N: Naming + Ledger, R: Wait + Copy, K: Keeper>(
     hub: &SessionHub<'_, '_, N, R>,
     keeper: &mut K,
@@ -175,7 +177,7 @@ pub(crate) fn submit<N: Naming + Ledger, R: Wait + Copy, K: Keeper>(
     left: &mut SessionLimits,
     change: Change,
 ) -> Reply
-    ensures submits { Submits K.kept (K.stores keeper.old) hub.now.options.counter_jump change share.old left.old result
+    ensures submits { Submits N.size K.kept (K.stores keeper.old) hub.now.options.counter_jump change share.old left.old result
         share.new left.new }
     ensures share { share.old ≤ share.new }
     ensures same { K.stores keeper.new ≡ K.stores keeper.old }

@@ -1,6 +1,7 @@
 -- Texts of one change and nothing more, and what ingesting one answers.
 use Rattle.std.specs.Prelude.{◌≡◌, ◌⊎◌, ℕ, ◌+◌, Result, Ok, Err, List, [], length}
 use Rattle.change_ops.specs.Changes.{Change}
+use Rattle.change_ops.specs.declared.size.Size.{Size}
 use Rattle.change_ops.specs.Spelling.{Spells}
 use Rattle.change_ops.specs.Refusals.{IsRefused}
 use Rattle.change_ops.specs.declared.refusal.ChangeError.{ChangeError}
@@ -24,9 +25,9 @@ IsNotOne text e = (e ≡ OutOfMemory) ⊎ IsRefused text e ⊎ HasMore text e
 
 -- the text's change was submitted in one holding of the lock, and its version's number answered; or the text isn't one
 -- change's; or the change was refused there
-abbrev pub IngestsText : List ℕ → Result ℕ HubError → Type 0
-IngestsText text (Ok number) =
-    (change : Change) × IsOneChange text change × InOneHolding (λ old new. Ingests old change (Ok number) new)
-IngestsText text (Err (fault.Change e)) = IsNotOne text e
-IngestsText text (Err (fault.Submit e)) =
-    (change : Change) × IsOneChange text change × InOneHolding (λ old new. Ingests old change (Err e) new)
+abbrev pub IngestsText : Size → List ℕ → Result ℕ HubError → Type 0
+IngestsText size text (Ok number) =
+    (change : Change) × IsOneChange text change × InOneHolding size (λ old new. Ingests old change (Ok number) new)
+IngestsText size text (Err (fault.Change e)) = IsNotOne text e
+IngestsText size text (Err (fault.Submit e)) =
+    (change : Change) × IsOneChange text change × InOneHolding size (λ old new. Ingests old change (Err e) new)

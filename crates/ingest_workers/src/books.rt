@@ -1,5 +1,6 @@
 ghost use Rattle.std.specs.Prelude.{◌≡◌, ◌+◌, ◌<◌, ◌≤◌, ◌↔◌, [], Some, Err, length, map, take, drop, slice_get, IsTrue};
 ghost use Rattle.std.specs.Prelude.{IfOk, OnOk, OnErr, MatchOption};
+ghost use Rattle.change_ops.specs.Sizes.{most_changes};
 ghost use Rattle.change_ops.specs.Spelling.{change_text};
 ghost use Rattle.char_sequence.specs.Newest.{IsLastCounter};
 ghost use Rattle.change_counters.specs.Counters.{greatest_counter};
@@ -9,15 +10,13 @@ ghost use Rattle.feeds.specs.Promise.{Suits};
 ghost use Rattle.feeds.specs.Stream.{BeginsStream};
 ghost use Rattle.change_history.specs.Accepted.{AreAccepted, operations_of};
 ghost use Rattle.hub_core.specs.Machine.{Submits, Subscribes, TakesJob, Misses, Commits, Pumps, Reissues, Closes};
-ghost use Rattle.hub_core.specs.Consistent.{IsConsistent};
 ghost use Rattle.hub_core.specs.Counting.{AreCounts, AreWithinLimits};
 ghost use Rattle.subscriber_queues.specs.Queue.{QueueSink as QueueSinkValue, was_sent, IsFull};
-ghost use Rattle.ingest_workers.specs.Holdings.{AreConsistent};
+ghost use Rattle.ingest_workers.specs.Holdings.{IsStateOf, AreConsistent};
 
 use crate::share::Share;
 use crate::text::{next_text, some_texts};
 use change_counters::greatest_with;
-use change_history::history::CHANGE_LIMIT;
 use change_history::refusal::SubmitError;
 use change_log::text::ChangeText;
 use change_ops::change::Change;
@@ -60,7 +59,7 @@ impl<'p, N: Naming + Ledger, R: Wait + Copy> Model for Books<'p, N, R> {
 
     ghost invariant = { λ b. (b.book.total ≡ length b.core.changes) × IsConsistent was_sent IsFull b.core
         × (b.texts.items ≡ map change_text b.core.changes)
-        × (b.greatest ≡ greatest_counter (operations_of b.core.changes)) };
+        × (b.greatest ≡ greatest_counter (operations_of b.core.changes)) × (b.core.size ≡ N.size) };
 }
 
 impl<'p, N: Naming + Ledger, R: Wait + Copy> Books<'p, N, R> {
@@ -96,9 +95,9 @@ impl<'p, N: Naming + Ledger, R: Wait + Copy> Books<'p, N, R> {
         ensures ok { OnOk result (share.new ≡ share.old + 1) }
         ensures err { OnErr result (share.new ≡ share.old) }
         ensures within { OnOk result (share.new ≤ length self.new.changes) }
-        ensures consistent { AreConsistent self.old self.new }
+        ensures consistent { AreConsistent N.size self.old self.new }
     {
-        if self.core.count() >= CHANGE_LIMIT {
+        if self.core.count() >= self.core.size().changes() {
             return Err(SubmitError::HistoryFull);
         }
         let Ok(text) = next_text(self.alloc, &mut self.texts, &change) else {
@@ -117,7 +116,7 @@ impl<'p, N: Naming + Ledger, R: Wait + Copy> Books<'p, N, R> {
     /// Whether as many subscribers were added as ever are, closed ones counted.
     pub fn is_full(&self) -> bool
         ensures full { IsTrue result ↔ (length self.now.subscribers ≡ 64) }
-        ensures consistent { IsConsistent was_sent IsFull self.now }
+        ensures consistent { IsStateOf N.size self.now }
     {
         self.core.is_full()
     }
@@ -125,7 +124,7 @@ impl<'p, N: Naming + Ledger, R: Wait + Copy> Books<'p, N, R> {
     /// Whether no version has this number yet.
     pub fn lacks_version(&self, number: u64) -> bool
         ensures lacks { IsTrue result ↔ (length self.now.changes < number) }
-        ensures consistent { IsConsistent was_sent IsFull self.now }
+        ensures consistent { IsStateOf N.size self.now }
     {
         self.core.lacks_version(number)
     }
@@ -138,9 +137,9 @@ impl<'p, N: Naming + Ledger, R: Wait + Copy> Books<'p, N, R> {
         first: u64,
     ) -> Result<usize, SubscribeError>
         requires none { sink.sent ≡ [] }
-        requires suits { Suits sink.promise program.value first }
+        requires suits { Suits sink.promise N.size program.value first }
         ensures event { Subscribes self.old first program sink result self.new }
-        ensures consistent { AreConsistent self.old self.new }
+        ensures consistent { AreConsistent N.size self.old self.new }
     {
         let id = self.core.subscribe_from(program, sink, first);
         self.core.stays_consistent();
@@ -154,9 +153,9 @@ impl<'p, N: Naming + Ledger, R: Wait + Copy> Books<'p, N, R> {
         sink: QueueSink<N, R>,
     ) -> Result<usize, SubscribeError>
         requires none { sink.sent ≡ [] }
-        requires suits { Suits sink.promise program.value (length self.old.changes) }
+        requires suits { Suits sink.promise N.size program.value (length self.old.changes) }
         ensures event { Subscribes self.old (length self.old.changes) program sink result self.new }
-        ensures consistent { AreConsistent self.old self.new }
+        ensures consistent { AreConsistent N.size self.old self.new }
     {
         let id = self.core.subscribe(program, sink);
         self.core.stays_consistent();
@@ -166,7 +165,7 @@ impl<'p, N: Naming + Ledger, R: Wait + Copy> Books<'p, N, R> {
     /// Hands out a version that a subscriber's program is to be run on; None only where there is none.
     pub fn take_job(&mut self) -> Option<Job<N>>
         ensures event { TakesJob self.old result self.new }
-        ensures consistent { AreConsistent self.old self.new }
+        ensures consistent { AreConsistent N.size self.old self.new }
     {
         let job = self.core.take_job();
         self.core.stays_consistent();
@@ -177,7 +176,7 @@ impl<'p, N: Naming + Ledger, R: Wait + Copy> Books<'p, N, R> {
     /// waits for none. Nothing is handed out.
     pub fn missing_job(&self, id: usize) -> Option<Job<N>>
         ensures event { Misses self.now id result }
-        ensures consistent { IsConsistent was_sent IsFull self.now }
+        ensures consistent { IsStateOf N.size self.now }
     {
         self.core.missing_job(id)
     }
@@ -186,7 +185,7 @@ impl<'p, N: Naming + Ledger, R: Wait + Copy> Books<'p, N, R> {
     pub fn commit(&mut self, batch: Batch<N>) -> Result<(), CommitError>
         ensures commits { Commits self.old batch result self.new }
         ensures takes_no_memory { ¬ (result ≡ Err CommitError.OutOfMemory) }
-        ensures consistent { AreConsistent self.old self.new }
+        ensures consistent { AreConsistent N.size self.old self.new }
     {
         let held = self.core.commit(batch);
         self.core.stays_consistent();
@@ -196,7 +195,7 @@ impl<'p, N: Naming + Ledger, R: Wait + Copy> Books<'p, N, R> {
     /// Sends what can be sent to a subscriber. It answers how many items.
     pub fn pump(&mut self, id: usize) -> Result<usize, NoSubscriber>
         ensures event { Pumps was_sent IsFull self.old id result self.new }
-        ensures consistent { AreConsistent self.old self.new }
+        ensures consistent { AreConsistent N.size self.old self.new }
     {
         let sent = self.core.pump(id);
         self.core.stays_consistent();
@@ -206,7 +205,7 @@ impl<'p, N: Naming + Ledger, R: Wait + Copy> Books<'p, N, R> {
     /// What a subscriber doesn't hold may be handed out again.
     pub fn reissue(&mut self, id: usize) -> Result<(), NoSubscriber>
         ensures event { Reissues self.old id result self.new }
-        ensures consistent { AreConsistent self.old self.new }
+        ensures consistent { AreConsistent N.size self.old self.new }
     {
         let found = self.core.reissue(id);
         self.core.stays_consistent();
@@ -216,7 +215,7 @@ impl<'p, N: Naming + Ledger, R: Wait + Copy> Books<'p, N, R> {
     /// Closes a subscriber for good, and drops the batches that it holds.
     pub fn close(&mut self, id: usize) -> Result<(), NoSubscriber>
         ensures event { Closes self.old id result self.new }
-        ensures consistent { AreConsistent self.old self.new }
+        ensures consistent { AreConsistent N.size self.old self.new }
     {
         let found = self.core.close(id);
         self.core.stays_consistent();
@@ -226,8 +225,8 @@ impl<'p, N: Naming + Ledger, R: Wait + Copy> Books<'p, N, R> {
     /// How many changes were accepted.
     pub fn count(&self) -> usize
         ensures count { result ≡ length self.now.changes }
-        ensures most { result ≤ 4096 }
-        ensures accepted { AreAccepted self.now.changes }
+        ensures most { result ≤ most_changes N.size }
+        ensures accepted { AreAccepted N.size self.now.changes }
     {
         self.core.count()
     }
@@ -235,7 +234,7 @@ impl<'p, N: Naming + Ledger, R: Wait + Copy> Books<'p, N, R> {
     /// The number of the latest version.
     pub fn latest(&self) -> u64
         ensures number { result ≡ length self.now.changes }
-        ensures consistent { IsConsistent was_sent IsFull self.now }
+        ensures consistent { IsStateOf N.size self.now }
     {
         self.core.count() as u64
     }
@@ -243,7 +242,7 @@ impl<'p, N: Naming + Ledger, R: Wait + Copy> Books<'p, N, R> {
     /// The token of the version with this number; None where no version has it yet.
     pub fn version(&self, number: u64) -> Option<VersionToken<N>>
         ensures token { result ≡ slice_get self.now.versions number }
-        ensures consistent { IsConsistent was_sent IsFull self.now }
+        ensures consistent { IsStateOf N.size self.now }
     {
         self.core.version(number)
     }
@@ -252,8 +251,8 @@ impl<'p, N: Naming + Ledger, R: Wait + Copy> Books<'p, N, R> {
     pub fn counts(&self) -> (VersionToken<N>, Counts)
         ensures latest { slice_get self.now.versions (length self.now.changes) ≡ Some result.0 }
         ensures counts { AreCounts self.now result.1 }
-        ensures few { AreWithinLimits result.1 }
-        ensures consistent { IsConsistent was_sent IsFull self.now }
+        ensures few { AreWithinLimits N.size result.1 }
+        ensures consistent { IsStateOf N.size self.now }
     {
         (self.core.latest_version(), self.core.counts())
     }
@@ -268,7 +267,7 @@ impl<'p, N: Naming + Ledger, R: Wait + Copy> Books<'p, N, R> {
         ensures texts { IfOk result (λ found. MatchOption found (length self.now.changes < from)
             (λ texts. (from ≤ length self.now.changes)
             × (texts.items ≡ map change_text (take most (drop from self.now.changes))))) }
-        ensures consistent { IsConsistent was_sent IsFull self.now }
+        ensures consistent { IsStateOf N.size self.now }
     {
         if self.core.lacks_version(from) {
             return Ok(None);
@@ -280,7 +279,7 @@ impl<'p, N: Naming + Ledger, R: Wait + Copy> Books<'p, N, R> {
     /// The greatest counter of a peer's accepted operations, 0 where it has none.
     pub fn last_counter(&self, node: u16) -> u64
         ensures counter { IsLastCounter (operations_of self.now.changes) node result }
-        ensures consistent { IsConsistent was_sent IsFull self.now }
+        ensures consistent { IsStateOf N.size self.now }
     {
         self.core.last_counter(node)
     }
@@ -288,7 +287,7 @@ impl<'p, N: Naming + Ledger, R: Wait + Copy> Books<'p, N, R> {
     /// The greatest counter of all accepted operations, 0 where there are none.
     pub fn greatest_counter(&self) -> u64
         ensures counter { result ≡ greatest_counter (operations_of self.now.changes) }
-        ensures consistent { IsConsistent was_sent IsFull self.now }
+        ensures consistent { IsStateOf N.size self.now }
     {
         self.greatest
     }
@@ -313,7 +312,7 @@ impl<'p, N: Naming + Ledger, R: Wait + Copy> Books<'p, N, R> {
         requires { all.old.parts ≡ N.parts }
         ensures same { self.new ≡ self.old }
         ensures count { result ≡ length self.new.changes }
-        ensures accepted { AreAccepted self.new.changes }
+        ensures accepted { AreAccepted N.size self.new.changes }
         ensures sum { result ≡ all.old.amount }
     {
         self.book.audit(all);

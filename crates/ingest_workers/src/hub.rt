@@ -16,6 +16,7 @@ use crate::open_sessions::{OpenSession, OpenSessions};
 use crate::share::{Share, cut};
 use crate::turns::{Turn, Turns};
 use change_log::text::ChangeText;
+use change_ops::size::Size;
 use feeds::batch::Batch;
 use feeds::item::Job;
 use hub_core::counts::Counts;
@@ -94,6 +95,13 @@ impl<'p, N: Naming + Ledger, R: Wait + Copy> Hub<'p, N, R> {
         Ok((hub, shares))
     }
 
+    /// How much its document may hold.
+    pub fn size(&self) -> Size
+        ensures { result ≡ N.size }
+    {
+        self.published.size()
+    }
+
     /// Takes the lock, behind all calls that came before.
     pub(crate) fn hold(&self, rt: &R) -> Holding<'_, 'p, N, R> {
         let turn = self.turns.wait(rt);
@@ -106,7 +114,7 @@ impl<'p, N: Naming + Ledger, R: Wait + Copy> Hub<'p, N, R> {
     /// Whether as many subscribers were added as ever are, closed ones counted. It stays so for good, so one that asks
     /// first need not publish a program that no subscriber will have.
     pub fn is_full(&self, rt: &R) -> bool
-        ensures { InOneHolding (λ old new. (new ≡ old) × (IsTrue result ↔ (length old.subscribers ≡ 64))) }
+        ensures { InOneHolding N.size (λ old new. (new ≡ old) × (IsTrue result ↔ (length old.subscribers ≡ 64))) }
     {
         self.hold(rt).books.is_full()
     }
@@ -114,30 +122,30 @@ impl<'p, N: Naming + Ledger, R: Wait + Copy> Hub<'p, N, R> {
     /// Whether no version had this number yet. A version stays, so one that asks first need not publish a program for a
     /// version that isn't there.
     pub fn lacks_version(&self, rt: &R, number: u64) -> bool
-        ensures { InOneHolding (λ old new. (new ≡ old) × (IsTrue result ↔ (length old.changes < number))) }
+        ensures { InOneHolding N.size (λ old new. (new ≡ old) × (IsTrue result ↔ (length old.changes < number))) }
     {
         self.hold(rt).books.lacks_version(number)
     }
 
     /// The number of the latest version.
     pub fn latest(&self, rt: &R) -> u64
-        ensures { InOneHolding (λ old new. (new ≡ old) × (result ≡ length old.changes)) }
+        ensures { InOneHolding N.size (λ old new. (new ≡ old) × (result ≡ length old.changes)) }
     {
         self.hold(rt).books.latest()
     }
 
     /// The token of the version with this number; None where no version had it yet.
     pub fn version(&self, rt: &R, number: u64) -> Option<VersionToken<N>>
-        ensures { InOneHolding (λ old new. (new ≡ old) × (result ≡ slice_get old.versions number)) }
+        ensures { InOneHolding N.size (λ old new. (new ≡ old) × (result ≡ slice_get old.versions number)) }
     {
         self.hold(rt).books.version(number)
     }
 
     /// The token of the latest version, and how much there was of the hub.
     pub fn counts(&self, rt: &R) -> (VersionToken<N>, Counts)
-        ensures counts { InOneHolding (λ old new. (new ≡ old)
+        ensures counts { InOneHolding N.size (λ old new. (new ≡ old)
             × (slice_get old.versions (length old.changes) ≡ Some result.0) × AreCounts old result.1) }
-        ensures few { AreWithinLimits result.1 }
+        ensures few { AreWithinLimits N.size result.1 }
     {
         self.hold(rt).books.counts()
     }
@@ -160,7 +168,7 @@ impl<'p, N: Naming + Ledger, R: Wait + Copy> Hub<'p, N, R> {
         from: u64,
         most: usize,
     ) -> Result<Option<Vec<ChangeText>>, AllocError>
-        ensures { IfOk result (λ found. InOneHolding (λ old new. (new ≡ old)
+        ensures { IfOk result (λ found. InOneHolding N.size (λ old new. (new ≡ old)
             × MatchOption found (length old.changes < from) (λ texts. (from ≤ length old.changes)
             × (texts.items ≡ map change_text (take most (drop from old.changes)))))) }
     {
@@ -169,14 +177,14 @@ impl<'p, N: Naming + Ledger, R: Wait + Copy> Hub<'p, N, R> {
 
     /// The greatest counter of a peer's accepted operations, 0 where it has none.
     pub fn last_counter(&self, rt: &R, node: u16) -> u64
-        ensures { InOneHolding (λ old new. (new ≡ old) × IsLastCounter (operations_of old.changes) node result) }
+        ensures { InOneHolding N.size (λ old new. (new ≡ old) × IsLastCounter (operations_of old.changes) node result) }
     {
         self.hold(rt).books.last_counter(node)
     }
 
     /// The greatest counter of all accepted operations, 0 where there were none. Later it may be greater, never less.
     pub fn greatest_counter(&self, rt: &R) -> u64
-        ensures { InOneHolding (λ old new. (new ≡ old) × (result ≡ greatest_counter (operations_of old.changes))) }
+        ensures { InOneHolding N.size (λ old new. (new ≡ old) × (result ≡ greatest_counter (operations_of old.changes))) }
     {
         self.hold(rt).books.greatest_counter()
     }
@@ -190,8 +198,8 @@ impl<'p, N: Naming + Ledger, R: Wait + Copy> Hub<'p, N, R> {
         first: u64,
     ) -> Result<usize, SubscribeError>
         requires none { sink.sent ≡ [] }
-        requires suits { Suits sink.promise program.value first }
-        ensures { InOneHolding (λ old new. Subscribes old first program sink result new) }
+        requires suits { Suits sink.promise N.size program.value first }
+        ensures { InOneHolding N.size (λ old new. Subscribes old first program sink result new) }
     {
         self.hold(rt).books.subscribe_from(program, sink, first)
     }
@@ -204,15 +212,15 @@ impl<'p, N: Naming + Ledger, R: Wait + Copy> Hub<'p, N, R> {
         sink: QueueSink<N, R>,
     ) -> Result<usize, SubscribeError>
         requires none { sink.sent ≡ [] }
-        requires suits { (first : ℕ) → Suits sink.promise program.value first }
-        ensures { InOneHolding (λ old new. Subscribes old (length old.changes) program sink result new) }
+        requires suits { (first : ℕ) → Suits sink.promise N.size program.value first }
+        ensures { InOneHolding N.size (λ old new. Subscribes old (length old.changes) program sink result new) }
     {
         self.hold(rt).books.subscribe(program, sink)
     }
 
     /// Hands out a version that a subscriber's program is to be run on; None only where there was none.
     pub fn take_job(&self, rt: &R) -> Option<Job<N>>
-        ensures { InOneHolding (λ old new. TakesJob old result new) }
+        ensures { InOneHolding N.size (λ old new. TakesJob old result new) }
     {
         self.hold(rt).books.take_job()
     }
@@ -220,14 +228,14 @@ impl<'p, N: Naming + Ledger, R: Wait + Copy> Hub<'p, N, R> {
     /// The job of the first version that an open subscriber waits for, whoever it was handed out to; None only where it
     /// waited for none. Nothing is handed out.
     pub fn missing_job(&self, rt: &R, id: usize) -> Option<Job<N>>
-        ensures { InOneHolding (λ old new. (new ≡ old) × Misses old id result) }
+        ensures { InOneHolding N.size (λ old new. (new ≡ old) × Misses old id result) }
     {
         self.hold(rt).books.missing_job(id)
     }
 
     /// Holds a batch, if its subscriber waits for it.
     pub fn commit(&self, rt: &R, batch: Batch<N>) -> Result<(), CommitError>
-        ensures commits { InOneHolding (λ old new. Commits old batch result new) }
+        ensures commits { InOneHolding N.size (λ old new. Commits old batch result new) }
         ensures takes_no_memory { ¬ (result ≡ Err CommitError.OutOfMemory) }
     {
         self.hold(rt).books.commit(batch)
@@ -235,21 +243,21 @@ impl<'p, N: Naming + Ledger, R: Wait + Copy> Hub<'p, N, R> {
 
     /// Sends what can be sent to a subscriber. It answers how many items.
     pub fn pump(&self, rt: &R, id: usize) -> Result<usize, NoSubscriber>
-        ensures { InOneHolding (λ old new. Pumps was_sent IsFull old id result new) }
+        ensures { InOneHolding N.size (λ old new. Pumps was_sent IsFull old id result new) }
     {
         self.hold(rt).books.pump(id)
     }
 
     /// What a subscriber doesn't hold may be handed out again.
     pub fn reissue(&self, rt: &R, id: usize) -> Result<(), NoSubscriber>
-        ensures { InOneHolding (λ old new. Reissues old id result new) }
+        ensures { InOneHolding N.size (λ old new. Reissues old id result new) }
     {
         self.hold(rt).books.reissue(id)
     }
 
     /// Closes a subscriber for good, and drops the batches that it holds and what is kept of its verdicts.
     pub fn close(&self, rt: &R, id: usize) -> Result<(), NoSubscriber>
-        ensures { InOneHolding (λ old new. Closes old id result new) }
+        ensures { InOneHolding N.size (λ old new. Closes old id result new) }
     {
         let closed = self.hold(rt).books.close(id);
         self.kept.close(rt, id);

@@ -1,5 +1,6 @@
 ghost use Rattle.std.specs.Prelude.{◌≡◌, ◌+◌, ◌≤◌, List, length, sum, IfOk, IfErr, OnOk, OnErr, vec_len};
 ghost use Rattle.change_ops.specs.Changes.{Change};
+ghost use Rattle.change_ops.specs.Sizes.{most_changes};
 ghost use Rattle.change_history.specs.Accepted.{AreAccepted};
 ghost use Rattle.ingest_workers.specs.Holdings.{InOneHolding, Ingests};
 ghost use Rattle.ingest_workers.specs.Texts.{IsOneChange, IsNotOne, IngestsText};
@@ -62,10 +63,10 @@ pub fn ingest_change<N: Naming + Ledger, R: Wait + Copy>(
     share: &mut Share<N>,
     change: Change,
 ) -> Result<u64, SubmitError>
-    ensures event { InOneHolding (λ old new. Ingests old change result new) }
+    ensures event { InOneHolding N.size (λ old new. Ingests old change result new) }
     ensures ok { OnOk result (share.new ≡ share.old + 1) }
     ensures err { OnErr result (share.new ≡ share.old) }
-    ensures numbered { IfOk result (λ number. (share.new ≤ number) × (number ≤ 4096)) }
+    ensures numbered { IfOk result (λ number. (share.new ≤ number) × (number ≤ most_changes N.size)) }
 {
     let token = hub.hold(rt).books.submit(rt, share, change)?;
     Ok(hub.published.look(&token).number())
@@ -80,10 +81,10 @@ pub fn ingest<N: Naming + Ledger, R: Wait + Copy>(
     share: &mut Share<N>,
     text: &str,
 ) -> Result<u64, HubError>
-    ensures text { IngestsText text.now result }
+    ensures text { IngestsText N.size text.now result }
     ensures ok { OnOk result (share.new ≡ share.old + 1) }
     ensures err { OnErr result (share.new ≡ share.old) }
-    ensures numbered { IfOk result (λ number. (share.new ≤ number) × (number ≤ 4096)) }
+    ensures numbered { IfOk result (λ number. (share.new ≤ number) × (number ≤ most_changes N.size)) }
 {
     let change = one_change(alloc, text)?;
     let number = ingest_change(rt, hub, share, change)?;
@@ -98,7 +99,7 @@ pub fn settle<N: Naming + Ledger, R: Wait + Copy>(
 ) -> u64
     requires { vec_len shares ≡ N.parts }
     ensures sum { result ≡ sum shares.items }
-    ensures accepted { (changes : List Change) × AreAccepted changes × (result ≡ length changes) }
+    ensures accepted { (changes : List Change) × AreAccepted N.size changes × (result ≡ length changes) }
 {
     let mut shares = shares;
     let Some(first) = shares.pop() else {

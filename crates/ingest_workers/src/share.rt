@@ -40,7 +40,7 @@ impl<N: Naming + Ledger> Share<N> {
 
     /// Counts one more, in the book too.
     pub(crate) fn count_one(&mut self, book: &mut Book<N>)
-        requires { book.old.total < 4096 }
+        requires { book.old.total < 65536 }
         ensures share { self.new ≡ self.old + 1 }
         ensures book { book.new.total ≡ book.old.total + 1 }
         ensures within { self.new ≤ book.new.total }

@@ -1,6 +1,7 @@
 use crate::sequence_calls::deliver_line;
 use change_ops::change::read_change;
 use change_ops::line::Line;
+use change_ops::size::Size;
 use char_sequence::sequence::{Sequence, SequenceError};
 use std::alloc::{AllocError, Global};
 use std::test::Fail;
@@ -72,11 +73,14 @@ fn is_in_chunks(sequence: &Sequence) -> bool {
     chunks >= 512 && longest <= 64 && chunks.saturating_mul(longest) >= 32768
 }
 
-/// Whether one more character is one too many.
+/// Whether one more character is one too many for a small text, and not for a large one.
 fn is_full(alloc: Global, sequence: &Sequence) -> Result<bool, Fail> {
     let (change, _) = read_change(alloc, "change 1 1\ni 32769@1 - 61\n")?;
     match change.lines().first() {
-        Some(Line::Operation(op)) => Ok(sequence.check(op) == Err(SequenceError::DocumentFull)),
+        Some(Line::Operation(op)) => {
+            let is_full = sequence.check(Size::Small, op) == Err(SequenceError::DocumentFull);
+            Ok(is_full && sequence.check(Size::Large, op).is_ok())
+        }
         _ => Ok(false),
     }
 }

@@ -7,8 +7,9 @@ mod context_layout;
 #[cfg(test)]
 mod cut_changes;
 #[cfg(test)]
-mod full_text;
+mod document_sizes;
 #[cfg(test)]
+mod full_text;
 #[cfg(test)]
 mod marks_calls;
 #[cfg(test)]

@@ -2,6 +2,7 @@ use change_ops::change::read_change;
 use change_ops::id::OpId;
 use change_ops::line::Line;
 use change_ops::operation::Op;
+use change_ops::size::Size;
 use char_sequence::sequence::{Sequence, SequenceError};
 use std::alloc::{AllocError, Global};
 use std::test::Fail;
@@ -9,7 +10,7 @@ use test_inputs::lines::lines;
 
 /// Takes an insert or a removal, if it is accepted.
 fn deliver(sequence: &mut Sequence, op: &Op) -> Result<bool, AllocError> {
-    if sequence.check(op).is_err() {
+    if sequence.check(Size::Large, op).is_err() {
         return Ok(false);
     }
     match op {
@@ -70,7 +71,7 @@ fn refusal(alloc: Global, sequence: &Sequence, text: &str) -> Result<Option<Sequ
     let text = lines(alloc, text)?;
     let (change, _) = read_change(alloc, text.as_str())?;
     match change.lines().first() {
-        Some(Line::Operation(op)) => Ok(sequence.check(op).err()),
+        Some(Line::Operation(op)) => Ok(sequence.check(Size::Small, op).err()),
         _ => Ok(None),
     }
 }

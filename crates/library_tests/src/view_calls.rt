@@ -1,6 +1,7 @@
 use change_history::history::History;
 use change_ops::change::read_change;
 use change_ops::id::OpId;
+use change_ops::size::Size;
 use change_ops::writing::write_change;
 use span_view::context::context;
 use span_view::view::{SpanView, spans, view};
@@ -25,7 +26,7 @@ fn accept(alloc: Global, history: &mut History, text: &str) -> Result<(), Fail> 
 
 /// The history that changes make.
 fn history_of(alloc: Global, texts: &[&'static str]) -> Result<History, Fail> {
-    let mut history = History::new(alloc);
+    let mut history = History::new(alloc, Size::Small);
     for text in texts {
         accept(alloc, &mut history, text)?;
     }

@@ -51,7 +51,7 @@ unfiled es marks id view filed fresh i e g same =
     let at : slice_get marks i ≡ Some e.1 = subst (λ l. slice_get l i ≡ Some e.1) view (at_value es i e g) in
     fresh e.1 (contains_from marks i e.1 at) (sym (filed.under i e g) ∙ same)
 
-pub filed_push : (es : List (OpId × Op)) (op : Op) → AreFiled es → length es < 4096 → AreFiled (es ++ (id_of op, op) ∷ [])
+pub filed_push : (es : List (OpId × Op)) (op : Op) → AreFiled es → length es < 16384 → AreFiled (es ++ (id_of op, op) ∷ [])
 filed_push es op filed room = record {
   under =
       λ i e g.

@@ -97,7 +97,7 @@ all_more At one marks op here old new more stands all added is others a =
     (ids_still At marks op a (old a) (all a) (λ too. other (one op a here too stands))))
     (anchor_cases a here)
 
-pub held_more : {A : Type 0} (entries entries' : List (OpId × Op)) (begins begins' ends ends' : List (Anchor × Vec OpId A)) (op : Op) (a : Addition) → AreHeld entries begins ends → IsAddition (values_of entries) op a → length entries < 4096
+pub held_more : {A : Type 0} (entries entries' : List (OpId × Op)) (begins begins' ends ends' : List (Anchor × Vec OpId A)) (op : Op) (a : Addition) → AreHeld entries begins ends → IsAddition (values_of entries) op a → length entries < 16384
     → entries' ≡ entries ++ (id_of a.operation, a.operation) ∷ [] → ids_at begins' a.start ≡ a.begins.items → ((o : Anchor) → (o ≡ a.start → ⊥) → ids_at begins' o ≡ ids_at begins o) → ids_at ends' a.end ≡ a.ends.items → ((o : Anchor) → (o ≡ a.end → ⊥) → ids_at ends' o ≡ ids_at ends o)
     → AreHeld entries' begins' ends' × (values_of entries' ≡ values_of entries ++ op ∷ [])
 held_more entries entries' begins begins' ends ends' op a held is room last begin begin_else end end_else =

@@ -10,7 +10,7 @@ pub record AreMarks (ops marks : List Op) : Type 0 where
   pub marking : (o : Op) → Contains marks o → is_mark o ≡ true
   pub listed : (o : Op) → Contains ops o → is_mark o ≡ true → Contains marks o
 
--- each operation stands under its own id, and there are at most 4,096
+-- each operation stands under its own id, and there are at most 16,384
 pub record AreFiled (entries : List (OpId × Op)) : Type 0 where
   pub under : (i : ℕ) (e : OpId × Op) → slice_get entries i ≡ Some e → e.0 ≡ id_of e.1
-  pub limit : length entries ≤ 4096
+  pub limit : length entries ≤ 16384

@@ -118,7 +118,7 @@ impl MarkIndex {
         requires mark { is_mark op.now ≡ true }
         requires fresh { (o : Op) → Contains (values_of self.old.by_id.entries) o → id_of o ≡ id_of op.now → ⊥ }
         requires held { AreHeld self.old.by_id.entries self.old.begins.lists.entries self.old.ends.lists.entries }
-        requires room { length self.old.by_id.entries < 4096 }
+        requires room { length self.old.by_id.entries < 16384 }
         ensures held { AreHeld self.new.by_id.entries self.new.begins.lists.entries self.new.ends.lists.entries }
         ensures ok { OnOk result (values_of self.new.by_id.entries ≡ values_of self.old.by_id.entries ++ op.now ∷ []) }
         ensures err { OnErr result (values_of self.new.by_id.entries ≡ values_of self.old.by_id.entries) }

@@ -10,13 +10,13 @@ use change_ops::operation::{Anchor, Op};
 use std::alloc::{AllocError, Global};
 use std::marker::Model;
 
-/// The most mark operations that a text holds.
-pub const MARK_LIMIT: usize = 4096;
+/// The most mark operations of a document of any size.
+pub const MARK_LIMIT: usize = 16384;
 
 /// Why a mark operation was not added.
 #[derive(Clone, Copy)]
 pub enum MarksError {
-    /// 4,096 mark operations are held.
+    /// 16,384 mark operations are held.
     MarksFull,
     OutOfMemory,
 }
@@ -62,8 +62,8 @@ impl Marks {
 
     /// Whether no further mark operation is taken.
     pub fn is_full(&self) -> bool
-        ensures full { IsTrue result ↔ (length self.now ≡ 4096) }
-        ensures limit { length self.now ≤ 4096 }
+        ensures full { IsTrue result ↔ (length self.now ≡ 16384) }
+        ensures limit { length self.now ≤ 16384 }
     {
         self.index.by_id.len() >= MARK_LIMIT
     }
@@ -74,7 +74,7 @@ impl Marks {
         requires fresh { (o : Op) → Contains self.old o → id_of o ≡ id_of op.now → ⊥ }
         ensures ok { OnOk result (self.new ≡ self.old ++ op.now ∷ []) }
         ensures marks { (ops : List Op) → AreMarks ops self.old → OnOk result (AreMarks (ops ++ op.now ∷ []) self.new) }
-        ensures full { (result ≡ Err MarksError.MarksFull) ↔ (length self.old ≡ 4096) }
+        ensures full { (result ≡ Err MarksError.MarksFull) ↔ (length self.old ≡ 16384) }
         ensures err { OnErr result (self.new ≡ self.old) }
     {
         if self.is_full() {

@@ -1,12 +1,13 @@
 -- What is told of a hub, by the version that was looked at.
 use Rattle.std.proofs.Common.{◌≡◌, ℕ, sym, ap, ◌∙◌}
+use Rattle.change_ops.specs.declared.size.Size.{Size}
 use Rattle.span_flatten.specs.Version.{Version}
 use Rattle.hub_core.specs.declared.counts.Counts.{Counts}
 use Rattle.session_lines.specs.declared.stats.Stats.{Stats}
 use Rattle.session_reads.specs.Counting.{stats_of}
 
-pub told : (stats : Stats) (counts : Counts) (seen latest : Version) (sessions : ℕ) → stats ≡ stats_of counts seen sessions → seen ≡ latest → stats ≡ stats_of counts latest stats.sessions
-told stats counts seen latest sessions is same =
+pub told : (size : Size) (stats : Stats) (counts : Counts) (seen latest : Version) (sessions : ℕ) → stats ≡ stats_of size counts seen sessions → seen ≡ latest → stats ≡ stats_of size counts latest stats.sessions
+told size stats counts seen latest sessions is same =
     is
-    ∙ ap (λ (v : Version). stats_of counts v sessions) same
-    ∙ ap (λ (n : ℕ). stats_of counts latest n) (sym (ap (λ (s : Stats). s.sessions) is))
+    ∙ ap (λ (v : Version). stats_of size counts v sessions) same
+    ∙ ap (λ (n : ℕ). stats_of size counts latest n) (sym (ap (λ (s : Stats). s.sessions) is))

@@ -1,5 +1,7 @@
 -- How much there is of a hub, and how much it still takes.
 use Rattle.std.specs.Prelude.{◌≡◌, ℕ, ◌*◌, ◌/◌, ◌-◌, Some, length, chars, slice_get}
+use Rattle.change_ops.specs.declared.size.Size.{Size}
+use Rattle.change_ops.specs.Sizes.{most_characters, most_marks, most_changes}
 use Rattle.span_flatten.specs.Version.{Version}
 use Rattle.version_history.specs.Tokens.{Token}
 use Rattle.hub_core.specs.Machine.{Core}
@@ -9,36 +11,36 @@ use Rattle.subscriber_queues.specs.Queue.{QueueSink}
 use Rattle.session_lines.specs.declared.stats.PerLimit.{PerLimit}
 use Rattle.session_lines.specs.declared.stats.Stats.{Stats}
 
--- what is left of each limit
-abbrev pub left_of : Counts → PerLimit
-left_of counts =
+-- what is left of each limit, of which all but the last are by the hub's size
+abbrev pub left_of : Size → Counts → PerLimit
+left_of size counts =
     record {
-      changes = 4096 - counts.changes;
-      characters = 32768 - counts.inserted;
-      marks = 4096 - counts.marks;
+      changes = most_changes size - counts.changes;
+      characters = most_characters size - counts.inserted;
+      marks = most_marks size - counts.marks;
       subscribers = 64 - counts.subscribed;
     }
 
-abbrev pub IsLeft : Core QueueSink → PerLimit → Type 0
-IsLeft s left = (counts : Counts) × AreCounts s counts × (left ≡ left_of counts)
+abbrev pub IsLeft : Size → Core QueueSink → PerLimit → Type 0
+IsLeft size s left = (counts : Counts) × AreCounts s counts × (left ≡ left_of size counts)
 
 -- how much of a limit is used, in parts of a thousand
 abbrev pub used_of : ℕ → ℕ → ℕ
 used_of count limit = count * 1000 / limit
 
-abbrev pub used_by : Counts → PerLimit
-used_by counts =
+abbrev pub used_by : Size → Counts → PerLimit
+used_by size counts =
     record {
-      changes = used_of counts.changes 4096;
-      characters = used_of counts.inserted 32768;
-      marks = used_of counts.marks 4096;
+      changes = used_of counts.changes (most_changes size);
+      characters = used_of counts.inserted (most_characters size);
+      marks = used_of counts.marks (most_marks size);
       subscribers = used_of counts.subscribed 64;
     }
 
 -- what is told of so much, where this is the latest version, and there are so many sessions; a character that was
 -- inserted and isn't visible was removed
-abbrev pub stats_of : Counts → Version → ℕ → Stats
-stats_of counts latest sessions =
+abbrev pub stats_of : Size → Counts → Version → ℕ → Stats
+stats_of size counts latest sessions =
     record {
       versions = counts.changes;
       characters = length (chars latest.text);
@@ -49,13 +51,13 @@ stats_of counts latest sessions =
       sessions = sessions;
       bytes = length latest.text;
       lag = counts.lag;
-      used = used_by counts;
+      used = used_by size counts;
     }
 
--- these are a hub's, but for the number of its sessions, of which nothing is said
-pub record AreStats (s : Core QueueSink) (stats : Stats) : Type 0 where
+-- these are those of a hub of this size, but for the number of its sessions, of which nothing is said
+pub record AreStats (size : Size) (s : Core QueueSink) (stats : Stats) : Type 0 where
   pub counts : Counts
   pub counted : AreCounts s counts
   pub latest : Token Version
   pub newest : slice_get s.versions (length s.changes) ≡ Some latest
-  pub told : stats ≡ stats_of counts latest.value stats.sessions
+  pub told : stats ≡ stats_of size counts latest.value stats.sessions

@@ -4,6 +4,7 @@ use Rattle.std.specs.Prelude.{Bool, true, false}
 use Rattle.std.specs.List.{flat_map}
 use Rattle.change_ops.specs.Changes.{Change}
 use Rattle.change_ops.specs.Spelling.{change_text}
+use Rattle.change_ops.specs.declared.size.Size.{Size}
 use Rattle.change_ops.specs.declared.refusal.ChangeError.TheVariants as change
 use Rattle.char_sequence.specs.Newest.{IsLastCounter}
 use Rattle.span_flatten.specs.Version.{Version}
@@ -21,39 +22,39 @@ use Rattle.session_lines.specs.declared.reply.Reply.{Reply}
 use Rattle.session_lines.specs.declared.reply.Reply.TheVariants as reply
 use Rattle.session_reads.specs.Counting.{IsLeft, AreStats}
 
--- in one holding of the lock, which changed nothing, this was so of the hub
-abbrev pub WasSo : (Core QueueSink → Type 0) → Type 0
-WasSo fact = InOneHolding (λ old new. (new ≡ old) × fact old)
+-- in one holding of the lock, which changed nothing, this was so of the hub, which is of this size
+abbrev pub WasSo : Size → (Core QueueSink → Type 0) → Type 0
+WasSo size fact = InOneHolding size (λ old new. (new ≡ old) × fact old)
 
 -- `most` spans of a version, from one of them on, and how many it has; or no version had the number
-abbrev pub Shows : ℕ → ℕ → ℕ → List ℕ → Reply → Type 0
-Shows number first most text (reply.Spans count) =
-    (token : Token Version) × WasSo (λ s. slice_get s.versions number ≡ Some token)
+abbrev pub Shows : Size → ℕ → ℕ → ℕ → List ℕ → Reply → Type 0
+Shows size number first most text (reply.Spans count) =
+    (token : Token Version) × WasSo size (λ s. slice_get s.versions number ≡ Some token)
     × (text ≡ some_lines first most token.value) × (count ≡ length token.value.rows)
-Shows number first most text (reply.Refused reason.NoVersion) =
-    WasSo (λ s. slice_get s.versions number ≡ None) × (text ≡ [])
-Shows number first most text _ = ⊥
+Shows size number first most text (reply.Refused reason.NoVersion) =
+    WasSo size (λ s. slice_get s.versions number ≡ None) × (text ≡ [])
+Shows size number first most text _ = ⊥
 
 -- the texts of changes, one behind the other, and how many they are
 abbrev pub AreTexts : List Change → List ℕ → ℕ → Type 0
 AreTexts changes text count = (text ≡ flat_map change_text changes) × (count ≡ length changes)
 
 -- the accepted changes behind a version, `most` or as many as there were; or no version had the number
-abbrev pub Lists : ℕ → ℕ → List ℕ → Reply → Type 0
-Lists from most text (reply.Changes count) =
-    WasSo (λ s. (from ≤ length s.changes) × AreTexts (take most (drop from s.changes)) text count)
-Lists from most text (reply.Refused reason.NoVersion) = WasSo (λ s. length s.changes < from) × (text ≡ [])
-Lists from most text _ = ⊥
+abbrev pub Lists : Size → ℕ → ℕ → List ℕ → Reply → Type 0
+Lists size from most text (reply.Changes count) =
+    WasSo size (λ s. (from ≤ length s.changes) × AreTexts (take most (drop from s.changes)) text count)
+Lists size from most text (reply.Refused reason.NoVersion) = WasSo size (λ s. length s.changes < from) × (text ≡ [])
+Lists size from most text _ = ⊥
 
 -- the numbers of peers
 abbrev pub IsPeer : ℕ → Type 0
 IsPeer node = (1 ≤ node) × (node ≤ 65535)
 
 -- the greatest counter of a peer's accepted operations; or the number is none of a peer
-abbrev pub Counts : ℕ → Reply → Type 0
-Counts node (reply.Newest counter) = IsPeer node × WasSo (λ s. IsLastCounter (operations_of s.changes) node counter)
-Counts node (reply.Refused (reason.Unread (change.Limit line))) = (¬ (IsPeer node)) × (line ≡ 1)
-Counts node _ = ⊥
+abbrev pub Counts : Size → ℕ → Reply → Type 0
+Counts size node (reply.Newest counter) = IsPeer node × WasSo size (λ s. IsLastCounter (operations_of s.changes) node counter)
+Counts size node (reply.Refused (reason.Unread (change.Limit line))) = (¬ (IsPeer node)) × (line ≡ 1)
+Counts size node _ = ⊥
 
 -- which hub it is, where it has an id; one that has none has no such line
 abbrev pub Names : Option HubId → Reply → Type 0
@@ -61,21 +62,21 @@ Names (Some id) (reply.Hub told) = told ≡ id
 Names None (reply.Refused reason.BadCommand) = Unit {0}
 Names _ _ = ⊥
 
--- what is printed to a query of a hub with this id, and the reply behind it
-abbrev pub Tells : Option HubId → Query → List ℕ → Reply → Type 0
-Tells id Latest text (reply.Latest number) = WasSo (λ s. number ≡ length s.changes) × (text ≡ [])
-Tells id Latest text _ = ⊥
-Tells id Left text (reply.Left left) = WasSo (λ s. IsLeft s left) × (text ≡ [])
-Tells id Left text _ = ⊥
-Tells id Hub text answer = Names id answer × (text ≡ [])
-Tells id Stats text (reply.Stats stats) = WasSo (λ s. AreStats s stats) × (text ≡ [])
-Tells id Stats text _ = ⊥
-Tells id (Show number first most) text answer = Shows number first most text answer
-Tells id (Changes from most) text answer = Lists from most text answer
-Tells id (Newest node) text answer = Counts node answer × (text ≡ [])
+-- what is printed to a query of a hub of this size with this id, and the reply behind it
+abbrev pub Tells : Size → Option HubId → Query → List ℕ → Reply → Type 0
+Tells size id Latest text (reply.Latest number) = WasSo size (λ s. number ≡ length s.changes) × (text ≡ [])
+Tells size id Latest text _ = ⊥
+Tells size id Left text (reply.Left left) = WasSo size (λ s. IsLeft size s left) × (text ≡ [])
+Tells size id Left text _ = ⊥
+Tells size id Hub text answer = Names id answer × (text ≡ [])
+Tells size id Stats text (reply.Stats stats) = WasSo size (λ s. AreStats size s stats) × (text ≡ [])
+Tells size id Stats text _ = ⊥
+Tells size id (Show number first most) text answer = Shows size number first most text answer
+Tells size id (Changes from most) text answer = Lists size from most text answer
+Tells size id (Newest node) text answer = Counts size node answer × (text ≡ [])
 
 -- the same, or that no memory was found, and then nothing is printed but that; a hub that isn't read has no such line
-abbrev pub Reads : Bool → Option HubId → Query → List ℕ → Reply → Type 0
-Reads true id query text (reply.Refused reason.OutOfMemory) = text ≡ []
-Reads true id query text answer = Tells id query text answer
-Reads false id query text answer = (answer ≡ reply.Refused reason.BadCommand) × (text ≡ [])
+abbrev pub Reads : Size → Bool → Option HubId → Query → List ℕ → Reply → Type 0
+Reads size true id query text (reply.Refused reason.OutOfMemory) = text ≡ []
+Reads size true id query text answer = Tells size id query text answer
+Reads size false id query text answer = (answer ≡ reply.Refused reason.BadCommand) × (text ≡ [])

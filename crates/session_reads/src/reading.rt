@@ -26,7 +26,7 @@ fn show<'a, N: Naming + Ledger, R: Wait + Copy>(
     first: u64,
     most: u64,
 ) -> Answer<'a>
-    ensures { Shows number first most (found_text result.found) result.reply }
+    ensures { Shows N.size number first most (found_text result.found) result.reply }
 {
     let Some(token) = hub.version(rt, number) else {
         return Answer::line(Reply::Refused(Reason::NoVersion));
@@ -50,7 +50,7 @@ fn list<'a, N: Naming + Ledger, R: Wait + Copy>(
     from: u64,
     most: u64,
 ) -> Result<Answer<'a>, AllocError>
-    ensures { IfOk result (λ answer. Lists from most (found_text answer.found) answer.reply) }
+    ensures { IfOk result (λ answer. Lists N.size from most (found_text answer.found) answer.reply) }
 {
     let Some(texts) = hub.texts_behind(rt, from, most as usize)? else {
         return Ok(Answer::line(Reply::Refused(Reason::NoVersion)));
@@ -64,7 +64,7 @@ fn list<'a, N: Naming + Ledger, R: Wait + Copy>(
 
 /// The greatest counter of a peer's accepted operations, where the number is one of a peer.
 fn count<N: Naming + Ledger, R: Wait + Copy>(rt: &R, hub: &Hub<'_, N, R>, node: u64) -> Reply
-    ensures { Counts node result }
+    ensures { Counts N.size node result }
 {
     if node < 1 || node > 65535 {
         return Reply::Refused(Reason::Unread(ChangeError::Limit(1)));
@@ -90,7 +90,7 @@ fn told<'a, N: Naming + Ledger, R: Wait + Copy>(
     id: Option<HubId>,
     query: Query,
 ) -> Result<Answer<'a>, AllocError>
-    ensures { IfOk result (λ answer. Tells id query (found_text answer.found) answer.reply) }
+    ensures { IfOk result (λ answer. Tells N.size id query (found_text answer.found) answer.reply) }
 {
     match query {
         Query::Latest => Ok(Answer::line(Reply::Latest(hub.latest(rt)))),
@@ -117,7 +117,7 @@ pub fn read<'a, N: Naming + Ledger, R: Wait + Copy>(
     id: Option<HubId>,
     query: Query,
 ) -> Answer<'a>
-    ensures { Reads reads id query (found_text result.found) result.reply }
+    ensures { Reads N.size reads id query (found_text result.found) result.reply }
 {
     if !reads {
         return Answer::line(Reply::Refused(Reason::BadCommand));

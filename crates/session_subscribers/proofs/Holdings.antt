@@ -3,6 +3,7 @@ use Rattle.std.proofs.Common.{◌≡◌, ℕ, ◌<◌, ◌==◌, List, [], Resul
 use Rattle.std.specs.Prelude.{Option, Some, None, IfOk, IfErr, OnErr, Bool, IsTrue, ◌↔◌}
 use Rattle.std.proofs.lemmas.List.Quantifiers.{position-Some}
 use Rattle.std.proofs.lemmas.Option.{slice_get_read}
+use Rattle.change_ops.specs.declared.size.Size.{Size}
 use Rattle.span_context.specs.declared.profile.Profile.{Profile}
 use Rattle.bpf_words.specs.Words.{IsProgram, program_of}
 use Rattle.semantics.specs.Step.{Program}
@@ -64,20 +65,21 @@ pub none_pulled : (id count : ℕ) (held : List Held) (out : List ℕ) → index
 none_pulled id count held out none = inr (record { none = none; same = refl; printed = refl; told = refl })
 
 -- the promise of a program's stream suits it from each version on, where none is named
-pub suits_any : (promise : Option Promise) (program : Program) (first : Option ℕ) → promise ≡ Some (record { program = program; first = first }) → first ≡ None
-    → (number : ℕ) → Suits promise program number
-suits_any promise program first is none number =
-    subst (λ q. Suits q program number) (sym (is ∙ ap (λ (f : Option ℕ). Some (record { program = program; first = f })) none)) (refl, tt)
+pub suits_any : (promise : Option Promise) (size : Size) (program : Program) (first : Option ℕ) → promise ≡ Some (record { size = size; program = program; first = first }) → first ≡ None
+    → (number : ℕ) → Suits promise size program number
+suits_any promise size program first is none number =
+    subst (λ q. Suits q size program number) (sym (is ∙ ap (λ (f : Option ℕ). Some (record { size = size; program = program; first = f })) none)) (refl, refl, tt)
 
 -- and else from the one that is
-pub suits_named : (promise : Option Promise) (program : Program) (first : Option ℕ) (number : ℕ) → promise ≡ Some (record { program = program; first = first }) → first ≡ Some number
-    → Suits promise program number
-suits_named promise program first number is named =
-    subst (λ q. Suits q program number) (sym (is ∙ ap (λ (f : Option ℕ). Some (record { program = program; first = f })) named)) (refl, refl)
+pub suits_named : (promise : Option Promise) (size : Size) (program : Program) (first : Option ℕ) (number : ℕ) → promise ≡ Some (record { size = size; program = program; first = first })
+    → first ≡ Some number → Suits promise size program number
+suits_named promise size program first number is named =
+    subst (λ q. Suits q size program number) (sym (is ∙ ap (λ (f : Option ℕ). Some (record { size = size; program = program; first = f })) named)) (refl, refl, refl)
 
 -- what a test of a full hub found
-pub full : (test : Bool) → IsTrue test → InOneHolding (λ old new. (new ≡ old) × (IsTrue test ↔ (length old.subscribers ≡ 64))) → InOneHolding (λ old new. (new ≡ old) × (length old.subscribers ≡ 64))
-full test is found = (found.0, found.1, (found.2.0, found.2.1.0 is), found.3)
+pub full : (size : Size) (test : Bool) → IsTrue test → InOneHolding size (λ old new. (new ≡ old) × (IsTrue test ↔ (length old.subscribers ≡ 64)))
+    → InOneHolding size (λ old new. (new ≡ old) × (length old.subscribers ≡ 64))
+full size test is found = (found.0, found.1, (found.2.0, found.2.1.0 is), found.3)
 
 -- the bytes of a program that was accepted
 pub safe_bytes : (profile : Profile) (program : Program) (bytes : List ℕ) → IsProgram bytes × (program ≡ program_of bytes) × SafeIn profile program × IsAllowed profile (program_of bytes) → AreSafe profile bytes

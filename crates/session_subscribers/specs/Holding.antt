@@ -2,6 +2,7 @@
 use Rattle.std.specs.Prelude.{◌≡◌, ◌<◌, ◌≤◌, ◌⊎◌, ◌==◌, ℕ, Option, None, Some, Result, Ok, List, [], ◌∷◌, ◌++◌, length}
 use Rattle.std.specs.Prelude.{position, slice_get, slice_set, IsTrue, IsFalse, ⊤}
 use Rattle.std.specs.List.{remove}
+use Rattle.change_ops.specs.declared.size.Size.{Size}
 use Rattle.span_context.specs.declared.profile.Profile.{Profile}
 use Rattle.bpf_words.specs.Words.{IsProgram, IsRefused, program_of}
 use Rattle.semantics.specs.Step.{Program}
@@ -37,40 +38,41 @@ abbrev pub first_of : Option ℕ → Core QueueSink → ℕ
 first_of None s = length s.changes
 first_of (Some number) s = number
 
--- what is promised of the queue of a subscription: the stream of its own program, from the version that is named on
-abbrev pub promise_of : List ℕ → Option ℕ → Promise
-promise_of bytes first = record { program = program_of bytes; first = first }
+-- what is promised of the queue of a subscription at a hub of this size: the stream of its own program, from the
+-- version that is named on
+abbrev pub promise_of : Size → List ℕ → Option ℕ → Promise
+promise_of size bytes first = record { size = size; program = program_of bytes; first = first }
 
 -- the program of these bytes, which the rules allow and each run of which on what the profile lends ends with a
--- number, was subscribed under this id with the other end of this queue, which is empty, of this capacity and with that
--- promise, from its first version on
-pub record IsSubscribed (profile : Profile) (capacity : ℕ) (bytes : List ℕ) (first : Option ℕ) (id : ℕ)
-    (line : Line) : Type 0 where
+-- number, was subscribed at a hub of this size, under this id, with the other end of this queue, which is empty, of
+-- this capacity and with that promise, from its first version on
+pub record IsSubscribed (size : Size) (profile : Profile) (capacity : ℕ) (bytes : List ℕ) (first : Option ℕ)
+    (id : ℕ) (line : Line) : Type 0 where
   pub program : IsProgram bytes
   pub safe : SafeIn profile (program_of bytes)
   pub allowed : IsAllowed profile (program_of bytes)
   pub token : Token Program
   pub same : token.value ≡ program_of bytes
-  pub holding : InOneHolding
+  pub holding : InOneHolding size
       (λ old new. Subscribes old (first_of first old) token
-      (record { line = line; sent = []; capacity = capacity; promise = Some (promise_of bytes first) }) (Ok id) new)
+      (record { line = line; sent = []; capacity = capacity; promise = Some (promise_of size bytes first) }) (Ok id) new)
 
 -- the bytes are a program that the rules allow, each run of which on what the profile lends ends with a number
 abbrev pub AreSafe : Profile → List ℕ → Type 0
 AreSafe profile bytes = IsProgram bytes × SafeIn profile (program_of bytes) × IsAllowed profile (program_of bytes)
 
 -- why it was not
-abbrev pub IsNotSubscribed : Profile → ℕ → List ℕ → Option ℕ → Reason → Type 0
-IsNotSubscribed profile capacity bytes first (reason.Words error) = IsRefused bytes error
-IsNotSubscribed profile capacity bytes first (reason.Unverified error) =
+abbrev pub IsNotSubscribed : Size → Profile → ℕ → List ℕ → Option ℕ → Reason → Type 0
+IsNotSubscribed size profile capacity bytes first (reason.Words error) = IsRefused bytes error
+IsNotSubscribed size profile capacity bytes first (reason.Unverified error) =
     IsProgram bytes × Rejects profile (program_of bytes) error
-IsNotSubscribed profile capacity bytes first reason.BadCapacity = AreSafe profile bytes × (¬ IsCapacity capacity)
-IsNotSubscribed profile capacity bytes first reason.SubscribersFull =
-    AreSafe profile bytes × InOneHolding (λ old new. (new ≡ old) × (length old.subscribers ≡ 64))
-IsNotSubscribed profile capacity bytes (Some number) reason.NoVersion =
-    AreSafe profile bytes × InOneHolding (λ old new. (new ≡ old) × (length old.changes < number))
-IsNotSubscribed profile capacity bytes first reason.OutOfMemory = AreSafe profile bytes
-IsNotSubscribed profile capacity bytes first _ = ⊥
+IsNotSubscribed size profile capacity bytes first reason.BadCapacity = AreSafe profile bytes × (¬ IsCapacity capacity)
+IsNotSubscribed size profile capacity bytes first reason.SubscribersFull =
+    AreSafe profile bytes × InOneHolding size (λ old new. (new ≡ old) × (length old.subscribers ≡ 64))
+IsNotSubscribed size profile capacity bytes (Some number) reason.NoVersion =
+    AreSafe profile bytes × InOneHolding size (λ old new. (new ≡ old) × (length old.changes < number))
+IsNotSubscribed size profile capacity bytes first reason.OutOfMemory = AreSafe profile bytes
+IsNotSubscribed size profile capacity bytes first _ = ⊥
 
 -- the session may have no subscriber more, and the bytes were looked at first
 abbrev pub IsPastShare : Profile → List ℕ → SessionLimits → Reason → Type 0
@@ -79,32 +81,32 @@ IsPastShare profile bytes left why =
 
 -- one more is held, with the end of its queue, which has that promise and which nothing was taken from, and the session
 -- has one less left; or the same as before
-abbrev pub Adds : Profile → ℕ → List ℕ → Option ℕ → SessionLimits → List Held → Reply → SessionLimits → List Held
-    → Type 0
-Adds profile capacity bytes first left held (reply.Subscribed id) left' held' =
+abbrev pub Adds : Size → Profile → ℕ → List ℕ → Option ℕ → SessionLimits → List Held → Reply → SessionLimits
+    → List Held → Type 0
+Adds size profile capacity bytes first left held (reply.Subscribed id) left' held' =
     (line : Line) × (held' ≡ held
     ++ record {
       id = id;
-      items = record { line = line; promise = Some (promise_of bytes first); taken = []; shown = [] };
+      items = record { line = line; promise = Some (promise_of size bytes first); taken = []; shown = [] };
     } ∷ [])
-    × IsSubscribed profile capacity bytes first id line
+    × IsSubscribed size profile capacity bytes first id line
     × IsTrue (takes_subscriber left) × (left' ≡ after_subscriber left)
-Adds profile capacity bytes first left held (reply.Refused why) left' held' =
+Adds size profile capacity bytes first left held (reply.Refused why) left' held' =
     (held' ≡ held) × (left' ≡ left)
-    × (IsNotSubscribed profile capacity bytes first why ⊎ IsPastShare profile bytes left why)
-Adds profile capacity bytes first left held _ left' held' = ⊥
+    × (IsNotSubscribed size profile capacity bytes first why ⊎ IsPastShare profile bytes left why)
+Adds size profile capacity bytes first left held _ left' held' = ⊥
 
 -- the hub was asked to close this one; where the hub has it as closed, it is refused and stays so; it says nothing of
 -- the hub, since a refusal (Err) meets it for every id
-abbrev pub IsClosed : ℕ → Type 0
-IsClosed id = (found : Result ⊤ NoSubscriber) × InOneHolding (λ old new. ClosesAtHub old id found new)
+abbrev pub IsClosed : Size → ℕ → Type 0
+IsClosed size id = (found : Result ⊤ NoSubscriber) × InOneHolding size (λ old new. ClosesAtHub old id found new)
 
 -- the one with the id is closed at the hub and held no more, and the others are; or none had it
-abbrev pub Closes : List Held → ℕ → Reply → List Held → Type 0
-Closes held id (reply.Closed closed) held' =
-    (closed ≡ id) × (index : ℕ) × (index_in held id ≡ Some index) × (held' ≡ remove held index) × IsClosed id
-Closes held id (reply.Refused why) held' = (why ≡ reason.NoSubscriber) × (index_in held id ≡ None) × (held' ≡ held)
-Closes held id _ held' = ⊥
+abbrev pub Closes : Size → List Held → ℕ → Reply → List Held → Type 0
+Closes size held id (reply.Closed closed) held' =
+    (closed ≡ id) × (index : ℕ) × (index_in held id ≡ Some index) × (held' ≡ remove held index) × IsClosed size id
+Closes size held id (reply.Refused why) held' = (why ≡ reason.NoSubscriber) × (index_in held id ≡ None) × (held' ≡ held)
+Closes size held id _ held' = ⊥
 
 -- items of one subscriber were taken, at most `count`, and it is answered how many; or that no memory was found
 pub record Pulls (count : ℕ) (items items' : Subscription) (out out' : List ℕ) (answer : Reply) : Type 0 where

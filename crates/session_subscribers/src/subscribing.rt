@@ -1,4 +1,5 @@
 ghost use Rattle.std.specs.Prelude.{◌≡◌, ℕ, List, Option, Some, [], Ok, IfOk, IfErr};
+ghost use Rattle.change_ops.specs.declared.size.Size.{Size as TheSize};
 ghost use Rattle.bpf_words.specs.Words.{IsProgram, program_of};
 ghost use Rattle.span_context.specs.declared.profile.Profile.{Profile as TheProfile};
 ghost use Rattle.semantics.specs.Safe.{SafeIn};
@@ -30,16 +31,16 @@ fn ends<N: Naming, R: Wait + Copy>(
     first: Option<u64>,
 ) -> Result<(QueueSink<N, R>, Subscription<N, R>), Reason>
     ensures sink { IfOk result (λ q. (q.0.sent ≡ []) × (q.0.capacity ≡ capacity)
-        × (q.0.promise ≡ Some (record { program = program.now; first = first }))) }
+        × (q.0.promise ≡ Some (record { size = N.size; program = program.now; first = first }))) }
     ensures end { IfOk result (λ q. q.1
         ≡ record {
           line = q.0.line;
-          promise = Some (record { program = program.now; first = first });
+          promise = Some (record { size = N.size; program = program.now; first = first });
           taken = [];
           shown = [];
         }) }
     ensures err { IfErr result (λ why. (profile : TheProfile) (bytes : List ℕ) (from : Option ℕ)
-        → AreSafe profile bytes → IsNotSubscribed profile capacity bytes from why) }
+        → AreSafe profile bytes → IsNotSubscribed N.size profile capacity bytes from why) }
 {
     match queue_for(rt, alloc, capacity, program, first) {
         Ok(ends) => Ok(ends),
@@ -52,8 +53,8 @@ fn ends<N: Naming, R: Wait + Copy>(
 fn accepted(alloc: Global, profile: Profile, bytes: &[u8]) -> Result<Verified, Reason>
     ensures ok { IfOk result (λ program. IsProgram bytes.now × (program ≡ program_of bytes.now)
         × SafeIn profile program × IsAllowed profile (program_of bytes.now)) }
-    ensures err { IfErr result (λ why. (capacity : ℕ) (first : Option ℕ)
-        → IsNotSubscribed profile capacity bytes.now first why) }
+    ensures err { IfErr result (λ why. (size : TheSize) (capacity : ℕ) (first : Option ℕ)
+        → IsNotSubscribed size profile capacity bytes.now first why) }
 {
     let words = match Words::new(bytes) {
         Ok(words) => words,
@@ -80,7 +81,7 @@ impl<N: Naming + Ledger, R: Wait + Copy> SessionHub<'_, '_, N, R> {
     /// Refuses what the hub would refuse whatever the program is.
     fn check(&self, first: Option<u64>) -> Result<(), Reason>
         ensures { IfErr result (λ why. (profile : TheProfile) (capacity : ℕ) (bytes : List ℕ) → AreSafe profile bytes
-            → IsNotSubscribed profile capacity bytes first why) }
+            → IsNotSubscribed N.size profile capacity bytes first why) }
     {
         if self.hub.is_full(&self.rt) {
             return Err(Reason::SubscribersFull);
@@ -102,8 +103,8 @@ impl<N: Naming + Ledger, R: Wait + Copy> SessionHub<'_, '_, N, R> {
         first: Option<u64>,
     ) -> Result<usize, SubscribeError>
         requires none { sink.sent ≡ [] }
-        requires promise { sink.promise ≡ Some (record { program = token.value; first = first }) }
-        ensures { InOneHolding (λ old new. Subscribes old (first_of first old) token sink result new) }
+        requires promise { sink.promise ≡ Some (record { size = N.size; program = token.value; first = first }) }
+        ensures { InOneHolding N.size (λ old new. Subscribes old (first_of first old) token sink result new) }
     {
         match first {
             None => self.hub.subscribe(&self.rt, token, sink),
@@ -119,11 +120,11 @@ impl<N: Naming + Ledger, R: Wait + Copy> SessionHub<'_, '_, N, R> {
         first: Option<u64>,
     ) -> Result<usize, Reason>
         requires none { sink.sent ≡ [] }
-        requires promise { sink.promise ≡ Some (record { program = token.value; first = first }) }
-        ensures ok { IfOk result (λ id. InOneHolding
+        requires promise { sink.promise ≡ Some (record { size = N.size; program = token.value; first = first }) }
+        ensures ok { IfOk result (λ id. InOneHolding N.size
             (λ old new. Subscribes old (first_of first old) token sink (Ok id) new)) }
         ensures err { IfErr result (λ why. (profile : TheProfile) (capacity : ℕ) (bytes : List ℕ)
-            → AreSafe profile bytes → IsNotSubscribed profile capacity bytes first why) }
+            → AreSafe profile bytes → IsNotSubscribed N.size profile capacity bytes first why) }
     {
         match self.subscribed(token, sink, first) {
             Ok(id) => Ok(id),
@@ -147,9 +148,9 @@ impl<N: Naming + Ledger, R: Wait + Copy> SessionHub<'_, '_, N, R> {
         bytes: &[u8],
         first: Option<u64>,
     ) -> Result<usize, Reason>
-        ensures ok { IfOk result (λ id. Adds profile capacity bytes.now first left.old held.old.items
+        ensures ok { IfOk result (λ id. Adds N.size profile capacity bytes.now first left.old held.old.items
             (Reply.Subscribed id) left.new held.new.items) }
-        ensures err { IfErr result (λ why. Adds profile capacity bytes.now first left.old held.old.items
+        ensures err { IfErr result (λ why. Adds N.size profile capacity bytes.now first left.old held.old.items
             (Reply.Refused why) left.new held.new.items) }
     {
         let program = accepted(self.alloc, profile, bytes)?;
@@ -179,7 +180,7 @@ impl<N: Naming + Ledger, R: Wait + Copy> SessionHub<'_, '_, N, R> {
         bytes: &[u8],
         first: Option<u64>,
     ) -> Reply
-        ensures { Adds profile capacity bytes.now first left.old held.old.items result left.new held.new.items }
+        ensures { Adds N.size profile capacity bytes.now first left.old held.old.items result left.new held.new.items }
     {
         match self.add(held, left, profile, capacity, bytes, first) {
             Ok(id) => Reply::Subscribed(id),
@@ -189,7 +190,7 @@ impl<N: Naming + Ledger, R: Wait + Copy> SessionHub<'_, '_, N, R> {
 
     /// Closes a subscriber of the session.
     pub fn close(&self, held: &mut Vec<Held<N, R>>, id: usize) -> Reply
-        ensures { Closes held.old.items id result held.new.items }
+        ensures { Closes N.size held.old.items id result held.new.items }
     {
         let Some(index) = index_of(held.as_slice(), id) else {
             return Reply::Refused(Reason::NoSubscriber);

@@ -1,7 +1,9 @@
 ghost use Rattle.std.specs.Prelude.{◌≡◌};
+ghost use Rattle.change_ops.specs.declared.size.Size.TheVariants.{Small};
 
 use crate::lines::{QUEUE_OF_ONE, QUEUE_OF_ONE_REPLIES};
 use change_keeping::keeper::NoStore;
+use change_ops::size::Size;
 use hub_requests::limits::SessionOptions;
 use hub_sessions::conversation::{SessionFault, session};
 use ingest_workers::hub::Hub;
@@ -62,10 +64,10 @@ fn tried_on<N: Naming + Ledger + Send + Sync, R: Threads + Wait + Copy + Send + 
     reads: usize,
     writes: usize,
 ) -> Result<Outcome, Fail>
-    requires named { (versions.now ≡ N.versions) × (programs.now ≡ N.programs) }
+    requires named { (Small ≡ N.size) × (versions.now ≡ N.versions) × (programs.now ≡ N.programs) }
     requires blank { (blank.name ≡ N.name) × (blank.parts ≡ N.parts) × (N.parts ≡ 2) }
 {
-    let published = Published::<N>::new(versions, programs);
+    let published = Published::<N>::new(Size::Small, versions, programs);
     let (hub, mut shares) = Hub::new(rt, alloc, blank, &published, 2)?;
     let Some(mut one) = shares.pop() else {
         return Err(Fail::from("shares"));

@@ -1,7 +1,9 @@
 ghost use Rattle.std.specs.Prelude.{◌≡◌};
+ghost use Rattle.change_ops.specs.declared.size.Size.TheVariants.{Small};
 
 use crate::lines::{TWO_SUBSCRIBERS, TWO_SUBSCRIBERS_REPLIES};
 use change_keeping::keeper::NoStore;
+use change_ops::size::Size;
 use hub_requests::limits::SessionOptions;
 use hub_sessions::conversation::session;
 use ingest_workers::hub::Hub;
@@ -55,10 +57,10 @@ fn two_subscribed<N: Naming + Ledger + Send + Sync, R: Threads + Wait + Abort + 
     versions: &boxcar::Vec<BlockVersion>,
     programs: &boxcar::Vec<Verified>,
 ) -> Result<(), Fail>
-    requires named { (versions.now ≡ N.versions) × (programs.now ≡ N.programs) }
+    requires named { (Small ≡ N.size) × (versions.now ≡ N.versions) × (programs.now ≡ N.programs) }
     requires blank { (blank.name ≡ N.name) × (blank.parts ≡ N.parts) × (N.parts ≡ 1) }
 {
-    let published = Published::<N>::new(versions, programs);
+    let published = Published::<N>::new(Size::Small, versions, programs);
     let (hub, mut shares) = Hub::new(rt, alloc, blank, &published, 1)?;
     let mut writer = FlushNotes {
         bytes: Vec::new(alloc),

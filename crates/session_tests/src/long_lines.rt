@@ -1,3 +1,4 @@
+use change_ops::size::Size;
 use hub_requests::limits::SessionOptions;
 use hub_sessions::replaying::replay;
 use std::alloc::{AllocError, Global};
@@ -32,6 +33,7 @@ fn the_longest_program_comes_byte_by_byte(rt: HostRuntime) -> Result<(), Fail> {
     let ended = replay(
         &rt,
         rt.alloc(),
+        Size::Small,
         &mut reader,
         &mut out,
         2,
@@ -60,6 +62,7 @@ fn the_longest_links_are_one_change(rt: HostRuntime) -> Result<(), Fail> {
     let ended = replay(
         &rt,
         rt.alloc(),
+        Size::Small,
         lines.as_bytes(),
         &mut out,
         1,

@@ -1,4 +1,5 @@
 use crate::lines::{QUEUE_OF_ONE, QUEUE_OF_ONE_REPLIES};
+use change_ops::size::Size;
 use hub_requests::limits::SessionOptions;
 use hub_sessions::replaying::replay;
 use std::test::Fail;
@@ -9,6 +10,7 @@ fn a_session_is_replayed(rt: HostRuntime) -> Result<(), Fail> {
     let ended = replay(
         &rt,
         rt.alloc(),
+        Size::Small,
         QUEUE_OF_ONE.as_bytes(),
         &mut out,
         2,

@@ -4,7 +4,7 @@ use Rattle.std.specs.List.{filter, slice_get, slice_range, Contains}
 use Rattle.std.specs.Str.{IsCharBoundary, chars}
 use Rattle.std.proofs.lemmas.Bool.{cases_Bool, cases_lt}
 use Rattle.std.proofs.lemmas.Option.{none-some, slice_get-get_or}
-use Rattle.std.proofs.lemmas.List.{map-append, take_all, drop-drop, drop_at, take_at}
+use Rattle.std.proofs.lemmas.List.{map-append, take_all, take-append-drop, drop-drop, drop_at, take_at}
 use Rattle.std.proofs.lemmas.List.Sums.{length-filter}
 use Rattle.std.proofs.lemmas.List.Elements.{All-append, All-cons, All-contains, filter-append}
 use Rattle.std.proofs.lemmas.Str.{length-encode, len_utf8_bounds, length-le-encodes, chars_from_encodes, IsUtf8-drop, IsCharBoundary-from_take}
@@ -13,6 +13,7 @@ use Rattle.change_ops.specs.declared.operation.Op.{Op}
 use Rattle.char_sequence.specs.declared.sequence.Element.{Element}
 use Rattle.char_sequence.specs.Order.{Shows}
 use Rattle.char_sequence.specs.Visible.{visible_text, visible_count}
+use Rattle.char_sequence.proofs.VisibleText.{visible_none, visible_append, visible_front}
 use Rattle.mark_anchors.specs.Format.{IsFormat}
 use Rattle.mark_anchors.specs.Formatting.{Format}
 use Rattle.mark_anchors.specs.Marks.{AreMarks}
@@ -60,7 +61,7 @@ taken_none elements marks low = record {
   drawn = ap (filter is_visible) (sym (range_none elements low));
   formatted = λ ops h m. none (λ s. IsFormat ops s.id s.format);
   draft = record { spans = []; cut = refl; layout = record { whole = refl; end_to_end = refl }; texts = none (λ s. IsUtf8 s.text) };
-  short = omega arith;
+  spelt = sym (ap visible_text (range_none elements low) ∙ visible_none);
   few = omega arith;
 }
 
@@ -205,13 +206,14 @@ draft_counts shown text rows d =
     subst (λ r. All (λ row. row.characters ≤ length text) r) (sym d.layout.end_to_end)
     (subst (λ x. All (λ row. row.characters ≤ length x) (rows_from 0 d.spans)) (sym d.layout.whole) (counts_few 0 d.spans d.texts))
 
-range_short : (es : List Element) (from to : ℕ) → length (slice_range es from to) ≤ to - from
-range_short es from to = length_take_le (to - from) (drop from es)
-  where
-    length_take_le : (n : ℕ) (xs : List Element) → length (take n xs) ≤ n
-    length_take_le zero xs = omega arith
-    length_take_le (suc n) [] = omega arith
-    length_take_le (suc n) (x ∷ xs) = let rest : length (take n xs) ≤ n = length_take_le n xs in omega arith
+-- no range spells more bytes than the whole
+range_bytes : (es : List Element) (from to : ℕ) → length (visible_text (slice_range es from to)) ≤ length (visible_text es)
+range_bytes es from to =
+    let front = visible_front (drop from es) (to - from) in
+    let whole : length (visible_text es) ≡ length (visible_text (take from es)) + length (visible_text (drop from es)) =
+    ap (λ l. length (visible_text l)) (sym (take-append-drop from es)) ∙ ap length (visible_append (take from es) (drop from es)) ∙ length-append (visible_text (take from es)) (visible_text (drop from es))
+    in
+    omega (arith, front, whole)
 
 -- ---- one range more
 drawn_range : (es : List Element) (f : Format) (shown : List Shown) (low from to : ℕ) → low ≤ from → from ≤ to → AreDrawn (slice_range es low from) shown → AreDrawn (slice_range es low to) (shown ++ more_of f (slice_range es from to))
@@ -222,6 +224,13 @@ drawn_range es f shown low from to first le drawn =
     ∙ sym (filter-append is_visible (slice_range es low from) (slice_range es from to))
     ∙ ap (filter is_visible) (sym (range_on es low from to first le))
 
+-- the text of a range, and of the one that begins where it ends
+spelt_on : (es : List Element) (low from to : ℕ) (text text' : List ℕ) → low ≤ from → from ≤ to → text ≡ visible_text (slice_range es low from) → text' ≡ text ++ visible_text (slice_range es from to) → text' ≡ visible_text (slice_range es low to)
+spelt_on es low from to text text' first order spelt grown =
+    grown ∙ ap (λ l. l ++ visible_text (slice_range es from to)) spelt
+    ∙ sym (visible_append (slice_range es low from) (slice_range es from to))
+    ∙ ap visible_text (sym (range_on es low from to first order))
+
 -- where the text didn't grow there is nothing to see
 pub taken_empty : (es : List Element) (marks : List Op) (low from to : ℕ) (text text' : List ℕ) (rows : List Row) → from ≤ to → text' ≡ text ++ visible_text (slice_range es from to) → length text ≡ length text' → IsTaken es marks low from text rows → IsTaken es marks low to text' rows
 taken_empty es marks low from to text text' rows order grown same t =
@@ -229,8 +238,7 @@ taken_empty es marks low from to text text' rows order grown same t =
     let hidden : filter is_visible (slice_range es from to) ≡ [] = empty_more (slice_range es from to) none_shown in
     let kept : text' ≡ text = grown ∙ ap (λ l. text ++ l) (nil_bytes (visible_text (slice_range es from to)) none_shown) ∙ append-nil text in
     let first : low ≤ from = t.order in
-    let short : length text ≤ 4 * (from - low) = t.short in
-    let few : length rows ≤ from - low = t.few in
+    let few : length rows ≤ length text = t.few in
     record {
       order = omega arith;
       shown = t.shown;
@@ -239,8 +247,8 @@ taken_empty es marks low from to text text' rows order grown same t =
           ∙ sym (filter-append is_visible (slice_range es low from) (slice_range es from to)) ∙ ap (filter is_visible) (sym (range_on es low from to first order));
       formatted = t.formatted;
       draft = subst (λ l. IsDraft t.shown l rows) (sym kept) t.draft;
-      short = omega (arith, ap length kept);
-      few = omega arith;
+      spelt = spelt_on es low from to text text' first order t.spelt grown;
+      few = omega (arith, few, same);
     }
   where
     nil_bytes : (xs : List ℕ) → length xs ≡ 0 → xs ≡ []
@@ -276,13 +284,14 @@ module _ (es : List Element) (marks : List Op) (r : FormattedRange) (text text' 
       some_of [] not = absurd (not refl)
       some_of (x ∷ xs) not = omega arith
 
-  pub taken_more : (rows' : List Row) → IsDraft (t.shown ++ more_of r.format (slice_range es r.from r.to)) text' rows' → length rows' ≤ length rows + 1 → IsTaken es marks low r.to text' rows'
-  taken_more rows' draft count =
+  pub taken_more : (length text ≡ length text' → ⊥) → (rows' : List Row) → IsDraft (t.shown ++ more_of r.format (slice_range es r.from r.to)) text' rows' → length rows' ≤ length rows + 1 → IsTaken es marks low r.to text' rows'
+  taken_more grew rows' draft count =
       let first : low ≤ r.from = t.order in
-      let short : length text ≤ 4 * (r.from - low) = t.short in
-      let few : length rows ≤ r.from - low = t.few in
-      let bytes : length (visible_text (slice_range es r.from r.to)) ≤ 4 * length (slice_range es r.from r.to) = visible_short (slice_range es r.from r.to) in
-      let size : length (slice_range es r.from r.to) ≤ r.to - r.from = range_short es r.from r.to in
+      let few : length rows ≤ length text = t.few in
+      let size = ap length grown ∙ length-append text (visible_text (slice_range es r.from r.to)) in
+      let more : length text < length text' =
+      ⊎_elim (λ (less : length text < length text'). less) (λ (ge : length text' ≤ length text). absurd (grew (omega (arith, size, ge)))) (cases_lt (length text) (length text'))
+      in
       record {
         order = omega arith;
         shown = t.shown ++ more_of r.format (slice_range es r.from r.to);
@@ -296,21 +305,23 @@ module _ (es : List Element) (marks : List Op) (r : FormattedRange) (text text' 
             let k = in_range es r.from r.to at.0 x at.1 in
             of ops k.0 x h m k.1 k.2 k.3));
         draft = draft;
-        short = omega (arith, ap length grown, length-append text (visible_text (slice_range es r.from r.to)));
-        few = omega arith;
+        spelt = spelt_on es low r.from r.to text text' first (omega arith) t.spelt grown;
+        few = omega (arith, few, more, count);
       }
 
 -- ---- the whole
-pub taken_whole : (elements : List Element) (marks : List Op) (low place : ℕ) (text : List ℕ) (rows : List Row) → place ≤ 32768 → IsTaken elements marks low place text rows → IsWhole text rows
+pub taken_whole : (elements : List Element) (marks : List Op) (low place : ℕ) (text : List ℕ) (rows : List Row) → length (visible_text elements) ≤ 131072 → IsTaken elements marks low place text rows → IsWhole text rows
 taken_whole elements marks low place text rows limit t =
     let d = t.draft in
-    let short : length text ≤ 4 * (place - low) = t.short in
-    let few : length rows ≤ place - low = t.few in
+    let spelt = ap length t.spelt in
+    let part = range_bytes elements low place in
+    let short : length text ≤ 131072 = omega (arith, spelt, part, limit) in
+    let few : length rows ≤ length text = t.few in
     record {
       layout = layout_back d.spans text rows d.layout;
       limits = record {
-        short = omega arith;
-        few = omega arith;
+        short = short;
+        few = omega (arith, short, few);
         ordered = subst (λ r. All (λ row. row.start ≤ row.end) r) (sym d.layout.end_to_end) (rows_ordered 0 d.spans);
         starts =
             subst (λ r. All (λ row. IsCharBoundary text row.start) r) (sym d.layout.end_to_end)

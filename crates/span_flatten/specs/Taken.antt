@@ -1,10 +1,11 @@
 -- What of a text is laid out already.
-use Rattle.std.specs.Prelude.{◌≡◌, ◌<◌, ◌≤◌, ◌-◌, ◌*◌, ℕ, Bool, true, List, length, map}
+use Rattle.std.specs.Prelude.{◌≡◌, ◌<◌, ◌≤◌, ◌-◌, ℕ, Bool, true, List, length, map}
 use Rattle.std.specs.Prelude.{slice_index_or, slice_range, All}
 use Rattle.std.specs.List.{filter}
 use Rattle.change_ops.specs.declared.operation.Op.{Op}
 use Rattle.char_sequence.specs.declared.sequence.Element.{Element}
 use Rattle.char_sequence.specs.Order.{Shows}
+use Rattle.char_sequence.specs.Visible.{visible_text}
 use Rattle.mark_anchors.specs.Format.{IsFormat}
 use Rattle.mark_anchors.specs.Marks.{AreMarks}
 use Rattle.mark_anchors.specs.Ranges.{IsFormatAt}
@@ -23,7 +24,7 @@ is_visible e = e.visible
 abbrev pub AreDrawn : List Element → List Shown → Type 0
 AreDrawn es shown = map element_of shown ≡ filter is_visible es
 
--- what of the elements from place `low` up to this one is visible is laid out
+-- what of the elements from place `low` up to this one is visible is laid out, in no more rows than bytes
 pub record IsTaken (elements : List Element) (marks : List Op) (low place : ℕ) (text : List ℕ)
     (rows : List Row) : Type 0 where
   pub order : low ≤ place
@@ -32,8 +33,8 @@ pub record IsTaken (elements : List Element) (marks : List Op) (low place : ℕ)
   pub formatted : (ops : List Op) → Shows elements ops → AreMarks ops marks
       → All (λ s. IsFormat ops s.id s.format) shown
   pub draft : IsDraft shown text rows
-  pub short : length text ≤ 4 * (place - low)
-  pub few : length rows ≤ place - low
+  pub spelt : text ≡ visible_text (slice_range elements low place)
+  pub few : length rows ≤ length text
 
 -- the last row has the format of the character at the place
 abbrev pub IsLastFormat : List Element → List Op → ℕ → List Row → Type 0

@@ -44,7 +44,7 @@ pub record IsLayout (spans : List Span) (text : List ℕ) (rows : List Row) : Ty
 -- the limits of a version, and that a row may be cut out of the text
 pub record IsWithinLimits (text : List ℕ) (rows : List Row) : Type 0 where
   pub short : length text ≤ 131072
-  pub few : length rows ≤ 32768
+  pub few : length rows ≤ 131072
   pub ordered : All (λ row. row.start ≤ row.end) rows
   pub starts : All (λ row. IsCharBoundary text row.start) rows
   pub ends : All (λ row. IsCharBoundary text row.end) rows

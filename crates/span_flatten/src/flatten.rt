@@ -150,7 +150,7 @@ pub fn flatten_window(
     let mut text = String::new(alloc);
     let mut rows = Vec::new(alloc);
     let mut cursor = sequence.visible_from(low);
-    // Its contract bounds the characters, and so the spans, which the proof needs.
+    // Its contract bounds the visible text, and so the spans, which the proof needs.
     let _count = sequence.len();
     let mut sweep = resolved.sweep_from(low);
     let mut from = low;

@@ -36,4 +36,4 @@ views version = map (λ indexed. view_of version indexed.0 indexed.1) (enumerate
 pub record IsWithinLimits (length_of_text index count : ℕ) : Type 0 where
   pub short : length_of_text ≤ 131072
   pub within : index < count
-  pub few : count ≤ 32768
+  pub few : count ≤ 131072

@@ -5,8 +5,10 @@ use Rattle.std.proofs.lemmas.List.{map-append}
 use Rattle.std.proofs.lemmas.Option.{none-some}
 use Rattle.std.proofs.Math.Seq.{take-length}
 use Rattle.change_ops.specs.Changes.{Change, IsChange}
+use Rattle.change_ops.specs.declared.size.Size.{Size}
 use Rattle.change_ops.specs.Spelling.{change_text}
 use Rattle.change_history.specs.Accepted.{IsAccepted}
+use Rattle.change_history.specs.Chronicle.{Chronicle}
 use Rattle.change_history.proofs.Chronicle.{take_push, accepted_more}
 use Rattle.stored_history.specs.declared.error.OpenError.{OpenError}
 use Rattle.stored_history.specs.declared.error.OpenError.TheVariants.{LogFailed, Damaged, OutOfMemory}
@@ -16,50 +18,56 @@ all_more : (P : Change → Type 0) (changes : List Change) (change : Change) →
 all_more P [] change all one = (one, tt)
 all_more P (first ∷ changes) change all one = (all.0, all_more P changes change all.1 one)
 
-of_none : AreTextsOf [] []
-of_none = record { spelled = search rules; valid = tt; accepted = λ n change here. absurd (none-some change here) }
+module _ (size : Size) where
+  of_none : AreTextsOf size [] []
+  of_none = record { spelled = search rules; valid = tt; accepted = λ n change here. absurd (none-some change here) }
 
-pub read_none : (texts : List (List ℕ)) (changes : List Change) → changes ≡ [] → AreTextsOf (take 0 texts) changes
-read_none texts changes none = subst (λ (cs : List Change). AreTextsOf [] cs) (sym none) of_none
+  pub read_none : (texts : List (List ℕ)) (changes : List Change) → changes ≡ [] → AreTextsOf size (take 0 texts) changes
+  read_none texts changes none = subst (λ (cs : List Change). AreTextsOf size [] cs) (sym none) of_none
 
-pub read_more : (texts : List (List ℕ)) (changes : List Change) (index : ℕ) (text : List ℕ) (change : Change) → AreTextsOf (take index texts) changes → slice_get texts index ≡ Some text → IsTextOf text change → IsAccepted changes change
-    → AreTextsOf (take (index + 1) texts) (changes ++ change ∷ [])
-read_more texts changes index text change read here spelled accepted = record {
-  spelled = take_push texts index text here ∙ ap (λ ts. ts ++ text ∷ []) read.spelled ∙ ap (λ t. map change_text changes ++ t ∷ []) spelled.1
-      ∙ sym (map-append change_text changes (change ∷ []));
-  valid = all_more IsChange changes change read.valid spelled.0;
-  accepted = accepted_more changes change read.accepted accepted;
-}
+  pub read_more : (texts : List (List ℕ)) (changes : List Change) (index : ℕ) (text : List ℕ) (change : Change) → AreTextsOf size (take index texts) changes → slice_get texts index ≡ Some text → IsTextOf text change → IsAccepted size changes change
+      → AreTextsOf size (take (index + 1) texts) (changes ++ change ∷ [])
+  read_more texts changes index text change read here spelled accepted = record {
+    spelled = take_push texts index text here ∙ ap (λ ts. ts ++ text ∷ []) read.spelled ∙ ap (λ t. map change_text changes ++ t ∷ []) spelled.1
+        ∙ sym (map-append change_text changes (change ∷ []));
+    valid = all_more IsChange changes change read.valid spelled.0;
+    accepted = accepted_more {size = size} changes change read.accepted accepted;
+  }
 
--- the same, where the history has the changes
-pub read_next : (texts : List (List ℕ)) (changes grown old new : List Change) (index : ℕ) (text : List ℕ) (change : Change) → AreTextsOf (take index texts) changes → slice_get texts index ≡ Some text → old ≡ changes
-    → FollowsBy text change old new → grown ≡ changes ++ change ∷ [] → AreTextsOf (take (index + 1) texts) grown × (new ≡ grown)
-read_next texts changes grown old new index text change read here same follows is = (
-  subst (λ (cs : List Change). AreTextsOf (take (index + 1) texts) cs) (sym is)
-      (read_more texts changes index text change read here follows.spelled (subst (λ (cs : List Change). IsAccepted cs change) same follows.accepted)),
-  follows.grown ∙ ap (λ cs. cs ++ change ∷ []) same ∙ sym is,
-)
+  -- the same, where the history has the changes
+  pub read_next : (texts : List (List ℕ)) (changes grown : List Change) (old new : Chronicle) (index : ℕ) (text : List ℕ) (change : Change) → AreTextsOf size (take index texts) changes → slice_get texts index ≡ Some text
+      → old ≡ record { size = size; changes = changes } → FollowsBy old.size text change old.changes new.changes → new.size ≡ old.size → grown ≡ changes ++ change ∷ []
+      → AreTextsOf size (take (index + 1) texts) grown × (new ≡ record { size = size; changes = grown })
+  read_next texts changes grown old new index text change read here same follows kept is =
+      let behind : FollowsBy size text change changes new.changes = subst (λ (h : Chronicle). FollowsBy h.size text change h.changes new.changes) same follows in
+      let sized : new.size ≡ size = kept ∙ ap (λ (h : Chronicle). h.size) same in
+      let whole : new.changes ≡ grown = behind.grown ∙ sym is in (
+        subst (λ (cs : List Change). AreTextsOf size (take (index + 1) texts) cs) (sym is) (read_more texts changes index text change read here behind.spelled behind.accepted),
+        λ i. record { size = sized i; changes = whole i },
+      )
 
-pub first_fault : (texts : List (List ℕ)) (changes old : List Change) (index : ℕ) (text : List ℕ) → AreTextsOf (take index texts) changes → length changes ≡ index → slice_get texts index ≡ Some text → old ≡ changes
-    → IsAtFault old text → IsFirstAtFault texts (index + 1)
-first_fault texts changes old index text read count here same fault = record {
-  before = changes;
-  text = text;
-  spelled = subst (λ (n : ℕ). AreTextsOf (take n texts) changes) (sym count) read;
-  here = subst (λ (n : ℕ). slice_get texts n ≡ Some text) (sym count) here;
-  fault = subst (λ (cs : List Change). IsAtFault cs text) same fault;
-  numbered = ap (λ n. n + 1) (sym count);
-}
+  pub first_fault : (texts : List (List ℕ)) (changes : List Change) (index : ℕ) (text : List ℕ) → AreTextsOf size (take index texts) changes → length changes ≡ index → slice_get texts index ≡ Some text
+      → IsAtFault size changes text → IsFirstAtFault size texts (index + 1)
+  first_fault texts changes index text read count here fault = record {
+    before = changes;
+    text = text;
+    spelled = subst (λ (n : ℕ). AreTextsOf size (take n texts) changes) (sym count) read;
+    here = subst (λ (n : ℕ). slice_get texts n ≡ Some text) (sym count) here;
+    fault = fault;
+    numbered = ap (λ n. n + 1) (sym count);
+  }
 
-pub read_all : (texts : List (List ℕ)) (changes : List Change) (index : ℕ) → index ≡ length texts → AreTextsOf (take index texts) changes → AreTextsOf texts changes
-read_all texts changes index whole read = subst (λ (ts : List (List ℕ)). AreTextsOf ts changes) (ap (λ n. take n texts) whole ∙ take-length texts) read
+  pub read_all : (texts : List (List ℕ)) (changes : List Change) (index : ℕ) → index ≡ length texts → AreTextsOf size (take index texts) changes → AreTextsOf size texts changes
+  read_all texts changes index whole read = subst (λ (ts : List (List ℕ)). AreTextsOf size ts changes) (ap (λ n. take n texts) whole ∙ take-length texts) read
 
--- the first text that isn't accepted is the first at fault
-pub not_read : {R : Type 0} (r : Result R OpenError) (P : R → Type 0) (texts : List (List ℕ)) (changes old : List Change) (index : ℕ) (text : List ℕ) (error : OpenError) → IsErrAnd r (λ e. e ≡ error) → AreTextsOf (take index texts) changes
-    → length changes ≡ index → slice_get texts index ≡ Some text → old ≡ changes → IsFaultOf old text (index + 1) error → MatchResult r P (IsNotRead texts)
-not_read (Ok x) P texts changes old index text error is read count here same why = absurd is
-not_read (Err e) P texts changes old index text LogFailed is read count here same why = absurd why
-not_read (Err e) P texts changes old index text (Damaged at) is read count here same why =
-    subst (λ (x : OpenError). IsNotRead texts x) (sym is)
-    (subst (λ (n : ℕ). IsFirstAtFault texts n) (sym why.0) (first_fault texts changes old index text read count here same why.1))
-not_read (Err e) P texts changes old index text OutOfMemory is read count here same why = subst (λ (x : OpenError). IsNotRead texts x) (sym is) tt
+  -- the first text that isn't accepted is the first at fault
+  pub not_read : {R : Type 0} (r : Result R OpenError) (P : R → Type 0) (texts : List (List ℕ)) (changes : List Change) (old : Chronicle) (index : ℕ) (text : List ℕ) (error : OpenError) → IsErrAnd r (λ e. e ≡ error)
+      → AreTextsOf size (take index texts) changes → length changes ≡ index → slice_get texts index ≡ Some text → old ≡ record { size = size; changes = changes }
+      → IsFaultOf old.size old.changes text (index + 1) error → MatchResult r P (IsNotRead size texts)
+  not_read (Ok x) P texts changes old index text error is read count here same why = absurd is
+  not_read (Err e) P texts changes old index text LogFailed is read count here same why = absurd why
+  not_read (Err e) P texts changes old index text (Damaged at) is read count here same why =
+      let fault : IsAtFault size changes text = subst (λ (h : Chronicle). IsAtFault h.size h.changes text) same why.1 in
+      subst (λ (x : OpenError). IsNotRead size texts x) (sym is)
+      (subst (λ (n : ℕ). IsFirstAtFault size texts n) (sym why.0) (first_fault texts changes index text read count here fault))
+  not_read (Err e) P texts changes old index text OutOfMemory is read count here same why = subst (λ (x : OpenError). IsNotRead size texts x) (sym is) tt

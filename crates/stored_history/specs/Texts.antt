@@ -2,6 +2,7 @@
 use Rattle.std.specs.Prelude.{◌≡◌, ℕ, ◌+◌, List, [], ◌∷◌, ◌++◌, length, map, take, slice_get, Some}
 use Rattle.std.specs.List.{AllByRecursion}
 use Rattle.change_ops.specs.Changes.{Change, IsChange}
+use Rattle.change_ops.specs.declared.size.Size.{Size}
 use Rattle.change_ops.specs.Spelling.{change_text}
 use Rattle.change_history.specs.Accepted.{IsAccepted, AreAccepted}
 use Rattle.change_history.specs.declared.refusal.SubmitError.{SubmitError}
@@ -18,29 +19,29 @@ IsTextOf text change = IsChange change × (text ≡ change_text change)
 abbrev pub IsOnlyTextOf : List ℕ → Change → Type 0
 IsOnlyTextOf text change = IsTextOf text change × ((other : Change) → IsTextOf text other → other ≡ change)
 
--- these texts are those of the changes, of which each is accepted after those before it
-pub record AreTextsOf (texts : List (List ℕ)) (changes : List Change) : Type 0 where
+-- these texts are those of the changes, of which each is accepted, at this size, after those before it
+pub record AreTextsOf (size : Size) (texts : List (List ℕ)) (changes : List Change) : Type 0 where
   pub spelled : texts ≡ map change_text changes
   pub valid : AllByRecursion IsChange changes
-  pub accepted : AreAccepted changes
+  pub accepted : AreAccepted size changes
 
 -- the text's change is accepted after these, and they are then these
-pub record FollowsBy (text : List ℕ) (change : Change) (old new : List Change) : Type 0 where
+pub record FollowsBy (size : Size) (text : List ℕ) (change : Change) (old new : List Change) : Type 0 where
   pub spelled : IsTextOf text change
-  pub accepted : IsAccepted old change
+  pub accepted : IsAccepted size old change
   pub grown : new ≡ old ++ change ∷ []
 
 -- the text is not that of a change that is accepted after these
-abbrev pub IsAtFault : List Change → List ℕ → Type 0
-IsAtFault before text = (change : Change) → IsTextOf text change → IsAccepted before change → ⊥
+abbrev pub IsAtFault : Size → List Change → List ℕ → Type 0
+IsAtFault size before text = (change : Change) → IsTextOf text change → IsAccepted size before change → ⊥
 
 -- the first text at fault has this number, counted from 1
-pub record IsFirstAtFault (texts : List (List ℕ)) (number : ℕ) : Type 0 where
+pub record IsFirstAtFault (size : Size) (texts : List (List ℕ)) (number : ℕ) : Type 0 where
   pub before : List Change
   pub text : List ℕ
-  pub spelled : AreTextsOf (take (length before) texts) before
+  pub spelled : AreTextsOf size (take (length before) texts) before
   pub here : slice_get texts (length before) ≡ Some text
-  pub fault : IsAtFault before text
+  pub fault : IsAtFault size before text
   pub numbered : number ≡ length before + 1
 
 -- why a text of this number isn't read: it is of no change; want of memory is no fault of it
@@ -50,16 +51,16 @@ IsNoText text number (Damaged at) = (at ≡ number) × ((change : Change) → Is
 IsNoText text number OutOfMemory = Unit {0}
 
 -- why a text of this number isn't accepted after these
-abbrev pub IsFaultOf : List Change → List ℕ → ℕ → OpenError → Type 0
-IsFaultOf before text number LogFailed = ⊥
-IsFaultOf before text number (Damaged at) = (at ≡ number) × IsAtFault before text
-IsFaultOf before text number OutOfMemory = Unit {0}
+abbrev pub IsFaultOf : Size → List Change → List ℕ → ℕ → OpenError → Type 0
+IsFaultOf size before text number LogFailed = ⊥
+IsFaultOf size before text number (Damaged at) = (at ≡ number) × IsAtFault size before text
+IsFaultOf size before text number OutOfMemory = Unit {0}
 
 -- why texts are not accepted, one after another
-abbrev pub IsNotRead : List (List ℕ) → OpenError → Type 0
-IsNotRead texts LogFailed = ⊥
-IsNotRead texts (Damaged number) = IsFirstAtFault texts number
-IsNotRead texts OutOfMemory = Unit {0}
+abbrev pub IsNotRead : Size → List (List ℕ) → OpenError → Type 0
+IsNotRead size texts LogFailed = ⊥
+IsNotRead size texts (Damaged number) = IsFirstAtFault size texts number
+IsNotRead size texts OutOfMemory = Unit {0}
 
 -- the error of a text whose change is refused
 abbrev pub text_error : ℕ → SubmitError → OpenError
@@ -68,11 +69,11 @@ text_error number (Refused index refusal) = Damaged number
 text_error number submit.OutOfMemory = OutOfMemory
 
 -- why a log isn't opened: where a text is at fault, it is the first at fault of texts that the log keeps
-abbrev pub IsNotOpened : {L : Type 0} → (L → List (List ℕ) → Type 0) → L → OpenError → Type 0
-IsNotOpened kept log LogFailed = Unit {0}
-IsNotOpened kept log (Damaged number) =
-    (texts : List (List ℕ)) × kept log texts × IsFirstAtFault texts number
-IsNotOpened kept log OutOfMemory = Unit {0}
+abbrev pub IsNotOpened : {L : Type 0} → Size → (L → List (List ℕ) → Type 0) → L → OpenError → Type 0
+IsNotOpened size kept log LogFailed = Unit {0}
+IsNotOpened size kept log (Damaged number) =
+    (texts : List (List ℕ)) × kept log texts × IsFirstAtFault size texts number
+IsNotOpened size kept log OutOfMemory = Unit {0}
 
 -- and the log then keeps these texts
 abbrev pub StillKeeps : {L : Type 0} → (L → List (List ℕ) → Type 0) → L → List (List ℕ) → OpenError → Type 0

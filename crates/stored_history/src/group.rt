@@ -5,7 +5,7 @@ ghost use Rattle.stored_history.specs.Answers.{IsAnswered, AreAnswered};
 
 use crate::answer::{Accepted, Answer};
 use crate::text::write_next;
-use change_history::history::{CHANGE_LIMIT, History};
+use change_history::history::History;
 use change_history::refusal::SubmitError;
 use change_log::text::ChangeText;
 use change_ops::change::Change;
@@ -26,11 +26,12 @@ fn accept_one(
     texts: &mut Vec<ChangeText>,
     change: Change,
 ) -> Answer
-    ensures answered { IsAnswered history.old change result history.new }
-    ensures texts { (before : List (List ℕ)) → before ++ texts.old.items ≡ map change_text history.old
-        → before ++ texts.new.items ≡ map change_text history.new }
+    ensures answered { IsAnswered history.old.size history.old.changes change result history.new.changes }
+    ensures size { history.new.size ≡ history.old.size }
+    ensures texts { (before : List (List ℕ)) → before ++ texts.old.items ≡ map change_text history.old.changes
+        → before ++ texts.new.items ≡ map change_text history.new.changes }
 {
-    if history.len() >= CHANGE_LIMIT {
+    if history.len() >= history.size().changes() {
         return Err(SubmitError::HistoryFull);
     }
     let Ok(written) = write_next(alloc, texts, &change) else {
@@ -52,9 +53,10 @@ pub(crate) fn accept_all(
     changes: Vec<Change>,
 ) -> Result<Group, AllocError>
     ensures answered { IfOk result (λ group.
-        AreAnswered history.old changes.items group.answers.items history.new) }
+        AreAnswered history.old.size history.old.changes changes.items group.answers.items history.new.changes) }
+    ensures size { history.new.size ≡ history.old.size }
     ensures texts { IfOk result (λ group.
-        map change_text history.old ++ group.texts.items ≡ map change_text history.new) }
+        map change_text history.old.changes ++ group.texts.items ≡ map change_text history.new.changes) }
     ensures err { OnErr result (history.new ≡ history.old) }
 {
     let mut answers = Vec::with_capacity(alloc, changes.len())?;

@@ -13,6 +13,7 @@ use change_history::history::History;
 use change_log::log::{ChangeLog, LogError};
 use change_log::text::ChangeText;
 use change_ops::change::Change;
+use change_ops::size::Size;
 use std::alloc::Global;
 use std::marker::Model;
 
@@ -33,9 +34,14 @@ impl<L: ChangeLog> Model for StoredHistory<L> {
 
     ghost Value = { Stored L };
 
-    ghost view = { λ s. record { changes = s.history; log = s.log; is_failed = s.is_failed } };
+    ghost view = { λ s. record {
+      size = s.history.size;
+      changes = s.history.changes;
+      log = s.log;
+      is_failed = s.is_failed;
+    } };
 
-    ghost invariant = { λ s. s.is_failed ≡ false → L.kept s.log (map change_text s.history) };
+    ghost invariant = { λ s. s.is_failed ≡ false → L.kept s.log (map change_text s.history.changes) };
 }
 
 /// A history whose log was opened, and its changes, for whoever is to be told of them.
@@ -65,20 +71,21 @@ fn append_some<L: ChangeLog>(log: &mut L, texts: &[ChangeText]) -> Result<(), Lo
 }
 
 impl<L: ChangeLog> StoredHistory<L> {
-    /// Accepts the changes whose texts a log keeps, in order.
-    pub fn open(alloc: Global, log: L) -> Result<Opened<L>, NotOpened<L>>
+    /// Accepts the changes whose texts a log keeps, in order, at a size.
+    pub fn open(alloc: Global, size: Size, log: L) -> Result<Opened<L>, NotOpened<L>>
         requires { (texts : List (List ℕ)) × L.kept log texts }
         ensures kept { IfOk result (λ opened. L.kept opened.stored.log (map change_text opened.changes.items)) }
-        ensures accepted { IfOk result (λ opened. AreAccepted opened.changes.items
+        ensures accepted { IfOk result (λ opened. AreAccepted size opened.changes.items
             × (opened.stored.changes ≡ opened.changes.items) × (opened.stored.is_failed ≡ false)) }
+        ensures size { IfOk result (λ opened. opened.stored.size ≡ size) }
         ensures same { (texts : List (List ℕ)) → L.kept log texts
             → IfOk result (λ opened. L.kept opened.stored.log texts) }
         ensures same_err { (texts : List (List ℕ)) → L.kept log texts
             → IfErr result (λ refused. StillKeeps L.kept refused.log texts refused.error) }
-        ensures err { IfErr result (λ refused. IsNotOpened L.kept refused.log refused.error) }
+        ensures err { IfErr result (λ refused. IsNotOpened size L.kept refused.log refused.error) }
     {
         let mut log = log;
-        match read_again(alloc, &mut log) {
+        match read_again(alloc, size, &mut log) {
             Ok(reading) => {
                 let stored = StoredHistory {
                     history: reading.history,
@@ -100,7 +107,8 @@ impl<L: ChangeLog> StoredHistory<L> {
     /// answered, now or later.
     pub fn accept(&mut self, changes: Vec<Change>) -> Result<Vec<Answer>, AcceptError>
         ensures answered { IfOk result (λ answers.
-            AreAnswered self.old.changes changes.items answers.items self.new.changes) }
+            AreAnswered self.old.size self.old.changes changes.items answers.items self.new.changes) }
+        ensures size { self.new.size ≡ self.old.size }
         ensures kept { OnOk result (L.kept self.new.log (map change_text self.new.changes)) }
         ensures works { OnOk result (self.new.is_failed ≡ false) }
         ensures untouched { self.new.changes ≡ self.old.changes → self.new.log ≡ self.old.log }
@@ -121,10 +129,17 @@ impl<L: ChangeLog> StoredHistory<L> {
         Ok(group.answers)
     }
 
+    /// How much it may hold, which stays as it was when the log was opened.
+    pub fn size(&self) -> Size
+        ensures { result ≡ self.now.size }
+    {
+        self.history.size()
+    }
+
     /// How many changes were accepted: as many as are kept, unless the log has failed.
     pub fn count(&self) -> usize
         ensures value { result ≡ length self.now.changes }
-        ensures accepted { AreAccepted self.now.changes }
+        ensures accepted { AreAccepted self.now.size self.now.changes }
         ensures kept { self.now.is_failed ≡ false → L.kept self.now.log (map change_text self.now.changes) }
     {
         self.history.len()

@@ -10,6 +10,7 @@ use change_history::history::History;
 use change_log::log::{ChangeLog, LogError};
 use change_log::text::ChangeText;
 use change_ops::change::Change;
+use change_ops::size::Size;
 use std::alloc::Global;
 
 /// A history of changes, and the changes themselves.
@@ -26,8 +27,9 @@ fn accept_text(
     number: usize,
     text: &str,
 ) -> Result<Change, OpenError>
-    ensures { MatchResult result (λ change. FollowsBy text.now change history.old history.new)
-        (IsFaultOf history.old text.now number) }
+    ensures accepted { MatchResult result (λ change. FollowsBy history.old.size text.now change history.old.changes history.new.changes)
+        (IsFaultOf history.old.size history.old.changes text.now number) }
+    ensures size { history.new.size ≡ history.old.size }
 {
     let change = change_of(alloc, number, text)?;
     let Ok(copy) = copy_of(alloc, text) else {
@@ -40,12 +42,13 @@ fn accept_text(
 }
 
 /// Accepts the changes that texts are of, in order.
-fn accept_texts(alloc: Global, texts: &[ChangeText]) -> Result<Reading, OpenError>
+fn accept_texts(alloc: Global, size: Size, texts: &[ChangeText]) -> Result<Reading, OpenError>
     ensures { MatchResult result
-        (λ reading. AreTextsOf texts.now reading.changes.items × (reading.history ≡ reading.changes.items))
-        (IsNotRead texts.now) }
+        (λ reading. AreTextsOf size texts.now reading.changes.items
+        × (reading.history ≡ record { size = size; changes = reading.changes.items }))
+        (IsNotRead size texts.now) }
 {
-    let mut history = History::new(alloc);
+    let mut history = History::new(alloc, size);
     let Ok(mut changes) = Vec::with_capacity(alloc, texts.len()) else {
         return Err(OpenError::OutOfMemory);
     };
@@ -57,18 +60,22 @@ fn accept_texts(alloc: Global, texts: &[ChangeText]) -> Result<Reading, OpenErro
 }
 
 /// Accepts the changes whose texts a log keeps, in order.
-pub(crate) fn read_again<L: ChangeLog>(alloc: Global, log: &mut L) -> Result<Reading, OpenError>
+pub(crate) fn read_again<L: ChangeLog>(
+    alloc: Global,
+    size: Size,
+    log: &mut L,
+) -> Result<Reading, OpenError>
     requires { (texts : List (List ℕ)) × L.kept log.old texts }
-    ensures history { IfOk result (λ reading. L.kept log.new (map change_text reading.history)) }
+    ensures history { IfOk result (λ reading. L.kept log.new (map change_text reading.history.changes)) }
     ensures changes { IfOk result (λ reading. L.kept log.new (map change_text reading.changes.items)) }
-    ensures accepted { IfOk result (λ reading. AreAccepted reading.changes.items
-        × (reading.history ≡ reading.changes.items)) }
+    ensures accepted { IfOk result (λ reading. AreAccepted size reading.changes.items
+        × (reading.history ≡ record { size = size; changes = reading.changes.items })) }
     ensures same { (before : List (List ℕ)) → L.kept log.old before
         → MatchResult result (λ _. L.kept log.new before) (StillKeeps L.kept log.new before) }
-    ensures err { IfErr result (IsNotOpened L.kept log.new) }
+    ensures err { IfErr result (IsNotOpened size L.kept log.new) }
 {
     match log.all(alloc) {
-        Ok(texts) => accept_texts(alloc, &texts),
+        Ok(texts) => accept_texts(alloc, size, &texts),
         Err(LogError::Failed) => Err(OpenError::LogFailed),
         Err(LogError::OutOfMemory) => Err(OpenError::OutOfMemory),
     }

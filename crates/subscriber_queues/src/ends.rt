@@ -241,8 +241,8 @@ pub fn queue<N: Naming, R: Wait + Copy>(
     sized::<N, R, Brand>(rt, alloc, capacity)
 }
 
-/// The two ends of a new queue, as of [`queue`], with a promise: all that is sent begins the stream of this program,
-/// from this version on or, where none is named, from some version on.
+/// The two ends of a new queue, as of [`queue`], with a promise: all that is sent begins the stream of this program
+/// over changes that are accepted at the hub's size, from this version on or, where none is named, from some version on.
 pub fn queue_for<N: Naming, R: Wait + Copy>(
     rt: R,
     alloc: Global,
@@ -251,11 +251,11 @@ pub fn queue_for<N: Naming, R: Wait + Copy>(
     first: Option<u64>,
 ) -> Result<(QueueSink<N, R>, Subscription<N, R>), QueueError>
     ensures sink { IfOk result (λ q. (q.0.sent ≡ []) × (q.0.capacity ≡ capacity)
-        × (q.0.promise ≡ Some (record { program = program.now; first = first }))) }
+        × (q.0.promise ≡ Some (record { size = N.size; program = program.now; first = first }))) }
     ensures end { IfOk result (λ q. q.1
         ≡ record {
           line = q.0.line;
-          promise = Some (record { program = program.now; first = first });
+          promise = Some (record { size = N.size; program = program.now; first = first });
           taken = [];
           shown = [];
         }) }
@@ -274,7 +274,7 @@ fn promised<N: Naming, R: Wait + Copy, C: Room>(
     first: Option<u64>,
 ) -> Result<(QueueSink<N, R>, Subscription<N, R>), QueueError>
     requires room { capacity ≡ C.room }
-    requires promise { C.promise ≡ Some (record { program = program.now; first = first }) }
+    requires promise { C.promise ≡ Some (record { size = N.size; program = program.now; first = first }) }
     ensures sink { IfOk result (λ q. (q.0.sent ≡ []) × (q.0.capacity ≡ capacity) × (q.0.promise ≡ C.promise)) }
     ensures end { IfOk result (λ q. q.1 ≡ record { line = q.0.line; promise = C.promise; taken = []; shown = [] }) }
     ensures range { OnOk result (IsCapacity capacity) }

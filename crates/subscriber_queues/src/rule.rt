@@ -1,3 +1,4 @@
+use change_ops::size::Size;
 use crossbeam_queue::RuledArrayQueue;
 use crossbeam_queue::protocol::{Join, Lesson, Outcome, Protocol, Split};
 use feeds::item::Item;
@@ -6,8 +7,10 @@ use std::marker::{Brand, Model, PhantomData};
 use verifier::verify::Verified;
 use version_history::published::Naming;
 
-/// What is promised of all that a queue is sent: the stream of a program, from this version on. No value of it is made.
+/// What is promised of all that a queue is sent: the stream of a program over changes that are accepted at a size, from
+/// this version on. No value of it is made.
 pub struct Promise {
+    size: Size,
     program: Verified,
     first: Option<u64>,
 }
@@ -17,7 +20,7 @@ impl Model for Promise {
 
     ghost Value = { PromiseValue };
 
-    ghost view = { λ p. record { program = p.program; first = p.first } };
+    ghost view = { λ p. record { size = p.size; program = p.program; first = p.first } };
 }
 
 /// What an end of a queue knows. No value of it is made.

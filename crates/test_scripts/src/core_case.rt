@@ -1,4 +1,5 @@
 ghost use Rattle.std.specs.Prelude.{◌≡◌, ◌++◌, ◌∷◌, [], All, IfOk, OnOk};
+ghost use Rattle.change_ops.specs.declared.size.Size.TheVariants.{Small};
 ghost use Rattle.feeds.specs.Orderly.{ListSink as ListSinkValue};
 ghost use Rattle.hub_core.specs.Runs.{IsFreshEvent};
 
@@ -8,6 +9,7 @@ use crate::programs::{published_program, push};
 use crate::script::{change_text, keep, number, parted, unmarked};
 use change_history::refusal::SubmitError;
 use change_ops::change::{Change, read_change};
+use change_ops::size::Size;
 use feeds::item::Job;
 use feeds::sink::ListSink;
 use hub_core::error::{CommitError, NoSubscriber, SubscribeError};
@@ -46,9 +48,9 @@ fn on_lists<N: Naming, R: Wait>(
     lines: String,
     told: &mut String,
 ) -> Result<(), AllocError>
-    requires named { (versions.now ≡ N.versions) × (programs.now ≡ N.programs) }
+    requires named { (Small ≡ N.size) × (versions.now ≡ N.versions) × (programs.now ≡ N.programs) }
 {
-    let published = Published::<N>::new(versions, programs);
+    let published = Published::<N>::new(Size::Small, versions, programs);
     let tokens = published_programs(rt, alloc, &published, lines.as_str())?;
     play_events(
         rt,
@@ -109,7 +111,7 @@ fn subscribe<N: Naming>(
     programs: &[ProgramToken<N>],
     rest: &str,
 ) -> Result<Asked<N>, Fault>
-    ensures { IfOk result (IsFreshEvent (λ (s : ListSinkValue). s.sent) (λ (s : ListSinkValue). None)) }
+    ensures { IfOk result (IsFreshEvent (λ (s : ListSinkValue). s.sent) (λ (s : ListSinkValue). None) N.size) }
 {
     let (capacity, index) = parted(rest);
     let program = programs.get(number(index)).ok_or(Fault::Nothing)?;
@@ -124,7 +126,7 @@ fn event<N: Naming>(
     key: &str,
     rest: &str,
 ) -> Result<Asked<N>, Fault>
-    ensures { IfOk result (IsFreshEvent (λ (s : ListSinkValue). s.sent) (λ (s : ListSinkValue). None)) }
+    ensures { IfOk result (IsFreshEvent (λ (s : ListSinkValue). s.sent) (λ (s : ListSinkValue). None) N.size) }
 {
     match key {
         "submit" => Ok(Event::Submit(change(alloc, kept, rest)?)),
@@ -157,8 +159,8 @@ fn events<N: Naming>(
     programs: &[ProgramToken<N>],
     lines: &str,
 ) -> Result<Vec<Asked<N>>, AllocError>
-    ensures { IfOk result (λ events. All (IsFreshEvent (λ (s : ListSinkValue). s.sent) (λ (s : ListSinkValue). None))
-        events.items) }
+    ensures { IfOk result (λ events. All (IsFreshEvent (λ (s : ListSinkValue). s.sent) (λ (s : ListSinkValue). None)
+        N.size) events.items) }
 {
     let mut events = Vec::new(alloc);
     let mut kept = String::new(alloc);

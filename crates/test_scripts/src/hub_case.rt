@@ -1,10 +1,12 @@
 ghost use Rattle.std.specs.Prelude.{◌≡◌, ◌≤◌, vec_len};
+ghost use Rattle.change_ops.specs.declared.size.Size.TheVariants.{Small};
 
 use crate::answer::{Answer, Fault, tell, without_memory};
 use crate::findings::push_end;
 use crate::machine::{Machine, taken};
 use crate::script::{keep, number, parted, unmarked};
 use crate::tricks::Trick;
+use change_ops::size::Size;
 use ingest_workers::hub::Hub;
 use ingest_workers::ingest::settle;
 use ingest_workers::share::Share;
@@ -52,11 +54,11 @@ fn on_lists<N: Naming + Ledger + Send + Sync, R: Threads + Wait + Copy + Send + 
     lines: String,
     told: &mut String,
 ) -> Result<(), AllocError>
-    requires named { (versions.now ≡ N.versions) × (programs.now ≡ N.programs) }
+    requires named { (Small ≡ N.size) × (versions.now ≡ N.versions) × (programs.now ≡ N.programs) }
     requires blank { (blank.name ≡ N.name) × (blank.parts ≡ N.parts) × (N.parts ≡ shares) }
     requires range { (1 ≤ shares) × (shares ≤ 64) }
 {
-    let published = Published::<N>::new(versions, programs);
+    let published = Published::<N>::new(Size::Small, versions, programs);
     let (hub, mut shares) = Hub::new(&rt, alloc, blank, &published, shares)?;
     let subscriptions = play_machine(
         rt,

@@ -1,5 +1,7 @@
 ghost use Rattle.std.specs.Prelude.{◌≡◌};
+ghost use Rattle.change_ops.specs.declared.size.Size.TheVariants.{Small};
 
+use change_ops::size::Size;
 use ingest_workers::hub::Hub;
 use ingest_workers::ingest::{ingest, settle};
 use ingest_workers::share::Share;
@@ -73,10 +75,10 @@ fn on_lists<'p, N: Naming + Ledger + Send + Sync, R: Threads + Wait + Copy + Sen
     changes: u64,
     told: &mut String,
 ) -> Result<(), AllocError>
-    requires named { (versions.now ≡ N.versions) × (programs.now ≡ N.programs) }
+    requires named { (Small ≡ N.size) × (versions.now ≡ N.versions) × (programs.now ≡ N.programs) }
     requires blank { (blank.name ≡ N.name) × (blank.parts ≡ N.parts) × (N.parts ≡ 2) }
 {
-    let published = Published::<N>::new(versions, programs);
+    let published = Published::<N>::new(Size::Small, versions, programs);
     let (hub, mut shares) = Hub::new(rt, alloc, blank, &published, 2)?;
     let (Some(one), Some(two)) = (shares.pop(), shares.pop()) else {
         return Err(AllocError);

@@ -3,6 +3,7 @@ pub mod Contents
 pub mod Drafts
 pub mod Slices
 pub mod Texts
+pub mod Spelling
 pub mod Splicing
 pub mod Windows
 pub mod Wholes

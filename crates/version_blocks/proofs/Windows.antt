@@ -3,7 +3,7 @@ use Rattle.std.proofs.Common.{◌≡◌, ℕ, zero, suc, ◌+◌, ◌-◌, ◌<�
 use Rattle.std.specs.List.{slice_get, slice_range}
 use Rattle.std.proofs.lemmas.Grind.{flat_map-append}
 use Rattle.std.proofs.lemmas.Option.{slice_get_within}
-use Rattle.std.proofs.lemmas.List.{take_all, drop_all, take-append-drop, length-take-le, length-drop}
+use Rattle.std.proofs.lemmas.List.{take_all, drop_all, take-append-drop, length-drop}
 use Rattle.std.proofs.lemmas.List.Folds.{drop_split}
 use Rattle.std.proofs.lemmas.List.Elements.{All-append, All-take, All-drop}
 use Rattle.span_flatten.specs.Spans.{Span}
@@ -13,10 +13,11 @@ use Rattle.version_laws.specs.Blocked.{in_blocks}
 use Rattle.version_laws.proofs.Blocks.{blocks-append}
 use Rattle.version_blocks.specs.Blocked.{AreEnds, IsAtRow, laid}
 use Rattle.version_blocks.specs.Blocks.{IsSized}
-use Rattle.version_blocks.specs.Glyphs.{Glyph, glyphs, glyphs_of, AreMaximal}
+use Rattle.version_blocks.specs.Glyphs.{Glyph, glyphs, glyphs_of, text_of, AreMaximal}
 use Rattle.version_blocks.proofs.Glyphs.{glyphs-append, some_characters}
 use Rattle.version_blocks.proofs.Drafts.{in_blocks-push}
 use Rattle.version_blocks.proofs.Slices.{take_next, drop_append, blocks_parted, length-glyphs_of}
+use Rattle.version_blocks.proofs.Spelling.{joined_text}
 use Rattle.version_blocks.proofs.Splicing.{replaced_glyphs, replaced_maximal}
 
 -- ---- what is seen of a version
@@ -143,11 +144,11 @@ up_to_end (x ∷ xs) to end total room all le = let less = room (omega arith) in
 pub record AreReplaced (all : List (List Span)) (now : List Span) (from to : ℕ) (rows : List Glyph) : Type 0 where
   pub maximal : AreMaximal (in_blocks all)
   pub sized : All IsSized all
-  pub short : length (glyphs (in_blocks all)) ≤ 32768
+  pub short : length (joined (in_blocks all)) ≤ 131072
   pub spelt : glyphs (in_blocks all) ≡ take from (glyphs now) ++ (rows ++ drop to (glyphs now))
 
 pub replaced : (blocks made all : List (List Span)) (rows : List Glyph) (from to first last before end : ℕ) → AreMaximal (in_blocks blocks) → All IsSized blocks → first ≤ last → before ≡ length (glyphs (in_blocks (take first blocks))) → end ≡ length (glyphs (in_blocks (take last blocks))) → (0 < first → before < from) → before ≤ from → (last < length blocks → to < end) → from ≤ to → to ≤ length (glyphs (in_blocks blocks))
-    → (from + length rows) + (length (glyphs (in_blocks blocks)) - to) ≤ 32768 → AreMaximal (in_blocks made) → All IsSized made
+    → length (text_of (take from (glyphs (in_blocks blocks)) ++ (rows ++ drop to (glyphs (in_blocks blocks))))) ≤ 131072 → AreMaximal (in_blocks made) → All IsSized made
     → glyphs (in_blocks made) ≡ slice_range (glyphs (in_blocks (slice_range blocks first last))) 0 (from - before) ++ (rows ++ slice_range (glyphs (in_blocks (slice_range blocks first last))) (to - before) (end - before))
     → all ≡ take first blocks ++ (made ++ drop last blocks) → AreReplaced all (in_blocks blocks) from to rows
 replaced blocks made all rows from to first last before end m sized order start stop room left room_behind window inside short n n_sized spelt is =
@@ -169,10 +170,10 @@ replaced blocks made all rows from to first last before end m sized order start 
     let gs : glyphs (in_blocks all) ≡ take from (glyphs (in_blocks blocks)) ++ (rows ++ drop to (glyphs (in_blocks blocks))) =
     ap glyphs whole ∙ replaced_glyphs a w z f rows from to before k m' n start width window left right ahead behind spelt
     ∙ ap (λ l. take from (glyphs l) ++ (rows ++ drop to (glyphs l))) (sym parted) in
-    let g : List Glyph = glyphs (in_blocks blocks) in
+    let maximal : AreMaximal (in_blocks all) = subst AreMaximal (sym whole) (replaced_maximal a w z f rows from to before k m' n start width window left right ahead behind spelt) in
     record {
-      maximal = subst AreMaximal (sym whole) (replaced_maximal a w z f rows from to before k m' n start width window left right ahead behind spelt);
+      maximal = maximal;
       sized = subst (All IsSized) (sym is) (All-append IsSized (take first blocks) (made ++ drop last blocks) (All-take IsSized first blocks sized) (All-append IsSized made (drop last blocks) n_sized (All-drop IsSized last blocks sized)));
-      short = omega (arith, ap length gs, length-append (take from g) (rows ++ drop to g), length-append rows (drop to g), length-take-le from g (omega arith), length-drop to g);
+      short = subst (λ (t : List ℕ). length t ≤ 131072) (sym (ap text_of gs) ∙ joined_text (in_blocks all) maximal) short;
       spelt = gs;
     }

@@ -16,15 +16,15 @@ pub record AreEnds (blocks : List (List Span)) (ends : List ℕ) : Type 0 where
   pub at : (i : ℕ) → i < length blocks → get_or ends i 0 ≡ length (in_blocks (take (i + 1) blocks))
 
 -- what the type keeps: the blocks' spans are maximal within each block and where blocks meet, a block has 1 to 32 of
--- them, and there are at most 32,768 characters
+-- them, and the text has at most 131,072 bytes
 pub record IsBlocked (blocks : List (List Span)) (ends : List ℕ) (spans characters bytes : ℕ) : Type 0 where
   pub maximal : AreMaximal (in_blocks blocks)
   pub sized : All IsSized blocks
   pub ending : AreEnds blocks ends
   pub spanned : spans ≡ length (in_blocks blocks)
   pub counted : characters ≡ length (glyphs (in_blocks blocks))
-  pub short : characters ≤ 32768
   pub measured : bytes ≡ length (joined (in_blocks blocks))
+  pub short : bytes ≤ 131072
 
 -- where a walk over the spans of blocks stands: at a span of the first block, or behind the last block
 pub record IsAtRow (blocks : List (List Span)) (row : ℕ) : Type 0 where

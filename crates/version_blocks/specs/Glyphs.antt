@@ -1,5 +1,6 @@
 -- The characters of spans, each with its format, and spans that are as long as they can be.
 use Rattle.std.specs.Prelude.{◌≡◌, ◌≢◌, ◌<◌, ◌+◌, ℕ, List, [], ◌∷◌, Some, length, map, flat_map, slice_get, chars}
+use Rattle.std.specs.Prelude.{encode_utf8_all}
 use Rattle.std.specs.Str.{IsUtf8}
 use Rattle.mark_anchors.specs.Formatting.{Format}
 use Rattle.span_flatten.specs.Spans.{Shown, Span}
@@ -20,6 +21,10 @@ glyphs_of span = with_format span.format (chars span.text)
 -- the characters of the spans, one after another
 abbrev pub glyphs : List Span → List Glyph
 glyphs spans = flat_map glyphs_of spans
+
+-- the text of the characters, as UTF-8
+abbrev pub text_of : List Glyph → List ℕ
+text_of characters = encode_utf8_all (map (λ g. g.character) characters)
 
 -- what is seen of a shown character, but for its id
 abbrev pub glyph_of : Shown → Glyph

@@ -137,7 +137,7 @@ impl Draft {
         from: usize,
         to: usize,
     ) -> Result<Draft, AllocError>
-        requires { length (glyphs (in_blocks blocks.now)) ≤ 32768 }
+        requires { length (glyphs (in_blocks blocks.now)) ≤ 131072 }
         ensures { IfOk result (λ more. glyphs more
             ≡ glyphs self ++ slice_range (glyphs (in_blocks blocks.now)) from to) }
     {

@@ -1,6 +1,7 @@
 //! That a version which is made from the one before it is one of all operations.
 ghost use Rattle.std.specs.Prelude.{◌≡◌, ◌+◌, ◌++◌, ℕ, List, Contains, count_by, drop, length, map, take};
 ghost use Rattle.change_ops.specs.declared.operation.Op.{Op};
+ghost use Rattle.change_ops.specs.declared.size.Size.TheVariants.{Large};
 ghost use Rattle.char_sequence.specs.Acceptance.{AcceptsAll};
 ghost use Rattle.char_sequence.specs.Order.{Shows};
 ghost use Rattle.char_sequence.specs.declared.sequence.Element.{Element};
@@ -20,7 +21,7 @@ use crate::version::BlockVersion;
 pub fn window_is_version(now: &BlockVersion, next: &BlockVersion)
     ensures { (ops added : List Op) (first middle changed last : List Element) (number : ℕ) (window : List Shown)
         (rows : List Span) → Shows (first ++ (middle ++ last)) ops
-        → AcceptsAll ops added → Shows (first ++ (changed ++ last)) (ops ++ added)
+        → AcceptsAll Large ops added → Shows (first ++ (changed ++ last)) (ops ++ added)
         → ((o : Op) → Contains added o
         → IsWithinWindow (first ++ (changed ++ last)) (length first) (length first + length changed) o)
         → IsVersion ops number now.now → AreDrawn changed window

@@ -5,7 +5,7 @@ ghost use Rattle.span_flatten.specs.Version.{IsWhole, joined, spans_in, spans_of
 ghost use Rattle.version_laws.specs.Blocked.{in_blocks};
 ghost use Rattle.version_blocks.specs.Blocked.{AreEnds, IsAtRow, laid};
 ghost use Rattle.version_blocks.specs.Blocks.{IsSized};
-ghost use Rattle.version_blocks.specs.Glyphs.{AreMaximal, glyphs};
+ghost use Rattle.version_blocks.specs.Glyphs.{AreMaximal, glyphs, text_of};
 ghost use Rattle.version_blocks.specs.Made.{IsMade};
 
 use crate::block::{Block, share_all};
@@ -63,7 +63,7 @@ struct Counts {
 /// Counts the blocks' spans, their characters and their bytes.
 fn counted(alloc: Global, blocks: &[Block]) -> Result<Counts, AllocError>
     requires maximal { AreMaximal (in_blocks blocks.now) }
-    requires short { length (glyphs (in_blocks blocks.now)) ≤ 32768 }
+    requires short { length (joined (in_blocks blocks.now)) ≤ 131072 }
     ensures ends { IfOk result (λ m. AreEnds blocks.now m.ends.items) }
     ensures spans { IfOk result (λ m. m.spans ≡ length (in_blocks blocks.now)) }
     ensures characters { IfOk result (λ m. m.characters ≡ length (glyphs (in_blocks blocks.now))) }
@@ -118,7 +118,7 @@ fn start_of(ends: &[usize], at: usize) -> usize
 
 /// The first block that ends at the place or behind it, and how many characters stand before that block.
 fn block_reaching(blocks: &[Block], place: usize) -> (usize, usize)
-    requires { length (glyphs (in_blocks blocks.now)) ≤ 32768 }
+    requires { length (glyphs (in_blocks blocks.now)) ≤ 131072 }
     ensures within { result.0 ≤ length blocks.now }
     ensures start { result.1 ≡ length (glyphs (in_blocks (take result.0 blocks.now))) }
     ensures before { 0 < result.0 → result.1 < place }
@@ -137,11 +137,11 @@ fn block_reaching(blocks: &[Block], place: usize) -> (usize, usize)
 
 /// How many characters the block has.
 fn characters_of(blocks: &[Block], index: usize) -> usize
-    requires short { length (glyphs (in_blocks blocks.now)) ≤ 32768 }
+    requires short { length (glyphs (in_blocks blocks.now)) ≤ 131072 }
     requires within { index < length blocks.now }
     ensures start { length (glyphs (in_blocks (take index blocks.now))) + result
         ≡ length (glyphs (in_blocks (take (index + 1) blocks.now))) }
-    ensures short { length (glyphs (in_blocks (take (index + 1) blocks.now))) ≤ 32768 }
+    ensures short { length (glyphs (in_blocks (take (index + 1) blocks.now))) ≤ 131072 }
 {
     let block = &blocks[index];
     block.content().characters()
@@ -150,7 +150,7 @@ fn characters_of(blocks: &[Block], index: usize) -> usize
 /// The index behind the first block, of those from one on, that ends behind the place, and how many characters stand
 /// before that index.
 fn block_past(blocks: &[Block], first: usize, before: usize, place: usize) -> (usize, usize)
-    requires short { length (glyphs (in_blocks blocks.now)) ≤ 32768 }
+    requires short { length (glyphs (in_blocks blocks.now)) ≤ 131072 }
     requires within { first ≤ length blocks.now }
     requires start { before ≡ length (glyphs (in_blocks (take first blocks.now))) }
     ensures order { first ≤ result.0 }
@@ -201,7 +201,7 @@ fn blocks_around(
     text: &str,
     rows: &[Row],
 ) -> Result<Vec<Block>, AllocError>
-    requires short { length (glyphs (in_blocks blocks.now)) ≤ 32768 }
+    requires short { length (glyphs (in_blocks blocks.now)) ≤ 131072 }
     requires whole { IsWhole text.now rows.now }
     ensures glyphs { IfOk result (λ made. glyphs (in_blocks made.items)
         ≡ slice_range (glyphs (in_blocks blocks.now)) 0 places.from ++ (glyphs (spans_in text.now rows.now)
@@ -229,15 +229,15 @@ fn replaced_blocks(
 ) -> Result<Vec<Block>, AllocError>
     requires maximal { AreMaximal (in_blocks blocks.now) }
     requires sized { All IsSized blocks.now }
-    requires short { length (glyphs (in_blocks blocks.now)) ≤ 32768 }
+    requires short { length (glyphs (in_blocks blocks.now)) ≤ 131072 }
     requires whole { IsWhole text.now rows.now }
     requires order { from ≤ to }
     requires within { to ≤ length (glyphs (in_blocks blocks.now)) }
-    requires room { from + length (glyphs (spans_in text.now rows.now))
-        + (length (glyphs (in_blocks blocks.now)) - to) ≤ 32768 }
+    requires room { length (text_of (take from (glyphs (in_blocks blocks.now)) ++ (glyphs (spans_in text.now rows.now)
+        ++ drop to (glyphs (in_blocks blocks.now))))) ≤ 131072 }
     ensures maximal { IfOk result (λ all. AreMaximal (in_blocks all.items)) }
     ensures sized { IfOk result (λ all. All IsSized all.items) }
-    ensures short { IfOk result (λ all. length (glyphs (in_blocks all.items)) ≤ 32768) }
+    ensures short { IfOk result (λ all. length (joined (in_blocks all.items)) ≤ 131072) }
     ensures glyphs { IfOk result (λ all. glyphs (in_blocks all.items)
         ≡ take from (glyphs (in_blocks blocks.now)) ++ (glyphs (spans_in text.now rows.now)
         ++ drop to (glyphs (in_blocks blocks.now)))) }
@@ -266,7 +266,7 @@ impl BlockVersion {
     ) -> Result<BlockVersion, AllocError>
         requires maximal { AreMaximal (in_blocks blocks.items) }
         requires sized { All IsSized blocks.items }
-        requires short { length (glyphs (in_blocks blocks.items)) ≤ 32768 }
+        requires short { length (joined (in_blocks blocks.items)) ≤ 131072 }
         ensures { IfOk result (λ version. version ≡ laid number (in_blocks blocks.items)) }
     {
         let Counts {
@@ -301,7 +301,8 @@ impl BlockVersion {
     pub fn keeps(&self)
         ensures maximal { AreMaximal (spans_of self.now) }
         ensures laid { self.now ≡ laid self.now.number (spans_of self.now) }
-        ensures few { length (glyphs (spans_of self.now)) ≤ 32768 }
+        ensures few { length (glyphs (spans_of self.now)) ≤ 131072 }
+        ensures short { length self.now.text ≤ 131072 }
     {
         let _characters = self.characters;
     }
@@ -372,8 +373,8 @@ impl BlockVersion {
         requires whole { IsWhole text.now rows.now }
         requires order { from ≤ to }
         requires within { to ≤ length (glyphs (spans_of self.now)) }
-        requires short { from + length (glyphs (spans_in text.now rows.now))
-            + (length (glyphs (spans_of self.now)) - to) ≤ 32768 }
+        requires short { length (text_of (take from (glyphs (spans_of self.now)) ++ (glyphs (spans_in text.now rows.now)
+            ++ drop to (glyphs (spans_of self.now))))) ≤ 131072 }
         ensures number { IfOk result (λ next. next.number ≡ number) }
         ensures glyphs { IfOk result (λ next. glyphs (spans_of next)
             ≡ take from (glyphs (spans_of self.now)) ++ (glyphs (spans_in text.now rows.now)

@@ -1,14 +1,18 @@
 ghost use Rattle.std.specs.Prelude.{◌≡◌, ◌↔◌, IfOk, IfErr, IsTrue};
 
 use boxcar::Pushed;
+use change_ops::size::Size;
 use std::marker::{Brand, Model, PhantomData};
 use std::sync::Wait;
 use verifier::verify::Verified;
 use version_blocks::version::BlockVersion;
 
-/// Which two lists a hub publishes in. A program picks them once for each hub.
+/// Which two lists a hub publishes in, and how much its document may hold. A program picks them once for each hub.
 pub trait Naming {
     ghost use Rattle.boxcar.specs.Table.{Shelves};
+    ghost use Rattle.change_ops.specs.declared.size.Size.{Size};
+
+    ghost size: { Size };
 
     ghost versions: { Shelves };
 
@@ -17,6 +21,9 @@ pub trait Naming {
 
 impl Naming for Brand {
     ghost use Rattle.std.specs.Prelude.{[]};
+    ghost use Rattle.change_ops.specs.declared.size.Size.TheVariants.{Small};
+
+    ghost size = { Small };
 
     ghost versions = { record { tag = []; buckets = [] } };
 
@@ -106,33 +113,44 @@ impl<N: Naming> ProgramToken<N> {
     }
 }
 
-/// The two lists of the hub `N`, which any thread reads and pushes to.
+/// The two lists of the hub `N`, which any thread reads and pushes to, and its size.
 #[derive(Drop)]
 pub struct Published<'p, N: Naming> {
+    size: Size,
     versions: &'p boxcar::Vec<BlockVersion>,
     programs: &'p boxcar::Vec<Verified>,
     of: PhantomData<N>,
-    ghost named: { (versions.now ≡ N.versions) × (programs.now ≡ N.programs) },
+    ghost named: { (size ≡ N.size) × (versions.now ≡ N.versions) × (programs.now ≡ N.programs) },
 }
 
 impl<'p, N: Naming> Published<'p, N> {
-    /// Works on these two lists, which are those of `N`.
+    /// Works on these two lists, which are those of `N`, at its size.
     pub fn new(
+        size: Size,
         versions: &'p boxcar::Vec<BlockVersion>,
         programs: &'p boxcar::Vec<Verified>,
     ) -> Published<'p, N>
-        requires { (versions.now ≡ N.versions) × (programs.now ≡ N.programs) }
+        requires { (size ≡ N.size) × (versions.now ≡ N.versions) × (programs.now ≡ N.programs) }
     {
         Published {
+            size,
             versions,
             programs,
             of: PhantomData,
         }
     }
 
+    /// How much the hub's document may hold.
+    pub fn size(&self) -> Size
+        ensures { result ≡ N.size }
+    {
+        self.size
+    }
+
     /// A copy.
     pub fn again(&self) -> Published<'p, N> {
         Published {
+            size: self.size,
             versions: self.versions,
             programs: self.programs,
             of: PhantomData,

@@ -3,6 +3,7 @@ use Rattle.std.proofs.Common.{◌≡◌, ◌↔◌, ℕ, suc, ◌<◌, ◌≤◌
 use Rattle.std.specs.List.{Contains}
 use Rattle.std.proofs.lemmas.List.{append-nil}
 use Rattle.std.proofs.lemmas.List.Elements.{Contains-append_left, Contains-append_cases}
+use Rattle.change_ops.specs.declared.size.Size.{Size}
 use Rattle.change_ops.specs.Operations.{is_edit}
 use Rattle.change_ops.specs.declared.id.OpId.{OpId}
 use Rattle.change_ops.specs.declared.attribute.Key.{Key}
@@ -21,15 +22,15 @@ use Rattle.version_laws.proofs.OrderKept.{extends_self, extends_trans, extends_a
 use Rattle.version_laws.proofs.FormatKept.{edit_touches, format_same}
 
 -- Operations of which each is accepted after those before it extend the first ones.
-pub extends_all : (ops added : List Op) → AcceptsAll ops added → Extends ops (ops ++ added)
-extends_all ops [] all = subst (λ l. Extends ops l) (sym (append-nil ops)) (extends_self ops)
-extends_all ops (op ∷ added) all =
-    let first : Accepts ops op = subst (λ l. Accepts l op) (append-nil ops) (all 0 op refl) in
-    let rest : AcceptsAll (ops ++ op ∷ []) added = λ i o g. subst (λ l. Accepts l o) (sym (append_assoc ops (op ∷ []) (take i added))) (all (suc i) o g) in
+pub extends_all : {size : Size} (ops added : List Op) → AcceptsAll size ops added → Extends ops (ops ++ added)
+extends_all {size = size} ops [] all = subst (λ l. Extends ops l) (sym (append-nil ops)) (extends_self ops)
+extends_all {size = size} ops (op ∷ added) all =
+    let first : Accepts size ops op = subst (λ l. Accepts size l op) (append-nil ops) (all 0 op refl) in
+    let rest : AcceptsAll size (ops ++ op ∷ []) added = λ i o g. subst (λ l. Accepts size l o) (sym (append_assoc ops (op ∷ []) (take i added))) (all (suc i) o g) in
     subst (λ l. Extends ops l) (append_assoc ops (op ∷ []) added)
     (extends_trans ops (ops ++ op ∷ []) ((ops ++ op ∷ []) ++ added) (extends_accepted ops op first) (extends_all (ops ++ op ∷ []) added rest))
 
-module _ (ops added : List Op) (es : List Element) (shows : Shows es ops) (all : AcceptsAll ops added) where
+module _ {size : Size} (ops added : List Op) (es : List Element) (shows : Shows es ops) (all : AcceptsAll size ops added) where
   -- Two characters that were there stand as they did.
   pub order_all : (x y : OpId) → Present ops x → Present ops y → Before ops (Some x) y ↔ Before (ops ++ added) (Some x) y
   order_all = before_same ops (ops ++ added) shows.tree (extends_all ops added all)

@@ -4,6 +4,7 @@ use Rattle.std.specs.List.{Contains}
 use Rattle.std.specs.List.Sorted.{IsStrictlyIncreasing}
 use Rattle.std.proofs.lemmas.Bool.{true≢false}
 use Rattle.std.proofs.lemmas.List.Elements.{Contains-append_left, Contains-push, Contains-push_cases}
+use Rattle.change_ops.specs.declared.size.Size.{Size}
 use Rattle.change_ops.specs.Ids.{Less}
 use Rattle.change_ops.specs.Operations.{id_of, key_of, is_edit, AnchorNames, Names}
 use Rattle.change_ops.specs.declared.id.OpId.{OpId}
@@ -123,7 +124,7 @@ module _ (old new : List Op) (t : IsTree old) (named : (o : Op) (x : OpId) → C
   )
 
 -- ---- one operation more
-module _ (ops : List Op) (es : List Element) (op : Op) (shows : Shows es ops) (a : Accepts ops op) (e : OpId) (at : Present ops e) where
+module _ {size : Size} (ops : List Op) (es : List Element) (op : Op) (shows : Shows es ops) (a : Accepts size ops op) (e : OpId) (at : Present ops e) where
   pushed : (o : Op) → Contains ops o → Contains (ops ++ op ∷ []) o
   pushed o = Contains-append_left ops (op ∷ []) o
 

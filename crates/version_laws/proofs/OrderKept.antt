@@ -1,6 +1,7 @@
 -- The order of two characters stays as operations come.
 use Rattle.std.proofs.Common.{◌≡◌, ◌↔◌, ℕ, List, [], ◌∷◌, ◌++◌, Option, Some, None, inl, inr, sym, ap, refl, ◌∙◌, subst, ⊎_elim}
 use Rattle.std.proofs.lemmas.Option.{same_Some, none-some}
+use Rattle.change_ops.specs.declared.size.Size.{Size}
 use Rattle.change_ops.specs.Operations.{id_of}
 use Rattle.change_ops.specs.declared.id.OpId.{OpId}
 use Rattle.change_ops.specs.declared.operation.Op.{Op}
@@ -13,7 +14,7 @@ use Rattle.char_sequence.proofs.Holding.{grows_push, inserts_cases, not_present}
 use Rattle.version_laws.specs.Later.{Extends}
 
 -- ---- which operations extend others
-pub extends_accepted : (ops : List Op) (op : Op) → Accepts ops op → Extends ops (ops ++ op ∷ [])
+pub extends_accepted : {size : Size} (ops : List Op) (op : Op) → Accepts size ops op → Extends ops (ops ++ op ∷ [])
 extends_accepted ops op a = record {
   more = grows_push ops op;
   same =
@@ -88,5 +89,5 @@ pub before_same : (old new : List Op) → IsTree old → Extends old new → (x 
 before_same old new t h x y at bt = (before_kept old new h.more (Some x) y, before_back old new t h (Some x) y (there_itself old x at) bt)
 
 -- The same after one more accepted operation.
-pub order : (ops : List Op) (op : Op) → IsTree ops → Accepts ops op → (x y : OpId) → Present ops x → Present ops y → Before ops (Some x) y ↔ Before (ops ++ op ∷ []) (Some x) y
+pub order : {size : Size} (ops : List Op) (op : Op) → IsTree ops → Accepts size ops op → (x y : OpId) → Present ops x → Present ops y → Before ops (Some x) y ↔ Before (ops ++ op ∷ []) (Some x) y
 order ops op t a = before_same ops (ops ++ op ∷ []) t (extends_accepted ops op a)

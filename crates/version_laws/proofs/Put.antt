@@ -4,6 +4,7 @@ use Rattle.std.specs.List.{slice_get}
 use Rattle.std.proofs.lemmas.Option.{same_Some, none-some, slice_get_within}
 use Rattle.std.proofs.lemmas.Bool.{cases_lt}
 use Rattle.std.proofs.lemmas.List.{append-nil, take-append-drop, length-take-le}
+use Rattle.change_ops.specs.declared.size.Size.{Size}
 use Rattle.change_ops.specs.Ids.{Less}
 use Rattle.change_ops.specs.Operations.{Names}
 use Rattle.change_ops.specs.Runs.{inserts_from}
@@ -96,7 +97,7 @@ pub record ArePut (es later : List Element) (place count : ℕ) : Type 0 where
   pub size : length run ≡ count
 
 -- The characters of a run are put at the place where the first of them is.
-pub run_put : (cs : List ℕ) (ops : List Op) (es later : List Element) (id : OpId) (parent : Option OpId) (place : ℕ) → 0 < length cs → Shows es ops → AcceptsRun ops id parent cs → Shows later (ops ++ inserts_from id parent cs) → IsAt later id place → ArePut es later place (length cs)
+pub run_put : {size : Size} (cs : List ℕ) (ops : List Op) (es later : List Element) (id : OpId) (parent : Option OpId) (place : ℕ) → 0 < length cs → Shows es ops → AcceptsRun size ops id parent cs → Shows later (ops ++ inserts_from id parent cs) → IsAt later id place → ArePut es later place (length cs)
 run_put [] ops es later id parent place some h a shown at = absurd (omega arith)
 run_put (c ∷ cs) ops es later id parent place some h a shown at =
     let start = start_of ops es parent h a.known in
@@ -127,14 +128,14 @@ run_put (c ∷ cs) ops es later id parent place some h a shown at =
     }
 
 -- A character that is inserted is put at its place.
-pub insert_put : (ops : List Op) (es later : List Element) (op : Op) (id : OpId) (parent : Option OpId) (c place : ℕ) → op ≡ Insert id parent c → Shows es ops → Accepts ops op → Shows later (ops ++ op ∷ []) → IsAt later id place → ArePut es later place 1
+pub insert_put : {size : Size} (ops : List Op) (es later : List Element) (op : Op) (id : OpId) (parent : Option OpId) (c place : ℕ) → op ≡ Insert id parent c → Shows es ops → Accepts size ops op → Shows later (ops ++ op ∷ []) → IsAt later id place → ArePut es later place 1
 unfolding inserts_from
-insert_put ops es later op id parent c place is h a shown at =
+insert_put {size = size} ops es later op id parent c place is h a shown at =
     let one : Op = Insert id parent c in
-    let accepted : Accepts ops one = subst (λ o. Accepts ops o) is a in
-    let all : AcceptsAll ops (inserts_from id parent (c ∷ [])) = λ i o g.
-    elim i as (λ n. slice_get (one ∷ []) n ≡ Some o → Accepts (ops ++ take n (one ∷ [])) o) [
-      | zero ↦ λ e. subst (λ z. Accepts (ops ++ []) z) (same_Some one o e) (subst (λ l. Accepts l one) (sym (append-nil ops)) accepted)
+    let accepted : Accepts size ops one = subst (λ o. Accepts size ops o) is a in
+    let all : AcceptsAll size ops (inserts_from id parent (c ∷ [])) = λ i o g.
+    elim i as (λ n. slice_get (one ∷ []) n ≡ Some o → Accepts size (ops ++ take n (one ∷ [])) o) [
+      | zero ↦ λ e. subst (λ z. Accepts size (ops ++ []) z) (same_Some one o e) (subst (λ l. Accepts size l one) (sym (append-nil ops)) accepted)
       | suc n ↦ λ e. absurd (none-some o e)
     ] g in
     run_put (c ∷ []) ops es later id parent place (omega arith) h (run_accepted_only [] c ops id parent all) (subst (λ o. Shows later (ops ++ o ∷ [])) is shown) at
@@ -150,7 +151,7 @@ pub record IsHidden (es later : List Element) : Type 0 where
   pub are : set es place is ≡ later
 
 -- A character that is removed stays where it is.
-pub removal_hides : (ops : List Op) (es later : List Element) (op : Op) (id target : OpId) → op ≡ Remove id target → Shows es ops → Accepts ops op → Shows later (ops ++ op ∷ []) → IsHidden es later
+pub removal_hides : {size : Size} (ops : List Op) (es later : List Element) (op : Op) (id target : OpId) → op ≡ Remove id target → Shows es ops → Accepts size ops op → Shows later (ops ++ op ∷ []) → IsHidden es later
 removal_hides ops es later op id target is h a shown =
     let at = stands ops es h.text target (a.known target (subst (λ o. Names o target) (sym is) refl)) in
     let was : Element = at.1.0 in

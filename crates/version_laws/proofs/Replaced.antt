@@ -3,6 +3,7 @@ use Rattle.std.proofs.Common.{◌≡◌, ◌+◌, List, ◌++◌, length, sym, a
 use Rattle.std.specs.List.{Contains, count_by, filter}
 use Rattle.std.proofs.lemmas.List.Elements.{Contains-append_left, Contains-append_right, filter-append}
 use Rattle.std.proofs.lemmas.List.Sums.{length-filter}
+use Rattle.change_ops.specs.declared.size.Size.{Size}
 use Rattle.change_ops.specs.declared.operation.Op.{Op}
 use Rattle.char_sequence.specs.declared.sequence.Element.{Element}
 use Rattle.char_sequence.specs.Order.{Shows}
@@ -26,7 +27,7 @@ count_parts xs ys =
 -- The elements are `first`, `middle` and `last` before the change, and `first`, `changed` and `last` after it; each mark of the change lies
 -- within the window. The spans before and behind the window have as many characters as are visible there. Then the spans of what is visible
 -- in the window, with its formats after the change, replace those in it, if formats differ at its two sides.
-pub spans_replaced : (ops added : List Op) (first middle changed last : List Element) → Shows (first ++ (middle ++ last)) ops → AcceptsAll ops added → Shows (first ++ (changed ++ last)) (ops ++ added)
+pub spans_replaced : {size : Size} (ops added : List Op) (first middle changed last : List Element) → Shows (first ++ (middle ++ last)) ops → AcceptsAll size ops added → Shows (first ++ (changed ++ last)) (ops ++ added)
     → ((o : Op) → Contains added o → IsWithinWindow (first ++ (changed ++ last)) (length first) (length first + length changed) o)
     → (before within after : List Span) → AreSpans ops (before ++ (within ++ after)) → ((front rest : List Shown) → AreDrawn (first ++ (middle ++ last)) (front ++ rest) → Cuts front before → count_by is_visible first ≡ length front) → ((rest back : List Shown) → AreDrawn (first ++ (middle ++ last)) (rest ++ back) → Cuts back after → count_by is_visible last ≡ length back)
     → (window : List Shown) (fresh : List Span) → AreDrawn changed window → ((s : Shown) → Contains window s → IsFormat (ops ++ added) s.id s.format) → Cuts window fresh → Apart before (fresh ++ after) → Apart fresh after

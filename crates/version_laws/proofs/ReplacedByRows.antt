@@ -5,6 +5,7 @@ use Rattle.std.specs.Str.{all_scalars}
 use Rattle.std.proofs.Math.Utf8.{scalars, scalar}
 use Rattle.std.proofs.lemmas.Bool.{cases_Bool, and_parts}
 use Rattle.std.proofs.lemmas.List.{map-append}
+use Rattle.change_ops.specs.declared.size.Size.{Size}
 use Rattle.change_ops.specs.declared.operation.Op.{Op}
 use Rattle.char_sequence.specs.declared.sequence.Element.{Element}
 use Rattle.char_sequence.specs.Order.{Shows}
@@ -44,7 +45,7 @@ shown_scalars es shown ok drawn =
     ap scalars (sym (characters_of_elements shown) ∙ ap (λ (l : List Element). map (λ e. e.character) l) drawn) ∙ scalars_filter es (scalars_all (map (λ e. e.character) es) ok)
 
 -- As many elements are visible before the window as the spans before it have characters, and the same behind it.
-pub spans_replaced_by_rows : (ops added : List Op) (first middle changed last : List Element) → AreScalars (first ++ (middle ++ last)) → Shows (first ++ (middle ++ last)) ops → AcceptsAll ops added → Shows (first ++ (changed ++ last)) (ops ++ added)
+pub spans_replaced_by_rows : {size : Size} (ops added : List Op) (first middle changed last : List Element) → AreScalars (first ++ (middle ++ last)) → Shows (first ++ (middle ++ last)) ops → AcceptsAll size ops added → Shows (first ++ (changed ++ last)) (ops ++ added)
     → ((o : Op) → Contains added o → IsWithinWindow (first ++ (changed ++ last)) (length first) (length first + length changed) o)
     → (before within after : List Span) → AreSpans ops (before ++ (within ++ after)) → count_by is_visible first ≡ characters_in before → count_by is_visible last ≡ characters_in after
     → (window : List Shown) (fresh : List Span) → AreDrawn changed window → ((s : Shown) → Contains window s → IsFormat (ops ++ added) s.id s.format) → Cuts window fresh → Apart before (fresh ++ after) → Apart fresh after

@@ -2,6 +2,7 @@
 use Rattle.std.proofs.Common.{◌≡◌, ℕ, ◌<◌, ◌≤◌, List, [], ◌∷◌, ◌++◌, Option, Some, length, refl, sym, ap, subst, ◌∙◌, ⊎_elim}
 use Rattle.std.specs.List.{slice_get, insert, Contains}
 use Rattle.std.proofs.lemmas.List.Elements.{Contains-append_left, Contains-push, Contains-push_cases}
+use Rattle.change_ops.specs.declared.size.Size.{Size}
 use Rattle.change_ops.specs.declared.id.OpId.{OpId}
 use Rattle.change_ops.specs.declared.operation.Op.{Op}
 use Rattle.change_ops.specs.declared.operation.Op.TheVariants.{Insert, Remove}
@@ -38,7 +39,7 @@ inserted_pushed ops op s (p, held) = (p, Contains-append_left ops (op ∷ []) (I
 
 -- ---- an insert
 -- An insert puts one character among the visible ones, between those that stand before it and those behind it.
-pub visible_insert : (ops : List Op) (es : List Element) (id : OpId) (p : Option OpId) (c : ℕ) → Shows es ops → Accepts ops (Insert id p c) → (shown : List Shown) → AreVisible ops shown → (k : ℕ) (s : Shown) → k ≤ length shown → s.id ≡ id → s.character ≡ c → IsFormat (ops ++ Insert id p c ∷ []) s.id s.format → ((i : ℕ) (x : Shown) → i < k → slice_get shown i ≡ Some x → Before (ops ++ Insert id p c ∷ []) (Some x.id) s.id) → ((i : ℕ) (y : Shown) → k ≤ i → slice_get shown i ≡ Some y → Before (ops ++ Insert id p c ∷ []) (Some s.id) y.id) → AreVisible (ops ++ Insert id p c ∷ []) (insert shown k s)
+pub visible_insert : {size : Size} (ops : List Op) (es : List Element) (id : OpId) (p : Option OpId) (c : ℕ) → Shows es ops → Accepts size ops (Insert id p c) → (shown : List Shown) → AreVisible ops shown → (k : ℕ) (s : Shown) → k ≤ length shown → s.id ≡ id → s.character ≡ c → IsFormat (ops ++ Insert id p c ∷ []) s.id s.format → ((i : ℕ) (x : Shown) → i < k → slice_get shown i ≡ Some x → Before (ops ++ Insert id p c ∷ []) (Some x.id) s.id) → ((i : ℕ) (y : Shown) → k ≤ i → slice_get shown i ≡ Some y → Before (ops ++ Insert id p c ∷ []) (Some s.id) y.id) → AreVisible (ops ++ Insert id p c ∷ []) (insert shown k s)
 visible_insert ops es id p c shows a shown v k s h is_id is_character format front back =
     let op = Insert id p c in
     let new = ops ++ op ∷ [] in
@@ -96,7 +97,7 @@ same_target : (r t q x : OpId) → Remove r t ≡ Remove q x → t ≡ x
 same_target r t q x e = cc
 
 -- A removal takes one character from the visible ones.
-pub visible_remove : (ops : List Op) (es : List Element) (id target : OpId) → Shows es ops → Accepts ops (Remove id target) → (rest : List Shown) (k : ℕ) (s : Shown) → k ≤ length rest → s.id ≡ target → AreVisible ops (insert rest k s) → AreVisible (ops ++ Remove id target ∷ []) rest
+pub visible_remove : {size : Size} (ops : List Op) (es : List Element) (id target : OpId) → Shows es ops → Accepts size ops (Remove id target) → (rest : List Shown) (k : ℕ) (s : Shown) → k ≤ length rest → s.id ≡ target → AreVisible ops (insert rest k s) → AreVisible (ops ++ Remove id target ∷ []) rest
 visible_remove ops es id target shows a rest k s h is_target v =
     let op = Remove id target in
     let new = ops ++ op ∷ [] in
@@ -143,7 +144,7 @@ visible_remove ops es id target shows a rest k s h is_target v =
         r.1
 
 -- A removal of a removed character leaves the visible ones.
-pub visible_again : (ops : List Op) (es : List Element) (id target : OpId) → Shows es ops → Accepts ops (Remove id target) → Removed ops target → (shown : List Shown) → AreVisible ops shown → AreVisible (ops ++ Remove id target ∷ []) shown
+pub visible_again : {size : Size} (ops : List Op) (es : List Element) (id target : OpId) → Shows es ops → Accepts size ops (Remove id target) → Removed ops target → (shown : List Shown) → AreVisible ops shown → AreVisible (ops ++ Remove id target ∷ []) shown
 visible_again ops es id target shows a removed shown v =
     let op = Remove id target in
     let new = ops ++ op ∷ [] in

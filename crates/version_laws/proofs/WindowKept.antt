@@ -3,6 +3,7 @@ use Rattle.std.proofs.Common.{ℕ, ◌+◌, ◌<◌, ◌≤◌, ◌⊎◌, List,
 use Rattle.std.specs.List.{slice_get, Contains}
 use Rattle.std.proofs.lemmas.Option.{slice_get_within}
 use Rattle.std.proofs.lemmas.List.Elements.{Contains-append_cases}
+use Rattle.change_ops.specs.declared.size.Size.{Size}
 use Rattle.change_ops.specs.declared.id.OpId.{OpId}
 use Rattle.change_ops.specs.declared.attribute.Key.{Key}
 use Rattle.change_ops.specs.declared.operation.Op.{Op}
@@ -60,8 +61,8 @@ outside ops es shows from to o (inr (first, (last, lies, window))) key e place a
 -- The elements were `first`, `middle` and `last`, and are `first`, `changed` and `last`; each mark among the operations lies within the
 -- window. What is shown of `first` and `last`, with the formats that it had, and what is shown of `changed` are the characters of the new
 -- spans; so the spans before and behind the window stay, where formats differ at both of its sides.
-module _ (ops added : List Op) (first middle changed last : List Element)
-    (shows : Shows (first ++ (middle ++ last)) ops) (all : AcceptsAll ops added) (later : Shows (first ++ (changed ++ last)) (ops ++ added))
+module _ {size : Size} (ops added : List Op) (first middle changed last : List Element)
+    (shows : Shows (first ++ (middle ++ last)) ops) (all : AcceptsAll size ops added) (later : Shows (first ++ (changed ++ last)) (ops ++ added))
     (marks : (o : Op) → Contains added o → IsWithinWindow (first ++ (changed ++ last)) (length first) (length first + length changed) o) where
   -- a character outside the window keeps its format
   pub format_front : (front : List Shown) → AreDrawn first front → (s : Shown) → Contains front s → IsFormat ops s.id s.format → IsFormat (ops ++ added) s.id s.format

@@ -6,6 +6,7 @@ ghost use Rattle.std.specs.Prelude.{◌≡◌, ◌↔◌, ◌++◌, ◌∷◌, [
 ghost use Rattle.change_ops.specs.Operations.{is_edit};
 ghost use Rattle.change_ops.specs.declared.id.OpId.{OpId};
 ghost use Rattle.change_ops.specs.declared.operation.Op.{Op};
+ghost use Rattle.change_ops.specs.declared.size.Size.TheVariants.{Large};
 ghost use Rattle.char_sequence.specs.Acceptance.{Accepts};
 ghost use Rattle.char_sequence.specs.Order.{Before, IsAt, Shows};
 ghost use Rattle.char_sequence.specs.Tree.{Present};
@@ -19,20 +20,20 @@ ghost use Rattle.version_laws.specs.Touched.{IsChangedWithin, TouchesWithin};
 
 /// Of two characters that were there, one stands before the other exactly if it did.
 pub fn order_stays()
-    ensures { (ops : List Op) (es : List Element) (op : Op) → Shows es ops → Accepts ops op
+    ensures { (ops : List Op) (es : List Element) (op : Op) → Shows es ops → Accepts Large ops op
         → (x y : OpId) → Present ops x → Present ops y
         → Before ops (Some x) y ↔ Before (ops ++ op ∷ []) (Some x) y }
 {}
 
 /// An insert or a removal leaves the format of each character that was there.
 pub fn edit_keeps_formats()
-    ensures { (ops : List Op) (es : List Element) (op : Op) → Shows es ops → Accepts ops op → is_edit op ≡ true
+    ensures { (ops : List Op) (es : List Element) (op : Op) → Shows es ops → Accepts Large ops op → is_edit op ≡ true
         → (e : OpId) → Present ops e → (f : Format) → IsFormat ops e f ↔ IsFormat (ops ++ op ∷ []) e f }
 {}
 
 /// A mark leaves the format of each character outside the places between its anchors.
 pub fn mark_keeps_formats()
-    ensures { (ops : List Op) (es : List Element) (op : Op) (first last : ℕ) → Shows es ops → Accepts ops op
+    ensures { (ops : List Op) (es : List Element) (op : Op) (first last : ℕ) → Shows es ops → Accepts Large ops op
         → Lies es op first last → (e : OpId) (place : ℕ) → IsAt es e place → (place < first) ⊎ (last ≤ place)
         → (f : Format) → IsFormat ops e f ↔ IsFormat (ops ++ op ∷ []) e f }
 {}

@@ -2,23 +2,24 @@
 use Rattle.std.proofs.Common.{◌≡◌, ℕ, ◌+◌, ◌-◌, ◌≤◌, cond, List, ◌++◌, inl, inr, length, take, drop, refl, sym, ap, subst, ◌∙◌, arith, All, IsUtf8}
 use Rattle.std.specs.List.{Contains, count_by, slice_range}
 use Rattle.std.proofs.lemmas.List.{take_all, take-append-drop, length-take-le, length-drop}
-use Rattle.std.proofs.lemmas.List.Sums.{sum_by-append, count_by-le-length}
+use Rattle.std.proofs.lemmas.List.Sums.{sum_by-append}
 use Rattle.change_ops.specs.Lines.{ops_of_lines}
 use Rattle.change_ops.specs.declared.line.Line.{Line}
 use Rattle.change_ops.specs.declared.operation.Op.{Op}
 use Rattle.change_ops.specs.declared.operation.Op.TheVariants.{Insert, Remove, AddMark, RemoveMark}
 use Rattle.char_sequence.specs.declared.sequence.Element.{Element}
 use Rattle.char_sequence.specs.Order.{Shows}
-use Rattle.span_flatten.specs.Spans.{Span}
-use Rattle.span_flatten.specs.Taken.{is_visible}
+use Rattle.char_sequence.specs.Visible.{visible_text}
+use Rattle.span_flatten.specs.Spans.{Shown, Span, Cuts}
+use Rattle.span_flatten.specs.Taken.{is_visible, AreDrawn}
 use Rattle.span_flatten.specs.Version.{Version, IsLayout, IsVersion, spans_in, spans_of}
 use Rattle.span_flatten.specs.Window.{Window, IsFlattened}
 use Rattle.version_laws.specs.Touched.{TouchesWithin, IsChangedWithin}
 use Rattle.version_laws.specs.Windows.{IsWithinWindow}
 use Rattle.version_laws.proofs.Outside.{kept_outside, parted}
 use Rattle.version_blocks.specs.Blocked.{laid}
-use Rattle.version_blocks.specs.Glyphs.{glyphs, AreMaximal}
-use Rattle.version_blocks.proofs.Meeting.{glyphs_counted, seen_glyphs, spans_met}
+use Rattle.version_blocks.specs.Glyphs.{glyphs, text_of, AreMaximal}
+use Rattle.version_blocks.proofs.Meeting.{glyphs_counted, seen_glyphs, spans_met, text_met}
 use Rattle.version_windows.specs.Step.{IsStep}
 
 abbrev visible : List Element → ℕ
@@ -62,14 +63,22 @@ module _ (ops : List Op) (previous : Version) (elements : List Element) (held : 
   pub were : (middle : ℕ) × (length (glyphs (spans_of previous)) ≡ visible (take low elements) + (middle + visible (drop high elements)))
   were = (visible changed.middle, counted)
 
-  -- and those of the new one
-  pub are : (visible (take low elements) + visible (slice_range elements low high)) + visible (drop high elements) ≤ length elements
-  are =
+  -- with a window's spans in place of the characters that were in it they spell the visible text
+  pub window_text : (shown : List Shown) (rows : List Span) (from to : ℕ) → AreDrawn (slice_range elements low high) shown → All (λ s. IsUtf8 s.text) rows → Cuts shown rows
+      → from ≡ visible (take low elements) → to + visible (drop high elements) ≡ length (glyphs (spans_of previous))
+      → text_of (take from (glyphs (spans_of previous)) ++ (glyphs rows ++ drop to (glyphs (spans_of previous)))) ≡ visible_text elements
+  window_text shown rows from to drawn texts cut from_is to_is =
       let first : List Element = take low elements in
-      let window : List Element = slice_range elements low high in
+      let inside : List Element = slice_range elements low high in
       let last : List Element = drop high elements in
-      let whole = ap visible (parted low high elements le) ∙ visible-append first (window ++ last) ∙ ap (λ n. visible first + n) (visible-append window last) in
-      omega (arith, whole, count_by-le-length is_visible elements)
+      let middle : List Element = changed.middle in
+      let now : List Span = spans_of previous in
+      let count = counted in
+      let end : to ≡ visible first + visible middle = omega (arith, count, to_is) in
+      ap (λ n. text_of (take n (glyphs now) ++ (glyphs rows ++ drop to (glyphs now)))) from_is
+      ∙ ap (λ n. text_of (take (visible first) (glyphs now) ++ (glyphs rows ++ drop n (glyphs now)))) end
+      ∙ text_met ops first middle inside last (subst (λ es. Shows es ops) changed.were step.before.1) now rows maximal step.version.1.spans shown drawn (seen_glyphs shown rows texts cut)
+      ∙ ap visible_text (sym (parted low high elements le))
 
   marks : (o : Op) → Contains (ops_of_lines lines) o → IsWithinWindow (take low elements ++ (slice_range elements low high ++ drop high elements)) (length (take low elements)) (length (take low elements) + length (slice_range elements low high)) o
   marks o is =

@@ -3,6 +3,7 @@ use Rattle.std.specs.Prelude.{ℕ, List, ◌++◌}
 use Rattle.change_ops.specs.Lines.{ops_of_lines}
 use Rattle.change_ops.specs.declared.line.Line.{Line}
 use Rattle.change_ops.specs.declared.operation.Op.{Op}
+use Rattle.change_ops.specs.declared.size.Size.TheVariants.{Large}
 use Rattle.char_sequence.specs.Acceptance.{AcceptsAll}
 use Rattle.char_sequence.specs.Order.{Shows}
 use Rattle.char_sequence.specs.declared.sequence.Element.{Element}
@@ -15,6 +16,6 @@ pub record IsStep (ops : List Op) (previous : Version) (elements : List Element)
     : Type 0 where
   pub before : (es : List Element) × Shows es ops
   pub version : (number : ℕ) × IsVersion ops number previous
-  pub accepted : AcceptsAll ops (ops_of_lines lines)
+  pub accepted : AcceptsAll Large ops (ops_of_lines lines)
   pub shows : Shows elements (ops ++ ops_of_lines lines)
   pub marks : AreMarks (ops ++ ops_of_lines lines) held

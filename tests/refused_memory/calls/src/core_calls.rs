@@ -1,4 +1,5 @@
 ghost use Rattle.std.specs.Prelude.{◌≡◌};
+ghost use Rattle.change_ops.specs.declared.size.Size.TheVariants.{Small};
 
 use crate::core_scene::{
     Board, ROOM, published, rest, scene, state, submitted, subscribed, third, verified,
@@ -9,6 +10,7 @@ use crate::shown::{change_of, items_text};
 use crate::stage::{Answer, Stage, Turn};
 use change_history::refusal::SubmitError;
 use change_ops::change::Change;
+use change_ops::size::Size;
 use feeds::batch::Batch;
 use feeds::item::Job;
 use feeds::sink::ListSink;
@@ -35,10 +37,10 @@ fn on_lists<N: Naming, R: Print + Threads + Wait + Sync>(
     versions: &boxcar::Vec<BlockVersion>,
     programs: &boxcar::Vec<Verified>,
 ) -> Result<bool, Fault>
-    requires named { (versions.now ≡ N.versions) × (programs.now ≡ N.programs) }
+    requires named { (Small ≡ N.size) × (versions.now ≡ N.versions) × (programs.now ≡ N.programs) }
 {
     let board = Board {
-        published: Published::<N>::new(versions, programs),
+        published: Published::<N>::new(Size::Small, versions, programs),
         versions,
         programs,
     };

@@ -23,10 +23,11 @@ fn push_event<N: Naming>(
     is_left_out: bool,
     event: Asked<N>,
 ) -> Result<(), AllocError>
-    requires fresh { IsFreshEvent (λ (s : ListSinkValue). s.sent) (λ (s : ListSinkValue). None) event }
-    requires all { All (IsFreshEvent (λ (s : ListSinkValue). s.sent) (λ (s : ListSinkValue). None)) events.old.items }
-    ensures { IfOk result (λ _. All (IsFreshEvent (λ (s : ListSinkValue). s.sent) (λ (s : ListSinkValue). None))
-        events.new.items) }
+    requires fresh { IsFreshEvent (λ (s : ListSinkValue). s.sent) (λ (s : ListSinkValue). None) N.size event }
+    requires all { All (IsFreshEvent (λ (s : ListSinkValue). s.sent) (λ (s : ListSinkValue). None) N.size)
+        events.old.items }
+    ensures { IfOk result (λ _. All (IsFreshEvent (λ (s : ListSinkValue). s.sent) (λ (s : ListSinkValue). None)
+        N.size) events.new.items) }
 {
     if is_left_out {
         return Ok(());
@@ -41,8 +42,8 @@ fn events<N: Naming>(
     call: &str,
     program: ProgramToken<N>,
 ) -> Result<Vec<Asked<N>>, Fault>
-    ensures { IfOk result (λ events. All (IsFreshEvent (λ (s : ListSinkValue). s.sent) (λ (s : ListSinkValue). None))
-        events.items) }
+    ensures { IfOk result (λ events. All (IsFreshEvent (λ (s : ListSinkValue). s.sent) (λ (s : ListSinkValue). None)
+        N.size) events.items) }
 {
     let mut events = Vec::new(alloc);
     let change = third(alloc)?;

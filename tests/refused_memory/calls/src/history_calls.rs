@@ -5,11 +5,12 @@ use crate::stage::{Answer, Stage};
 use change_history::history::History;
 use change_history::refusal::SubmitError;
 use change_ops::id::OpId;
+use change_ops::size::Size;
 use std::alloc::{AllocError, Global};
 
 /// Makes a call on a history of two changes.
 pub fn play<R: Print>(stage: &Stage<'_, R>) -> Result<bool, Fault> {
-    let mut history = History::new(stage.alloc);
+    let mut history = History::new(stage.alloc, Size::Small);
     for text in [FIRST, SECOND] {
         accept(stage.alloc, &mut history, text)?;
     }

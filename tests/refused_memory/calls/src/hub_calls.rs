@@ -1,4 +1,5 @@
 ghost use Rattle.std.specs.Prelude.{◌≡◌};
+ghost use Rattle.change_ops.specs.declared.size.Size.TheVariants.{Small};
 
 use crate::core_scene::{Board, FIRST, LENGTH, ROOM, SECOND, published, third, verified};
 use crate::fault::Fault;
@@ -6,6 +7,7 @@ use crate::shown::items_text;
 use crate::stage::{Answer, Stage, Turn};
 use change_history::refusal::SubmitError;
 use change_ops::refusal::ChangeError;
+use change_ops::size::Size;
 use change_ops::writing::write_change;
 use filter_workers::work::catch_up;
 use ingest_workers::hub::Hub;
@@ -44,11 +46,11 @@ fn on_lists<N: Naming + Ledger, R: Print + Threads + Wait + Copy + Sync>(
     versions: &boxcar::Vec<BlockVersion>,
     programs: &boxcar::Vec<Verified>,
 ) -> Result<bool, Fault>
-    requires named { (versions.now ≡ N.versions) × (programs.now ≡ N.programs) }
+    requires named { (Small ≡ N.size) × (versions.now ≡ N.versions) × (programs.now ≡ N.programs) }
     requires blank { (blank.name ≡ N.name) × (blank.parts ≡ N.parts) × (N.parts ≡ 2) }
 {
     let board = Board {
-        published: Published::<N>::new(versions, programs),
+        published: Published::<N>::new(Size::Small, versions, programs),
         versions,
         programs,
     };

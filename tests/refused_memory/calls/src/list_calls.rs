@@ -1,10 +1,12 @@
 ghost use Rattle.std.specs.Prelude.{◌≡◌};
+ghost use Rattle.change_ops.specs.declared.size.Size.TheVariants.{Small};
 
 use crate::core_scene::{Board, FIRST, LENGTH, ROOM, verified};
 use crate::fault::Fault;
 use crate::shown::{change_of, program_text, version_text};
 use crate::stage::{Answer, Stage};
 use change_history::history::History;
+use change_ops::size::Size;
 use feeds::sink::ListSink;
 use hub_core::hub::Core;
 use std::alloc::{AllocError, Global};
@@ -27,10 +29,10 @@ fn on_lists<N: Naming, R: Print + Wait + Copy>(
     versions: &boxcar::Vec<BlockVersion>,
     programs: &boxcar::Vec<Verified>,
 ) -> Result<bool, Fault>
-    requires named { (versions.now ≡ N.versions) × (programs.now ≡ N.programs) }
+    requires named { (Small ≡ N.size) × (versions.now ≡ N.versions) × (programs.now ≡ N.programs) }
 {
     let board = Board {
-        published: Published::<N>::new(versions, programs),
+        published: Published::<N>::new(Size::Small, versions, programs),
         versions,
         programs,
     };
@@ -52,7 +54,7 @@ fn state<N: Naming>(alloc: Global, board: &Board<'_, N>) -> Result<String, Alloc
 }
 
 fn new_version(alloc: Global) -> Result<BlockVersion, Fault> {
-    let mut history = History::new(alloc);
+    let mut history = History::new(alloc, Size::Small);
     let change = change_of(alloc, FIRST).ok_or(Fault::Scene)?;
     history.accept(change).ok().ok_or(Fault::Scene)?;
     Ok(history.version(alloc)?)

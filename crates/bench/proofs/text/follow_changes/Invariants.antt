@@ -6,4 +6,4 @@ use Rattle.span_flatten.specs.Version.{IsVersion}
 use Rattle.bench.proofs.text.follow_changes.Given as goal
 
 abbrev pub invariant-loop-change : goal.invariant-loop-change
-invariant-loop-change l = shadow (Utf8 l.rest) × ((number : ℕ) × IsVersion (operations_of l.history) number l.version)
+invariant-loop-change l = shadow (Utf8 l.rest) × ((number : ℕ) × IsVersion (operations_of l.history.changes) number l.version)

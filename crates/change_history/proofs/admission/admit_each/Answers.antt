@@ -29,8 +29,8 @@ returns-in_err-admit c = λ ops added from node a stand.
     let count : length (inserts_of c.args.run.now) ≡ length c.args.run.now.characters = ops_count (Run c.args.run.now) in
     let end = ap length c.characters-index-end.ensures.value in
     let below : c.loop-index.index < length (inserts_of c.args.run.now) = omega arith in
-    subst (λ r. StretchAdmitted ops added from (length (inserts_of c.args.run.now)) node c.args.parts.now c.admit.new.tally r) (sym given)
-    (run_refused ops added from c.loop-index.index (length (inserts_of c.args.run.now)) node c.args.parts.now c.admit.new.tally c.in_err-admit.field-0.0 below told)
+    subst (λ r. StretchAdmitted c.args.size ops added from (length (inserts_of c.args.run.now)) node c.args.parts.now c.admit.new.tally r) (sym given)
+    (run_refused c.args.size ops added from c.loop-index.index (length (inserts_of c.args.run.now)) node c.args.parts.now c.admit.new.tally c.in_err-admit.field-0.0 below told)
 
 pub loop-index-preserved : goal.loop-index-preserved
 loop-index-preserved c = λ ops added from node a stand.
@@ -43,4 +43,4 @@ returns c = λ ops added from node a stand.
     let count : length (inserts_of c.args.run.now) ≡ length c.args.run.now.characters = ops_count (Run c.args.run.now) in
     let end = ap length c.characters-index-end.ensures.value in
     let whole : from + c.loop-index.index ≡ from + length (inserts_of c.args.run.now) = omega arith in
-    subst (λ n. IsAdmitted ops added n node c.args.parts.now c.loop-index.tally) whole (c.loop-index.invariant ops added from node a stand)
+    subst (λ n. IsAdmitted c.args.size ops added n node c.args.parts.now c.loop-index.tally) whole (c.loop-index.invariant ops added from node a stand)

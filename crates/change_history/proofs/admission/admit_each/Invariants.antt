@@ -6,4 +6,4 @@ use Rattle.change_history.specs.Tally.{IsAdmitted}
 use Rattle.change_history.proofs.admission.admit_each.Given as goal
 
 abbrev pub invariant-loop-index : goal.invariant-loop-index
-invariant-loop-index l = (ops added : List Op) (from node : ℕ) → IsAdmitted ops added from node l.parts l.fn.tally → StandAt added from (inserts_of l.run) → IsAdmitted ops added (from + l.index) node l.parts l.tally
+invariant-loop-index l = (ops added : List Op) (from node : ℕ) → IsAdmitted l.size ops added from node l.parts l.fn.tally → StandAt added from (inserts_of l.run) → IsAdmitted l.size ops added (from + l.index) node l.parts l.tally

@@ -5,13 +5,13 @@ use Rattle.change_history.specs.Tally.{AreNext, Admits}
 use Rattle.change_history.proofs.admission.admit_line.Goals as goal
 
 pub admit-requires : goal.admit-requires
-admit-requires c = subst (λ (l : Line). AreNext (ops_of l) c.args.parts.now c.args.tally.now) c.in-Operation.is c.requires
+admit-requires c = subst (λ (l : Line). AreNext c.args.size (ops_of l) c.args.parts.now c.args.tally.now) c.in-Operation.is c.requires
 
 pub admit_run-requires : goal.admit_run-requires
-admit_run-requires c = subst (λ (l : Line). AreNext (ops_of l) c.args.parts.now c.args.tally.now) c.in-Run.is c.requires
+admit_run-requires c = subst (λ (l : Line). AreNext c.args.size (ops_of l) c.args.parts.now c.args.tally.now) c.in-Run.is c.requires
 
 pub returns-in-Operation : goal.returns-in-Operation
-returns-in-Operation c = subst (λ (l : Line). Admits (ops_of l) c.args.parts.now c.args.tally.now c.admit.new.tally c.admit.result) (sym c.in-Operation.is) c.admit.ensures
+returns-in-Operation c = subst (λ (l : Line). Admits c.args.size (ops_of l) c.args.parts.now c.args.tally.now c.admit.new.tally c.admit.result) (sym c.in-Operation.is) c.admit.ensures
 
 pub returns-in-Run : goal.returns-in-Run
-returns-in-Run c = subst (λ (l : Line). Admits (ops_of l) c.args.parts.now c.args.tally.now c.admit_run.new.tally c.admit_run.result) (sym c.in-Run.is) c.admit_run.ensures
+returns-in-Run c = subst (λ (l : Line). Admits c.args.size (ops_of l) c.args.parts.now c.args.tally.now c.admit_run.new.tally c.admit_run.result) (sym c.in-Run.is) c.admit_run.ensures

@@ -1,9 +1,10 @@
 use Rattle.std.proofs.Common.{List}
 use Rattle.change_ops.specs.declared.operation.Op.{Op}
 use Rattle.change_ops.specs.Lines.{ops_of_lines}
+use Rattle.change_ops.specs.declared.size.Size.TheVariants.{Large}
 use Rattle.change_history.specs.Kept.{Keeps, AreAllAccepted, IsApplied}
 use Rattle.change_history.proofs.Chronicle.{begin_of}
 use Rattle.change_history.proofs.history.apply_all.Given as goal
 
 abbrev pub invariant-loop-index : goal.invariant-loop-index
-invariant-loop-index l = (ops : List Op) → Keeps ops l.fn.parts → AreAllAccepted ops l.lines → IsApplied ops (ops_of_lines l.lines) (begin_of l.lines l.index) l.parts
+invariant-loop-index l = (ops : List Op) → Keeps ops l.fn.parts → AreAllAccepted Large ops l.lines → IsApplied ops (ops_of_lines l.lines) (begin_of l.lines l.index) l.parts

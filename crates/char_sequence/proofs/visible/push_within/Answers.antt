@@ -12,7 +12,7 @@ unwrap-requires c =
     let items = c.as_slice-items.ensures.value in
     let piece : c.part-piece.result.now ≡ slice_range chunk a b = c.part-piece.ensures.value ∙ ap (λ z. slice_range z a b) items in
     let whole : slice_range chunk a b ≡ chunk = range_whole chunk a b (sym (ap length piece) ∙ c.if-is_whole.ensures refl ∙ ap length items) in
-    let size = ap length (c.text.ensures ∙ ap visible_text (sym whole)) in
+    let size = ap length (c.text.ensures.value ∙ ap visible_text (sym whole)) in
     let room = c.requires.room in
     c.push_str.ensures.succeeds (omega (arith, size, room))
 
@@ -34,7 +34,7 @@ returns-then-is_whole-clause-bytes c =
     let whole : slice_range chunk a b ≡ chunk = range_whole chunk a b (sym (ap length piece) ∙ c.if-is_whole.ensures refl ∙ ap length items) in
     let front = string_bytes c.args.text.now in
     let same : front ≡ front = refl in
-    pushed _ same c.unwrap.ensures c.push_str.ensures.bytes ∙ ap (λ bs. front ++ bs) (c.text.ensures ∙ ap visible_text (sym whole))
+    pushed _ same c.unwrap.ensures c.push_str.ensures.bytes ∙ ap (λ bs. front ++ bs) (c.text.ensures.value ∙ ap visible_text (sym whole))
 
 pub returns-else-is_whole-clause-bytes : goal.returns-else-is_whole-clause-bytes
 returns-else-is_whole-clause-bytes c =

@@ -12,11 +12,11 @@ returns-then-is_whole-clause-value c =
     let items = c.as_slice-items.ensures.value in
     let piece : c.part-piece.result.now ≡ slice_range chunk a b = c.part-piece.ensures.value ∙ ap (λ z. slice_range z a b) items in
     let whole : slice_range chunk a b ≡ chunk = range_whole chunk a b (sym (ap length piece) ∙ c.if-is_whole.ensures refl ∙ ap length items) in
-    ap length (c.text.ensures ∙ ap visible_text (sym whole))
+    ap length (c.text.ensures.value ∙ ap visible_text (sym whole))
 
 pub returns-then-is_whole-clause-limit : goal.returns-then-is_whole-clause-limit
 returns-then-is_whole-clause-limit c =
-    let text = ap length c.text.ensures in
+    let text = ap length c.text.ensures.value in
     let most = visible_most c.args.chunk.now in
     omega (arith, text, most)
 

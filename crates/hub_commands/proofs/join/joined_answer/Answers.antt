@@ -4,6 +4,7 @@ use Rattle.std.specs.String.{string_bytes}
 use Rattle.change_ops.specs.Changes.{Change}
 use Rattle.change_ops.specs.Spelling.{change_text}
 use Rattle.change_join.specs.Joined.{joined}
+use Rattle.change_ops.specs.declared.size.Size.{Size}
 use Rattle.hub_commands.specs.Answers.{Answer}
 use Rattle.hub_commands.specs.JoinReply.{IsJoinReply, no_text}
 use Rattle.hub_commands.specs.SpansReply.{Begins}
@@ -14,7 +15,7 @@ use Rattle.hub_commands.proofs.join.joined_answer.Goals as goal
 pub returns-in_default : goal.returns-in_default
 returns-in_default c =
     let bytes = c.args.bytes.now in
-    mapped _ (λ (answer : Answer). (changes : List Change) → Begins bytes changes [] → IsJoinReply bytes answer) c.fault_answer.result c.fault_answer.ensures (λ (answer : Answer) made changes begins.
+    mapped _ (λ (answer : Answer). (size : Size) (changes : List Change) → Begins size bytes changes [] → IsJoinReply size bytes answer) c.fault_answer.result c.fault_answer.ensures (λ (answer : Answer) made size changes begins.
     no_text c.in_default.ensures.cases.0 made)
 
 pub returns : goal.returns

@@ -17,7 +17,7 @@ loop-event-init g c =
       ran = ran_none g.S.Sink.sent g.S.Sink.full c.reserve.new.self.items c.in_ok-jobs.jobs.items c.args.core.now c.in_ok-jobs.ensures.items;
       rest = refl;
       count = omega (arith, gives.1, ap length gives.0);
-      fresh = subst (λ (l : List (Event (Token Program) g.row.S.Denot)). All (IsFreshEvent g.S.Sink.sent g.S.Sink.promise) l) (sym gives.0) c.requires;
+      fresh = subst (λ (l : List (Event (Token Program) g.row.S.Denot)). All (IsFreshEvent g.S.Sink.sent g.S.Sink.promise g.N.Naming.size) l) (sym gives.0) c.requires;
       job_room = omega (arith, gives.1, c.in_ok-jobs.ensures.capacity, c.in_ok-jobs.ensures.len);
       reply_room = omega (arith, gives.1, room, c.len-2.ensures);
     }
@@ -25,8 +25,8 @@ loop-event-init g c =
 pub run_event-reply-requires-clause-fresh : goal.run_event-reply-requires-clause-fresh
 run_event-reply-requires-clause-fresh g c =
     let steps : into_iter_items c.loop-event.event-iterator ≡ c.in-Some.event ∷ into_iter_items c.next.new.self = c.in-Some.ensures.steps.0 in
-    All-head (IsFreshEvent g.S.Sink.sent g.S.Sink.promise) c.in-Some.event (into_iter_items c.next.new.self)
-    (subst (λ (l : List (Event (Token Program) g.row.S.Denot)). All (IsFreshEvent g.S.Sink.sent g.S.Sink.promise) l) steps c.loop-event.invariant.fresh)
+    All-head (IsFreshEvent g.S.Sink.sent g.S.Sink.promise g.N.Naming.size) c.in-Some.event (into_iter_items c.next.new.self)
+    (subst (λ (l : List (Event (Token Program) g.row.S.Denot)). All (IsFreshEvent g.S.Sink.sent g.S.Sink.promise g.N.Naming.size) l) steps c.loop-event.invariant.fresh)
 
 pub loop-event-preserved : goal.loop-event-preserved
 loop-event-preserved g c =
@@ -40,8 +40,8 @@ loop-event-preserved g c =
           c.loop-event.invariant.ran c.run_event-reply.ensures.happens c.run_event-reply.ensures.jobs c.push_reserved.ensures.items;
       rest = append_assoc c.loop-event.yielded (c.in-Some.event ∷ []) (into_iter_items c.next.new.self) ∙ ap (λ l. c.loop-event.yielded ++ l) (sym steps) ∙ c.loop-event.invariant.rest;
       count = omega (arith, gone, short, c.loop-event.invariant.count);
-      fresh = All-tail (IsFreshEvent g.S.Sink.sent g.S.Sink.promise) c.in-Some.event (into_iter_items c.next.new.self)
-          (subst (λ (l : List (Event (Token Program) g.row.S.Denot)). All (IsFreshEvent g.S.Sink.sent g.S.Sink.promise) l) steps c.loop-event.invariant.fresh);
+      fresh = All-tail (IsFreshEvent g.S.Sink.sent g.S.Sink.promise g.N.Naming.size) c.in-Some.event (into_iter_items c.next.new.self)
+          (subst (λ (l : List (Event (Token Program) g.row.S.Denot)). All (IsFreshEvent g.S.Sink.sent g.S.Sink.promise g.N.Naming.size) l) steps c.loop-event.invariant.fresh);
       job_room = omega (arith, gone, c.run_event-reply.ensures.room, c.loop-event.invariant.job_room);
       reply_room = omega (arith, gone, c.push_reserved.ensures.len, c.push_reserved.ensures.capacity, c.loop-event.invariant.reply_room);
     }

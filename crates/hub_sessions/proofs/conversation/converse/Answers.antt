@@ -9,8 +9,8 @@ returns-in_err-write_reply-clause-ends g c = write_failed c.from_residual.result
 
 pub loop-preserved-in-Ok-More : goal.loop-preserved-in-Ok-More
 loop-preserved-in-Ok-More g c =
-    let before : SessionState g.K.Keeper.kept = session_state g.K.Keeper.kept (g.K.Keeper.stores c.loop.keeper) c.loop.share c.loop.held.items c.loop.left c.args.hub.now.options in
-    let after : SessionState g.K.Keeper.kept = session_state g.K.Keeper.kept (g.K.Keeper.stores c.take_turn-turn.new.keeper) c.take_turn-turn.new.share c.take_turn-turn.new.held.items c.take_turn-turn.new.left c.args.hub.now.options in
+    let before : SessionState g.N.Naming.size g.K.Keeper.kept = session_state g.N.Naming.size g.K.Keeper.kept (g.K.Keeper.stores c.loop.keeper) c.loop.share c.loop.held.items c.loop.left c.args.hub.now.options in
+    let after : SessionState g.N.Naming.size g.K.Keeper.kept = session_state g.N.Naming.size g.K.Keeper.kept (g.K.Keeper.stores c.take_turn-turn.new.keeper) c.take_turn-turn.new.share c.take_turn-turn.new.held.items c.take_turn-turn.new.left c.args.hub.now.options in
     let wrote = subst (λ l. Appends (g.O.Write.contents c.loop.writer) (g.O.Write.contents c.write_reply.new.writer) (read_in c.take_turn-turn.result ++ l)) c.as_str.ensures.value c.in_ok-write_reply.ensures.ok in (
       tt,
       tt,
@@ -21,8 +21,8 @@ loop-preserved-in-Ok-More g c =
 
 pub loop-preserved-in-Ok-More-2 : goal.loop-preserved-in-Ok-More-2
 loop-preserved-in-Ok-More-2 g c =
-    let before : SessionState g.K.Keeper.kept = session_state g.K.Keeper.kept (g.K.Keeper.stores c.loop.keeper) c.loop.share c.loop.held.items c.loop.left c.args.hub.now.options in
-    let after : SessionState g.K.Keeper.kept = session_state g.K.Keeper.kept (g.K.Keeper.stores c.take_turn-turn.new.keeper) c.take_turn-turn.new.share c.take_turn-turn.new.held.items c.take_turn-turn.new.left c.args.hub.now.options in
+    let before : SessionState g.N.Naming.size g.K.Keeper.kept = session_state g.N.Naming.size g.K.Keeper.kept (g.K.Keeper.stores c.loop.keeper) c.loop.share c.loop.held.items c.loop.left c.args.hub.now.options in
+    let after : SessionState g.N.Naming.size g.K.Keeper.kept = session_state g.N.Naming.size g.K.Keeper.kept (g.K.Keeper.stores c.take_turn-turn.new.keeper) c.take_turn-turn.new.share c.take_turn-turn.new.held.items c.take_turn-turn.new.left c.args.hub.now.options in
     let wrote = subst (λ l. Appends (g.O.Write.contents c.loop.writer) (g.O.Write.contents c.write_reply.new.writer) (read_in c.take_turn-turn.result ++ l)) c.as_str.ensures.value c.in_ok-write_reply.ensures.ok in (
       tt,
       tt,
@@ -33,15 +33,15 @@ loop-preserved-in-Ok-More-2 g c =
 
 pub returns-in-Ok-Last-clause-ends : goal.returns-in-Ok-Last-clause-ends
 returns-in-Ok-Last-clause-ends g c =
-    let before : SessionState g.K.Keeper.kept = session_state g.K.Keeper.kept (g.K.Keeper.stores c.loop.keeper) c.loop.share c.loop.held.items c.loop.left c.args.hub.now.options in
-    let after : SessionState g.K.Keeper.kept = session_state g.K.Keeper.kept (g.K.Keeper.stores c.take_turn-turn.new.keeper) c.take_turn-turn.new.share c.take_turn-turn.new.held.items c.take_turn-turn.new.left c.args.hub.now.options in
+    let before : SessionState g.N.Naming.size g.K.Keeper.kept = session_state g.N.Naming.size g.K.Keeper.kept (g.K.Keeper.stores c.loop.keeper) c.loop.share c.loop.held.items c.loop.left c.args.hub.now.options in
+    let after : SessionState g.N.Naming.size g.K.Keeper.kept = session_state g.N.Naming.size g.K.Keeper.kept (g.K.Keeper.stores c.take_turn-turn.new.keeper) c.take_turn-turn.new.share c.take_turn-turn.new.held.items c.take_turn-turn.new.left c.args.hub.now.options in
     let wrote = subst (λ l. Appends (g.O.Write.contents c.loop.writer) (g.O.Write.contents c.write_reply.new.writer) (read_in c.take_turn-turn.result ++ l)) c.as_str.ensures.value c.in_ok-write_reply.ensures.ok in
     inl (ended _ _ _ before _ _ c.take_turn-turn.result (string_bytes c.take_turn-turn.new.out) after _ _ c.loop.invariant.4 (search rules) c.take_turn-turn.ensures.ok wrote)
 
 pub returns-in-Err-Memory-clause-ends : goal.returns-in-Err-Memory-clause-ends
 returns-in-Err-Memory-clause-ends g c =
-    let before : SessionState g.K.Keeper.kept = session_state g.K.Keeper.kept (g.K.Keeper.stores c.loop.keeper) c.loop.share c.loop.held.items c.loop.left c.args.hub.now.options in
-    let after : SessionState g.K.Keeper.kept = session_state g.K.Keeper.kept (g.K.Keeper.stores c.take_turn-turn.new.keeper) c.take_turn-turn.new.share c.take_turn-turn.new.held.items c.take_turn-turn.new.left c.args.hub.now.options in
+    let before : SessionState g.N.Naming.size g.K.Keeper.kept = session_state g.N.Naming.size g.K.Keeper.kept (g.K.Keeper.stores c.loop.keeper) c.loop.share c.loop.held.items c.loop.left c.args.hub.now.options in
+    let after : SessionState g.N.Naming.size g.K.Keeper.kept = session_state g.N.Naming.size g.K.Keeper.kept (g.K.Keeper.stores c.take_turn-turn.new.keeper) c.take_turn-turn.new.share c.take_turn-turn.new.held.items c.take_turn-turn.new.left c.args.hub.now.options in
     let wrote = subst (λ l. Appends (g.O.Write.contents c.loop.writer) (g.O.Write.contents c.write_reply.new.writer) (read_in c.take_turn-turn.result ++ l)) c.as_str.ensures.value c.in_ok-write_reply.ensures.ok in
     let met = broke c.take_turn-turn.result before (string_bytes c.take_turn-turn.new.out) after _ _ (search rules) c.take_turn-turn.ensures.err wrote in
     unfinished _ _ _ _ before _ _ _ after _ _ _ c.loop.invariant.4 met.0 met.1 c.write_no_memory.ensures.ok c.write_no_memory.ensures.err

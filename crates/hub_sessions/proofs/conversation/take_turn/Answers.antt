@@ -11,12 +11,12 @@ use Rattle.hub_sessions.proofs.conversation.take_turn.Goals as goal
 
 pub returns-in_ok-push_line-in-Request-clause-ok : goal.returns-in_ok-push_line-in-Request-clause-ok
 returns-in_ok-push_line-in-Request-clause-ok g c =
-    let before : SessionState g.K.Keeper.kept = session_state g.K.Keeper.kept (g.K.Keeper.stores c.args.keeper.now) c.args.share.now c.args.held.now.items c.args.left.now c.args.hub.now.options in
-    let now : SessionState g.K.Keeper.kept = session_state g.K.Keeper.kept (g.K.Keeper.stores c.answer.new.keeper) c.answer.new.share c.answer.new.held.items c.answer.new.left c.args.hub.now.options in
+    let before : SessionState g.N.Naming.size g.K.Keeper.kept = session_state g.N.Naming.size g.K.Keeper.kept (g.K.Keeper.stores c.args.keeper.now) c.args.share.now c.args.held.now.items c.args.left.now c.args.hub.now.options in
+    let now : SessionState g.N.Naming.size g.K.Keeper.kept = session_state g.N.Naming.size g.K.Keeper.kept (g.K.Keeper.stores c.answer.new.keeper) c.answer.new.share c.answer.new.held.items c.answer.new.left c.args.hub.now.options in
     let lines = string_bytes c.answer.new.out in
     let answer = c.in_ok-answer-in-Request.answer in
     let items = found_text answer.found ++ lines in
-    let exchange : Exchange g.K.Keeper.kept = record { came = next.Request c.in-Request.request; items = items; answer = answer.reply; left = c.next_request.new.reader.left; state = now } in (
+    let exchange : Exchange g.N.Naming.size g.K.Keeper.kept = record { came = next.Request c.in-Request.request; items = items; answer = answer.reply; left = c.next_request.new.reader.left; state = now } in (
       exchange,
       record {
         next = subst (λ n. IsNext c.args.lines.now.left n c.next_request.new.reader.left) c.in-Request.is c.in_ok-request.ensures;
@@ -29,8 +29,8 @@ returns-in_ok-push_line-in-Request-clause-ok g c =
 
 pub returns-in_ok-push_line-in-Refused-clause-ok : goal.returns-in_ok-push_line-in-Refused-clause-ok
 returns-in_ok-push_line-in-Refused-clause-ok g c =
-    let before : SessionState g.K.Keeper.kept = session_state g.K.Keeper.kept (g.K.Keeper.stores c.args.keeper.now) c.args.share.now c.args.held.now.items c.args.left.now c.args.hub.now.options in
-    let exchange : Exchange g.K.Keeper.kept = record { came = next.Refused c.in-Refused.refusal; items = []; answer = reply.Refused (reason_of c.in-Refused.refusal); left = c.next_request.new.reader.left; state = before } in (
+    let before : SessionState g.N.Naming.size g.K.Keeper.kept = session_state g.N.Naming.size g.K.Keeper.kept (g.K.Keeper.stores c.args.keeper.now) c.args.share.now c.args.held.now.items c.args.left.now c.args.hub.now.options in
+    let exchange : Exchange g.N.Naming.size g.K.Keeper.kept = record { came = next.Refused c.in-Refused.refusal; items = []; answer = reply.Refused (reason_of c.in-Refused.refusal); left = c.next_request.new.reader.left; state = before } in (
       exchange,
       record {
         next = subst (λ n. IsNext c.args.lines.now.left n c.next_request.new.reader.left) c.in-Refused.is c.in_ok-request.ensures;
@@ -58,8 +58,8 @@ returns-in_err-answer-in-Request-clause-err g c = broke_short c.from_residual-in
 
 pub returns-in_err-push_line-in-Request-clause-err : goal.returns-in_err-push_line-in-Request-clause-err
 returns-in_err-push_line-in-Request-clause-err g c =
-    let before : SessionState g.K.Keeper.kept = session_state g.K.Keeper.kept (g.K.Keeper.stores c.args.keeper.now) c.args.share.now c.args.held.now.items c.args.left.now c.args.hub.now.options in
-    let now : SessionState g.K.Keeper.kept = session_state g.K.Keeper.kept (g.K.Keeper.stores c.answer.new.keeper) c.answer.new.share c.answer.new.held.items c.answer.new.left c.args.hub.now.options in
+    let before : SessionState g.N.Naming.size g.K.Keeper.kept = session_state g.N.Naming.size g.K.Keeper.kept (g.K.Keeper.stores c.args.keeper.now) c.args.share.now c.args.held.now.items c.args.left.now c.args.hub.now.options in
+    let now : SessionState g.N.Naming.size g.K.Keeper.kept = session_state g.N.Naming.size g.K.Keeper.kept (g.K.Keeper.stores c.answer.new.keeper) c.answer.new.share c.answer.new.held.items c.answer.new.left c.args.hub.now.options in
     let lines = string_bytes c.answer.new.out in
     let answer = c.in_ok-answer-in-Request.answer in
     let met : Answers c.in-Request.request before [] (found_text answer.found ++ lines) answer.reply now = subst (λ out. Answers c.in-Request.request before out (found_text answer.found ++ lines) answer.reply now) c.empty_reply.ensures c.in_ok-answer-in-Request.ensures.answers in

@@ -1,7 +1,7 @@
 use Rattle.hub_sessions.proofs.replaying.replay.Given as goal
 
 abbrev pub ghosts-replay_on-N-Naming : goal.ghosts-replay_on-N-Naming
-ghosts-replay_on-N-Naming g a = record { versions = a.versions.now; programs = a.programs.now }
+ghosts-replay_on-N-Naming g a = record { size = a.size; versions = a.versions.now; programs = a.programs.now }
 
 abbrev pub ghosts-replay_on-N-Ledger : goal.ghosts-replay_on-N-Ledger
 ghosts-replay_on-N-Ledger g a = record { name = a.blank.name; parts = a.blank.parts }

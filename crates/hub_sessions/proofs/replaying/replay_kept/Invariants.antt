@@ -1,7 +1,11 @@
+use Rattle.change_keeping.specs.Kept.{some_log}
 use Rattle.hub_sessions.proofs.replaying.replay_kept.Given as goal
 
 abbrev pub ghosts-replay_kept_on-N-Naming : goal.ghosts-replay_kept_on-N-Naming
-ghosts-replay_kept_on-N-Naming g a = record { versions = a.versions.now; programs = a.programs.now }
+ghosts-replay_kept_on-N-Naming g a = record { size = a.size; versions = a.versions.now; programs = a.programs.now }
 
 abbrev pub ghosts-replay_kept_on-N-Ledger : goal.ghosts-replay_kept_on-N-Ledger
 ghosts-replay_kept_on-N-Ledger g a = record { name = a.blank.name; parts = a.blank.parts }
+
+abbrev pub ghosts-replay_kept_on-N-Keeping : goal.ghosts-replay_kept_on-N-Keeping
+ghosts-replay_kept_on-N-Keeping g a = record { kept = some_log a.size g.L.ChangeLog.kept }

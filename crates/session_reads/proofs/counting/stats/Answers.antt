@@ -1,3 +1,6 @@
+use Rattle.std.proofs.Common.{◌≡◌, subst}
+use Rattle.change_ops.specs.declared.size.Size.{Size}
+use Rattle.session_reads.specs.Counting.{stats_of}
 use Rattle.session_reads.proofs.Counted.{told}
 use Rattle.session_reads.proofs.counting.stats.Goals as goal
 
@@ -5,7 +8,8 @@ pub returns : goal.returns
 returns g c =
     let found = c.counts-latest.ensures.counts in
     let counts = c.counts-latest.result.1 in
-    let latest = c.counts-latest.result.0 in (
+    let latest = c.counts-latest.result.0 in
+    let stats = subst (λ (size : Size). c.stats_of.result ≡ stats_of size counts c.look.result.now c.session_count.result) c.size.ensures c.stats_of.ensures in (
       found.0,
       found.1,
       (
@@ -15,7 +19,7 @@ returns g c =
           counted = found.2.2;
           latest = latest;
           newest = found.2.1;
-          told = told c.stats_of.result counts c.look.result.now latest.value c.session_count.result c.stats_of.ensures c.look.ensures;
+          told = told g.N.Naming.size c.stats_of.result counts c.look.result.now latest.value c.session_count.result stats c.look.ensures;
         },
       ),
       found.3,

@@ -1,7 +1,8 @@
+use Rattle.change_ops.specs.declared.size.Size.TheVariants.{Small}
 use Rattle.session_tests.proofs.flushes.each_answer_is_flushed_and_all_subscribers_closed.Given as goal
 
 abbrev pub ghosts-two_subscribed-N-Naming : goal.ghosts-two_subscribed-N-Naming
-ghosts-two_subscribed-N-Naming g a = record { versions = a.versions.now; programs = a.programs.now }
+ghosts-two_subscribed-N-Naming g a = record { size = Small; versions = a.versions.now; programs = a.programs.now }
 
 abbrev pub ghosts-two_subscribed-N-Ledger : goal.ghosts-two_subscribed-N-Ledger
 ghosts-two_subscribed-N-Ledger g a = record { name = a.blank.name; parts = a.blank.parts }

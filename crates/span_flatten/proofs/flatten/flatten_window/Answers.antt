@@ -87,18 +87,11 @@ loop-cut-preserved c =
       at = c.in_ok-take_in.ensures.at ∙ ap (λ (l : List Element). drop to l) inv.elements;
     }
 
--- at the end all characters of the window are taken in
 pub invariant_of-result : goal.invariant_of-result
 invariant_of-result c =
-    let resolved = c.args.resolved.now in
-    let xs : List ℕ = c.deref-cut-items.result.now in
-    let are = subst (AreCuts resolved.elements resolved.marks c.args.low c.args.high) (sym c.deref-cut-items.ensures.value) c.in_ok-cuts.ensures in
-    let whole : c.loop-cut.cut-index ≡ length xs = omega arith in
-    let end : c.loop-cut.from ≡ c.args.high = all_reached resolved.elements resolved.marks c.args.low c.args.high xs are c.loop-cut.cut-index c.loop-cut.from c.requires.order whole c.loop-cut.invariant.reached in
-    let within : c.args.high ≤ length c.args.sequence.now.elements = c.requires.within in
-    let limit : length c.args.sequence.now.elements ≤ 32768 = c.len-count.ensures.limit in
-    taken_whole c.args.sequence.now.elements c.args.resolved.now.marks c.args.low c.loop-cut.from (string_bytes c.loop-cut.text) c.loop-cut.rows.items (omega arith) c.loop-cut.invariant.taken
+    taken_whole c.args.sequence.now.elements c.args.resolved.now.marks c.args.low c.loop-cut.from (string_bytes c.loop-cut.text) c.loop-cut.rows.items c.len-count.ensures.bytes c.loop-cut.invariant.taken
 
+-- at the end all characters of the window are taken in
 pub returns : goal.returns
 returns c =
     let resolved = c.args.resolved.now in

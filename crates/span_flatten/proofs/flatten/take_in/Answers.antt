@@ -56,7 +56,7 @@ returns-clause-taken c =
     let is = piece_more es marks range text text' rows some of grown low t grew (IsUtf8-string_bytes c.args.text.now) (IsUtf8-string_bytes c.push_next.new.text) in
     let characters = c.in_ok-characters.ensures.characters ∙ ap (λ l. visible_count (take (to - from) l)) c.requires.at ∙ count_spelt (slice_range es from to) is.utf8 in
     let draft = told.2 t.shown (more_of format (slice_range es from to)) piece text text' is refl grown started ended characters t.draft in
-    taken_more es marks range text text' rows some of grown low t c.add_row.new.rows.items draft c.in_ok-add_row.ensures.count
+    taken_more es marks range text text' rows some of grown low t grew c.add_row.new.rows.items draft c.in_ok-add_row.ensures.count
 
 pub returns-clause-formatted : goal.returns-clause-formatted
 returns-clause-formatted c =

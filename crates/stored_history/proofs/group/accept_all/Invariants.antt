@@ -6,8 +6,9 @@ use Rattle.stored_history.proofs.group.accept_all.Given as goal
 
 abbrev pub invariant-loop-change : goal.invariant-loop-change
 invariant-loop-change l = record {
-  answered : AreAnswered l.initial.history l.yielded l.answers.items l.history;
-  texts : map change_text l.initial.history ++ l.texts.items ≡ map change_text l.history;
+  answered : AreAnswered l.initial.history.size l.initial.history.changes l.yielded l.answers.items l.history.changes;
+  size : l.history.size ≡ l.initial.history.size;
+  texts : map change_text l.initial.history.changes ++ l.texts.items ≡ map change_text l.history.changes;
   rest : l.yielded ++ into_iter_items l.change-iterator ≡ into_iter_items l.initial.change-iterator;
   count : into_iter_len l.change-iterator ≡ length (into_iter_items l.change-iterator);
   room : vec_len l.answers + into_iter_len l.change-iterator ≤ vec_capacity l.answers;

@@ -11,9 +11,9 @@ returns-in-Ok g c =
     let read = c.accept_texts.ensures in
     let keeps : kept log texts = subst (λ (ts : List (List ℕ)). kept log ts) (sym c.deref.ensures.value) (c.in-Ok.ensures.all c.requires.0 c.requires.1) in
     record {
-      history = again_history kept log texts r keeps read;
-      changes = again_changes kept log texts r keeps read;
-      accepted = again_accepted kept log texts r read;
-      same = λ before all. again_same kept log before r (c.in-Ok.ensures.same before all);
-      err = again_err kept log texts r keeps read;
+      history = again_history c.args.size kept log texts r keeps read;
+      changes = again_changes c.args.size kept log texts r keeps read;
+      accepted = again_accepted c.args.size kept log texts r read;
+      same = λ before all. again_same c.args.size kept log before r (c.in-Ok.ensures.same before all);
+      err = again_err c.args.size kept log texts r keeps read;
     }

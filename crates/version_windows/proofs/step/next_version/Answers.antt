@@ -1,5 +1,4 @@
-use Rattle.std.proofs.Common.{◌≡◌, ◌-◌, ◌++◌, ℕ, List, length, take, drop, sym, ap, subst, ◌∙◌, arith, All, IsUtf8}
-use Rattle.std.specs.List.{slice_range}
+use Rattle.std.proofs.Common.{◌≡◌, ◌≤◌, ◌-◌, ◌++◌, ℕ, List, length, take, drop, sym, ap, subst, ◌∙◌, arith, All, IsUtf8}
 use Rattle.std.proofs.lemmas.List.Elements.{Contains-append_right}
 use Rattle.change_ops.specs.Lines.{ops_of_lines}
 use Rattle.change_ops.specs.declared.operation.Op.{Op}
@@ -11,11 +10,10 @@ use Rattle.span_flatten.specs.declared.version.Row.{Row}
 use Rattle.span_flatten.specs.Spans.{Span}
 use Rattle.span_flatten.specs.Version.{IsWhole, spans_in, spans_of}
 use Rattle.span_flatten.specs.Window.{IsFlattened}
-use Rattle.version_blocks.specs.Glyphs.{glyphs}
+use Rattle.version_blocks.specs.Glyphs.{glyphs, text_of}
 use Rattle.version_blocks.proofs.Made.{texts_in}
-use Rattle.version_blocks.proofs.Meeting.{glyphs_drawn}
 use Rattle.version_windows.proofs.Choosing.{flattened_by_all}
-use Rattle.version_windows.proofs.Stepping.{visible_parted, were, are, stepped}
+use Rattle.version_windows.proofs.Stepping.{visible_parted, were, window_text, stepped}
 use Rattle.version_windows.proofs.step.next_version.Goals as goal
 
 pub touched-low-requires : goal.touched-low-requires
@@ -75,19 +73,23 @@ with_window-requires c =
     let now : List Span = spans_of c.args.previous.now in
     let parted = visible_parted es high c.len-count.result (omega (arith, c.len-count.ensures.value)) in
     let old = were c.requires.step.0 c.args.previous.now es c.args.marks.now c.args.lines.now c.requires.step.1 low high places.ensures.order places.ensures.within places.ensures.touched c.keeps.ensures.maximal in
-    let new = are c.requires.step.0 c.args.previous.now es c.args.marks.now c.args.lines.now c.requires.step.1 low high places.ensures.order places.ensures.within places.ensures.touched c.keeps.ensures.maximal in
     let read : spans_in text rows ≡ spans_in window.text window.rows =
     ap (λ (t : List ℕ). spans_in t rows) c.text-text.ensures ∙ ap (λ (r : List Row). spans_in window.text r) c.rows-rows.ensures.value in
     let texts : All (λ (s : Span). IsUtf8 s.text) (spans_in window.text window.rows) =
     texts_in window.text window.rows (subst IsUtf8 c.text-text.ensures c.text-text.utf8) whole.limits.ordered whole.limits.starts whole.limits.ends in
     let flat = c.in_ok-window.ensures in
-    let drawn = glyphs_drawn (slice_range es low high) flat.shown (spans_in window.text window.rows) texts flat.drawn flat.cut in
-    let size : length (glyphs (spans_in text rows)) ≡ length (glyphs (spans_in window.text window.rows)) = ap (λ (l : List Span). length (glyphs l)) read in
+    let from : ℕ = c.visible_before-from.result in
+    let to : ℕ = c.character_count-characters.result - (c.visible_before-all.result - c.visible_before-through.result) in
+    let spelt =
+    window_text c.requires.step.0 c.args.previous.now es c.args.marks.now c.args.lines.now c.requires.step.1 low high places.ensures.order places.ensures.within places.ensures.touched c.keeps.ensures.maximal
+    flat.shown (spans_in window.text window.rows) from to flat.drawn texts flat.cut c.visible_before-from.ensures
+    (omega (arith, parted, old.1, c.visible_before-all.ensures, c.visible_before-through.ensures, c.character_count-characters.ensures)) in
     record {
       whole = subst (λ (t : List ℕ). IsWhole t rows) (sym c.text-text.ensures) (subst (λ (r : List Row). IsWhole window.text r) (sym c.rows-rows.ensures.value) whole);
       order = omega (arith, parted, old.1, c.visible_before-from.ensures, c.visible_before-all.ensures, c.visible_before-through.ensures, c.character_count-characters.ensures);
       within = omega (arith, parted, old.1, c.visible_before-all.ensures, c.visible_before-through.ensures, c.character_count-characters.ensures);
-      short = omega (arith, parted, old.1, new, drawn, size, c.visible_before-from.ensures, c.visible_before-all.ensures, c.visible_before-through.ensures, c.character_count-characters.ensures, c.len-count.ensures.limit);
+      short =
+          subst (λ (t : List ℕ). length t ≤ 131072) (sym (ap (λ (l : List Span). text_of (take from (glyphs now) ++ (glyphs l ++ drop to (glyphs now)))) read ∙ spelt)) c.len-count.ensures.bytes;
     }
 
 pub returns : goal.returns

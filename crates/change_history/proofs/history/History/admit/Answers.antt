@@ -1,7 +1,8 @@
 use Rattle.std.proofs.Common.{◌<◌, ℕ, List, MatchResult, length, arith, sym, subst}
-use Rattle.change_ops.specs.Changes.{Change}
 use Rattle.change_ops.specs.Lines.{ops_of_lines}
 use Rattle.change_ops.specs.declared.line.Line.{Line}
+use Rattle.change_ops.specs.Sizes.{most_changes}
+use Rattle.change_history.specs.Chronicle.{Chronicle}
 use Rattle.change_history.specs.Accepted.{operations_of, IsAccepted, IsRefused}
 use Rattle.change_history.specs.Tally.{AreOf}
 use Rattle.change_history.proofs.Chronicle.{admitted_or_refused}
@@ -18,6 +19,6 @@ admit_all-requires-clause-own c =
 
 pub returns : goal.returns
 returns c =
-    let few : length c.self.inside.changes < 4096 = omega arith in
-    subst (λ (cs : List Change). MatchResult c.admit_all.result (λ _. IsAccepted cs c.args.change.now) (IsRefused cs c.args.change.now)) c.self.view_is
-    (admitted_or_refused c.self.inside.changes c.args.change.now c.lines.result.now c.admit_all.result few c.lines.ensures.value (c.admit_all.ensures (operations_of c.self.inside.changes) c.self.invariant.0.kept))
+    let few : length c.self.inside.changes < most_changes c.self.inside.size = omega arith in
+    subst (λ (h : Chronicle). MatchResult c.admit_all.result (λ _. IsAccepted h.size h.changes c.args.change.now) (IsRefused h.size h.changes c.args.change.now)) c.self.view_is
+    (admitted_or_refused c.self.inside.size c.self.inside.changes c.args.change.now c.lines.result.now c.admit_all.result few c.lines.ensures.value (c.admit_all.ensures (operations_of c.self.inside.changes) c.self.invariant.0.kept))

@@ -15,11 +15,11 @@ note-requires c =
 
 pub insert-requires-clause-accepted : goal.insert-requires-clause-accepted
 insert-requires-clause-accepted c = λ ops h.
-    accepts_other c.args.self.now.sequence (filter is_edit c.requires.0) ops c.args.op.now c.requires.1.held h (accepts_part c.requires.0 c.args.op.now c.requires.2.accepted)
+    accepts_other c.args.self.now.sequence (filter is_edit c.requires.0) ops c.args.op.now c.requires.1.held h (accepts_part c.requires.0 c.args.self.now.sequence.elements c.requires.1.shows c.args.op.now c.requires.2.accepted)
 
 pub remove-requires-clause-accepted : goal.remove-requires-clause-accepted
 remove-requires-clause-accepted c = λ ops h.
-    accepts_other c.args.self.now.sequence (filter is_edit c.requires.0) ops c.args.op.now c.requires.1.held h (accepts_part c.requires.0 c.args.op.now c.requires.2.accepted)
+    accepts_other c.args.self.now.sequence (filter is_edit c.requires.0) ops c.args.op.now c.requires.1.held h (accepts_part c.requires.0 c.args.self.now.sequence.elements c.requires.1.shows c.args.op.now c.requires.2.accepted)
 
 pub remove-requires-clause-removal : goal.remove-requires-clause-removal
 remove-requires-clause-removal c = (c.in-Remove.id, (c.in-Remove.target, c.in-Remove.is))

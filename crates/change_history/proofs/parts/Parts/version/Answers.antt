@@ -13,7 +13,6 @@ from_version-requires c =
       ops = c.requires.0;
       elements = c.args.self.now.sequence.elements;
       shows = kept.shows;
-      few = c.len-count.ensures.limit;
       number = c.args.number;
       is = c.in_ok-whole.ensures c.requires.0 kept.shows (are_marks c.requires.0 c.args.self.now.marks kept.marks);
     }

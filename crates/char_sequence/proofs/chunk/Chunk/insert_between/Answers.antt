@@ -24,7 +24,7 @@ count_visible-self-inside-requires c =
     let room = c.requires.room in
     let size = put_length items c.put_elements.new.items.items c.args.index c.args.id c.args.characters.now (omega (arith, same, within)) c.put_elements.ensures.items in
     let read = ap length c.deref-2.ensures.value in
-    let few : length c.deref-2.result.now ≤ 32768 = omega (arith, same, room, size, read) in
+    let few : length c.deref-2.result.now ≤ 262144 = omega (arith, same, room, size, read) in
     few
 
 pub invariant_of-self : goal.invariant_of-self

@@ -7,14 +7,14 @@ use Rattle.char_sequence.proofs.chunk_list.ChunkList.place_of.Goals as goal
 
 pub start-requires-clause-fits : goal.start-requires-clause-fits
 start-requires-clause-fits c =
-    let few = c.self.invariant.few in
+    let few = c.self.invariant.0.few in
     let same = ap (λ z. length (joined z)) c.deref.ensures.value in
     omega (arith, few, same)
 
 pub overflow_add-result : goal.overflow_add-result
 overflow_add-result c =
     let low = c.in_ok-spot.ensures.within in
-    let few = c.self.invariant.few in
+    let few = c.self.invariant.0.few in
     let start = c.start.ensures ∙ ap (λ z. start_of z c.in_ok-spot.spot.position) c.deref.ensures.value in
     let within = start_within c.self.inside.chunks.items c.in_ok-spot.spot.position in
     omega (arith, low, few, start, within)

@@ -2,7 +2,8 @@ use Rattle.std.proofs.Common.{◌≡◌, ◌+◌, arith, Some, length, set, take
 use Rattle.std.specs.List.{slice_get, insert}
 use Rattle.std.proofs.lemmas.Option.{same_Some, slice_get_within}
 use Rattle.char_sequence.specs.Index.{HasId}
-use Rattle.char_sequence.proofs.Chunking.{kept_split, here_at, dropped}
+use Rattle.char_sequence.specs.Visible.{visible_text}
+use Rattle.char_sequence.proofs.Chunking.{kept_split, split_same, here_at, dropped}
 use Rattle.char_sequence.proofs.chunk_list.ChunkList.split_chunk.Goals as goal
 
 pub rename-requires : goal.rename-requires
@@ -17,13 +18,13 @@ rename-requires c =
     let one = same_Some c.index_mut.result.now _ (sym here ∙ grown) in
     let right : c.as_slice.result.now ≡ drop c.args.at c.requires.0 = c.as_slice.ensures.value ∙ c.split-right.ensures.right ∙ ap (λ z. drop c.args.at z) one in
     let there = dropped c.requires.0 c.args.at k e (ap (λ z. slice_get z k) (sym right) ∙ g) in
-    c.self.invariant.indexed.listed p c.requires.0 old there.0 e there.1 none
+    c.self.invariant.0.indexed.listed p c.requires.0 old there.0 e there.1 none
 
 pub overflow_add-position : goal.overflow_add-position
 overflow_add-position c =
     let same = ap (λ v. v.chunks) c.self.view_is in
     let low = slice_get_within c.self.inside.chunks.items c.args.position c.requires.0 (ap (λ z. slice_get z c.args.position) same ∙ c.requires.1) in
-    let counted = c.self.invariant.indexed.counted in
+    let counted = c.self.invariant.0.indexed.counted in
     let fresh : c.len-name.result ≡ length c.self.inside.names.items = search rules in
     omega (arith, low, counted, fresh)
 
@@ -39,7 +40,7 @@ pub overflow_add-position-2 : goal.overflow_add-position-2
 overflow_add-position-2 c =
     let same = ap (λ v. v.chunks) c.self.view_is in
     let low = slice_get_within c.self.inside.chunks.items c.args.position c.requires.0 (ap (λ z. slice_get z c.args.position) same ∙ c.requires.1) in
-    let counted = c.self.invariant.indexed.counted in
+    let counted = c.self.invariant.0.indexed.counted in
     let fresh : c.len-name.result ≡ length c.self.inside.names.items = search rules in
     omega (arith, low, counted, fresh)
 
@@ -47,7 +48,7 @@ pub insert-requires-2 : goal.insert-requires-2
 insert-requires-2 c =
     let same = ap (λ v. v.chunks) c.self.view_is in
     let low = slice_get_within c.self.inside.chunks.items c.args.position c.requires.0 (ap (λ z. slice_get z c.args.position) same ∙ c.requires.1) in
-    let counted = c.self.invariant.indexed.counted in
+    let counted = c.self.invariant.0.indexed.counted in
     let kept = ap length c.in_ok-reserve-2.ensures.items in
     let size : vec_len c.reserve-2.new.self ≡ length c.reserve-2.new.self.items = search rules in
     omega (arith, low, counted, kept, size)
@@ -56,7 +57,7 @@ pub returns-clause-next : goal.returns-clause-next
 returns-clause-next c =
     let same = ap (λ v. v.chunks) c.self.view_is in
     let low = slice_get_within c.self.inside.chunks.items c.args.position c.requires.0 (ap (λ z. slice_get z c.args.position) same ∙ c.requires.1) in
-    let counted = c.self.invariant.indexed.counted in
+    let counted = c.self.invariant.0.indexed.counted in
     let fresh : c.len-name.result ≡ length c.self.inside.names.items = search rules in
     omega (arith, low, counted, fresh)
 
@@ -74,9 +75,13 @@ invariant_of-self-2 c =
     let names : c.insert-2.new.self.items ≡ insert c.self.inside.names.items (p + 1) c.len-name.result = search rules in
     let fresh : c.len-name.result ≡ length c.self.inside.names.items = search rules in
     let right = c.as_slice.ensures.value in
-    kept_split cs _ _ _ _ _ p c.args.at c.len-name.result _ c.requires.0 c.split-right.new.self c.split-right.result c.self.invariant old (c.split-right.ensures.left ∙ ap (λ z. take c.args.at z) one) (c.split-right.ensures.right ∙ ap (λ z. drop c.args.at z) one) fresh chunks names
+    let left : c.split-right.new.self ≡ take c.args.at c.requires.0 = c.split-right.ensures.left ∙ ap (λ z. take c.args.at z) one in
+    let behind : c.split-right.result ≡ drop c.args.at c.requires.0 = c.split-right.ensures.right ∙ ap (λ z. drop c.args.at z) one in
+    let whole = split_same cs c.insert.new.self.items p c.args.at c.requires.0 old (chunks ∙ ap (λ z. insert (set cs p z) (p + 1) c.split-right.result) left ∙ ap (λ z. insert (set cs p (take c.args.at c.requires.0)) (p + 1) z) behind) in
+    let kept = kept_split cs _ _ _ _ _ p c.args.at c.len-name.result _ c.requires.0 c.split-right.new.self c.split-right.result c.self.invariant.0 old left behind fresh chunks names
     (λ k e g. c.rename.ensures.renamed k e (ap (λ z. slice_get z k) right ∙ g))
-    (λ q none. c.rename.ensures.kept q (subst (λ z. HasId z q → ⊥) (sym right) none))
+    (λ q none. c.rename.ensures.kept q (subst (λ z. HasId z q → ⊥) (sym right) none)) in
+    (kept, c.self.invariant.1 ∙ ap (λ l. length (visible_text l)) (sym whole))
 
 pub returns-clause-split : goal.returns-clause-split
 returns-clause-split c =

@@ -1,8 +1,9 @@
-use Rattle.std.proofs.Common.{◌≡◌, ℕ, List, sym, ◌∙◌, subst, ap, rules}
+use Rattle.std.proofs.Common.{◌≡◌, ℕ, List, length, sym, ◌∙◌, subst, ap, rules}
 use Rattle.std.proofs.lemmas.List.Elements.{same_from_all_zip}
 use Rattle.char_sequence.specs.declared.sequence.Element.{Element}
-use Rattle.char_sequence.specs.Chunks.{IsKept}
+use Rattle.char_sequence.specs.Chunks.{joined, IsKept}
 use Rattle.char_sequence.specs.Named.{name_of}
+use Rattle.char_sequence.specs.Visible.{visible_text}
 use Rattle.char_sequence.proofs.Chunking.{kept_same}
 use Rattle.char_sequence.proofs.chunk_list.ChunkListClone.clone.Goals as goal
 
@@ -10,7 +11,8 @@ pub invariant_of-result : goal.invariant_of-result
 invariant_of-result c =
     let chunks : c.in_ok-chunks.chunks.items ≡ c.self.inside.chunks.items = same_from_all_zip _ _ _ c.in_ok-chunks.ensures.cases.0 (λ x y h. search rules) in
     let names : c.in_ok-names.names.items ≡ c.self.inside.names.items = same_from_all_zip _ _ _ c.in_ok-names.ensures.cases.0 (λ x y h. search rules) in
-    kept_same _ _ _ _ _ (subst (λ (p : List (List Element) × List ℕ). IsKept p.0 p.1 (name_of c.self.inside.index) c.self.inside.count) (λ i. (sym chunks i, sym names i)) c.self.invariant) c.in_ok-index.ensures.cases
+    let kept = kept_same _ _ _ _ _ (subst (λ (p : List (List Element) × List ℕ). IsKept p.0 p.1 (name_of c.self.inside.index) c.self.inside.count) (λ i. (sym chunks i, sym names i)) c.self.invariant.0) c.in_ok-index.ensures.cases in
+    (kept, c.self.invariant.1 ∙ ap (λ z. length (visible_text (joined z))) (sym chunks))
 
 pub returns : goal.returns
 returns c =

@@ -13,7 +13,7 @@ pub returns : goal.returns
 returns g c = record {
   happens = (
     ap (λ (r : Recorded g.row.S.Denot). r.core) c.self.view_is,
-    subst (λ (r : Recorded g.row.S.Denot). IsRefused r.core.changes c.args.change.now c.refusal_without_memory-refusal.result) c.self.view_is (c.refusal_without_memory-refusal.ensures c.args.change.now),
+    subst (λ (r : Recorded g.row.S.Denot). IsRefused r.core.size r.core.changes c.args.change.now c.refusal_without_memory-refusal.result) c.self.view_is (c.refusal_without_memory-refusal.ensures c.args.change.now),
   );
   history = search rules;
   extends = search rules;

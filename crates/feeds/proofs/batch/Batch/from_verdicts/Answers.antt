@@ -14,7 +14,7 @@ invariant_of-result g c =
     let number = c.number-number.ensures ∙ ap (λ (v : Version). v.number) version in
     let spans : c.span_count-spans.result ≡ length job.version.value.rows = c.span_count-spans.ensures.value ∙ ap (λ (v : Version). length v.rows) version in
     let past : length verdicts ≤ c.loop-span.span = omega arith in
-    let few : c.span_count-spans.result ≤ 32768 = omega (arith, c.span_count-spans.ensures.whole.limits.few, c.span_count-spans.ensures.value) in
+    let few : c.span_count-spans.result ≤ 131072 = omega (arith, c.span_count-spans.ensures.whole.limits.few, c.span_count-spans.ensures.value) in
     let count : length verdicts ≡ length job.version.value.rows = ap length are ∙ verdict_count job.program.value job.version.value in (
       subst (λ (j : Job). c.push_finding.new.items.items ≡ items_of j.program j.version) (sym c.again.ensures)
           (batch_whole c.loop-span.items.items c.push_finding.new.items.items job.program job.version verdicts c.number-number.result _ c.loop-span.span

@@ -6,7 +6,7 @@ abbrev pub invariant-pumping : goal.invariant-pumping
 invariant-pumping g l = record {
   fed : IsFed g.S.Sink.sent g.S.Sink.full l.versions l.self;
   moved : Moved g.S.Sink.sent g.S.Sink.full l.initial.self l.pushed l.self;
-  few : l.pushed ≤ (l.self.cursor - l.initial.self.cursor) * 32769;
+  few : l.pushed ≤ (l.self.cursor - l.initial.self.cursor) * 131073;
 }
 
 abbrev pub decreases-pumping : goal.decreases-pumping

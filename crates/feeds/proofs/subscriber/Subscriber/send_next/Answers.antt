@@ -17,12 +17,12 @@ send_batch-reached-requires-clause-from g c =
 pub send_batch-reached-requires-clause-orderly : goal.send_batch-reached-requires-clause-orderly
 send_batch-reached-requires-clause-orderly g c =
     let fed = subst (λ (s : Subscriber g.row.S.Denot). IsFed g.S.Sink.sent g.S.Sink.full c.args.versions.now s) (sym c.self.view_is) c.requires.fed in
-    may_send _ _ _ _ c.in-Some.batch.now (changes_rise _ c.requires.published) fed (subst (λ (h : HeldBatches). slice_get h 0 ≡ Some (Some c.in-Some.batch.now)) c.as_slice.ensures.value c.in-Some.ensures)
+    may_send _ _ _ _ c.in-Some.batch.now (changes_rise _ _ c.requires.published) fed (subst (λ (h : HeldBatches). slice_get h 0 ≡ Some (Some c.in-Some.batch.now)) c.as_slice.ensures.value c.in-Some.ensures)
 
 pub send_batch-reached-requires-clause-promised : goal.send_batch-reached-requires-clause-promised
 send_batch-reached-requires-clause-promised g c =
     let fed = subst (λ (s : Subscriber g.row.S.Denot). IsFed g.S.Sink.sent g.S.Sink.full c.args.versions.now s) (sym c.self.view_is) c.requires.fed in
-    may_promise _ _ (g.S.Sink.promise c.self.inside.sink) c.args.versions.now _ c.in-Some.batch.now c.self.invariant c.requires.published fed
+    may_promise _ _ (g.S.Sink.promise c.self.inside.sink) _ c.args.versions.now _ c.in-Some.batch.now c.self.invariant c.requires.published fed
     (subst (λ (h : HeldBatches). slice_get h 0 ≡ Some (Some c.in-Some.batch.now)) c.as_slice.ensures.value c.in-Some.ensures)
 
 pub returns-then-reached-items-clause-fed : goal.returns-then-reached-items-clause-fed

@@ -7,9 +7,10 @@ pub returns : goal.returns
 returns c =
     let self = c.args.self.now in
     let piece = c.args.piece.now in
-    on_ok _ _ c.read_lines.result c.read_lines.ensures (λ step input kept.
-    let P : List ℕ → Type 0 = λ l. Holds (input ++ piece) self.history l self.fault in
-    step (input ++ piece) (record {
+    on_ok _ _ c.read_lines.result c.read_lines.ensures (λ step size input kept.
+    let P : List ℕ → Type 0 = λ l. Holds self.history.size (input ++ piece) self.history.changes l self.fault in
+    step size (input ++ piece) (record {
+      of = kept.of;
       front = c.in_ok-keep_front.ensures input kept.front;
-      held = subst P (sym c.in_ok-append.ensures) (pushed input self.left.items piece self.history self.fault kept.held);
+      held = subst P (sym c.in_ok-append.ensures) (pushed self.history.size input self.left.items piece self.history.changes self.fault kept.held);
     }))

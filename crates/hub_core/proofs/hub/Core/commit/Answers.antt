@@ -7,14 +7,18 @@ use Rattle.hub_core.proofs.Sound.{sound_set, committed, refused}
 use Rattle.hub_core.proofs.hub.Core.commit.Goals as goal
 
 pub invariant_of-self : goal.invariant_of-self
-invariant_of-self g c =
-    sound_set g.S.Sink.sent g.S.Sink.full _ c.behind-batch.inside.subscriber c.commit-kept.new.self c.self.invariant
-    (subst (λ (ts : List (Token Version)). IsFed g.S.Sink.sent g.S.Sink.full ts c.commit-kept.new.self) c.as_slice.ensures.value c.commit-kept.ensures.fed)
+invariant_of-self g c = (
+  c.self.invariant.0,
+  sound_set g.S.Sink.sent g.S.Sink.full _ c.behind-batch.inside.subscriber c.commit-kept.new.self c.self.invariant.1
+      (subst (λ (ts : List (Token Version)). IsFed g.S.Sink.sent g.S.Sink.full ts c.commit-kept.new.self) c.as_slice.ensures.value c.commit-kept.ensures.fed),
+)
 
 pub invariant_of-self-2 : goal.invariant_of-self-2
-invariant_of-self-2 g c =
-    sound_set g.S.Sink.sent g.S.Sink.full _ c.behind-batch.inside.subscriber c.commit-kept.new.self c.self.invariant
-    (subst (λ (ts : List (Token Version)). IsFed g.S.Sink.sent g.S.Sink.full ts c.commit-kept.new.self) c.as_slice.ensures.value c.commit-kept.ensures.fed)
+invariant_of-self-2 g c = (
+  c.self.invariant.0,
+  sound_set g.S.Sink.sent g.S.Sink.full _ c.behind-batch.inside.subscriber c.commit-kept.new.self c.self.invariant.1
+      (subst (λ (ts : List (Token Version)). IsFed g.S.Sink.sent g.S.Sink.full ts c.commit-kept.new.self) c.as_slice.ensures.value c.commit-kept.ensures.fed),
+)
 
 pub returns-then-kept-clause-commits : goal.returns-then-kept-clause-commits
 returns-then-kept-clause-commits g c =

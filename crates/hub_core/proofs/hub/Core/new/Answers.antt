@@ -1,4 +1,5 @@
-use Rattle.std.proofs.Common.{[], ◌∷◌, ◌++◌, List, ap, ◌∙◌}
+use Rattle.std.proofs.Common.{◌≡◌, [], ◌∷◌, ◌++◌, List, ap, ◌∙◌}
+use Rattle.change_history.specs.Chronicle.{Chronicle}
 use Rattle.span_flatten.specs.Version.{Version}
 use Rattle.version_history.specs.Tokens.{Token}
 use Rattle.hub_core.proofs.Sound.{sound_start}
@@ -6,5 +7,8 @@ use Rattle.hub_core.proofs.hub.Core.new.Goals as goal
 
 pub invariant_of-result : goal.invariant_of-result
 invariant_of-result g c =
-    sound_start g.S.Sink.sent g.S.Sink.full _ c.in_ok-token.token c.new.ensures
-    (c.push_reserved.ensures.items ∙ ap (λ (l : List (Token Version)). l ++ c.in_ok-token.token ∷ []) (c.in_ok-reserve.ensures.items ∙ c.new-versions.ensures.items)) c.new-2.ensures.items c.in_ok-token.ensures
+    let made : c.new.result ≡ record { size = c.size.result; changes = [] } = c.new.ensures in (
+      ap (λ (h : Chronicle). h.size) made ∙ c.size.ensures,
+      sound_start g.S.Sink.sent g.S.Sink.full _ c.in_ok-token.token (ap (λ (h : Chronicle). h.changes) made)
+          (c.push_reserved.ensures.items ∙ ap (λ (l : List (Token Version)). l ++ c.in_ok-token.token ∷ []) (c.in_ok-reserve.ensures.items ∙ c.new-versions.ensures.items)) c.new-2.ensures.items c.in_ok-token.ensures,
+    )

@@ -1,4 +1,5 @@
 use Rattle.std.proofs.Common.{◌<◌, List, length, arith, subst, sym, ◌∙◌}
+use Rattle.change_ops.specs.declared.size.Size.{Size}
 use Rattle.span_flatten.specs.Version.{Version}
 use Rattle.version_history.specs.Tokens.{Token}
 use Rattle.feeds.specs.Promise.{AreOfChanges}
@@ -8,18 +9,20 @@ use Rattle.hub_core.proofs.hub.Core.pump.Goals as goal
 
 pub pump-requires-clause-published : goal.pump-requires-clause-published
 pump-requires-clause-published g c =
-    subst AreOfChanges (sym c.as_slice.ensures.value) (of_changes g.S.Sink.sent g.S.Sink.full _ c.self.invariant c.len-2.ensures.accepted)
+    subst (λ (x : Size × List (Token Version)). AreOfChanges x.0 x.1) (λ i. (c.self.invariant.0 i, sym c.as_slice.ensures.value i)) (of_changes g.S.Sink.sent g.S.Sink.full _ c.self.invariant.1 c.len-2.ensures.accepted)
 
 pub pump-requires-clause-fed : goal.pump-requires-clause-fed
 pump-requires-clause-fed g c =
     let within : c.args.id < length c.self.inside.subscribers.items = omega arith in
     subst (λ (ts : List (Token Version)). IsFed g.S.Sink.sent g.S.Sink.full ts c.index_mut-sub.result.now) (sym c.as_slice.ensures.value)
-    (fed_at g.S.Sink.sent g.S.Sink.full _ c.args.id c.index_mut-sub.result.now c.self.invariant within c.index_mut-sub.ensures.value)
+    (fed_at g.S.Sink.sent g.S.Sink.full _ c.args.id c.index_mut-sub.result.now c.self.invariant.1 within c.index_mut-sub.ensures.value)
 
 pub invariant_of-self : goal.invariant_of-self
-invariant_of-self g c =
-    sound_set g.S.Sink.sent g.S.Sink.full _ c.args.id c.pump.new.self c.self.invariant
-    (subst (λ (ts : List (Token Version)). IsFed g.S.Sink.sent g.S.Sink.full ts c.pump.new.self) c.as_slice.ensures.value c.pump.ensures.fed)
+invariant_of-self g c = (
+  c.self.invariant.0,
+  sound_set g.S.Sink.sent g.S.Sink.full _ c.args.id c.pump.new.self c.self.invariant.1
+      (subst (λ (ts : List (Token Version)). IsFed g.S.Sink.sent g.S.Sink.full ts c.pump.new.self) c.as_slice.ensures.value c.pump.ensures.fed),
+)
 
 pub returns : goal.returns
 returns g c =

@@ -5,7 +5,7 @@ use Rattle.hub_core.proofs.hub.Core.reissue.Goals as goal
 pub invariant_of-self : goal.invariant_of-self
 invariant_of-self g c =
     let within : c.args.id < length c.self.inside.subscribers.items = omega arith in
-    sound_handed g.S.Sink.sent g.S.Sink.full _ c.args.id c.index_mut.result.now.cursor c.index_mut.result.now c.reissue.new.self c.self.invariant within c.index_mut.ensures.value c.reissue.ensures
+    (c.self.invariant.0, sound_handed g.S.Sink.sent g.S.Sink.full _ c.args.id c.index_mut.result.now.cursor c.index_mut.result.now c.reissue.new.self c.self.invariant.1 within c.index_mut.ensures.value c.reissue.ensures)
 
 pub returns : goal.returns
 returns g c =

@@ -4,10 +4,10 @@ use Rattle.hub_core.proofs.Streams.{begins}
 use Rattle.hub_core.proofs.hub.Core.sink.Goals as goal
 
 pub returns-then-id-len-clause-stream : goal.returns-then-id-len-clause-stream
-returns-then-id-len-clause-stream g c = begins g.S.Sink.sent g.S.Sink.full c.args.self.now _ c.self.view_is c.self.invariant c.args.id
+returns-then-id-len-clause-stream g c = begins g.S.Sink.sent g.S.Sink.full c.args.self.now _ c.self.view_is c.self.invariant.1 c.args.id
 
 pub returns-clause-stream : goal.returns-clause-stream
-returns-clause-stream g c = begins g.S.Sink.sent g.S.Sink.full c.args.self.now _ c.self.view_is c.self.invariant c.args.id
+returns-clause-stream g c = begins g.S.Sink.sent g.S.Sink.full c.args.self.now _ c.self.view_is c.self.invariant.1 c.args.id
 
 pub returns-clause-value : goal.returns-clause-value
 returns-clause-value g c =

@@ -19,4 +19,5 @@ invariant_of-self-2 g c =
           ∙ sym (map-append change_text old (c.args.change ∷ []))
           ∙ ap (λ l. map change_text l) (sym added),
       greatest_of_more old new c.args.change c.self.inside.greatest _ added c.self.invariant.3 c.greatest_with-greatest.ensures,
+      ap (λ (s : Core QueueSink). s.size) c.in_ok-token.ensures.2 ∙ c.self.invariant.4,
     )

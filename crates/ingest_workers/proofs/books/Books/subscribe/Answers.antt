@@ -6,4 +6,4 @@ use Rattle.ingest_workers.proofs.books.Books.subscribe.Goals as goal
 
 pub subscribe-id-requires-clause-suits : goal.subscribe-id-requires-clause-suits
 subscribe-id-requires-clause-suits g c =
-    subst (λ (s : Core QueueSink). Suits c.args.sink.promise c.args.program.value (length s.changes)) (sym c.self.view_is) c.requires.suits
+    subst (λ (s : Core QueueSink). Suits c.args.sink.promise g.N.Naming.size c.args.program.value (length s.changes)) (sym c.self.view_is) c.requires.suits

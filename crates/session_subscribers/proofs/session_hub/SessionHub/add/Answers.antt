@@ -11,7 +11,7 @@ use Rattle.session_subscribers.proofs.session_hub.SessionHub.add.Goals as goal
 
 pub returns-in_err-program-clause-err : goal.returns-in_err-program-clause-err
 returns-in_err-program-clause-err g c =
-    passed_on c.from_residual.result c.in_err-program.field-0.0 _ c.from_residual.ensures.1 (refl, refl, inl (c.in_err-program.ensures.err c.args.capacity c.args.first))
+    passed_on c.from_residual.result c.in_err-program.field-0.0 _ c.from_residual.ensures.1 (refl, refl, inl (c.in_err-program.ensures.err g.N.Naming.size c.args.capacity c.args.first))
 
 pub returns-in_err-check-clause-err : goal.returns-in_err-check-clause-err
 returns-in_err-check-clause-err g c =
@@ -36,7 +36,7 @@ pub returns-in_err-token-clause-err : goal.returns-in_err-token-clause-err
 returns-in_err-token-clause-err g c =
     let safe = safe_bytes c.args.profile c.in_ok-program.program c.args.bytes.now c.in_ok-program.ensures.ok in
     passed_on c.from_residual-in_err-token.result c.in_err-token.field-0.0 _ c.from_residual-in_err-token.ensures.1
-    (c.reserve.ensures.items, refl, inl (subst (IsNotSubscribed c.args.profile c.args.capacity c.args.bytes.now c.args.first) (sym c.in_err-token.ensures.err) safe))
+    (c.reserve.ensures.items, refl, inl (subst (IsNotSubscribed g.N.Naming.size c.args.profile c.args.capacity c.args.bytes.now c.args.first) (sym c.in_err-token.ensures.err) safe))
 
 pub returns-in_err-id-clause-err : goal.returns-in_err-id-clause-err
 returns-in_err-id-clause-err g c =
@@ -46,16 +46,16 @@ returns-in_err-id-clause-err g c =
 
 pub id_at_hub-requires-clause-promise : goal.id_at_hub-requires-clause-promise
 id_at_hub-requires-clause-promise g c =
-    c.in_ok-sink.ensures.sink.2 ∙ ap (λ (p : Program). Some (record { program = p; first = c.args.first })) (sym c.in_ok-token.ensures.ok)
+    c.in_ok-sink.ensures.sink.2 ∙ ap (λ (p : Program). Some (record { size = g.N.Naming.size; program = p; first = c.args.first })) (sym c.in_ok-token.ensures.ok)
 
 pub returns-clause-ok : goal.returns-clause-ok
 returns-clause-ok g c =
     let may : IsTrue (takes_subscriber c.args.left.now) = search rules in
     let queue = c.in_ok-sink.sink in
-    let promise : queue.promise ≡ Some (promise_of c.args.bytes.now c.args.first) =
-    c.in_ok-sink.ensures.sink.2 ∙ ap (λ (p : Program). Some (record { program = p; first = c.args.first })) c.in_ok-program.ensures.ok.1 in
-    let held : c.push_reserved.new.self.items ≡ c.args.held.now.items ++ record { id = c.in_ok-id.id; items = record { line = queue.line; promise = Some (record { program = c.in_ok-program.program; first = c.args.first }); taken = []; shown = [] } } ∷ [] = search rules in
-    let one = held ∙ ap (λ (p : Program). c.args.held.now.items ++ record { id = c.in_ok-id.id; items = record { line = queue.line; promise = Some (record { program = p; first = c.args.first }); taken = []; shown = [] } } ∷ [])
+    let promise : queue.promise ≡ Some (promise_of g.N.Naming.size c.args.bytes.now c.args.first) =
+    c.in_ok-sink.ensures.sink.2 ∙ ap (λ (p : Program). Some (record { size = g.N.Naming.size; program = p; first = c.args.first })) c.in_ok-program.ensures.ok.1 in
+    let held : c.push_reserved.new.self.items ≡ c.args.held.now.items ++ record { id = c.in_ok-id.id; items = record { line = queue.line; promise = Some (record { size = g.N.Naming.size; program = c.in_ok-program.program; first = c.args.first }); taken = []; shown = [] } } ∷ [] = search rules in
+    let one = held ∙ ap (λ (p : Program). c.args.held.now.items ++ record { id = c.in_ok-id.id; items = record { line = queue.line; promise = Some (record { size = g.N.Naming.size; program = p; first = c.args.first }); taken = []; shown = [] } } ∷ [])
     c.in_ok-program.ensures.ok.1 in
     let safe = safe_bytes c.args.profile c.in_ok-program.program c.args.bytes.now c.in_ok-program.ensures.ok in (
       queue.line,
@@ -66,7 +66,7 @@ returns-clause-ok g c =
         allowed = safe.2;
         token = c.in_ok-token.token;
         same = c.in_ok-token.ensures.ok ∙ c.in_ok-program.ensures.ok.1;
-        holding = subst (λ (q : QueueSink). InOneHolding (λ old new. Subscribes old (first_of c.args.first old) c.in_ok-token.token q (Ok c.in_ok-id.id) new))
+        holding = subst (λ (q : QueueSink). InOneHolding g.N.Naming.size (λ old new. Subscribes old (first_of c.args.first old) c.in_ok-token.token q (Ok c.in_ok-id.id) new))
             (λ i. record { line = queue.line; sent = c.in_ok-sink.ensures.sink.0 i; capacity = c.in_ok-sink.ensures.sink.1 i; promise = promise i }) c.in_ok-id.ensures.ok;
       },
       may,

@@ -1,9 +1,10 @@
-use Rattle.std.proofs.Common.{◌≡◌, List, length, sym, ap, subst, ◌∙◌, arith}
+use Rattle.std.proofs.Common.{◌≡◌, ◌≤◌, List, length, sym, ap, subst, ◌∙◌, arith}
 use Rattle.span_flatten.specs.Spans.{Span}
 use Rattle.span_flatten.specs.Version.{Version, spans_of}
 use Rattle.version_laws.specs.Blocked.{in_blocks}
 use Rattle.version_blocks.specs.Blocked.{laid}
 use Rattle.version_blocks.specs.Glyphs.{AreMaximal, glyphs}
+use Rattle.version_blocks.proofs.Spelling.{glyphs_few}
 use Rattle.version_blocks.proofs.Windows.{laid_spans}
 use Rattle.version_blocks.proofs.version.BlockVersion.keeps.Goals as goal
 
@@ -16,5 +17,6 @@ returns c =
       maximal = subst AreMaximal seen c.self.invariant.maximal;
       laid =
           subst (λ (v : Version). v ≡ laid v.number (spans_of v)) c.self.view_is (ap (laid c.self.inside.number) (sym back));
-      few = omega (arith, ap (λ (s : List Span). length (glyphs s)) seen, c.self.invariant.counted, c.self.invariant.short);
+      few = omega (arith, ap (λ (s : List Span). length (glyphs s)) seen, glyphs_few all c.self.invariant.maximal, c.self.invariant.measured, c.self.invariant.short);
+      short = subst (λ (v : Version). length v.text ≤ 131072) c.self.view_is (omega (arith, c.self.invariant.measured, c.self.invariant.short));
     }

@@ -12,4 +12,4 @@ returns-clause-value c =
 pub returns-clause-whole : goal.returns-clause-whole
 returns-clause-whole c =
     subst (λ (v : Version). IsWhole v.text v.rows) c.self.view_is
-    (laid_whole (in_blocks c.self.inside.blocks.items) c.self.invariant.maximal (omega (arith, c.self.invariant.counted, c.self.invariant.short)))
+    (laid_whole (in_blocks c.self.inside.blocks.items) c.self.invariant.maximal (omega (arith, c.self.invariant.measured, c.self.invariant.short)))

@@ -1,10 +1,11 @@
-use Rattle.std.proofs.Common.{◌≡◌, ◌++◌, List, length, take, drop, sym, ap, subst, ◌∙◌, arith, All}
+use Rattle.std.proofs.Common.{◌≡◌, ◌≤◌, ◌++◌, List, length, take, drop, sym, ap, subst, ◌∙◌, arith, All}
 use Rattle.span_flatten.specs.Spans.{Span}
 use Rattle.span_flatten.specs.Version.{Version, spans_in, spans_of}
 use Rattle.version_laws.specs.Blocked.{in_blocks}
 use Rattle.version_blocks.specs.Blocked.{laid}
 use Rattle.version_blocks.specs.Blocks.{IsSized}
-use Rattle.version_blocks.specs.Glyphs.{AreMaximal, glyphs}
+use Rattle.version_blocks.specs.Glyphs.{AreMaximal, glyphs, text_of}
+use Rattle.version_blocks.proofs.Spelling.{glyphs_few}
 use Rattle.version_blocks.proofs.Windows.{laid_spans}
 use Rattle.version_blocks.proofs.version.BlockVersion.with_window.Goals as goal
 
@@ -18,11 +19,12 @@ replaced_blocks-requires c =
     record {
       maximal = subst (λ (b : List (List Span)). AreMaximal (in_blocks b)) (sym value) c.self.invariant.maximal;
       sized = subst (λ (b : List (List Span)). All IsSized b) (sym value) c.self.invariant.sized;
-      short = omega (arith, ap (λ (b : List (List Span)). length (glyphs (in_blocks b))) value, c.self.invariant.counted, c.self.invariant.short);
+      short = omega (arith, ap (λ (b : List (List Span)). length (glyphs (in_blocks b))) value, glyphs_few (in_blocks items) c.self.invariant.maximal, c.self.invariant.measured, c.self.invariant.short);
       whole = c.requires.whole;
       order = c.requires.order;
       within = omega (arith, size, c.requires.within);
-      room = omega (arith, size, c.requires.short);
+      room =
+          subst (λ (s : List Span). length (text_of (take c.args.from (glyphs s) ++ (glyphs (spans_in c.args.text.now c.args.rows.now) ++ drop c.args.to (glyphs s)))) ≤ 131072) (sym seen) c.requires.short;
     }
 
 pub returns-clause-glyphs : goal.returns-clause-glyphs

@@ -4,7 +4,7 @@ use Rattle.change_ops.specs.Lines.{ops_of_lines}
 use Rattle.change_history.specs.Kept.{Keeps}
 use Rattle.change_history.specs.Tally.{IsAdmitted}
 use Rattle.change_history.proofs.Chronicle.{begin_of}
-use Rattle.change_history.proofs.admission.admit_all.Given as goal
+use Rattle.change_history.proofs.admission.count_all.Given as goal
 
 abbrev pub invariant-loop-index : goal.invariant-loop-index
-invariant-loop-index l = (ops : List Op) → Keeps ops l.parts → IsAdmitted ops (ops_of_lines l.lines) (begin_of l.lines l.index) l.node l.parts l.tally
+invariant-loop-index l = (ops : List Op) → Keeps ops l.parts → IsAdmitted l.size ops (ops_of_lines l.lines) (begin_of l.lines l.index) l.node l.parts l.tally

@@ -4,10 +4,10 @@ use Rattle.std.proofs.lemmas.Option.{slice_get_read}
 use Rattle.change_ops.specs.Lines.{ops_of_lines}
 use Rattle.change_history.specs.Kept.{IsNotAccepted}
 use Rattle.change_history.proofs.Chronicle.{begin_of, admitting_begun, line_stands, line_admitted, refused_at, admitted_all}
-use Rattle.change_history.proofs.admission.admit_all.Goals as goal
+use Rattle.change_history.proofs.admission.count_all.Goals as goal
 
 pub loop-index-init : goal.loop-index-init
-loop-index-init c = λ ops k. admitting_begun ops c.args.lines.now c.args.node c.args.parts.now c.tally-tally.result k c.requires.own (c.tally-tally.ensures ops k)
+loop-index-init c = λ ops k. admitting_begun ops c.args.lines.now c.args.node c.args.parts.now c.tally-tally.result k c.requires.own (c.requires.short ops k) (c.tally-tally.ensures ops k)
 
 pub admit_line-requires : goal.admit_line-requires
 admit_line-requires c =
@@ -22,8 +22,8 @@ returns-in-Err c = λ ops k.
     let here : slice_get lines c.loop-index.index ≡ Some c.index-lines-index.result =
     slice_get_read lines (length lines) c.loop-index.index c.index-lines-index.result refl c.loop-index-test.true c.index-lines-index.is in
     let told = c.in-Err.ensures ops (ops_of_lines lines) (begin_of lines c.loop-index.index) c.args.node (c.loop-index.invariant ops k) (line_stands lines c.loop-index.index c.index-lines-index.result here) in
-    subst (λ e. IsNotAccepted ops lines e) (sym c.at_index.ensures)
-    (refused_at ops lines c.loop-index.index c.index-lines-index.result c.args.node c.args.parts.now c.admit_line.new.tally c.in-Err.error here told)
+    subst (λ e. IsNotAccepted c.args.size ops lines e) (sym c.at_index.ensures)
+    (refused_at c.args.size ops lines c.loop-index.index c.index-lines-index.result c.args.node c.args.parts.now c.admit_line.new.tally c.in-Err.error here told)
 
 pub loop-index-preserved : goal.loop-index-preserved
 loop-index-preserved c = λ ops k.

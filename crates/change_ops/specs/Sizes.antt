@@ -1,0 +1,23 @@
+-- How much a document holds over its life, by its size.
+use Rattle.std.specs.Prelude.{ℕ}
+use Rattle.change_ops.specs.declared.size.Size.{Size}
+use Rattle.change_ops.specs.declared.size.Size.TheVariants.{Small, Large}
+
+-- characters that are inserted, removed ones too
+abbrev pub most_characters : Size → ℕ
+most_characters Small = 32768
+most_characters Large = 262144
+
+-- mark operations
+abbrev pub most_marks : Size → ℕ
+most_marks Small = 4096
+most_marks Large = 16384
+
+-- accepted changes
+abbrev pub most_changes : Size → ℕ
+most_changes Small = 4096
+most_changes Large = 65536
+
+-- bytes of the visible characters as UTF-8
+abbrev pub most_bytes : ℕ
+most_bytes = 131072
