@@ -7,7 +7,6 @@ mod context_layout;
 #[cfg(test)]
 mod cut_changes;
 #[cfg(test)]
-mod document_sizes;
 #[cfg(test)]
 mod full_text;
 #[cfg(test)]
