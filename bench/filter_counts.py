@@ -10,13 +10,13 @@ the lines `pull` and their replies: what is left is what all spans but one cost,
 the difference of a session with some keys more and one without them, by their number. An aim stands at the figure that it speaks of."""
 
 import pathlib
-import shutil
 import subprocess
 import sys
 from collections.abc import Callable
 from functools import lru_cache
 from typing import NamedTuple
 
+from counted import install
 from hostile_counts import instructions, of_each_more
 from hostile_inputs import Text, mark
 from sessions import QUESTION, slot
@@ -127,8 +127,7 @@ def show(hubs):
 def main():
     if len(sys.argv) not in (2, 3):
         sys.exit(__doc__)
-    if not shutil.which("valgrind"):
-        sys.exit("valgrind isn't installed here")
+    install()
     show(sys.argv[1:])
 
 

@@ -11,6 +11,7 @@ import time
 from typing import NamedTuple
 
 import hostile_inputs as inputs
+from counted import Counted
 from sessions import NEVER, Client
 
 PEER = pathlib.Path(__file__).resolve().parent.parent / "examples" / "clients" / "peer.py"
@@ -19,6 +20,8 @@ MILLION = 1000000
 # How many changes and versions more are counted.
 CHANGES = 1
 VERSIONS = 4
+# How many changes after the first one are counted in texts of both sizes, and how many times as many instructions one may take in the large one.
+LATER, MOST_TIMES = 3, 6
 SUBSCRIBERS = 60
 SPANS = 8000
 # About 4 ms on the machine of docs/BENCHMARKS.md, where this code runs 3 instructions in a cycle of 2.5 GHz.
@@ -188,6 +191,40 @@ def all_kinds(hub):
         what, value = f"4,096 marks of all kinds, up to {longest:,} characters: a change", of_a_change(hub, inputs.all_kinds(longest))
         figures.append(alone("4", what, value, "million", limit / MILLION))
     return figures
+
+
+def of_changes_at(hub, size, text):
+    """Millions of instructions in a hub of this size, of the first change that removes a character of a text, and of each one after it."""
+    session = Counted(hub, "--size", size)
+    for change in text.changes():
+        if (reply := session.ask(change)).startswith("no "):
+            sys.exit(f"a text of the size {size} is refused: {reply}")
+    first, *later = text.removals(1 + LATER)
+    counts = session.count([first])[1] / MILLION, session.count(later)[1] / LATER / MILLION
+    session.end()
+    return counts
+
+
+def large_texts(hub):
+    """The texts above at both sizes: four times as many marks in as much more text, and twice as many characters again where half are removed."""
+    cases = (
+        ("comments side by side", lambda times: inputs.side_by_side(inputs.comment, 7, times)),
+        ("comment threads among other marks", inputs.under_review),
+        ("comments of two runs below strong marks", lambda times: inputs.of_two_runs(inputs.comment, times)),
+        ("comments in windows of 512 characters", lambda times: inputs.windows(inputs.comment, 512, times)),
+        ("strong marks and comments nested", lambda times: inputs.nested(inputs.strong_or_comment, times)),
+        ("five kinds nested", lambda times: inputs.nested(inputs.one_of_five, times)),
+        ("nested colors", lambda times: inputs.nested(inputs.color, times)),
+        ("nested links of 1,024 bytes", lambda times: inputs.nested(inputs.link, times)),
+        ("a link of 1,024 bytes cut by strong marks", lambda times: inputs.cut(inputs.link(0), times)),
+        ("marks of all kinds, up to 200 characters", lambda times: inputs.all_kinds(200, times)),
+        ("marks of all kinds, up to 4,000 characters", lambda times: inputs.all_kinds(4000, times)),
+        ("colors where every other character is removed", lambda times: inputs.half_removed(inputs.color, times)),
+    )
+    for what, text in cases:
+        small, large = of_changes_at(hub, "small", text(1)), of_changes_at(hub, "large", text(inputs.LARGE))
+        for which, few, many in zip(("the first change", "each after it"), small, large):
+            yield beside("11", f"--size large, {what}, beside small: {which}", many, few, "million", MOST_TIMES)
 
 
 def of_a_pull(hub, subscribers, program, workers):
@@ -374,6 +411,7 @@ ROWS = {
     "nested": nested,
     "links": links,
     "all_kinds": all_kinds,
+    "large_texts": large_texts,
     "idle_subscribers": idle_subscribers,
     "never_read": never_read,
     "large_inputs": large_inputs,

@@ -7,6 +7,8 @@ from typing import NamedTuple
 from sessions import long_program, slot
 
 MARKS = 4096
+# How many times as many marks, and places for them, a hub of the large size takes.
+LARGE = 4
 OPERATIONS = 256
 GREATEST = (1 << 48) - 1
 
@@ -16,9 +18,11 @@ class Text(NamedTuple):
 
     characters: int
     marks: list
+    removed: range = range(0)
 
     def changes(self):
-        return typed_on(1, self.characters) + self.mark_changes()
+        typed = typed_on(1, self.characters)
+        return [change for at, run in enumerate(typed) for change in (run, *self.removed_of(at))] + self.mark_changes()
 
     def mark_changes(self):
         """The marks in as few changes as can be."""
@@ -30,13 +34,20 @@ class Text(NamedTuple):
             changes.append(f"change2 1 {len(part)}\n" + "".join(lines))
         return changes
 
+    def removed_of(self, number):
+        """The change by node 2 that removes what is removed of a typed change's characters, if anything is: else too much may be visible."""
+        part = [place for place in range(number * OPERATIONS + 1, (number + 1) * OPERATIONS + 1) if place in self.removed]
+        lines = [f"d {place + 1}@2 {place}@1\n" for place in part]
+        return [f"change2 2 {len(part)}\n" + "".join(lines)] if part else []
+
     def newest(self):
         return self.characters + len(self.marks)
 
     def removals(self, count):
         """Changes that remove a character each, in the midst of the text, side by side."""
+        step = self.removed.step if self.removed else 1
         first = self.characters // 2
-        return [f"change 1 1\nd {self.newest() + 1 + at}@1 {first + at}@1\n" for at in range(count)]
+        return [f"change 1 1\nd {self.newest() + 1 + at}@1 {first + step * at}@1\n" for at in range(count)]
 
 
 def typed_on(first, end):
@@ -95,36 +106,38 @@ def any_kind(turn):
 # Where marks stand.
 
 
-def side_by_side(key, length):
+def side_by_side(key, length, times=1):
     """Marks of which each begins where the one before it ends."""
-    marks = [mark(key(number), length * number + 1, length * number + length) for number in range(MARKS)]
-    return Text(length * MARKS, marks)
+    marks = [mark(key(number), length * number + 1, length * number + length) for number in range(times * MARKS)]
+    return Text(length * len(marks), marks)
 
 
-def nested(key, characters=8400):
+def nested(key, times=1):
     """Marks of which each is within the one before it."""
-    return Text(characters, [mark(key(number), number + 1, characters - number) for number in range(MARKS)])
+    characters = times * 8400
+    return Text(characters, [mark(key(number), number + 1, characters - number) for number in range(times * MARKS)])
 
 
-def windows(key, length=512):
+def windows(key, length=512, times=1):
     """Marks of which each begins and ends one character behind the one before it, so that all but the first and the last places have as many."""
-    return Text(MARKS + length, [mark(key(number), number + 1, number + length) for number in range(MARKS)])
+    marks = [mark(key(number), number + 1, number + length) for number in range(times * MARKS)]
+    return Text(len(marks) + length, marks)
 
 
-def of_two_runs(key):
+def of_two_runs(key, times=1):
     """1,024 keys at two places each, side by side, within a text that is strong, and 2,048 strong marks that change nothing to see."""
-    runs, length = MARKS // 2, 7
+    runs, length = times * MARKS // 2, 7
     marks = [mark(key(run % (runs // 2)), length * run + 1, length * run + length) for run in range(runs)]
     marks.append(mark("strong -", 1, length * runs))
     marks += [mark("strong -", length * run + 3, length * run + 4) for run in range(runs - 1)]
     return Text(length * runs, marks)
 
 
-def cut(covering):
+def cut(covering, times=1):
     """A text of 32,768 characters with strong marks that cut it, perhaps below one mark that covers all of it."""
-    characters = 8 * MARKS
+    characters = times * 8 * MARKS
     marks = [mark(covering, 1, characters)] if covering else []
-    marks += [mark("strong -", 8 * turn - 3, 8 * turn) for turn in range(1, MARKS)]
+    marks += [mark("strong -", 8 * turn - 3, 8 * turn) for turn in range(1, times * MARKS)]
     return Text(characters, marks)
 
 
@@ -133,24 +146,25 @@ def of_one_character(key):
     return Text(2 * MARKS, [mark(key(number), 2 * number + 1, 2 * number + 1) for number in range(MARKS)])
 
 
-def all_kinds(longest):
+def all_kinds(longest, times=1):
     """Marks of all kinds over random ranges of up to `longest` characters, where bench/texts.c has them."""
-    characters, state, marks = 8 * MARKS, 7, []
+    characters, state, marks = times * 8 * MARKS, 7, []
 
     def chosen(below):
         nonlocal state
         state = (state * 1664525 + 1013904223) % (1 << 32)
         return (state >> 8) % below
 
-    for turn in range(MARKS):
+    for turn in range(times * MARKS):
         first = chosen(characters - longest - 1) + 1
         marks.append(mark(any_kind(turn), first, first + chosen(longest)))
     return Text(characters, marks)
 
 
-def under_review(threads=300, others=3796, characters=32768):
+def under_review(times=1):
     """A document under review: comments of up to some sentences, each with a number of its own, among marks of single words and phrases, some
     of which are taken away again."""
+    threads, others, characters = times * 300, times * 3796, times * 32768
     rng = random.Random(2)
     marks = []
     for at in range(threads):
@@ -164,6 +178,14 @@ def under_review(threads=300, others=3796, characters=32768):
         marks.append(("u", f"{key[:-2]} <{first}@1 >{last}@1") if taken else mark(key, first, last))
     rng.shuffle(marks)
     return Text(characters, marks)
+
+
+def half_removed(key, times=1):
+    """About as many characters as a hub takes, of which the odd ones are removed; marks over half of them, with as many between them."""
+    characters = 32512 if times == 1 else 261888
+    step = characters // (times * MARKS)
+    marks = [mark(key(number), step * number + 1, step * number + step // 2) for number in range(times * MARKS)]
+    return Text(characters, marks, range(1, characters, 2))
 
 
 # What sessions send.

@@ -15,7 +15,7 @@ import threading
 import time
 
 import hostile_inputs as inputs
-from hostile_counts import MIB, Figure, Note, Server, alone, beside, greatest_counter, heading, never_read, processor_time, shares
+from hostile_counts import MIB, Figure, Note, Server, alone, beside, greatest_counter, heading, large_texts, never_read, processor_time, shares
 from sessions import NEVER, Client, Replay
 
 HERE = pathlib.Path(__file__).resolve().parent
@@ -269,6 +269,7 @@ ROWS = {
     "writer": measure_writer,
     "greatest": greatest_counter,
     "shares": shares,
+    "large": large_texts,
 }
 
 

@@ -64,9 +64,9 @@ def row(what, value, unit):
 class Replay:
     """A session with `hub replay`."""
 
-    def __init__(self, hub, workers=1, processors=None):
+    def __init__(self, hub, workers=1, processors=None, size=None):
         bind = (lambda: os.sched_setaffinity(0, processors)) if processors else None
-        words = [hub, "replay", "--workers", str(workers)]
+        words = [hub, "replay", "--workers", str(workers)] + (["--size", size] if size else [])
         self.child = subprocess.Popen(words, stdin=subprocess.PIPE, stdout=subprocess.PIPE, preexec_fn=bind)
 
     def ask(self, request, last="ok "):

@@ -2,7 +2,8 @@
 """Tries `hub serve --read` with peers of peer.py: try_peer.py [HUB] [SEED]
 
 HUB is the executable, by default $HUB or `hub`. Peers type at once at random and all end with the hub's own text and formatting; the
-spans that `hub spans` prints of all accepted changes are what `show` shows; and what each line of reading refuses is tried."""
+spans that `hub spans` prints of all accepted changes are what `show` shows; what each line of reading refuses is tried, and that watch.py ends
+once the hub is full."""
 import os
 import pathlib
 import random
@@ -199,10 +200,25 @@ def try_without_reading():
         session.close()
 
 
+def try_watching():
+    """watch.py prints the items that a full hub still gives, and ends."""
+    clients = pathlib.Path(__file__).resolve().parent
+    with Hub(2, "--read") as hub:
+        session = Session(hub.port)
+        for number in range(1, 4097):
+            session.ask("change 1 1", f"i {number}@1 - 61")
+        command = [sys.executable, clients / "watch.py", str(hub.port), clients.parent / "filters" / "question.hex", "--from", "4094"]
+        done = subprocess.run(command, stdout=subprocess.PIPE, stderr=subprocess.PIPE, check=True, timeout=60)
+        assert done.stdout == b"ok sub 0\nend 4094 1\nend 4095 1\nend 4096 1\n", done.stdout
+        assert done.stderr == b"the hub is full, so that no item comes any more\n", done.stderr
+        session.close()
+
+
 def main():
     print(f"seed {SEED}")
     try_replies()
     try_command()
+    try_watching()
     try_without_reading()
     for nodes in [(1, 2, 3), (65535, 7, 8), (4, 4, 4)]:
         print(f"nodes {nodes}: {try_at_once(nodes)} versions, all alike")

@@ -2,7 +2,8 @@
 """Subscribes a filter to a hub, and prints its items as they come: watch.py PORT FILTER.hex [--from N]
 
 It begins with the hub's latest version, or with version N. Where the connection is lost it connects anew for half a minute, subscribes
-from the last version that it has whole, and goes on behind the last item that it printed: each item is printed once."""
+from the last version that it has whole, and goes on behind the last item that it printed: each item is printed once. Once a hub with --read
+is full, and all items are printed, it ends."""
 import argparse
 import itertools
 import re
@@ -24,12 +25,12 @@ except (OSError, UnicodeDecodeError) as error:
 if not re.fullmatch("([0-9a-fA-F]{2})+", program):
     sys.exit(f"{arguments.filter} isn't one line of hexadecimal digits, as `hub asm | tr -d '\\n'` and filters/compile.sh print")
 # What a refusal of `sub` means; `hub check` prints the others.
-MEANINGS = {51: "all subscribers that a hub takes were used up, closed ones counted", 55: "the hub doesn't have that version yet",
+MEANINGS = {51: "the hub takes no subscriber more: closed ones count too, or too many are open", 55: "the hub doesn't have that version yet",
             60: "what listens there isn't a hub that takes this request", 69: "as many sessions are there as the hub allows: try again later"}
 
 
 def items_from(lines, first):
-    """Subscribes from a version, or from the latest one, and gives the items without end."""
+    """Subscribes from a version, or from the latest one, and gives the items, until the hub says that no more come."""
 
     def line():
         text = lines.readline()
@@ -53,7 +54,10 @@ def items_from(lines, first):
         number = int(subscribed.split()[1])
         sys.exit(MEANINGS.get(number, f"the hub refuses the program: `hub check --explain < {arguments.filter}` says why"))
     while True:
-        yield from ask(f"pull {subscribed.split()[2]} 64")[:-1]
+        *items, last = ask(f"pull {subscribed.split()[2]} 64")
+        yield from items
+        if last == "ok items 0 full":
+            return
         time.sleep(0.2)
 
 
@@ -71,6 +75,8 @@ while tries < 30:
                 printed, part = printed + 1, part + 1
                 if kind == "end":
                     first, printed, part = int(version), part, 0
+        print("the hub is full, so that no item comes any more", file=sys.stderr)
+        sys.exit()
     except OSError as error:
         if tries == 0:
             print(f"no session at port {arguments.port} ({error}): trying again for half a minute", file=sys.stderr, flush=True)

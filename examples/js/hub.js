@@ -111,7 +111,7 @@ function changesIn(lines) {
 /** A program that is subscribed, and its hits: by version, the numbers of the spans; and where its latest stand. */
 class Filter {
   constructor(name, program) {
-    Object.assign(this, { name, program, number: null, done: null, begun: [] });
+    Object.assign(this, { name, program, number: null, done: null, begun: [], isOver: false });
     Object.assign(this, { hits: new Map(), shown: null, parts: [] });
   }
 
@@ -479,7 +479,7 @@ export class Hub extends EventTarget {
 
   async resume(filter) {
     const { done, program } = filter;
-    filter.begun = [];
+    Object.assign(filter, { begun: [], isOver: false });
     try {
       const { number } = await this.session.ask(`sub2 ${ITEMS} ${program}${done === null ? "" : ` from ${done}`}`);
       filter.number = number;
@@ -503,18 +503,27 @@ export class Hub extends EventTarget {
     }
   }
 
-  /** Takes a filter's items, those of versions that aren't taken yet too. Returns whether there were some. */
+  /** Takes a filter's items, those of versions that aren't taken yet too, until the hub says that none comes any more.
+   * Returns whether there were some. */
   async pull(filter) {
     let isNew = false;
-    for (let pulls = 0, count = ITEMS; filter.number !== null && count === ITEMS && pulls < PULLS; pulls += 1) {
-      const { lines, number } = await this.session.ask(`pull ${filter.number} ${ITEMS}`);
+    const isAwaited = () => filter.number !== null && !filter.isOver;
+    for (let pulls = 0, count = ITEMS; isAwaited() && count === ITEMS && pulls < PULLS; pulls += 1) {
+      const { lines, word } = await this.session.ask(`pull ${filter.number} ${ITEMS}`);
       const items = lines.flatMap(item => filter.hear(item));
       if (items.length) this.tell("items", { filter, items });
-      if (number) isNew = true;
-      count = number;
+      if (lines.length) isNew = true;
+      count = lines.length;
+      if (word === "full" && isAwaited()) this.endFilter(filter);
     }
     this.place(filter);
     return isNew;
+  }
+
+  /** The hub is full, and the filter has all of its items. */
+  endFilter(filter) {
+    filter.isOver = true;
+    this.tell("notice", `${filter.name}: the hub is full, so no more is found.`);
   }
 
   /** Finds the characters of a filter's hits in the version taken, once they are known. */

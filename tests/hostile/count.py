@@ -6,11 +6,11 @@ nothing passes or fails by a time. Up to N rows are counted at once, two without
 
 import argparse
 import pathlib
-import shutil
 import sys
 from concurrent.futures import ThreadPoolExecutor
 
 sys.path.insert(0, str(pathlib.Path(__file__).resolve().parent.parent.parent / "bench"))
+from counted import install  # noqa: E402
 from hostile_counts import ROWS, Figure, heading  # noqa: E402
 
 
@@ -20,8 +20,7 @@ def main():
     parser.add_argument("rows", metavar="ROWS", nargs="*", help=f"of {', '.join(ROWS)}; none: all")
     parser.add_argument("--jobs", type=int, default=2)
     arguments = parser.parse_args()
-    if not shutil.which("valgrind"):
-        sys.exit("valgrind isn't installed here")
+    install()
     unknown = [name for name in arguments.rows if name not in ROWS]
     if unknown:
         parser.error(f"no row {unknown[0]}")

@@ -212,7 +212,7 @@ class Script:
     def finish(self):
         """All that is due to each subscriber."""
         for number in self.open():
-            while self.say(f"pull {number} 64") != "ok items 0":
+            while not self.say(f"pull {number} 64").startswith("ok items 0"):
                 pass
 
 

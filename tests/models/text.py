@@ -24,7 +24,9 @@ NAMES = {40: "BadLine", 41: "Truncated", 42: "Limit", 43: "CharRefused", 44: "Wr
          60: "BadCommand", 61: "LineTooLong", 62: "TextRefused"}
 # The most changes, characters and marks by size; how many bytes are shown at each.
 SIZES = {"small": (4096, 32768, 4096), "large": (65536, 262144, 16384)}
-BYTES, OPERATIONS, SUBSCRIBERS = 131072, 256, 64
+BYTES, OPERATIONS = 131072, 256
+# Subscribers in all, closed ones counted, and at one time.
+SUBSCRIBERS = {"small": (64, 64), "large": (4096, 256)}
 COUNTER, NODE, COMMENT, LINK = (1 << 48) - 1, 65535, (1 << 32) - 1, 1024
 
 
@@ -387,7 +389,7 @@ class Session:
     def __init__(self, data, reads=False, jump=None, limits=None, size="small"):
         self.jump, self.limits, self.used = jump, limits or {}, {"changes": 0, "bytes": 0, "subscribers": 0}
         self.rest, self.text, self.versions, self.subscribers, self.out = data, Text(size), [[]], [], []
-        self.reads, self.spellings, self.lines_of_spans = reads, [], [[]]
+        self.reads, self.spellings, self.lines_of_spans, self.places = reads, [], [[]], SUBSCRIBERS[size]
 
     def line(self):
         """The next line: None at the end, and else its bytes, and whether it has its line feed."""
@@ -444,7 +446,7 @@ class Session:
         if program not in PROGRAMS:
             raise Foreign
         used = self.use(51, subscribers=1)
-        if len(self.subscribers) >= SUBSCRIBERS:
+        if not all(self.places_left()):
             raise Foreign
         if first >= len(self.versions):
             raise Refused(55)
@@ -468,7 +470,8 @@ class Session:
             subscriber[1] += len(due)
             if out[-1].startswith("end"):
                 subscriber[:2] = version + 1, 0
-        return out + [f"ok items {len(out)}"]
+        is_full = self.reads and self.text.changes == self.text.limits[0]
+        return out + [f"ok items {len(out)}" + " full" * (is_full and not out)]
 
     def close(self, number):
         self.open(number)
@@ -500,19 +503,27 @@ class Session:
             raise Refused(42, 1)
         return [f"ok newest {self.text.counters.get(int(node), 0)}"]
 
+    def listening(self):
+        return [subscriber for subscriber in self.subscribers if subscriber]
+
+    def places_left(self):
+        return [most - count for most, count in zip(self.places, (len(self.subscribers), len(self.listening())))]
+
     def left(self):
-        used = self.text.changes, len(self.text.codes), len(self.text.marks), len(self.subscribers)
-        return ["ok left " + " ".join(str(limit - count) for limit, count in zip(self.text.limits + (SUBSCRIBERS,), used))]
+        used = self.text.changes, len(self.text.codes), len(self.text.marks)
+        left = [limit - count for limit, count in zip(self.text.limits, used)] + [min(self.places_left())]
+        return ["ok left " + " ".join(map(str, left))]
 
     def stats(self):
         """A subscriber's queue must have had room for all that was due when it was last pulled, so that it was sent what it was given."""
-        text, listening = self.text, [subscriber for subscriber in self.subscribers if subscriber]
-        used = text.changes, len(text.codes), len(text.marks), len(self.subscribers)
+        text, listening = self.text, self.listening()
+        used = text.changes, len(text.codes), len(text.marks)
         visible = "".join(chr(code) for at, code in text.codes.items() if at not in text.removed)
         told = [("versions", text.changes), ("characters", len(visible)), ("removed", len(text.removed)), ("marks", len(text.marks)), ("subscribers", len(listening)),
                 ("subscribed", len(self.subscribers)), ("sessions", 1), ("bytes", len(visible.encode())),
                 ("lag", max((text.changes + 1 - version for version, _, _ in listening), default=0))]
-        told += [(name + "-used", count * 1000 // limit) for name, count, limit in zip(("changes", "characters", "marks", "subscribers"), used, text.limits + (SUBSCRIBERS,))]
+        told += [(name + "-used", count * 1000 // limit) for name, count, limit in zip(("changes", "characters", "marks"), used, text.limits)]
+        told.append(("subscribers-used", max((most - left) * 1000 // most for most, left in zip(self.places, self.places_left()))))
         return ["ok stats " + " ".join(f"{name} {count}" for name, count in told)]
 
     def answer(self, line, ended):

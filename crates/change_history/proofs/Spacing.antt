@@ -8,14 +8,13 @@ use Rattle.std.proofs.lemmas.List.Sums.{sum-map, sum_by-append, sum_by-cons, sum
 use Rattle.std.proofs.lemmas.Option.{none-some}
 use Rattle.std.proofs.lemmas.Str.{length-encode, len_utf8_bounds}
 use Rattle.change_ops.specs.Lines.{ops_of, ops_of_lines}
-use Rattle.change_ops.specs.Operations.{is_insert}
+use Rattle.change_ops.specs.Operations.{is_insert, bytes_of}
 use Rattle.change_ops.specs.Runs.{inserts_from, next_id}
 use Rattle.change_ops.specs.declared.id.OpId.{OpId}
 use Rattle.change_ops.specs.declared.line.Line.{Line}
 use Rattle.change_ops.specs.declared.operation.Op.{Op}
 use Rattle.change_ops.specs.declared.operation.Op.TheVariants.{Insert, Remove, AddMark, RemoveMark}
 use Rattle.change_ops.specs.declared.size.Size.TheVariants.{Small, Large}
-use Rattle.char_sequence.specs.Acceptance.{bytes_of}
 use Rattle.char_sequence.specs.Order.{Shows}
 use Rattle.char_sequence.specs.Visible.{visible_text}
 use Rattle.char_sequence.proofs.TextGrowth.{text_grown}

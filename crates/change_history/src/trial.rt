@@ -2,10 +2,10 @@
 //! their order knows how much each removal makes room for.
 ghost use Rattle.std.specs.Prelude.{◌≡◌, ◌+◌, ◌<◌, List, ◌∷◌, [], true, nat_le, sum_by, MatchOption, MatchResult};
 ghost use Rattle.std.specs.Prelude.{length, encode_utf8_all};
+ghost use Rattle.change_ops.specs.Operations.{bytes_of};
 ghost use Rattle.change_ops.specs.Runs.{inserts_of};
 ghost use Rattle.change_ops.specs.Lines.{ops_of, ops_of_lines};
 ghost use Rattle.change_ops.specs.declared.operation.Op.{Op};
-ghost use Rattle.char_sequence.specs.Acceptance.{bytes_of};
 ghost use Rattle.change_history.specs.Kept.{Keeps, AreAllAccepted, IsNotAccepted};
 ghost use Rattle.change_history.specs.Tally.{AreShort};
 ghost use Rattle.change_history.specs.Trial.{CanTry, Tries};
@@ -17,18 +17,6 @@ use change_ops::line::Line;
 use change_ops::operation::Op;
 use change_ops::run::Run;
 use change_ops::size::{BYTE_LIMIT, Size};
-
-/// How many bytes of text an operation adds.
-fn bytes_of(op: &Op) -> usize
-    ensures { result ≡ bytes_of op.now }
-{
-    match op {
-        Op::Insert { character, .. } => character.value().len_utf8(),
-        Op::Remove { .. } => 0,
-        Op::AddMark { .. } => 0,
-        Op::RemoveMark { .. } => 0,
-    }
-}
 
 /// The room that bytes leave, None where there is too little for them.
 fn room_behind(room: usize, bytes: usize) -> Option<usize>
@@ -62,7 +50,7 @@ fn room_behind_line(room: usize, line: &Line) -> Option<usize>
         (λ left. left + sum_by bytes_of (ops_of line.now) ≡ room) }
 {
     match line {
-        Line::Operation(op) => room_behind(room, bytes_of(op)),
+        Line::Operation(op) => room_behind(room, op.byte_count()),
         Line::Run(run) => room_behind_all(room, run.characters()),
     }
 }

@@ -11,7 +11,7 @@ use std::sync::Wait;
 use std::sync::atomic::{AtomicBool, Ordering};
 
 /// How many texts may wait, as many as there may be sessions: each has one at most. So many are kept at once.
-pub(crate) const TEXT_LIMIT: usize = 64;
+pub(crate) const TEXT_LIMIT: usize = 256;
 
 /// A text that is to be kept, and where its session waits. Contracts see the text.
 #[derive(Drop)]

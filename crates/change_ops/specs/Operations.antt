@@ -1,5 +1,5 @@
 -- Operations: their ids, keys, and the characters that they name (Peritext, CSCW 2022).
-use Rattle.std.specs.Prelude.{◌≡◌, Some, ◌⊎◌, Bool, true, false}
+use Rattle.std.specs.Prelude.{◌≡◌, ℕ, Some, ◌⊎◌, Bool, true, false, length, encode_utf8}
 use Rattle.change_ops.specs.declared.id.OpId.{OpId}
 use Rattle.change_ops.specs.declared.attribute.Key.{Key}
 use Rattle.change_ops.specs.declared.attribute.Key.TheVariants as key
@@ -56,6 +56,13 @@ is_mark (Insert id parent character) = false
 is_mark (Remove id target) = false
 is_mark (AddMark id attribute start end) = true
 is_mark (RemoveMark id key start end) = true
+
+-- how many bytes of text an operation adds
+abbrev pub bytes_of : Op → ℕ
+bytes_of (Insert id parent character) = length (encode_utf8 character)
+bytes_of (Remove id target) = 0
+bytes_of (AddMark id attribute start end) = 0
+bytes_of (RemoveMark id key start end) = 0
 
 -- an operation that stands for none
 abbrev pub blank : Op

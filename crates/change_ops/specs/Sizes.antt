@@ -1,4 +1,4 @@
--- How much a document holds over its life, by its size.
+-- How much a document holds over its life, and its hub at one time, by its size.
 use Rattle.std.specs.Prelude.{ℕ}
 use Rattle.change_ops.specs.declared.size.Size.{Size}
 use Rattle.change_ops.specs.declared.size.Size.TheVariants.{Small, Large}
@@ -17,6 +17,21 @@ most_marks Large = 16384
 abbrev pub most_changes : Size → ℕ
 most_changes Small = 4096
 most_changes Large = 65536
+
+-- subscribers, closed ones too
+abbrev pub most_subscribers : Size → ℕ
+most_subscribers Small = 64
+most_subscribers Large = 4096
+
+-- subscribers that are not closed
+abbrev pub most_open : Size → ℕ
+most_open Small = 64
+most_open Large = 256
+
+-- sessions at one time
+abbrev pub most_sessions : Size → ℕ
+most_sessions Small = 64
+most_sessions Large = 256
 
 -- bytes of the visible characters as UTF-8
 abbrev pub most_bytes : ℕ

@@ -151,7 +151,7 @@ impl MadeWith<Global> for Op {
 }
 
 impl Op {
-    ghost use Rattle.change_ops.specs.Operations.{id_of, is_insert, is_mark, Names};
+    ghost use Rattle.change_ops.specs.Operations.{id_of, is_insert, is_mark, bytes_of, Names};
 
     /// The operation's own id.
     pub fn id(&self) -> OpId
@@ -170,6 +170,18 @@ impl Op {
         ensures { result ≡ is_insert self.now }
     {
         matches!(self, Op::Insert { .. })
+    }
+
+    /// How many bytes of text the operation adds, as UTF-8.
+    pub fn byte_count(&self) -> usize
+        ensures { result ≡ bytes_of self.now }
+    {
+        match self {
+            Op::Insert { character, .. } => character.value().len_utf8(),
+            Op::Remove { .. } => 0,
+            Op::AddMark { .. } => 0,
+            Op::RemoveMark { .. } => 0,
+        }
     }
 
     /// Whether the operation adds or removes a mark.

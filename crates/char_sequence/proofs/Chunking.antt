@@ -48,8 +48,6 @@ indexed_put cs names index more i c n k e ok here name h new other =
     let within : i < length cs = slice_get_within cs i c here in
     record {
       counted = ok.counted ∙ sym (length-set cs i d);
-      below = ok.below;
-      apart = ok.apart;
       behind =
           λ id m found.
           ⊎_elim
@@ -97,8 +95,6 @@ indexed_changed cs names index i c k o e ok here old is_id =
     let low : k < length c = slice_get_within c k o old in
     record {
       counted = ok.counted ∙ sym (length-set cs i d);
-      below = ok.below;
-      apart = ok.apart;
       behind =
           λ id m found.
           let r = ok.behind id m found in
@@ -148,13 +144,13 @@ has_or_not (x ∷ xs) id =
     (has_or_not xs id))
     (same_id_cases x.id id)
 
-inserted_before : {X : Type 0} (xs : List X) (k : ℕ) (e : X) (j : ℕ) → k ≤ length xs → j < k → slice_get (insert xs k e) j ≡ slice_get xs j
+pub inserted_before : {X : Type 0} (xs : List X) (k : ℕ) (e : X) (j : ℕ) → k ≤ length xs → j < k → slice_get (insert xs k e) j ≡ slice_get xs j
 inserted_before xs zero e j h low = absurd (omega arith)
 inserted_before [] (suc k) e j h low = absurd (omega arith)
 inserted_before (x ∷ xs) (suc k) e zero h low = refl
 inserted_before (x ∷ xs) (suc k) e (suc j) h low = inserted_before xs k e j (omega arith) (omega arith)
 
-inserted_behind : {X : Type 0} (xs : List X) (k : ℕ) (e : X) (j : ℕ) → k ≤ length xs → k ≤ j → slice_get (insert xs k e) (suc j) ≡ slice_get xs j
+pub inserted_behind : {X : Type 0} (xs : List X) (k : ℕ) (e : X) (j : ℕ) → k ≤ length xs → k ≤ j → slice_get (insert xs k e) (suc j) ≡ slice_get xs j
 inserted_behind xs zero e j h low = refl
 inserted_behind [] (suc k) e j h low = absurd (omega arith)
 inserted_behind (x ∷ xs) (suc k) e zero h low = absurd (omega arith)
@@ -181,49 +177,8 @@ in_left (x ∷ a) b id (suc k, (e, g, is)) none =
     let r = in_left a b id (k, (e, g, is)) none in
     (suc r.0, (r.1.0, r.1.1, r.1.2))
 
-split_names_apart : (names : List ℕ) (k m : ℕ) → k ≤ length names → m ≡ length names → ((i n : ℕ) → slice_get names i ≡ Some n → n < length names) → ((i j n : ℕ) → slice_get names i ≡ Some n → slice_get names j ≡ Some n → i ≡ j) → (i j n : ℕ) → slice_get (insert names k m) i ≡ Some n → slice_get (insert names k m) j ≡ Some n → i ≡ j
-split_names_apart names k m h is below apart i j n gi gj =
-    let cases = λ (x : ℕ) (g : slice_get (insert names k m) x ≡ Some n). inserted_cases names k m x n h g in
-    let fresh : (x : ℕ) → slice_get names x ≡ Some n → m ≡ n → ⊥ = λ x g e. let less = below x n g in omega (arith, less, e, is) in
-    ⊎_elim
-    (λ (u : (i < k) × (slice_get names i ≡ Some n)).
-    let low : i < k = u.0 in
-    ⊎_elim
-    (λ (v : (j < k) × (slice_get names j ≡ Some n)). apart i j n u.1 v.1)
-    (λ (v : ((j ≡ k) × (m ≡ n)) ⊎ ((q : ℕ) × (j ≡ suc q) × (k ≤ q) × (slice_get names q ≡ Some n))).
-    ⊎_elim
-    (λ (w : (j ≡ k) × (m ≡ n)). absurd (fresh i u.1 w.1))
-    (λ (w : (q : ℕ) × (j ≡ suc q) × (k ≤ q) × (slice_get names q ≡ Some n)).
-    let same = apart i w.0 n u.1 w.3 in let high : k ≤ w.0 = w.2 in absurd (omega (arith, same, low, high)))
-    v)
-    (cases j gj))
-    (λ (u : ((i ≡ k) × (m ≡ n)) ⊎ ((q : ℕ) × (i ≡ suc q) × (k ≤ q) × (slice_get names q ≡ Some n))).
-    ⊎_elim
-    (λ (x : (i ≡ k) × (m ≡ n)).
-    ⊎_elim
-    (λ (v : (j < k) × (slice_get names j ≡ Some n)). absurd (fresh j v.1 x.1))
-    (λ (v : ((j ≡ k) × (m ≡ n)) ⊎ ((q : ℕ) × (j ≡ suc q) × (k ≤ q) × (slice_get names q ≡ Some n))).
-    ⊎_elim
-    (λ (w : (j ≡ k) × (m ≡ n)). x.0 ∙ sym w.0)
-    (λ (w : (q : ℕ) × (j ≡ suc q) × (k ≤ q) × (slice_get names q ≡ Some n)). absurd (fresh w.0 w.3 x.1))
-    v)
-    (cases j gj))
-    (λ (x : (q : ℕ) × (i ≡ suc q) × (k ≤ q) × (slice_get names q ≡ Some n)).
-    let high : k ≤ x.0 = x.2 in
-    ⊎_elim
-    (λ (v : (j < k) × (slice_get names j ≡ Some n)).
-    let low : j < k = v.0 in let same = apart x.0 j n x.3 v.1 in absurd (omega (arith, same, low, high)))
-    (λ (v : ((j ≡ k) × (m ≡ n)) ⊎ ((q : ℕ) × (j ≡ suc q) × (k ≤ q) × (slice_get names q ≡ Some n))).
-    ⊎_elim
-    (λ (w : (j ≡ k) × (m ≡ n)). absurd (fresh x.0 x.3 w.1))
-    (λ (w : (q : ℕ) × (j ≡ suc q) × (k ≤ q) × (slice_get names q ≡ Some n)). x.1 ∙ ap suc (apart x.0 w.0 n x.3 w.3) ∙ sym w.1)
-    v)
-    (cases j gj))
-    u)
-    (cases i gi)
-
-pub indexed_split : (cs : List (List Element)) (names : List ℕ) (index more : OpId → Option ℕ) (i m : ℕ) (c a b : List Element) → IsIndexed cs names index → slice_get cs i ≡ Some c → c ≡ a ++ b → m ≡ length names → ((k : ℕ) (e : Element) → slice_get b k ≡ Some e → more e.id ≡ Some m) → ((q : OpId) → (HasId b q → ⊥) → more q ≡ index q) → IsIndexed (insert (set cs i a) (suc i) b) (insert names (suc i) m) more
-indexed_split cs names index more i m c a b ok here is fresh renamed kept =
+pub indexed_split : (cs : List (List Element)) (names : List ℕ) (index more : OpId → Option ℕ) (i m : ℕ) (c a b : List Element) → IsIndexed cs names index → slice_get cs i ≡ Some c → c ≡ a ++ b → ((k : ℕ) (e : Element) → slice_get b k ≡ Some e → more e.id ≡ Some m) → ((q : OpId) → (HasId b q → ⊥) → more q ≡ index q) → IsIndexed (insert (set cs i a) (suc i) b) (insert names (suc i) m) more
+indexed_split cs names index more i m c a b ok here is renamed kept =
     let within : i < length cs = slice_get_within cs i c here in
     let size = length-set cs i a in
     let counted = ok.counted in
@@ -239,18 +194,6 @@ indexed_split cs names index more i m c a b ok here is fresh renamed kept =
     record {
       counted =
           length-insert names (suc i) m low' ∙ ap (λ z. z + 1) (ok.counted ∙ sym size) ∙ sym (length-insert (set cs i a) (suc i) b low);
-      below =
-          λ j n g.
-          let grown = length-insert names (suc i) m low' in
-          ⊎_elim
-          (λ (u : (j < suc i) × (slice_get names j ≡ Some n)). let less = ok.below j n u.1 in omega (arith, less, grown))
-          (λ (u : ((j ≡ suc i) × (m ≡ n)) ⊎ ((q : ℕ) × (j ≡ suc q) × (suc i ≤ q) × (slice_get names q ≡ Some n))).
-          ⊎_elim
-          (λ (v : (j ≡ suc i) × (m ≡ n)). let same = v.1 in omega (arith, same, fresh, grown))
-          (λ (v : (q : ℕ) × (j ≡ suc q) × (suc i ≤ q) × (slice_get names q ≡ Some n)). let less = ok.below v.0 n v.3 in omega (arith, less, grown))
-          u)
-          (inserted_cases names (suc i) m j n low' g);
-      apart = split_names_apart names (suc i) m low' fresh ok.below ok.apart;
       behind =
           λ id n found.
           ⊎_elim
@@ -294,15 +237,6 @@ indexed_split cs names index more i m c a b ok here is fresh renamed kept =
     }
 
 -- ---- the first element
-first_below : (i n : ℕ) → slice_get (0 ∷ []) i ≡ Some n → n < 1
-first_below zero n g = let same = same_Some 0 n g in omega (arith, same)
-first_below (suc i) n g = absurd (none-some n g)
-
-first_apart : (i j n : ℕ) → slice_get (0 ∷ []) i ≡ Some n → slice_get (0 ∷ []) j ≡ Some n → i ≡ j
-first_apart zero zero n g h = refl
-first_apart zero (suc j) n g h = absurd (none-some n h)
-first_apart (suc i) j n g h = absurd (none-some n g)
-
 only : (e : Element) (k : ℕ) (x : Element) → slice_get (e ∷ []) k ≡ Some x → e.id ≡ x.id
 only e zero x g = ap (λ w. w.id) (same_Some e x g)
 only e (suc k) x g = absurd (none-some x g)
@@ -315,8 +249,6 @@ first_listed e more new (suc i) c g k x gx none = absurd (none-some c g)
 pub indexed_first : (names : List ℕ) (index more : OpId → Option ℕ) (e : Element) → IsIndexed [] names index → more e.id ≡ Some 0 → ((q : OpId) → same_id e.id q ≡ false → more q ≡ index q) → IsIndexed ((e ∷ []) ∷ []) (0 ∷ []) more
 indexed_first names index more e ok new other = record {
   counted = refl;
-  below = first_below;
-  apart = first_apart;
   behind =
       λ id n found.
       ⊎_elim
@@ -349,28 +281,11 @@ pub indexed_no : (cs : List (List Element)) (names : List ℕ) (index : OpId →
 indexed_no cs names index ok id None e f h = not_indexed_id cs names index ok id e h
 indexed_no cs names index ok id (Some n) e f h = false≢true (sym f)
 
-pub name_found : (cs : List (List Element)) (names ns : List ℕ) (index : OpId → Option ℕ) → IsIndexed cs names index → (id : OpId) (n : ℕ) → index id ≡ Some n → ns ≡ names → (r : Option ℕ) → MatchOption r ((i : ℕ) → slice_get ns i ≡ Some n → ⊥) (λ i. slice_get ns i ≡ Some n) → IsSome r
-name_found cs names ns index ok id n e same None none =
+-- the chunk of a name, which is where that name stands
+pub named_chunk : (cs : List (List Element)) (names : List ℕ) (index : OpId → Option ℕ) → IsIndexed cs names index → (id : OpId) (n p : ℕ) → index id ≡ Some n → ((i : ℕ) → slice_get names i ≡ Some n → p ≡ i) → (c : List Element) × (slice_get cs p ≡ Some c) × HasId c id
+named_chunk cs names index ok id n p e is =
     let r = ok.behind id n e in
-    absurd (none r.0 (ap (λ z. slice_get z r.0) same ∙ r.1.1))
-name_found cs names ns index ok id n e same (Some i) found = refl
-
-pub name_at : (names ns : List ℕ) (n p : ℕ) (r : Option ℕ) → ns ≡ names → r ≡ Some p → MatchOption r ((i : ℕ) → slice_get ns i ≡ Some n → ⊥) (λ i. slice_get ns i ≡ Some n) → slice_get names p ≡ Some n
-name_at names ns n p r same is found =
-    sym (ap (λ z. slice_get z p) same) ∙ option_at ((i : ℕ) → slice_get ns i ≡ Some n → ⊥) (λ i. slice_get ns i ≡ Some n) r p is found
-
--- the chunk of that name has the id
-pub named_chunk : (cs : List (List Element)) (names : List ℕ) (index : OpId → Option ℕ) → IsIndexed cs names index → (id : OpId) (n p : ℕ) (c : List Element) → index id ≡ Some n → slice_get names p ≡ Some n → slice_get cs p ≡ Some c → HasId c id
-named_chunk cs names index ok id n p c e at here =
-    let r = ok.behind id n e in
-    let same : r.0 ≡ p = ok.apart r.0 p n r.1.1 at in
-    subst (λ z. HasId z id) (same_Some r.1.0 c (sym r.1.2 ∙ ap (slice_get cs) same ∙ here)) r.1.3
-
-pub position_within : (cs : List (List Element)) (names : List ℕ) (index : OpId → Option ℕ) → IsIndexed cs names index → (n p : ℕ) → slice_get names p ≡ Some n → p < length cs
-position_within cs names index ok n p at =
-    let low = slice_get_within names p n at in
-    let counted = ok.counted in
-    omega (arith, low, counted)
+    (r.1.0, ap (slice_get cs) (is r.0 r.1.1) ∙ r.1.2, r.1.3)
 
 pub spot_element : (cs : List (List Element)) (id : OpId) (position at : ℕ) → IsSpotOf cs id position at → (d : List Element) → slice_get cs position ≡ Some d → (e : Element) → slice_get d at ≡ Some e → (slice_get (joined cs) (start_of cs position + at) ≡ Some e) × (e.id ≡ id)
 spot_element cs id position at spot d here e g =
@@ -393,10 +308,6 @@ at_within cs id position at spot d here =
     slice_get_within d at spot.has.0 (ap (λ z. slice_get z at) (sym same) ∙ spot.has.1)
 
 -- ---- whole steps
-no_length : (names : List ℕ) → length names ≡ 0 → names ≡ []
-no_length [] e = refl
-no_length (n ∷ names) e = absurd (omega (arith, e))
-
 take_drop_is : (c : List Element) (at : ℕ) → c ≡ take at c ++ drop at c
 take_drop_is c at = grind (arith, common_steps)
 
@@ -448,28 +359,26 @@ hidden_joined cs p at id d d' spot here new =
           joined_set cs p d d' at (hidden x) here low (new x (g ∙ ap Some one)),
     )
 
-pub kept_first : (cs ds : List (List Element)) (names names' : List ℕ) (index more : OpId → Option ℕ) (count : ℕ) (d : List Element) (e : Element) → IsKept cs names index count → cs ≡ [] → names' ≡ names ++ 0 ∷ [] → ds ≡ cs ++ d ∷ [] → d ≡ e ∷ [] → more e.id ≡ Some 0 → ((q : OpId) → same_id e.id q ≡ false → more q ≡ index q) → IsKept ds names' more 1
+pub kept_first : (cs ds : List (List Element)) (names names' : List ℕ) (index more : OpId → Option ℕ) (count : ℕ) (d : List Element) (e : Element) → IsKept cs names index count → cs ≡ [] → names' ≡ 0 ∷ [] → ds ≡ cs ++ d ∷ [] → d ≡ e ∷ [] → more e.id ≡ Some 0 → ((q : OpId) → same_id e.id q ≡ false → more q ≡ index q) → IsKept ds names' more 1
 kept_first cs ds names names' index more count d e ok none named pushed one new other =
-    let empty : names ≡ [] = no_length names (ok.indexed.counted ∙ ap length none) in
-    let names_is : names' ≡ 0 ∷ [] = named ∙ ap (λ z. z ++ 0 ∷ []) empty in
     let ds_is : ds ≡ (e ∷ []) ∷ [] = pushed ∙ ap (λ z. z ++ d ∷ []) none ∙ ap (λ z. z ∷ []) one in
     let indexed = indexed_first names index more e (subst (λ z. IsIndexed z names index) none ok.indexed) new other in
     let size : length (joined ds) ≡ 1 = ap (λ z. length (joined z)) ds_is in
     record {
-      indexed = subst (λ z. IsIndexed z names' more) (sym ds_is) (subst (λ z. IsIndexed ((e ∷ []) ∷ []) z more) (sym names_is) indexed);
+      indexed = subst (λ z. IsIndexed z names' more) (sym ds_is) (subst (λ z. IsIndexed ((e ∷ []) ∷ []) z more) (sym named) indexed);
       counted = sym size;
       few = omega (arith, size);
     }
 
-pub kept_split : (cs ds : List (List Element)) (names names' : List ℕ) (index more : OpId → Option ℕ) (p at m count : ℕ) (c a b : List Element) → IsKept cs names index count → slice_get cs p ≡ Some c → a ≡ take at c → b ≡ drop at c → m ≡ length names → ds ≡ insert (set cs p a) (p + 1) b → names' ≡ insert names (p + 1) m → ((k : ℕ) (e : Element) → slice_get b k ≡ Some e → more e.id ≡ Some m) → ((q : OpId) → (HasId b q → ⊥) → more q ≡ index q) → IsKept ds names' more count
-kept_split cs ds names names' index more p at m count c a b ok here left right fresh new named renamed kept =
+pub kept_split : (cs ds : List (List Element)) (names names' : List ℕ) (index more : OpId → Option ℕ) (p at m count : ℕ) (c a b : List Element) → IsKept cs names index count → slice_get cs p ≡ Some c → a ≡ take at c → b ≡ drop at c → ds ≡ insert (set cs p a) (p + 1) b → names' ≡ insert names (p + 1) m → ((k : ℕ) (e : Element) → slice_get b k ≡ Some e → more e.id ≡ Some m) → ((q : OpId) → (HasId b q → ⊥) → more q ≡ index q) → IsKept ds names' more count
+kept_split cs ds names names' index more p at m count c a b ok here left right new named renamed kept =
     let next : p + 1 ≡ suc p = omega arith in
     let is : c ≡ a ++ b = take_drop_is c at ∙ ap (λ z. z ++ drop at c) (sym left) ∙ ap (λ z. a ++ z) (sym right) in
     let ds_is : ds ≡ insert (set cs p a) (suc p) b = new ∙ ap (λ n. insert (set cs p a) n b) next in
     let names_is : names' ≡ insert names (suc p) m = named ∙ ap (λ n. insert names n m) next in
     let same : joined ds ≡ joined cs = ap joined ds_is ∙ joined_split cs p c a b here is in
     record {
-      indexed = subst (λ z. IsIndexed z names' more) (sym ds_is) (subst (λ z. IsIndexed (insert (set cs p a) (suc p) b) z more) (sym names_is) (indexed_split cs names index more p m c a b ok.indexed here is fresh renamed kept));
+      indexed = subst (λ z. IsIndexed z names' more) (sym ds_is) (subst (λ z. IsIndexed (insert (set cs p a) (suc p) b) z more) (sym names_is) (indexed_split cs names index more p m c a b ok.indexed here is renamed kept));
       counted = ok.counted ∙ ap length (sym same);
       few = subst (λ z. length z ≤ 262144) (sym same) ok.few;
     }
@@ -525,8 +434,6 @@ pub kept_same : (cs : List (List Element)) (names : List ℕ) (index more : OpId
 kept_same cs names index more count ok same = record {
   indexed = record {
     counted = ok.indexed.counted;
-    below = ok.indexed.below;
-    apart = ok.indexed.apart;
     behind = λ id n e. ok.indexed.behind id n (sym (same id) ∙ e);
     listed = λ i c here k e g none. ok.indexed.listed i c here k e g (sym (same e.id) ∙ none);
   };

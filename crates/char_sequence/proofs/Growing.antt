@@ -7,7 +7,7 @@ use Rattle.std.proofs.lemmas.Bool.{cases_lt, ltb-true, lt-ltb}
 use Rattle.std.proofs.lemmas.Option.{none-some, same_Some, slice_get_within}
 use Rattle.std.proofs.lemmas.Str.{length-encode, len_utf8_bounds}
 use Rattle.change_ops.specs.Ids.{Less}
-use Rattle.change_ops.specs.Operations.{is_insert}
+use Rattle.change_ops.specs.Operations.{is_insert, bytes_of}
 use Rattle.change_ops.specs.declared.id.OpId.{OpId}
 use Rattle.change_ops.specs.declared.operation.Op.{Op}
 use Rattle.change_ops.specs.declared.operation.Op.TheVariants.{Insert, Remove, AddMark, RemoveMark}
@@ -17,7 +17,7 @@ use Rattle.change_ops.specs.Sizes.{most_characters, most_bytes}
 use Rattle.char_sequence.specs.declared.sequence.Element.{Element}
 use Rattle.char_sequence.specs.Tree.{Present}
 use Rattle.char_sequence.specs.Order.{IsText, Shows}
-use Rattle.char_sequence.specs.Acceptance.{HasNoRoom, bytes_of, Accepts}
+use Rattle.char_sequence.specs.Acceptance.{HasNoRoom, Accepts}
 use Rattle.char_sequence.specs.Held.{Sequence, Holds}
 use Rattle.char_sequence.specs.Places.{IsPast, IsAfter}
 use Rattle.char_sequence.specs.Visible.{visible_text}
@@ -105,14 +105,14 @@ put_bytes ops es fs later op id p c k is same new within h a =
     subst (λ n. n ≤ most_bytes) (sym size) room
 
 -- whether the elements that show the operations have room: no others show them
-pub no_room_iff : (ops : List Op) (es : List Element) (op : Op) (id : OpId) (p : Option OpId) (c bytes added : ℕ) → op ≡ Insert id p c → bytes ≡ length (visible_text es) → added ≡ length (encode_utf8 c) → Shows es ops → IsTrue (nat_lt most_bytes (bytes + added)) ↔ HasNoRoom ops op
-no_room_iff ops es op id p c bytes added is size more h = (
+pub no_room_iff : (ops : List Op) (es : List Element) (op : Op) (bytes added : ℕ) → bytes ≡ length (visible_text es) → added ≡ bytes_of op → Shows es ops → IsTrue (nat_lt most_bytes (bytes + added)) ↔ HasNoRoom ops op
+no_room_iff ops es op bytes added size more h = (
   λ t.
       let over : most_bytes < bytes + added = ltb-true most_bytes (bytes + added) t in
-      (es, h, subst (λ o. most_bytes < length (visible_text es) + bytes_of o) (sym is) (subst (λ n. most_bytes < n + length (encode_utf8 c)) size (subst (λ n. most_bytes < bytes + n) more over))),
+      (es, h, omega (arith, over, size, more)),
   λ none.
       let same = ap (λ l. length (visible_text l)) (one_text ops h.tree none.0 es none.1.text h.text) in
-      let over : most_bytes < length (visible_text none.0) + length (encode_utf8 c) = subst (λ o. most_bytes < length (visible_text none.0) + bytes_of o) is none.2 in
+      let over = none.2 in
       lt-ltb most_bytes (bytes + added) (omega (arith, same, over, size, more)),
 )
 
@@ -129,7 +129,7 @@ accepts_large ops op a = record {
       full.1;
 }
 
-op_bytes : (op : Op) → bytes_of op ≤ 4
+pub op_bytes : (op : Op) → bytes_of op ≤ 4
 op_bytes (Insert id p c) = let size = length-encode c in let most = (len_utf8_bounds c).1 in omega (arith, size, most)
 op_bytes (Remove id target) = omega arith
 op_bytes (AddMark id attribute start end) = omega arith

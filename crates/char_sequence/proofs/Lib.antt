@@ -23,4 +23,6 @@ pub mod RunPlaced
 pub mod Renaming
 pub mod PlaceTables
 pub mod Ranges
+pub mod Counts
+pub mod Names
 pub mod Boundaries

@@ -9,7 +9,7 @@ use Rattle.char_sequence.specs.declared.sequence.Element.{Element}
 use Rattle.char_sequence.specs.declared.place_table.ChunkStart.{ChunkStart}
 use Rattle.char_sequence.specs.Order.{IsAt}
 use Rattle.char_sequence.specs.Index.{HasId}
-use Rattle.char_sequence.specs.Chunks.{joined, start_of, IsKept, IsSpotOf}
+use Rattle.char_sequence.specs.Chunks.{joined, start_of, ArePositions, IsKept, IsSpotOf}
 use Rattle.char_sequence.specs.PlaceTables.{AreStarts, IsStartOf, IsPlaceTable, IsChunkAt}
 use Rattle.char_sequence.proofs.Lists.{slice_get_set_same, slice_get_set_other}
 use Rattle.char_sequence.proofs.Joined.{start_after_chunk, start_end}
@@ -28,12 +28,13 @@ laid_none cs names starts size = record {
   laid = λ i n less g. absurd (omega arith);
 }
 
-pub laid_more : (cs : List (List Element)) (names : List ℕ) (index : OpId → Option ℕ) (count position name start len : ℕ) (c : List Element) (starts starts' : List ChunkStart) → IsKept cs names index count → slice_get names position ≡ Some name → slice_get cs position ≡ Some c → len ≡ length c → starts' ≡ set starts name (record { position = position; start = start }) → AreLaid cs names starts position start → AreLaid cs names starts' (position + 1) (start + len)
-laid_more cs names index count position name start len c starts starts' ok named here size new was =
+pub laid_more : (cs : List (List Element)) (names : List ℕ) (index : OpId → Option ℕ) (count position name start len : ℕ) (c : List Element) (starts starts' : List ChunkStart) (positions : List ℕ) → IsKept cs names index count → ArePositions names positions → slice_get names position ≡ Some name → slice_get cs position ≡ Some c → len ≡ length c → starts' ≡ set starts name (record { position = position; start = start }) → AreLaid cs names starts position start → AreLaid cs names starts' (position + 1) (start + len)
+laid_more cs names index count position name start len c starts starts' positions ok are named here size new was =
     let it : ChunkStart = record { position = position; start = start } in
-    let low = ok.indexed.below position name named in
+    let low = slice_get_within positions name position (are.found position name named) in
+    let as_many = are.as_many in
     let long = was.size in
-    let within : name < length starts = omega (arith, low, long) in
+    let within : name < length starts = omega (arith, low, as_many, long) in
     let after = start_after_chunk cs position c here in
     let before = was.at in
     record {
@@ -44,7 +45,7 @@ laid_more cs names index count position name start len c starts starts' ok named
           ap (λ z. slice_get z n) new
           ∙ ⊎_elim
           (λ (earlier : i < position).
-          let off : n ≡ name → ⊥ = λ same. let one = ok.indexed.apart i position name (g ∙ ap Some same) named in omega (arith, one, earlier) in
+          let off : n ≡ name → ⊥ = λ same. let one = same_Some i position (sym (are.found i name (g ∙ ap Some same)) ∙ are.found position name named) in omega (arith, one, earlier) in
           slice_get_set_other starts name n it off ∙ was.laid i n earlier g)
           (λ (later : position ≤ i).
           let one : i ≡ position = omega (arith, later, less) in

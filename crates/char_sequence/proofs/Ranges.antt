@@ -149,10 +149,6 @@ rest_within cs rest p start to at reached within back few =
     let same = ap (λ z. length (joined z)) back in
     (omega (arith, whole, same, at), omega (arith, whole, same))
 
--- the first chunks, through the one that a place is in, have all that stands before it
-pub before_through : (cs through : List (List Element)) (q place : ℕ) → place ≤ start_of cs q → through ≡ take q cs → slice_range (joined through) 0 place ≡ take place (joined cs)
-before_through cs through q place far front = next_range cs through q 0 place place (joined cs) (omega arith) far front refl
-
 -- what stands from a place on, by the chunks from the one that the place is in on
 pub rest_from : (cs rest : List (List Element)) (p start place : ℕ) → start ≡ start_of cs p → start ≤ place → rest ≡ drop p cs → drop (place - start) (joined rest) ≡ drop place (joined cs)
 rest_from cs rest p start place at reached back = next_left cs rest p start 0 place place (joined cs) (omega arith) at reached back refl

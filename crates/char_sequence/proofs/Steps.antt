@@ -8,7 +8,7 @@ use Rattle.std.specs.Prelude.{◌↔◌, IsTrue}
 use Rattle.std.specs.Option.{MatchOption}
 use Rattle.std.specs.Ordering.{nat_cmp}
 use Rattle.std.specs.FinMap.{FinMap}
-use Rattle.change_ops.specs.Operations.{id_of, is_insert, Names}
+use Rattle.change_ops.specs.Operations.{id_of, is_insert, Names, bytes_of}
 use Rattle.change_ops.specs.declared.id.OpId.{OpId}
 use Rattle.change_ops.specs.declared.operation.Op.{Op}
 use Rattle.change_ops.specs.declared.operation.Op.TheVariants.{Insert, Remove}
@@ -17,7 +17,7 @@ use Rattle.change_ops.specs.Sizes.{most_characters, most_bytes}
 use Rattle.char_sequence.specs.declared.sequence.Element.{Element}
 use Rattle.char_sequence.specs.Tree.{Present, Removed, IsTree}
 use Rattle.char_sequence.specs.Order.{IsAt, IsText, Shows}
-use Rattle.char_sequence.specs.Acceptance.{Used, IsUnknown, HasNoRoom, bytes_of, Accepts}
+use Rattle.char_sequence.specs.Acceptance.{Used, IsUnknown, HasNoRoom, Accepts}
 use Rattle.char_sequence.specs.Visible.{visible_text}
 use Rattle.char_sequence.specs.Newest.{IsNewest}
 use Rattle.char_sequence.specs.Held.{Sequence, Holds}

@@ -6,13 +6,13 @@ use Rattle.std.proofs.lemmas.Bool.{cases_Bool}
 use Rattle.std.proofs.lemmas.Option.{same_Some, none-some, slice_get_within, slice_get-get_or}
 use Rattle.std.proofs.lemmas.List.Sums.{sum_by-cons}
 use Rattle.std.proofs.lemmas.List.Elements.{Contains-append_left, Contains-append_cases}
+use Rattle.change_ops.specs.Operations.{bytes_of}
 use Rattle.change_ops.specs.declared.id.OpId.{OpId}
 use Rattle.change_ops.specs.declared.operation.Op.{Op}
 use Rattle.change_ops.specs.declared.operation.Op.TheVariants.{Insert, Remove, AddMark, RemoveMark}
 use Rattle.char_sequence.specs.declared.sequence.Element.{Element}
 use Rattle.char_sequence.specs.Tree.{Removed}
 use Rattle.char_sequence.specs.Order.{Before, Shows}
-use Rattle.char_sequence.specs.Acceptance.{bytes_of}
 use Rattle.char_sequence.specs.Visible.{visible_text}
 use Rattle.char_sequence.proofs.TreeLaws.{before_irrefl}
 use Rattle.char_sequence.proofs.Joined.{get_left, get_right}

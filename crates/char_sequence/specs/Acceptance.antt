@@ -1,10 +1,9 @@
 -- Which operations are accepted after others (Peritext, CSCW 2022).
 use Rattle.std.specs.Prelude.{◌≡◌, ◌≤◌, ◌<◌, ◌+◌, ◌++◌, ◌⊎◌, ℕ, List, Contains, true, Some, count_by, take, slice_get}
-use Rattle.std.specs.Prelude.{Result, Ok, Err, length, encode_utf8}
-use Rattle.change_ops.specs.Operations.{id_of, is_insert, Names}
+use Rattle.std.specs.Prelude.{Result, Ok, Err, length}
+use Rattle.change_ops.specs.Operations.{id_of, is_insert, Names, bytes_of}
 use Rattle.change_ops.specs.declared.id.OpId.{OpId}
 use Rattle.change_ops.specs.declared.operation.Op.{Op}
-use Rattle.change_ops.specs.declared.operation.Op.TheVariants.{Insert, Remove, AddMark, RemoveMark}
 use Rattle.change_ops.specs.declared.size.Size.{Size}
 use Rattle.change_ops.specs.Sizes.{most_characters, most_bytes}
 use Rattle.char_sequence.specs.declared.sequence.Element.{Element}
@@ -25,13 +24,6 @@ IsStale ops op = Used ops (id_of op) ⊎ ((x : OpId) × Names op x × ((id_of op
 -- a character that the operation names is not there
 abbrev pub IsUnknown : List Op → Op → Type 0
 IsUnknown ops op = (x : OpId) × Names op x × (Present ops x → ⊥)
-
--- how many bytes of text an operation adds
-abbrev pub bytes_of : Op → ℕ
-bytes_of (Insert id parent character) = length (encode_utf8 character)
-bytes_of (Remove id target) = 0
-bytes_of (AddMark id attribute start end) = 0
-bytes_of (RemoveMark id key start end) = 0
 
 -- the visible text would have more than 131,072 bytes
 abbrev pub HasNoRoom : List Op → Op → Type 0

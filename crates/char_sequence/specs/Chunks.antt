@@ -1,12 +1,13 @@
 -- Elements in chunks, and the index from ids to the chunks' names.
 use Rattle.std.specs.Prelude.{◌≡◌, ◌⊎◌, ℕ, ◌+◌, ◌<◌, ◌≤◌, List, [], ◌∷◌, ◌++◌, Option, Some, None, length, take}
-use Rattle.std.specs.Prelude.{slice_get}
+use Rattle.std.specs.Prelude.{slice_get, map, sum, cond, nat_lt}
 use Rattle.change_ops.specs.Ids.{Less}
 use Rattle.change_ops.specs.declared.id.OpId.{OpId}
 use Rattle.char_sequence.specs.declared.sequence.Element.{Element}
 use Rattle.char_sequence.specs.Order.{IsAt}
 use Rattle.char_sequence.specs.Index.{HasId}
-use Rattle.char_sequence.specs.Visible.{visible_text}
+use Rattle.char_sequence.specs.Visible.{visible_text, visible_count}
+use Rattle.char_sequence.specs.declared.place_table.ChunkStart.{ChunkStart}
 
 -- the chunks' elements, chunk after chunk
 abbrev pub joined : List (List Element) → List Element
@@ -49,11 +50,9 @@ pub record IsSpot (chunks : List (List Element)) (position at place : ℕ) : Typ
   pub within : at ≤ length chunk
   pub is : place ≡ start_of chunks position + at
 
--- each chunk has a name of its own, and the index has each element's id with the name of a chunk that has it
+-- each chunk has a name, and the index has each element's id with the name of a chunk that has it
 pub record IsIndexed (chunks : List (List Element)) (names : List ℕ) (index : OpId → Option ℕ) : Type 0 where
   pub counted : length names ≡ length chunks
-  pub below : (i n : ℕ) → slice_get names i ≡ Some n → n < length names
-  pub apart : (i j n : ℕ) → slice_get names i ≡ Some n → slice_get names j ≡ Some n → i ≡ j
   pub behind : (id : OpId) (n : ℕ) → index id ≡ Some n
       → (i : ℕ) × ((c : List Element) × (slice_get names i ≡ Some n) × (slice_get chunks i ≡ Some c) × HasId c id)
   pub listed : (i : ℕ) (c : List Element) → slice_get chunks i ≡ Some c → (k : ℕ) (e : Element) → slice_get c k ≡ Some e
@@ -63,6 +62,38 @@ pub record IsIndexed (chunks : List (List Element)) (names : List ℕ) (index : 
 pub record ChunkList : Type 0 where
   pub chunks : List (List Element)
   pub room : ℕ
+
+-- names in the chunks' order, and for how many more of them there is room
+pub record ChunkNames : Type 0 where
+  pub names : List ℕ
+  pub room : ℕ
+
+-- by each name the position where it stands, and no name stands twice
+pub record ArePositions (names positions : List ℕ) : Type 0 where
+  pub as_many : length positions ≡ length names
+  pub found : (i n : ℕ) → slice_get names i ≡ Some n → slice_get positions n ≡ Some i
+  pub named : (i n : ℕ) → slice_get positions n ≡ Some i → slice_get names i ≡ Some n
+
+-- a position once there is one more chunk behind another one
+abbrev pub moved : ℕ → ℕ → ℕ
+moved position at = cond (nat_lt position at) (at + 1) at
+
+-- how many elements each chunk has, how many of them are visible, and for how many more chunks there is room
+pub record ChunkCounts : Type 0 where
+  pub lengths : List ℕ
+  pub shown : List ℕ
+  pub room : ℕ
+
+-- they are those of the chunks
+pub record AreCounts (chunks : List (List Element)) (counts : ChunkCounts) : Type 0 where
+  pub long : counts.lengths ≡ map length chunks
+  pub visible : counts.shown ≡ map visible_count chunks
+
+-- a position by chunks of these lengths, with their sum before it, which is no greater than the place
+pub record IsSumBefore (lengths : List ℕ) (place : ℕ) (at : ChunkStart) : Type 0 where
+  pub within : at.position ≤ length lengths
+  pub start : at.start ≡ sum (take at.position lengths)
+  pub reached : at.start ≤ place
 
 -- the element of this id is in a chunk
 pub record IsSpotOf (chunks : List (List Element)) (id : OpId) (position at : ℕ) : Type 0 where

@@ -155,7 +155,8 @@ impl Chunk {
 
     /// The number of visible characters.
     pub(crate) fn shown(&self) -> usize
-        ensures { result ≡ visible_count self.now }
+        ensures value { result ≡ visible_count self.now }
+        ensures few { result ≤ 64 }
     {
         self.shown
     }

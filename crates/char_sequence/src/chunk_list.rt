@@ -11,16 +11,20 @@ ghost use Rattle.char_sequence.specs.Newest.{IsNewest};
 ghost use Rattle.char_sequence.specs.Index.{same_id, HasId};
 ghost use Rattle.char_sequence.specs.Places.{IsPast, IsAfter};
 ghost use Rattle.char_sequence.specs.Chunks.{joined, start_of};
-ghost use Rattle.char_sequence.specs.Visible.{visible_text};
+ghost use Rattle.char_sequence.specs.Visible.{visible_text, visible_count};
 ghost use Rattle.char_sequence.specs.Named.{name_of, IsAboveAll};
 ghost use Rattle.char_sequence.specs.RunElements.{elements_from, insert_all, AreEntered};
 
 use crate::chunk::{Blank, CHUNK_LIMIT, Chunk};
+use crate::chunk_counts::ChunkCounts;
+use crate::chunk_names::ChunkNames;
+use crate::counting::count_visible;
 use crate::index::Index;
 use crate::newest::Newest;
 use crate::place_table::PlaceTable;
 use crate::runs::{later, push_run};
 use crate::sequence::Element;
+use crate::visible_cursor::VisibleCursor;
 use change_ops::character::Character;
 use change_ops::id::OpId;
 use std::alloc::{AllocError, Global};
@@ -76,8 +80,9 @@ pub(crate) enum Room {
 #[derive(Drop)]
 pub(crate) struct ChunkList {
     chunks: Vec<Chunk>,
-    // The chunks' numbers, given once, in the same order. A number stays as chunks before it are split.
-    names: Vec<usize>,
+    names: ChunkNames,
+    // How many elements each chunk has, and how many of them are visible.
+    counts: ChunkCounts,
     // The name of each element's chunk.
     index: Index,
     count: usize,
@@ -90,7 +95,7 @@ pub(crate) struct ChunkList {
 impl Model for ChunkList {
     ghost use Rattle.std.specs.Prelude.{◌-◌, min, vec_len, vec_capacity};
     ghost use Rattle.std.specs.Prelude.{◌≡◌, length};
-    ghost use Rattle.char_sequence.specs.Chunks.{ChunkList as ChunkListValue, IsKept, joined};
+    ghost use Rattle.char_sequence.specs.Chunks.{ChunkList as ChunkListValue, AreCounts, IsKept, joined};
     ghost use Rattle.char_sequence.specs.Named.{name_of};
     ghost use Rattle.char_sequence.specs.Visible.{visible_text};
 
@@ -98,31 +103,15 @@ impl Model for ChunkList {
 
     ghost view = { λ l. record {
       chunks = l.chunks.items;
-      room = min (vec_capacity l.chunks - vec_len l.chunks) (vec_capacity l.names - vec_len l.names);
+      room = min (vec_capacity l.chunks - vec_len l.chunks) (min l.names.room l.counts.room);
     } };
 
-    ghost invariant = { λ l. IsKept l.chunks.items l.names.items (name_of l.index) l.count
-        × (l.bytes ≡ length (visible_text (joined l.chunks.items))) };
+    ghost invariant = { λ l. IsKept l.chunks.items l.names.names (name_of l.index) l.count
+        × (l.bytes ≡ length (visible_text (joined l.chunks.items))) × AreCounts l.chunks.items l.counts };
 }
 
 ghost use Rattle.char_sequence.specs.Chunks.{IsSpot, IsSpotOf};
 ghost use Rattle.char_sequence.specs.Rooms.{IsRoom};
-
-/// The position of a name. In text that is typed on, it is the name itself, so this is tried first.
-fn position_of(names: &[usize], name: usize) -> Option<usize>
-    ensures { MatchOption result ((i : ℕ) → slice_get names.now i ≡ Some name
-        → ⊥) (λ i. slice_get names.now i ≡ Some name) }
-{
-    if name < names.len() && names[name] == name {
-        return Some(name);
-    }
-    for position in 0..names.len() {
-        if names[position] == name {
-            return Some(position);
-        }
-    }
-    None
-}
 
 /// Whether the element at a spot, if there is one, has this id.
 fn has_at(chunks: &[Chunk], spot: Spot, id: OpId) -> bool
@@ -134,19 +123,6 @@ fn has_at(chunks: &[Chunk], spot: Spot, id: OpId) -> bool
     }
     let elements = chunks[spot.position].as_slice();
     spot.at < elements.len() && elements[spot.at].id == id
-}
-
-/// How many elements stand before the chunk at a position.
-fn start(chunks: &[Chunk], position: usize) -> usize
-    requires within { position ≤ length chunks.now }
-    requires fits { length (joined chunks.now) < 2 ^ 64 }
-    ensures { result ≡ start_of chunks.now position }
-{
-    let mut start = 0;
-    for earlier in 0..position {
-        start += chunks[earlier].len();
-    }
-    start
 }
 
 /// The spot past the greater ids, from this one on.
@@ -234,7 +210,8 @@ impl ChunkList {
     {
         ChunkList {
             chunks: Vec::new(alloc),
-            names: Vec::new(alloc),
+            names: ChunkNames::new(alloc),
+            counts: ChunkCounts::new(alloc),
             index: Index::new(alloc),
             count: 0,
             bytes: 0,
@@ -286,7 +263,7 @@ impl ChunkList {
             → ⊥) (λ s. IsSpotOf self.now.chunks id s.position s.at) }
     {
         let name = self.index.name_of(id)?;
-        let position = position_of(&self.names, name).unwrap();
+        let position = self.names.position_of(name);
         let at = self.chunks[position].index_of(id).unwrap();
         Some(Spot { position, at })
     }
@@ -317,14 +294,45 @@ impl ChunkList {
         ensures { MatchOption result (HasId (joined self.now.chunks) id → ⊥) (λ k. IsAt (joined self.now.chunks) id k) }
     {
         let spot = self.spot_of(id)?;
-        Some(start(&self.chunks, spot.position) + spot.at)
+        Some(self.counts.length_before(spot.position) + spot.at)
+    }
+
+    /// The elements from a place on, to read the visible ones of them.
+    pub(crate) fn visible_from(&self, place: usize) -> VisibleCursor<'_>
+        requires { place ≤ length (joined self.now.chunks) }
+        ensures { result ≡ drop place (joined self.now.chunks) }
+    {
+        let first = self.counts.chunk_at(place);
+        VisibleCursor::at(&self.chunks, first, place)
+    }
+
+    /// The number of visible elements before a place.
+    pub(crate) fn visible_before(&self, place: usize) -> usize
+        requires { place ≤ length (joined self.now.chunks) }
+        ensures { result ≡ visible_count (take place (joined self.now.chunks)) }
+    {
+        let last = self.counts.chunk_at(place);
+        let shown = self.counts.shown_before(last.position);
+        if last.position == self.chunks.len() {
+            return shown;
+        }
+        let (before, _) = self.chunks[last.position]
+            .as_slice()
+            .split_at(place - last.start);
+        shown + count_visible(before)
     }
 
     /// The places of all elements by their ids.
     pub(crate) fn place_table(&self, alloc: Global) -> Result<PlaceTable<'_>, AllocError>
         ensures { IfOk result (λ table. table ≡ joined self.now.chunks) }
     {
-        PlaceTable::new(alloc, &self.chunks, &self.names, &self.index, self.count)
+        PlaceTable::new(
+            alloc,
+            &self.chunks,
+            self.names.as_slice(),
+            &self.index,
+            self.count,
+        )
     }
 
     /// The spot after the parent, or the start, past the greater ids.
@@ -357,14 +365,16 @@ impl ChunkList {
         ensures err { OnErr result (self.new.chunks ≡ self.old.chunks) }
         ensures next { position < usize.MAX }
     {
-        let blank = Blank::new(*self.names.allocator())?;
+        let blank = Blank::new(*self.chunks.allocator())?;
         self.chunks.reserve(1)?;
-        self.names.reserve(1)?;
-        let right = self.chunks[position].split(at, blank);
-        let name = self.names.len();
+        self.names.reserve()?;
+        self.counts.reserve()?;
+        let left = &mut self.chunks[position];
+        let right = left.split(at, blank);
+        self.counts.split(position, left, &right);
+        let name = self.names.split(position);
         rename(&mut self.index, right.as_slice(), name);
         self.chunks.insert(position + 1, right).unwrap();
-        self.names.insert(position + 1, name).unwrap();
         Ok(())
     }
 
@@ -388,7 +398,8 @@ impl ChunkList {
         ensures room { OnOk result (1 ≤ self.new.room) }
     {
         self.chunks.reserve(1)?;
-        self.names.reserve(1)?;
+        self.names.reserve()?;
+        self.counts.reserve()?;
         Ok(())
     }
 
@@ -401,7 +412,7 @@ impl ChunkList {
             × IsPast (joined self.old.chunks) id start place × IsRoom self.new room place)) }
     {
         if self.chunks.is_empty() {
-            let blank = Blank::new(*self.names.allocator())?;
+            let blank = Blank::new(*self.chunks.allocator())?;
             self.make_room()?;
             return Ok(Room::First(blank));
         }
@@ -430,9 +441,10 @@ impl ChunkList {
         ensures err { OnErr result ((self.new.chunks ≡ self.old.chunks) × (newest.new ≡ newest.old)) }
     {
         enter(&mut self.index, newest, element.id, 0)?;
-        self.names.push_reserved(0);
+        self.names.push_first();
         let chunk = Chunk::one(blank, element);
         self.bytes = chunk.text().len();
+        self.counts.push(&chunk);
         self.chunks.push_reserved(chunk);
         self.count = 1;
         self.last = Spot { position: 0, at: 0 };
@@ -456,12 +468,13 @@ impl ChunkList {
             → IfOk result (λ _. IsNewest (ops ++ op ∷ []) newest.new) }
         ensures err { OnErr result ((self.new.chunks ≡ self.old.chunks) × (newest.new ≡ newest.old)) }
     {
-        let name = self.names[spot.position];
+        let name = self.names.name_at(spot.position);
         enter(&mut self.index, newest, element.id, name)?;
         let chunk = &mut self.chunks[spot.position];
         let before = chunk.text().len();
         chunk.insert(spot.at, element);
         self.bytes = self.bytes - before + chunk.text().len();
+        self.counts.recount(spot.position, chunk);
         self.count += 1;
         self.last = spot;
         Ok(())
@@ -516,12 +529,13 @@ impl ChunkList {
         ensures err { OnErr result ((self.new.chunks ≡ self.old.chunks) × (newest.new ≡ newest.old)) }
     {
         let count = characters.len();
-        let name = self.names[spot.position];
+        let name = self.names.name_at(spot.position);
         enter_run(&mut self.index, newest, id, count, name)?;
         let chunk = &mut self.chunks[spot.position];
         let before = chunk.text().len();
         chunk.insert_run(spot.at, id, characters);
         self.bytes = self.bytes - before + chunk.text().len();
+        self.counts.recount(spot.position, chunk);
         self.count += count;
         self.last = Spot {
             position: spot.position,
@@ -598,6 +612,7 @@ impl ChunkList {
         let with_it = chunk.text().len();
         chunk.hide(spot.at);
         self.bytes = self.bytes - with_it + chunk.text().len();
+        self.counts.recount(spot.position, chunk);
     }
 
     /// The number of chunks, and the length of the longest.
@@ -626,10 +641,12 @@ impl Clone for ChunkList {
     fn clone(&self) -> Result<ChunkList, AllocError> {
         let chunks = self.chunks.clone()?;
         let names = self.names.clone()?;
+        let counts = self.counts.clone()?;
         let index = self.index.clone()?;
         Ok(ChunkList {
             chunks,
             names,
+            counts,
             index,
             count: self.count,
             bytes: self.bytes,

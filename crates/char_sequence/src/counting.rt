@@ -1,12 +1,11 @@
 //! How many characters of consecutive elements, and of a range of places, are visible.
-ghost use Rattle.std.specs.Prelude.{◌≡◌, ◌≤◌, ◌-◌, length, slice_range, take};
+ghost use Rattle.std.specs.Prelude.{◌≡◌, ◌≤◌, ◌-◌, length, slice_range};
 ghost use Rattle.char_sequence.specs.Chunks.{joined};
 ghost use Rattle.char_sequence.specs.Visible.{visible_count};
 
 use crate::chunk::Chunk;
 use crate::sequence::{CHARACTER_LIMIT, Element};
 use crate::visible::{is_whole, part};
-use crate::visible_cursor::chunk_at;
 
 /// How many of the elements are visible.
 pub(crate) fn count_visible(elements: &[Element]) -> usize
@@ -50,16 +49,4 @@ pub(crate) fn count_of_range(chunks: &[Chunk], from: usize, to: usize) -> usize
         start += chunk.len();
     }
     count
-}
-
-/// How many visible characters stand before a place. Chunks behind it are not looked at.
-pub(crate) fn count_before(chunks: &[Chunk], place: usize) -> usize
-    requires within { place ≤ length (joined chunks.now) }
-    requires few { length (joined chunks.now) ≤ CHARACTER_LIMIT }
-    ensures { result ≡ visible_count (take place (joined chunks.now)) }
-{
-    let last = chunk_at(chunks, place);
-    let count_through = chunks.len().min(last.position + 1);
-    let (through, _) = chunks.split_at(count_through);
-    count_of_range(through, 0, place)
 }

@@ -2,7 +2,9 @@
 #![tactic(auto)]
 
 mod chunk;
+mod chunk_counts;
 mod chunk_list;
+mod chunk_names;
 mod counting;
 pub mod elements;
 mod index;

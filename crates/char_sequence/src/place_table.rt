@@ -5,7 +5,7 @@ ghost use Rattle.change_ops.specs.declared.operation.Op.{Op};
 ghost use Rattle.char_sequence.specs.Tree.{Present};
 ghost use Rattle.char_sequence.specs.Order.{Shows, IsAt};
 ghost use Rattle.char_sequence.specs.Index.{HasId};
-ghost use Rattle.char_sequence.specs.Chunks.{joined, IsKept};
+ghost use Rattle.char_sequence.specs.Chunks.{joined, ArePositions, IsKept};
 ghost use Rattle.char_sequence.specs.PlaceTables.{AreStarts};
 ghost use Rattle.char_sequence.specs.Named.{name_of};
 
@@ -54,7 +54,8 @@ fn starts_by_name(
     chunks: &[Chunk],
     names: &[usize],
 ) -> Result<Vec<ChunkStart>, AllocError>
-    requires { (find : OpId → Option ℕ) × ((count : ℕ) × IsKept chunks.now names.now find count) }
+    requires kept { (find : OpId → Option ℕ) × ((count : ℕ) × IsKept chunks.now names.now find count) }
+    requires names { (positions : List ℕ) × ArePositions names.now positions }
     ensures { IfOk result (λ starts. AreStarts chunks.now names.now starts.items) }
 {
     let first = ChunkStart {
@@ -79,7 +80,8 @@ impl<'a> PlaceTable<'a> {
         index: &'a Index,
         count: usize,
     ) -> Result<PlaceTable<'a>, AllocError>
-        requires { IsKept chunks.now names.now (name_of index.now) count }
+        requires kept { IsKept chunks.now names.now (name_of index.now) count }
+        requires names { (positions : List ℕ) × ArePositions names.now positions }
         ensures { IfOk result (λ table. table ≡ joined chunks.now) }
     {
         let starts = starts_by_name(alloc, chunks, names)?;

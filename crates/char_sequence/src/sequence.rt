@@ -3,7 +3,6 @@ ghost use Rattle.std.specs.Prelude.{slice_get, slice_range, string_bytes, MatchO
 ghost use Rattle.std.specs.Prelude.{◌+◌, ◌^◌, Contains, insert, take, drop, count_by, map, sum};
 
 use crate::chunk_list::ChunkList;
-use crate::counting::count_before;
 use crate::elements::Elements;
 use crate::newest::Newest;
 use crate::place_table::PlaceTable;
@@ -74,14 +73,14 @@ impl Model for Sequence {
 }
 
 ghost use Rattle.change_ops.specs.Ids.{Less};
-ghost use Rattle.change_ops.specs.Operations.{id_of, is_insert, Names};
+ghost use Rattle.change_ops.specs.Operations.{id_of, is_insert, Names, bytes_of};
 ghost use Rattle.change_ops.specs.Runs.{inserts_from};
 ghost use Rattle.char_sequence.specs.Tree.{Present, Removed, IsTree};
 ghost use Rattle.char_sequence.specs.Order.{IsAt, IsText, Shows, SameSet};
 ghost use Rattle.change_ops.specs.declared.size.Size.TheVariants.{Small, Large};
 ghost use Rattle.change_ops.specs.declared.size.TheConstants.{BYTE_LIMIT};
 ghost use Rattle.change_ops.specs.Sizes.{most_characters};
-ghost use Rattle.char_sequence.specs.Acceptance.{IsStale, IsUnknown, HasNoRoom, bytes_of, Accepts, Checked};
+ghost use Rattle.char_sequence.specs.Acceptance.{IsStale, IsUnknown, HasNoRoom, Accepts, Checked};
 ghost use Rattle.char_sequence.specs.Newest.{IsNewest};
 ghost use Rattle.char_sequence.specs.Held.{Holds};
 ghost use Rattle.char_sequence.specs.Index.{HasId};
@@ -149,8 +148,8 @@ impl Sequence {
         }
     }
 
-    /// Whether an operation is accepted at a size after those held; the error is the first reason, in the order of their
-    /// numbers.
+    /// Whether an operation is accepted at a size after those held; the error is the first reason, in the order of
+    /// their numbers.
     pub fn check(&self, size: Size, op: &Op) -> Result<(), SequenceError>
         ensures { (ops : List Op) → Holds self.now ops → Checked size ops op.now result }
     {
@@ -179,12 +178,7 @@ impl Sequence {
         ensures { (ops : List Op) → Shows self.now.elements ops → is_insert op.now ≡ true
             → IsTrue result ↔ HasNoRoom ops op.now }
     {
-        match op {
-            Op::Insert { character, .. } => {
-                self.elements.bytes() + character.value().len_utf8() > BYTE_LIMIT
-            }
-            _ => false,
-        }
+        self.elements.bytes() + op.byte_count() > BYTE_LIMIT
     }
 
     /// Adds an insert that passed `check`; the error is want of memory, and changes nothing.
@@ -339,7 +333,7 @@ impl Sequence {
         requires { place ≤ length self.now.elements }
         ensures { result ≡ drop place self.now.elements }
     {
-        VisibleCursor::at(self.elements.as_slice(), place)
+        self.elements.visible_from(place)
     }
 
     /// The number of visible characters before a place.
@@ -347,7 +341,7 @@ impl Sequence {
         requires { place ≤ length self.now.elements }
         ensures { result ≡ visible_count (take place self.now.elements) }
     {
-        count_before(self.elements.as_slice(), place)
+        self.elements.visible_before(place)
     }
 
     /// The number of chunks that the characters are kept in, and the length of the longest.

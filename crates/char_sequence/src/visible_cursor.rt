@@ -51,13 +51,13 @@ pub(crate) fn chunk_at(chunks: &[Chunk], place: usize) -> ChunkStart
 }
 
 impl<'a> VisibleCursor<'a> {
-    /// The characters from a place on.
-    pub(crate) fn at(chunks: &'a [Chunk], place: usize) -> VisibleCursor<'a>
+    /// The characters from a place on, which is in the chunk that starts there.
+    pub(crate) fn at(chunks: &'a [Chunk], first: ChunkStart, place: usize) -> VisibleCursor<'a>
+        requires first { IsChunkAt chunks.now place first }
         requires within { place ≤ length (joined chunks.now) }
         requires few { length (joined chunks.now) ≤ CHARACTER_LIMIT }
         ensures { result ≡ drop place (joined chunks.now) }
     {
-        let first = chunk_at(chunks, place);
         let (_, rest) = chunks.split_at(first.position);
         VisibleCursor {
             chunks: rest,

@@ -1,5 +1,5 @@
 use clap::{Arg, ArgAction, ArgGroup, Command, value_parser};
-use hub_requests::{MOST_LINK_BYTES, MOST_SESSIONS, MOST_WORKERS};
+use hub_requests::{MOST_LINK_BYTES, MOST_WORKERS};
 use std::alloc::{AllocError, Global};
 
 /// What the exit statuses of all commands say.
@@ -95,6 +95,7 @@ const AFTER_REPLAY: &str = "Lines of a session, and what answers each:
 
 With --read also:
 
+    pull <id> <k>                    ok items 0 full, once no item comes any more
     latest                           ok latest <n>
     show <version> <first> <k>       span <index> <format> <text>, ..; ok spans <n>
     changes <from> <k>               the changes; ok changes <m>
@@ -121,6 +122,7 @@ const AFTER_SERVE: &str = "Lines of a session, and what answers each:
 
 With --read also:
 
+    pull <id> <k>                    ok items 0 full, once no item comes any more
     latest                           ok latest <n>
     show <version> <first> <k>       span <index> <format> <text>, ..; ok spans <n>
     changes <from> <k>               the changes; ok changes <m>
@@ -407,29 +409,30 @@ refused is answered `no <number> <Name>`, and the session goes on.",
         .arg(per_session(alloc))
 }
 
-/// How many sessions are served in all; without it there is no end.
+/// How many sessions are served in all; without it there is no end. The most depend on the size, which is another
+/// option.
 fn sessions<'a>(alloc: Global) -> Arg<'a> {
     Arg::new(alloc, "sessions")
         .long("sessions")
         .value_name("NUMBER")
         .action(ArgAction::Set)
-        .value_parser(value_parser!(u32).range(1..=i64::from(MOST_SESSIONS)))
+        .value_parser(value_parser!(u32).range(0..))
         .help(
-            "How many sessions are answered before the program ends, 1 to 64; without it the program goes on until it is killed",
+            "How many sessions are answered before the program ends, 1 to 64 (256 with --size large); without it the program goes on until it is killed",
         )
 }
 
-/// How many sessions there are at once where they are served without an end.
+/// How many sessions there are at once where they are served without an end. The most depend on the size, which is
+/// another option.
 fn at_once<'a>(alloc: Global) -> Result<Arg<'a>, AllocError> {
     let at_once = Arg::new(alloc, "at-once")
         .long("at-once")
         .value_name("NUMBER")
         .action(ArgAction::Set)
-        .value_parser(value_parser!(u32).range(1..=i64::from(MOST_SESSIONS)))
-        .default_value("64")
+        .value_parser(value_parser!(u32).range(0..))
         .conflicts_with("sessions")?
         .help(
-            "How many sessions there are at once, 1 to 64; one connection more is told 69 and closed",
+            "How many sessions there are at once, 1 to 64 (256 with --size large), the most where it is left out; one connection more is told 69 and closed",
         );
     Ok(at_once)
 }

@@ -178,12 +178,37 @@ fn session_options(alloc: Global, matches: &ArgMatches<'_>) -> Result<SessionOpt
     })
 }
 
-/// How long sessions are served: without a number of them, without an end.
-fn service(matches: &ArgMatches<'_>) -> Option<Service> {
-    match matches.get_one::<u32>("sessions") {
-        Some(count) => Some(Service::Sessions(Sessions::new(count)?)),
-        None => Some(Service::AtOnce(Sessions::new(matches.get_one::<u32>("at-once")?)?)),
+/// What is said of a number of sessions that isn't allowed at this size, in the words of the parser.
+fn not_allowed(alloc: Global, size: Size, name: &str, count: u32) -> Result<String, AllocError> {
+    let most = size.sessions();
+    format!(in alloc;
+        "error: invalid value '{count}' for '--{name} <NUMBER>': {count} is not in 1..={most}\n\nFor more information, try '--help'.\n"
+    )
+}
+
+/// The number of sessions that an option names, if it is there.
+fn sessions(
+    alloc: Global,
+    matches: &ArgMatches<'_>,
+    name: &str,
+) -> Result<Option<Sessions>, Unread> {
+    let Some(count) = matches.get_one::<u32>(name) else {
+        return Ok(None);
+    };
+    let size = size(matches);
+    match Sessions::new(size, count) {
+        Some(sessions) => Ok(Some(sessions)),
+        None => Err(Unread::Usage(not_allowed(alloc, size, name, count)?)),
     }
+}
+
+/// How long sessions are served: without a number of them, without an end.
+fn service(alloc: Global, matches: &ArgMatches<'_>) -> Result<Service, Unread> {
+    if let Some(sessions) = sessions(alloc, matches, "sessions")? {
+        return Ok(Service::Sessions(sessions));
+    }
+    let at_once = sessions(alloc, matches, "at-once")?;
+    Ok(Service::AtOnce(at_once.unwrap_or(Sessions::most(size(matches)))))
 }
 
 /// For how long a client may say nothing.
@@ -244,29 +269,25 @@ fn doors(alloc: Global, matches: &ArgMatches<'_>) -> Result<Doors, Unread> {
     })
 }
 
-/// On what terms sessions are served; none where neither of the two numbers of sessions is there.
-fn terms(matches: &ArgMatches<'_>, options: SessionOptions) -> Option<Terms> {
-    Some(Terms {
-        service: service(matches)?,
+/// On what terms sessions are served.
+fn terms(alloc: Global, matches: &ArgMatches<'_>) -> Result<Terms, Unread> {
+    Ok(Terms {
+        service: service(alloc, matches)?,
         workers: workers(matches),
         size: size(matches),
-        options,
+        options: session_options(alloc, matches)?,
         idle: idle(matches),
         is_logged: matches.get_flag("log"),
     })
 }
 
 /// What the options of `serve` ask for.
-fn serving(alloc: Global, matches: &ArgMatches<'_>) -> Result<Option<Request>, Unread> {
-    let options = session_options(alloc, matches)?;
-    match terms(matches, options) {
-        Some(terms) => Ok(Some(Request::Serve {
-            doors: doors(alloc, matches)?,
-            terms,
-            store: text(alloc, matches, "store")?,
-        })),
-        None => Ok(None),
-    }
+fn serving(alloc: Global, matches: &ArgMatches<'_>) -> Result<Request, Unread> {
+    Ok(Request::Serve {
+        terms: terms(alloc, matches)?,
+        doors: doors(alloc, matches)?,
+        store: text(alloc, matches, "store")?,
+    })
 }
 
 fn request_of(alloc: Global, matches: &ArgMatches<'_>) -> Result<Request, Unread> {
@@ -289,7 +310,7 @@ fn request_of(alloc: Global, matches: &ArgMatches<'_>) -> Result<Request, Unread
             digits: String::from_str(alloc, run.get_str("HEX").unwrap_or(""))?,
             options: span_options(alloc, run)?,
         })),
-        Some(("serve", serve)) => serving(alloc, serve)?,
+        Some(("serve", serve)) => Some(serving(alloc, serve)?),
         Some(("spans", spans)) => Some(Request::Perform(Command::Spans { size: size(spans) })),
         Some(("straighten", _)) => Some(Request::Perform(Command::Straighten)),
         _ => None,

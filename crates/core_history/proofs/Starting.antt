@@ -23,34 +23,34 @@ is_started size s start = λ i. record { size = start.of i; changes = start.chan
 entry_is : {S : Type 0} (size : Size) (s : Core S) (start : IsStart size s) → first_entry s ≡ Some (entry.Started start.version.0)
 entry_is size s start = ap entry_of start.version.1
 
-module _ {S : Type 0} (size : Size) (sent : S → List Item) (full : S → Type 0) where
-  run_started : (s : Core S) (start : IsStart size s) → IsRunOf size sent full (entry.Started start.version.0 ∷ []) s
+module _ {S : Type 0} (size : Size) (sent : S → List Item) (full : S → Type 0) (closed_sink : S → S) where
+  run_started : (s : Core S) (start : IsStart size s) → IsRunOf size sent full closed_sink (entry.Started start.version.0 ∷ []) s
   run_started s start = (subst (IsStart size) (is_started size s start) start, is_started size s start)
 
   pub may_start : (s : Core S) → IsStart size s → (log : List (CoreEntry S)) → log ≡ []
-      → (x : CoreEntry S) × (first_entry s ≡ Some x) × IsLegal size sent full (log ++ x ∷ [])
+      → (x : CoreEntry S) × (first_entry s ≡ Some x) × IsLegal size sent full closed_sink (log ++ x ∷ [])
   may_start s start log none = (
     entry.Started start.version.0,
     entry_is size s start,
-    subst (λ l. IsLegal size sent full (l ++ entry.Started start.version.0 ∷ [])) (sym none) (inr (s, run_started s start)),
+    subst (λ l. IsLegal size sent full closed_sink (l ++ entry.Started start.version.0 ∷ [])) (sym none) (inr (s, run_started s start)),
   )
 
   pub begun : (s : Core S) → IsStart size s → (log log' : List (CoreEntry S)) → log ≡ []
-      → ((x : CoreEntry S) → first_entry s ≡ Some x → log' ≡ log ++ x ∷ []) → IsRunOf size sent full log' s
+      → ((x : CoreEntry S) → first_entry s ≡ Some x → log' ≡ log ++ x ∷ []) → IsRunOf size sent full closed_sink log' s
   begun s start log log' none more =
       let one : CoreEntry S = entry.Started start.version.0 in
       let history : log' ≡ one ∷ [] = more one (entry_is size s start) ∙ ap (λ l. l ++ one ∷ []) none in
-      subst (λ l. IsRunOf size sent full l s) (sym history) (run_started s start)
+      subst (λ l. IsRunOf size sent full closed_sink l s) (sym history) (run_started s start)
 
   pub starts : (s : Core S) → IsStart size s → (parts : ℕ) (log log' : List (CoreEntry S)) (v w : Holds (CoreEntry S)) → log ≡ [] → v ≡ nothing parts
       → ((x : CoreEntry S) → first_entry s ≡ Some x → log' ≡ log ++ x ∷ [])
-      → ((x : CoreEntry S) → first_entry s ≡ Some x → Extends (IsLegal size sent full) v x w)
+      → ((x : CoreEntry S) → first_entry s ≡ Some x → Extends (IsLegal size sent full closed_sink) v x w)
       → w.seen ≡ log' → Starts size s parts (record { core = s; history = log' }) w
   starts s start parts log log' v w none idle more mine seen =
       let first = start.version.0 in
       let one : CoreEntry S = entry.Started first in
       let history : log' ≡ one ∷ [] = more one (entry_is size s start) ∙ ap (λ l. l ++ one ∷ []) none in
-      let own = subst (λ u. Extends (IsLegal size sent full) u one w) idle (mine one (entry_is size s start)) in
+      let own = subst (λ u. Extends (IsLegal size sent full closed_sink) u one w) idle (mine one (entry_is size s start)) in
       let all : w.seen ≡ one ∷ [] = seen ∙ history in
       let before : length own.between ≡ 0 = omega (arith, length-append own.between (one ∷ []), ap length own.seen, ap length all) in
       record {

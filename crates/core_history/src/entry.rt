@@ -44,5 +44,5 @@ pub type CoreToken<N, S> = Token<N, CoreEntry<N, S>>;
 impl<N: Naming, S: Sink<Item<N>>> Lawful for Entry<ProgramToken<N>, S, VersionToken<N>, Job<N>> {
     ghost use Rattle.core_history.specs.Runs.{IsLegal};
 
-    ghost legal = { IsLegal N.size S.sent S.full };
+    ghost legal = { IsLegal N.size S.sent S.full S.closed };
 }

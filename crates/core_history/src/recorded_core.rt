@@ -54,7 +54,7 @@ impl<'p, N: Naming + HistoryNaming + Ledger, S: Sink<Item<N>>> Model for Recorde
 
     ghost view = { λ r. record { core = r.core; history = r.history } };
 
-    ghost invariant = { λ r. IsRunOf N.size S.sent S.full r.history r.core };
+    ghost invariant = { λ r. IsRunOf N.size S.sent S.full S.closed r.history r.core };
 }
 
 /// Records the call by which a core has come to its state. `C` names the entry, by what it is about.
@@ -66,10 +66,11 @@ fn record<N: Naming + HistoryNaming + Ledger, S: Sink<Item<N>>, C: NextEntry<Cor
     about: &X,
 )
     requires here { board.now.table.shared.table_id ≡ N.table }
-    requires led { LedTo N.size S.sent S.full history.old C.entry core.now }
-    ensures run { IsRunOf N.size S.sent S.full history.new core.now }
+    requires led { LedTo N.size S.sent S.full S.closed history.old C.entry core.now }
+    ensures run { IsRunOf N.size S.sent S.full S.closed history.new core.now }
     ensures history { (e : Entered S) → C.entry ≡ Some e → history.new ≡ history.old ++ e ∷ [] }
-    ensures extends { (e : Entered S) → C.entry ≡ Some e → Extends (IsLegal N.size S.sent S.full) me.old e me.new }
+    ensures extends { (e : Entered S) → C.entry ≡ Some e
+        → Extends (IsLegal N.size S.sent S.full S.closed) me.old e me.new }
     ensures seen { me.new.seen ≡ history.new }
 {
     core.stays_consistent();
@@ -111,7 +112,7 @@ impl<'p, N: Naming + HistoryNaming + Ledger, S: Sink<Item<N>>> RecordedCore<'p, 
     /// The core, for what reads it.
     pub fn core(&self) -> &Core<'p, N, S>
         ensures core { result.now ≡ self.now.core }
-        ensures run { IsRunOf N.size S.sent S.full self.now.history self.now.core }
+        ensures run { IsRunOf N.size S.sent S.full S.closed self.now.history self.now.core }
     {
         &self.core
     }
@@ -126,7 +127,7 @@ impl<'p, N: Naming + HistoryNaming + Ledger, S: Sink<Item<N>>> RecordedCore<'p, 
         change: Change,
     ) -> Result<VersionToken<N>, SubmitError>
         requires { board.now.table.shared.table_id ≡ N.table }
-        ensures { Records N.size S.sent S.full self.old me.old (call.Submit change)
+        ensures { Records N.size S.sent S.full S.closed self.old me.old (call.Submit change)
             (reply.Submitted result) self.new me.new }
     {
         self.submit_as::<R, Brand>(rt, board, me, change)
@@ -142,7 +143,8 @@ impl<'p, N: Naming + HistoryNaming + Ledger, S: Sink<Item<N>>> RecordedCore<'p, 
     ) -> Result<VersionToken<N>, SubmitError>
         requires here { board.now.table.shared.table_id ≡ N.table }
         requires call { A.call ≡ call.Submit change }
-        ensures { Records N.size S.sent S.full self.old me.old A.call (reply.Submitted result) self.new me.new }
+        ensures { Records N.size S.sent S.full S.closed self.old me.old A.call
+            (reply.Submitted result) self.new me.new }
     {
         let submitted = self.core.submit(rt, change);
         record::<N, S, Brand, _>(&self.core, &mut self.history, board, me, &submitted);
@@ -158,15 +160,15 @@ impl<'p, N: Naming + HistoryNaming + Ledger, S: Sink<Item<N>>> RecordedCore<'p, 
         change: &Change,
     ) -> SubmitError
         requires { board.now.table.shared.table_id ≡ N.table }
-        ensures { Records N.size S.sent S.full self.old me.old (call.Submit change.now) (reply.Submitted (Err result))
-            self.new me.new }
+        ensures { Records N.size S.sent S.full S.closed self.old me.old (call.Submit change.now)
+            (reply.Submitted (Err result)) self.new me.new }
     {
         let refusal = refusal_without_memory(&self.core);
         record::<N, S, Brand, _>(&self.core, &mut self.history, board, me, &(change, refusal));
         refusal
     }
 
-    /// Closes a subscriber for good, and drops the batches that it holds.
+    /// Closes a subscriber for good, with its sink, and drops the batches that it holds.
     pub fn close(
         &mut self,
         board: &CoreBoard<N, S>,
@@ -174,7 +176,8 @@ impl<'p, N: Naming + HistoryNaming + Ledger, S: Sink<Item<N>>> RecordedCore<'p, 
         id: usize,
     ) -> Result<(), NoSubscriber>
         requires { board.now.table.shared.table_id ≡ N.table }
-        ensures { Records N.size S.sent S.full self.old me.old (call.Close id) (reply.Closed result) self.new me.new }
+        ensures { Records N.size S.sent S.full S.closed self.old me.old (call.Close id)
+            (reply.Closed result) self.new me.new }
     {
         let closed = self.core.close(id);
         record::<N, S, Brand, _>(&self.core, &mut self.history, board, me, &(id, closed));
@@ -193,7 +196,7 @@ impl<'p, N: Naming + HistoryNaming + Ledger, S: Sink<Item<N>>> RecordedCore<'p, 
         requires here { board.now.table.shared.table_id ≡ N.table }
         requires none { S.sent sink ≡ [] }
         requires suits { Suits (S.promise sink) N.size program.value (length self.old.core.changes) }
-        ensures { Records N.size S.sent S.full self.old me.old (call.Subscribe program sink)
+        ensures { Records N.size S.sent S.full S.closed self.old me.old (call.Subscribe program sink)
             (reply.Subscribed result) self.new me.new }
     {
         self.subscribe_as::<Brand>(board, me, program, sink)
@@ -211,7 +214,8 @@ impl<'p, N: Naming + HistoryNaming + Ledger, S: Sink<Item<N>>> RecordedCore<'p, 
         requires call { A.call ≡ call.Subscribe program sink }
         requires none { S.sent sink ≡ [] }
         requires suits { Suits (S.promise sink) N.size program.value (length self.old.core.changes) }
-        ensures { Records N.size S.sent S.full self.old me.old A.call (reply.Subscribed result) self.new me.new }
+        ensures { Records N.size S.sent S.full S.closed self.old me.old A.call
+            (reply.Subscribed result) self.new me.new }
     {
         let subscribed = self.core.subscribe(program, sink);
         record::<N, S, Brand, _>(&self.core, &mut self.history, board, me, &subscribed);
@@ -231,7 +235,7 @@ impl<'p, N: Naming + HistoryNaming + Ledger, S: Sink<Item<N>>> RecordedCore<'p, 
         requires here { board.now.table.shared.table_id ≡ N.table }
         requires none { S.sent sink ≡ [] }
         requires suits { Suits (S.promise sink) N.size program.value first }
-        ensures { Records N.size S.sent S.full self.old me.old (call.SubscribeFrom program sink first)
+        ensures { Records N.size S.sent S.full S.closed self.old me.old (call.SubscribeFrom program sink first)
             (reply.Subscribed result) self.new me.new }
     {
         self.subscribe_from_as::<Brand>(board, me, program, sink, first)
@@ -250,7 +254,8 @@ impl<'p, N: Naming + HistoryNaming + Ledger, S: Sink<Item<N>>> RecordedCore<'p, 
         requires call { A.call ≡ call.SubscribeFrom program sink first }
         requires none { S.sent sink ≡ [] }
         requires suits { Suits (S.promise sink) N.size program.value first }
-        ensures { Records N.size S.sent S.full self.old me.old A.call (reply.Subscribed result) self.new me.new }
+        ensures { Records N.size S.sent S.full S.closed self.old me.old A.call
+            (reply.Subscribed result) self.new me.new }
     {
         let subscribed = self.core.subscribe_from(program, sink, first);
         record::<N, S, Brand, _>(&self.core, &mut self.history, board, me, &subscribed);
@@ -260,7 +265,8 @@ impl<'p, N: Naming + HistoryNaming + Ledger, S: Sink<Item<N>>> RecordedCore<'p, 
     /// Hands out a version that a subscriber's program is to be run on; None only where there is none.
     pub fn take_job(&mut self, board: &CoreBoard<N, S>, me: &mut CoreToken<N, S>) -> Option<Job<N>>
         requires { board.now.table.shared.table_id ≡ N.table }
-        ensures { Records N.size S.sent S.full self.old me.old call.TakeJob (reply.Handed result) self.new me.new }
+        ensures { Records N.size S.sent S.full S.closed self.old me.old call.TakeJob
+            (reply.Handed result) self.new me.new }
     {
         let job = self.core.take_job();
         record::<N, S, Brand, _>(&self.core, &mut self.history, board, me, &job);
@@ -275,7 +281,7 @@ impl<'p, N: Naming + HistoryNaming + Ledger, S: Sink<Item<N>>> RecordedCore<'p, 
         batch: Batch<N>,
     ) -> Result<(), CommitError>
         requires { board.now.table.shared.table_id ≡ N.table }
-        ensures records { Records N.size S.sent S.full self.old me.old (call.Commit batch)
+        ensures records { Records N.size S.sent S.full S.closed self.old me.old (call.Commit batch)
             (reply.Committed result) self.new me.new }
         ensures takes_no_memory { ¬ (result ≡ Err CommitError.OutOfMemory) }
     {
@@ -291,7 +297,8 @@ impl<'p, N: Naming + HistoryNaming + Ledger, S: Sink<Item<N>>> RecordedCore<'p, 
     ) -> Result<(), CommitError>
         requires here { board.now.table.shared.table_id ≡ N.table }
         requires call { A.call ≡ call.Commit batch }
-        ensures records { Records N.size S.sent S.full self.old me.old A.call (reply.Committed result) self.new me.new }
+        ensures records { Records N.size S.sent S.full S.closed self.old me.old A.call
+            (reply.Committed result) self.new me.new }
         ensures takes_no_memory { ¬ (result ≡ Err CommitError.OutOfMemory) }
     {
         let committed = self.core.commit(batch);
@@ -307,7 +314,8 @@ impl<'p, N: Naming + HistoryNaming + Ledger, S: Sink<Item<N>>> RecordedCore<'p, 
         id: usize,
     ) -> Result<usize, NoSubscriber>
         requires { board.now.table.shared.table_id ≡ N.table }
-        ensures { Records N.size S.sent S.full self.old me.old (call.Pump id) (reply.Pumped result) self.new me.new }
+        ensures { Records N.size S.sent S.full S.closed self.old me.old (call.Pump id)
+            (reply.Pumped result) self.new me.new }
     {
         let pumped = self.core.pump(id);
         record::<N, S, Brand, _>(&self.core, &mut self.history, board, me, &(id, pumped));
@@ -322,7 +330,7 @@ impl<'p, N: Naming + HistoryNaming + Ledger, S: Sink<Item<N>>> RecordedCore<'p, 
         id: usize,
     ) -> Result<(), NoSubscriber>
         requires { board.now.table.shared.table_id ≡ N.table }
-        ensures { Records N.size S.sent S.full self.old me.old (call.Reissue id)
+        ensures { Records N.size S.sent S.full S.closed self.old me.old (call.Reissue id)
             (reply.Reissued result) self.new me.new }
     {
         let reissued = self.core.reissue(id);
@@ -335,7 +343,7 @@ impl<'p, N: Naming + HistoryNaming + Ledger, S: Sink<Item<N>>> RecordedCore<'p, 
         requires { board.now.table.shared.table_id ≡ N.table }
         ensures same { self.new ≡ self.old }
         ensures begins { IsPrefix me.old.seen self.old.history }
-        ensures run { IsRunOf N.size S.sent S.full self.old.history self.old.core }
+        ensures run { IsRunOf N.size S.sent S.full S.closed self.old.history self.old.core }
         ensures me { me.new ≡ looked me.old self.old.history }
     {
         self.history.look(board, me);
@@ -350,7 +358,7 @@ impl<'p, N: Naming + HistoryNaming + Ledger, S: Sink<Item<N>>> RecordedCore<'p, 
     )
         requires { board.now.table.shared.table_id ≡ N.table }
         ensures same { self.new ≡ self.old }
-        ensures me { TakesIn (IsLegal N.size S.sent S.full) me.old other me.new }
+        ensures me { TakesIn (IsLegal N.size S.sent S.full S.closed) me.old other me.new }
         ensures seen { me.new.seen ≡ self.old.history }
     {
         self.history.take_in(board, me, other);
@@ -362,8 +370,8 @@ impl<'p, N: Naming + HistoryNaming + Ledger, S: Sink<Item<N>>> RecordedCore<'p, 
         requires here { board.now.table.shared.table_id ≡ N.table }
         requires all { all.parts ≡ N.parts }
         ensures same { self.new ≡ self.old }
-        ensures run { IsRunOf N.size S.sent S.full self.old.history self.old.core }
-        ensures whole { IsWhole (IsLegal N.size S.sent S.full) self.old.history all }
+        ensures run { IsRunOf N.size S.sent S.full S.closed self.old.history self.old.core }
+        ensures whole { IsWhole (IsLegal N.size S.sent S.full S.closed) self.old.history all }
     {
         self.history.settle(board, all);
     }

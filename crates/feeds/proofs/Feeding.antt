@@ -134,12 +134,12 @@ module _ {S : Type 0} (sent : S → List Item) (full : S → Type 0) where
   pub fed_handed : (ts : List (Token Version)) (a : Subscriber S) (n : ℕ) → IsFed sent full ts a → IsFed sent full ts (record a { handed = n })
   fed_handed ts a n fed = record { wide = fed.wide; begun = fed.begun; behind = fed.behind; sent_is = fed.sent_is; part = fed.part; part_held = fed.part_held; owed = fed.owed }
 
-  pub fed_closed : (ts : List (Token Version)) (a : Subscriber S) → IsFed sent full ts a → IsFed sent full ts (record a { held = nothing_held; closed = true })
-  fed_closed ts a fed = record {
+  pub fed_closed : (ts : List (Token Version)) (a : Subscriber S) (sink : S) → IsFed sent full ts a → sent sink ≡ sent a.sink → IsFed sent full ts (record a { held = nothing_held; closed = true; sink = sink })
+  fed_closed ts a sink fed same = record {
     wide = refl;
     begun = fed.begun;
     behind = fed.behind;
-    sent_is = fed.sent_is;
+    sent_is = same ∙ fed.sent_is;
     part = fed.part;
     part_held = λ some opened. absurd (true≢false opened);
     owed = λ i b e. absurd (none_held_at 8 i b e);

@@ -32,12 +32,21 @@ pub trait Sink<I: AsItem>: Drop {
     /// What is promised of all that it is sent, if anything is. It stays the same.
     ghost promise: { Self → Option Promise };
 
+    /// What it is once it is closed.
+    ghost closed: { Self → Self };
+
     /// Sends an item. Where the sink is full it comes back.
     fn push(&mut self, item: I) -> Result<(), I>
         requires orderly { IsOrderly (sent self.old ++ I.as_item item ∷ []) }
         requires promised { IsPromised (promise self.old) (sent self.old ++ I.as_item item ∷ []) }
         ensures ok { OnOk result (sent self.new ≡ sent self.old ++ I.as_item item ∷ []) }
         ensures err { IfErr result (λ back. (back ≡ item) × (sent self.new ≡ sent self.old) × full self.new) }
+        ensures kept { promise self.new ≡ promise self.old };
+
+    /// Lets go of the memory that waiting items need: nothing is sent from now on. What was sent stays known.
+    fn close(&mut self)
+        ensures value { self.new ≡ closed self.old }
+        ensures sent { sent self.new ≡ sent self.old }
         ensures kept { promise self.new ≡ promise self.old };
 }
 
@@ -84,6 +93,8 @@ impl<N: Naming> Sink<Item<N>> for ListSink<N> {
 
     ghost promise = { λ s. None };
 
+    ghost closed = { λ s. s };
+
     fn push(&mut self, item: Item<N>) -> Result<(), Item<N>>
         ensures ok { OnOk result (self.new.sent ≡ self.old.sent ++ item ∷ []) }
         ensures err { IfErr result (λ back. (back ≡ item) × (self.new.sent ≡ self.old.sent)
@@ -95,5 +106,12 @@ impl<N: Naming> Sink<Item<N>> for ListSink<N> {
         }
         self.items.push_reserved(item);
         Ok(())
+    }
+
+    /// Its items stay, for whoever reads them.
+    fn close(&mut self)
+        ensures value { self.new ≡ self.old }
+    {
+        let _ = self.items.len();
     }
 }

@@ -351,12 +351,15 @@ impl<N: Naming, S: Sink<Item<N>>> Subscriber<N, S> {
         self.handed = self.cursor;
     }
 
-    /// Closes it for good, and drops the held batches.
+    /// Closes it for good, with its sink, and drops the held batches. What was sent stays known.
     pub fn close(&mut self)
         requires { length self.old.held ≡ 8 }
-        ensures { self.new ≡ record self.old { held = nothing_held; closed = true } }
+        ensures value { self.new
+            ≡ record self.old { held = nothing_held; closed = true; sink = S.closed self.old.sink } }
+        ensures sent { S.sent self.new.sink ≡ S.sent self.old.sink }
     {
         let_go(self.held.as_mut_slice());
         self.closed = true;
+        self.sink.close();
     }
 }

@@ -23,7 +23,8 @@ pub record IsTextUpTo (input left : List ℕ) : Type 0 where
 pub record Advances (size : Size) (old : List Change) (text : List ℕ) (new : List Change)
     (rest : List ℕ) : Type 0 where
   pub taken : IsTextUpTo text rest
-  pub follows : (input behind : List ℕ) → Begins size input old (text ++ behind) → Begins size input new (rest ++ behind)
+  pub follows : (input behind : List ℕ) → Begins size input old (text ++ behind)
+      → Begins size input new (rest ++ behind)
 
 -- all of a text was accepted, or a change in it is refused
 abbrev pub EndsWith : Size → List Change → List ℕ → Option ChangeReason → Type 0

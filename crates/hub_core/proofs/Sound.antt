@@ -20,7 +20,8 @@ use Rattle.hub_core.specs.declared.error.CommitError.TheVariants.{Stale}
 use Rattle.change_history.specs.VersionAt.{IsVersionAt}
 use Rattle.change_history.specs.declared.refusal.SubmitError.{SubmitError}
 use Rattle.hub_core.specs.Accepting.{Accepts, HasLatest}
-use Rattle.hub_core.specs.Machine.{Core, IsOpen, HasNone, Submits, Commits, Pumps, Reissues, Closes, TakesJob, Misses, FindsAt, IsSound}
+use Rattle.hub_core.specs.Machine.{Core, IsOpen, HasNone, HasPlace, Submits, Subscribes, Commits, Pumps, Reissues, Closes, TakesJob, Misses, FindsAt, IsSound}
+use Rattle.hub_core.proofs.Opened.{count_push, count_set}
 
 -- the version of all changes
 pub version_of_all : (changes : List Change) (c : Change) (v : Version) → IsVersion (operations_of (changes ++ c ∷ [])) (length changes + 1) v → IsVersionAt (changes ++ c ∷ []) (length changes + 1) v
@@ -54,6 +55,7 @@ module _ {S : Type 0} (sent : S → List Item) (full : S → Type 0) where
         named = omega (arith, length-append s.versions (t ∷ []), length-append s.changes (c ∷ []), sound.named);
         few = omega (arith, length-append s.changes (c ∷ []));
         few_subscribers = sound.few_subscribers;
+        few_open = sound.few_open;
         versions_are = λ n u e. ⊎_elim
             (λ (old : slice_get s.versions n ≡ Some u).
             let within = slice_get_within s.versions n u old in
@@ -75,6 +77,7 @@ module _ {S : Type 0} (sent : S → List Item) (full : S → Type 0) where
         named = refl;
         few = omega arith;
         few_subscribers = omega arith;
+        few_open = omega arith;
         versions_are = λ n u e. elim n as (λ (k : ℕ). slice_get (t ∷ []) k ≡ Some u → IsVersionAt [] k u.value)
             [ zero ↦ λ e. subst (λ (x : Token Version). IsVersionAt [] 0 x.value) (same_Some t u e) is | suc k ↦ λ e. absurd (none-some u e) ] e;
         fed = no_subs;
@@ -89,27 +92,35 @@ module _ {S : Type 0} (sent : S → List Item) (full : S → Type 0) where
   sound_accepted s c (Err e) size changes versions sound h same =
       subst (λ (x : Size × List Change × List (Token Version)). IsSound sent full (record s { size = x.0; changes = x.1; versions = x.2 })) (λ i. (sym same i, sym h.0 i, sym h.1 i)) sound
 
-  pub sound_set : (s : Core S) (id : ℕ) (b : Subscriber S) → IsSound sent full s → IsFed sent full s.versions b → IsSound sent full (record s { subscribers = set s.subscribers id b })
-  sound_set s id b sound fed = record {
+  -- a subscriber is replaced by one that is open only where it was
+  sound_replaced : (s : Core S) (id : ℕ) (a b : Subscriber S) → IsSound sent full s → id < length s.subscribers → a ≡ get_or s.subscribers id a → (a.closed ≡ true → b.closed ≡ true) → IsFed sent full s.versions b
+      → IsSound sent full (record s { subscribers = set s.subscribers id b })
+  sound_replaced s id a b sound within at stays fed = record {
     named = sound.named;
     few = sound.few;
     few_subscribers = omega (arith, length-set s.subscribers id b, sound.few_subscribers);
+    few_open = omega (arith, count_set s.subscribers id a b (slice_get_read s.subscribers (length s.subscribers) id a refl within at) stays, sound.few_open);
     versions_are = sound.versions_are;
     fed = All-set (IsFed sent full s.versions) s.subscribers id b fed sound.fed;
   }
 
-  pub sound_subscribe : (s : Core S) (p : Token Program) (first : ℕ) (sink : S) → IsSound sent full s → first ≤ length s.changes → length s.subscribers < 64 → sent sink ≡ []
+  pub sound_set : (s : Core S) (id : ℕ) (a b : Subscriber S) → IsSound sent full s → id < length s.subscribers → a ≡ get_or s.subscribers id a → b.closed ≡ a.closed → IsFed sent full s.versions b
+      → IsSound sent full (record s { subscribers = set s.subscribers id b })
+  sound_set s id a b sound within at same fed = sound_replaced s id a b sound within at (λ closed. same ∙ closed) fed
+
+  pub sound_subscribe : (s : Core S) (p : Token Program) (first : ℕ) (sink : S) → IsSound sent full s → first ≤ length s.changes → HasPlace s → sent sink ≡ []
       → IsSound sent full (record s { subscribers = s.subscribers ++ fresh p first sink ∷ [] })
   sound_subscribe s p first sink sound published room none = record {
     named = sound.named;
     few = sound.few;
-    few_subscribers = omega (arith, length-append s.subscribers (fresh p first sink ∷ []));
+    few_subscribers = omega (arith, length-append s.subscribers (fresh p first sink ∷ []), room.added);
+    few_open = omega (arith, count_push s.subscribers (fresh p first sink), room.at_once);
     versions_are = sound.versions_are;
     fed = All-push (IsFed sent full s.versions) s.subscribers (fresh p first sink) sound.fed (fresh_fed sent full s.versions p first sink (omega (arith, sound.named, published)) none);
   }
 
   -- what the code has is the state with a subscriber more
-  pub sound_subscribed : (s : Core S) (p : Token Program) (sink : S) (n : ℕ) (a : Subscriber S) (old subscribers : List (Subscriber S)) → IsSound sent full s → n ≤ length s.changes → length s.subscribers < 64 → sent sink ≡ []
+  pub sound_subscribed : (s : Core S) (p : Token Program) (sink : S) (n : ℕ) (a : Subscriber S) (old subscribers : List (Subscriber S)) → IsSound sent full s → n ≤ length s.changes → HasPlace s → sent sink ≡ []
       → a ≡ fresh p n sink → old ≡ s.subscribers → subscribers ≡ old ++ a ∷ [] → IsSound sent full (record s { subscribers = subscribers })
   sound_subscribed s p sink n a old subscribers sound published room none made same is =
       let now : subscribers ≡ s.subscribers ++ fresh p n sink ∷ [] =
@@ -144,6 +155,11 @@ module _ {S : Type 0} (sent : S → List Item) (full : S → Type 0) where
       (a, here, wanted, (λ i. record s { subscribers = set s.subscribers (number i) (keeps.1 i) }))
   committed o s b ts id x a a' false same number within read opened found versions keeps kept = absurd (true≢false (sym kept))
 
+  -- neither opens nor closes the subscriber
+  pub kept_closed : (ts : List (Token Version)) (a : Subscriber S) (b : Job) (k : Bool) (a' : Subscriber S) → Keeps ts a b k a' → a'.closed ≡ a.closed
+  kept_closed ts a b true a' keeps = ap (λ (z : Subscriber S). z.closed) keeps.1
+  kept_closed ts a b false a' keeps = ap (λ (z : Subscriber S). z.closed) keeps.1
+
   pub refused : (o s : Core S) (b : Job) (ts : List (Token Version)) (id : ℕ) (x a a' : Subscriber S) (k : Bool) → s ≡ o → id ≡ b.subscriber → id < length s.subscribers
       → x ≡ get_or s.subscribers id x → x.closed ≡ false → a ≡ get_or s.subscribers id a → ts ≡ s.versions → Keeps ts a b k a' → k ≡ false
       → Commits o b (Err Stale) (record s { subscribers = set s.subscribers id a' })
@@ -158,12 +174,15 @@ module _ {S : Type 0} (sent : S → List Item) (full : S → Type 0) where
   pub sound_handed : (s : Core S) (id n : ℕ) (a a' : Subscriber S) → IsSound sent full s → id < length s.subscribers → a ≡ get_or s.subscribers id a → a' ≡ record a { handed = n }
       → IsSound sent full (record s { subscribers = set s.subscribers id a' })
   sound_handed s id n a a' sound within at made =
-      sound_set sent full s id a' sound (subst (IsFed sent full s.versions) (sym made) (fed_handed sent full s.versions a n (fed_at sent full s id a sound within at)))
+      sound_set sent full s id a a' sound within at (ap (λ (z : Subscriber S). z.closed) made)
+      (subst (IsFed sent full s.versions) (sym made) (fed_handed sent full s.versions a n (fed_at sent full s id a sound within at)))
 
-  pub sound_closed : (s : Core S) (id : ℕ) (a a' : Subscriber S) → IsSound sent full s → id < length s.subscribers → a ≡ get_or s.subscribers id a → a' ≡ record a { held = nothing_held; closed = true }
-      → IsSound sent full (record s { subscribers = set s.subscribers id a' })
-  sound_closed s id a a' sound within at made =
-      sound_set sent full s id a' sound (subst (IsFed sent full s.versions) (sym made) (fed_closed sent full s.versions a (fed_at sent full s id a sound within at)))
+  pub sound_closed : (s : Core S) (id : ℕ) (a a' : Subscriber S) (sink : S) → IsSound sent full s → id < length s.subscribers → a ≡ get_or s.subscribers id a → a' ≡ record a { held = nothing_held; closed = true; sink = sink }
+      → sent a'.sink ≡ sent a.sink → IsSound sent full (record s { subscribers = set s.subscribers id a' })
+  sound_closed s id a a' sink sound within at made same =
+      let sent_same : sent sink ≡ sent a.sink = ap (λ (z : Subscriber S). sent z.sink) (sym made) ∙ same in
+      sound_replaced sent full s id a a' sound within at (λ _. ap (λ (z : Subscriber S). z.closed) made)
+      (subst (IsFed sent full s.versions) (sym made) (fed_closed sent full s.versions a sink (fed_at sent full s id a sound within at) sent_same))
 
 module _ {S : Type 0} where
   pub submitted : (o s : Core S) (c : Change) (r : Result (Token Version) SubmitError) (size : Size) (changes : List Change) (versions : List (Token Version)) → s ≡ o
@@ -174,6 +193,21 @@ module _ {S : Type 0} where
   submitted o s c (Err e) size changes versions same h kept =
       subst (λ (y : Core S). Submits y c (Err e) (record s { size = size; changes = changes; versions = versions })) same
       (λ i. record s { size = kept i; changes = h.0 i; versions = h.1 i }, h.2)
+
+  -- the code has the state with a subscriber more
+  pub subscribed_now : (o s : Core S) (p : Token Program) (sink : S) (n id : ℕ) (a : Subscriber S) (old subscribers : List (Subscriber S)) → s ≡ o → HasPlace o → n ≤ length s.changes → id ≡ length s.subscribers
+      → a ≡ fresh p n sink → old ≡ s.subscribers → subscribers ≡ old ++ a ∷ [] → Subscribes o n p sink (Ok id) (record s { subscribers = subscribers })
+  subscribed_now o s p sink n id a old subscribers same place published last made kept is =
+      subst (λ (y : Core S). Subscribes y n p sink (Ok id) (record s { subscribers = subscribers })) same (
+        subst (λ (y : Core S). HasPlace y) (sym same) place,
+        published,
+        last,
+        λ i. record s { subscribers = (is ∙ (λ j. kept j ++ made j ∷ [])) i },
+      )
+
+  -- it is closed
+  pub closed_by : (a a' : Subscriber S) (sink : S) → a' ≡ record a { held = nothing_held; closed = true; sink = sink } → a'.closed ≡ true
+  closed_by a a' sink made = ap (λ (z : Subscriber S). z.closed) made
 
   reads : (s : Core S) (id : ℕ) (a : Subscriber S) → id < length s.subscribers → a ≡ get_or s.subscribers id a → slice_get s.subscribers id ≡ Some a
   reads s id a within at = slice_get_read s.subscribers (length s.subscribers) id a refl within at
@@ -190,10 +224,10 @@ module _ {S : Type 0} where
       subst (λ (y : Core S). Reissues y id (Ok tt) (record s { subscribers = set s.subscribers id a' })) same
       (a, open_both s id x a within read opened found, ap (λ (z : Subscriber S). record s { subscribers = set s.subscribers id z }) made)
 
-  pub closed_now : (o s : Core S) (id : ℕ) (x a a' : Subscriber S) → s ≡ o → id < length s.subscribers → x ≡ get_or s.subscribers id x → x.closed ≡ false → a ≡ get_or s.subscribers id a
-      → a' ≡ record a { held = nothing_held; closed = true } → Closes o id (Ok tt) (record s { subscribers = set s.subscribers id a' })
-  closed_now o s id x a a' same within read opened found made =
-      subst (λ (y : Core S). Closes y id (Ok tt) (record s { subscribers = set s.subscribers id a' })) same
+  pub closed_now : (closed_sink : S → S) (o s : Core S) (id : ℕ) (x a a' : Subscriber S) → s ≡ o → id < length s.subscribers → x ≡ get_or s.subscribers id x → x.closed ≡ false → a ≡ get_or s.subscribers id a
+      → a' ≡ record a { held = nothing_held; closed = true; sink = closed_sink a.sink } → Closes closed_sink o id (Ok tt) (record s { subscribers = set s.subscribers id a' })
+  closed_now closed_sink o s id x a a' same within read opened found made =
+      subst (λ (y : Core S). Closes closed_sink y id (Ok tt) (record s { subscribers = set s.subscribers id a' })) same
       (a, open_both s id x a within read opened found, ap (λ (z : Subscriber S). record s { subscribers = set s.subscribers id z }) made)
 
   -- what was found of the subscriber that was read
@@ -203,11 +237,15 @@ module _ {S : Type 0} where
       let one : b ≡ a = same_Some b a (sym is_open.0 ∙ reads s id a within at) in
       found n (subst (λ (x : ℕ × Subscriber S). IsDue x.0 x.1 n) (λ i. (sym is i, one i)) due)
 
-  pub found_at : (o s : Core S) (id latest : ℕ) (a : Subscriber S) (r : Option ℕ) → s ≡ o → id < length s.subscribers → a ≡ get_or s.subscribers id a → a.closed ≡ false → latest ≡ length s.changes → Finds latest a r → FindsAt o id r
-  found_at o s id latest a r same within at opened is found = subst (λ (y : Core S). FindsAt y id r) same (found_here s id latest a r within at opened is found)
+  -- an id that is one of an open subscriber is one of the list
+  pub open_within : (o s : Core S) (id : ℕ) (x : Subscriber S) → s ≡ o → IsOpen o id x → id < length s.subscribers
+  open_within o s id x same here = slice_get_within s.subscribers id x (subst (λ (y : Core S). slice_get y.subscribers id ≡ Some x) (sym same) here.0)
 
-  pub none_past : (s : Core S) (id : ℕ) → length s.subscribers ≤ id → FindsAt s id None
-  none_past s id past = λ a is_open n due. none-some a (sym (slice_get_past s.subscribers id past) ∙ is_open.0)
+  pub found_at : (o s : Core S) (id latest : ℕ) (x a : Subscriber S) (r : Option ℕ) → s ≡ o → IsOpen o id x → a ≡ get_or s.subscribers id a → latest ≡ length s.changes → Finds latest a r → FindsAt o id r
+  found_at o s id latest x a r same here at is found =
+      let within = open_within o s id x same here in
+      let one : x ≡ a = same_Some x a (sym (subst (λ (y : Core S). slice_get y.subscribers id ≡ Some x) (sym same) here.0) ∙ reads s id a within at) in
+      subst (λ (y : Core S). FindsAt y id r) same (found_here s id latest a r within at (ap (λ (z : Subscriber S). z.closed) (sym one) ∙ here.1) is found)
 
   job_here : (s : Core S) (job : Job) (id number : ℕ) (a a' : Subscriber S) (ts : List (Token Version)) → FindsAt s id (Some number) → a ≡ get_or s.subscribers id a → a' ≡ record a { handed = number + 1 }
       → (job.subscriber ≡ id) × (job.number ≡ number) × (job.program ≡ a.program) → slice_get ts number ≡ Some job.version → ts ≡ s.versions

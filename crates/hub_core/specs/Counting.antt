@@ -1,15 +1,12 @@
 -- How much there is of a hub.
-use Rattle.std.specs.Prelude.{◌≡◌, ℕ, ◌+◌, ◌-◌, ◌≤◌, max, Bool, not, if◌then◌else◌, List, [], ◌∷◌, length, count_by}
+use Rattle.std.specs.Prelude.{◌≡◌, ℕ, ◌+◌, ◌-◌, ◌≤◌, max, if◌then◌else◌, List, [], ◌∷◌, length, count_by}
 use Rattle.change_ops.specs.Operations.{is_insert, is_mark}
 use Rattle.change_ops.specs.declared.size.Size.{Size}
-use Rattle.change_ops.specs.Sizes.{most_characters, most_marks, most_changes}
+use Rattle.change_ops.specs.Sizes.{most_characters, most_marks, most_changes, most_subscribers, most_open}
 use Rattle.change_history.specs.Accepted.{operations_of}
 use Rattle.feeds.specs.Feed.{Subscriber}
-use Rattle.hub_core.specs.Machine.{Core}
+use Rattle.hub_core.specs.Machine.{Core, is_open}
 use Rattle.hub_core.specs.declared.counts.Counts.{Counts}
-
-abbrev pub is_open : {S : Type 0} → Subscriber S → Bool
-is_open a = not a.closed
 
 -- how many versions, the latest of which has this number, an open subscriber was not sent whole, those before its first
 -- one not counted; 0 of a closed one
@@ -35,4 +32,5 @@ pub record AreWithinLimits (size : Size) (counts : Counts) : Type 0 where
   pub changes : counts.changes ≤ most_changes size
   pub inserted : counts.inserted ≤ most_characters size
   pub marks : counts.marks ≤ most_marks size
-  pub subscribed : counts.subscribed ≤ 64
+  pub subscribers : counts.subscribers ≤ most_open size
+  pub subscribed : counts.subscribed ≤ most_subscribers size

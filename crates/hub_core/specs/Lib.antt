@@ -3,3 +3,4 @@ pub mod Machine
 pub mod Counting
 pub mod Runs
 pub mod Consistent
+pub mod Opened

@@ -1,9 +1,9 @@
 -- The states of a hub's core, and what each call may do to one. What a definition doesn't name stays as it was.
 use Rattle.std.specs.Prelude.{◌≡◌, ℕ, ◌+◌, ◌<◌, ◌≤◌, false, true, Option, None, Some, Result, Ok, Err, List, [], ◌∷◌}
-use Rattle.std.specs.Prelude.{◌++◌, length, slice_get, slice_set, All}
+use Rattle.std.specs.Prelude.{◌++◌, ◌⊎◌, Bool, not, length, count_by, slice_get, slice_set, All}
 use Rattle.change_ops.specs.Changes.{Change}
 use Rattle.change_ops.specs.declared.size.Size.{Size}
-use Rattle.change_ops.specs.Sizes.{most_changes}
+use Rattle.change_ops.specs.Sizes.{most_changes, most_subscribers, most_open}
 use Rattle.semantics.specs.Step.{Program}
 use Rattle.span_flatten.specs.Version.{Version}
 use Rattle.version_history.specs.Tokens.{Token}
@@ -31,6 +31,20 @@ pub record Core (S : Type 0) : Type 0 where
 abbrev pub IsOpen : {S : Type 0} → Core S → ℕ → Subscriber S → Type 0
 IsOpen s id a = (slice_get s.subscribers id ≡ Some a) × (a.closed ≡ false)
 
+abbrev pub is_open : {S : Type 0} → Subscriber S → Bool
+is_open a = not a.closed
+
+-- one subscriber more may be added: as many as the size allows weren't yet, closed ones counted, and as many aren't
+-- open
+pub record HasPlace {S : Type 0} (s : Core S) : Type 0 where
+  pub added : length s.subscribers < most_subscribers s.size
+  pub at_once : count_by is_open s.subscribers < most_open s.size
+
+-- as many were, or are open
+abbrev pub HasNoPlace : {S : Type 0} → Core S → Type 0
+HasNoPlace s =
+    (most_subscribers s.size ≤ length s.subscribers) ⊎ (most_open s.size ≤ count_by is_open s.subscribers)
+
 -- no open subscriber has this id
 abbrev pub HasNone : {S : Type 0} → Core S → ℕ → Type 0
 HasNone {S} s id = (a : Subscriber S) → slice_get s.subscribers id ≡ Some a → a.closed ≡ true
@@ -56,13 +70,11 @@ Submits s c (Err e) s' = (s' ≡ s) × IsRefused s.size s.changes c e
 -- a program is subscribed, from this version on, which is the latest or an earlier one
 abbrev pub Subscribes : {S : Type 0} → Core S → ℕ → Token Program → S → Result ℕ SubscribeError → Core S → Type 0
 Subscribes s first p sink (Ok id) s' =
-    (length s.subscribers < 64) × (first ≤ length s.changes) × (id ≡ length s.subscribers)
+    HasPlace s × (first ≤ length s.changes) × (id ≡ length s.subscribers)
     × (s' ≡ record s { subscribers = s.subscribers ++ fresh p first sink ∷ [] })
-Subscribes s first p sink (Err subscribe.SubscribersFull) s' = (s' ≡ s) × (length s.subscribers ≡ 64)
-Subscribes s first p sink (Err subscribe.NoVersion) s' =
-    (s' ≡ s) × (length s.subscribers < 64) × (length s.changes < first)
-Subscribes s first p sink (Err subscribe.OutOfMemory) s' =
-    (s' ≡ s) × (length s.subscribers < 64) × (first ≤ length s.changes)
+Subscribes s first p sink (Err subscribe.SubscribersFull) s' = (s' ≡ s) × HasNoPlace s
+Subscribes s first p sink (Err subscribe.NoVersion) s' = (s' ≡ s) × HasPlace s × (length s.changes < first)
+Subscribes s first p sink (Err subscribe.OutOfMemory) s' = (s' ≡ s) × HasPlace s × (first ≤ length s.changes)
 
 -- a job of any open subscriber that has one is handed out, or none has one; where the state isn't known, None says
 -- nothing of the hub, since it holds of each state with no subscriber
@@ -109,12 +121,13 @@ abbrev pub Reissues : {S : Type 0} → Core S → ℕ → Result (Unit {0}) NoSu
 Reissues {S} s id (Ok _) s' = (a : Subscriber S) × IsOpen s id a × (s' ≡ with_subscriber s id (rewound a))
 Reissues s id (Err _) s' = (s' ≡ s) × HasNone s id
 
--- closed for good, with nothing held; what was sent stays; where the state isn't known, Err says nothing of the hub,
+-- closed for good, with its sink, and with nothing held; where the state isn't known, Err says nothing of the hub,
 -- since with no subscriber it holds for every id
-abbrev pub Closes : {S : Type 0} → Core S → ℕ → Result (Unit {0}) NoSubscriber → Core S → Type 0
-Closes {S} s id (Ok _) s' =
-    (a : Subscriber S) × IsOpen s id a × (s' ≡ with_subscriber s id (record a { held = nothing_held; closed = true }))
-Closes s id (Err _) s' = (s' ≡ s) × HasNone s id
+abbrev pub Closes : {S : Type 0} → (S → S) → Core S → ℕ → Result (Unit {0}) NoSubscriber → Core S → Type 0
+Closes {S} closed_sink s id (Ok _) s' =
+    (a : Subscriber S) × IsOpen s id a
+    × (s' ≡ with_subscriber s id (record a { held = nothing_held; closed = true; sink = closed_sink a.sink }))
+Closes closed_sink s id (Err _) s' = (s' ≡ s) × HasNone s id
 
 module _ {S : Type 0} (sent : S → List Item) (full : S → Type 0) where
   -- that many items of held batches are sent, in order, until the next batch isn't held or the sink is full; all that
@@ -131,6 +144,7 @@ module _ {S : Type 0} (sent : S → List Item) (full : S → Type 0) where
   pub record IsSound (s : Core S) : Type 0 where
     pub named : length s.versions ≡ length s.changes + 1
     pub few : length s.changes ≤ most_changes s.size
-    pub few_subscribers : length s.subscribers ≤ 64
+    pub few_subscribers : length s.subscribers ≤ most_subscribers s.size
+    pub few_open : count_by is_open s.subscribers ≤ most_open s.size
     pub versions_are : (n : ℕ) (t : Token Version) → slice_get s.versions n ≡ Some t → IsVersionAt s.changes n t.value
     pub fed : All (IsFed sent full s.versions) s.subscribers

@@ -1,6 +1,7 @@
 //! How much there is of a hub.
-ghost use Rattle.std.specs.Prelude.{◌≡◌, ◌≤◌, count_by, length};
-ghost use Rattle.hub_core.specs.Counting.{is_open, lag_of, greatest_lag};
+ghost use Rattle.std.specs.Prelude.{◌≡◌, ◌≤◌, false};
+ghost use Rattle.hub_core.specs.Counting.{lag_of, greatest_lag};
+ghost use Rattle.hub_core.specs.Opened.{open_ids};
 
 use feeds::item::Item;
 use feeds::sink::Sink;
@@ -24,42 +25,28 @@ pub struct Counts {
     pub lag: u64,
 }
 
-/// How many versions, the latest of which has this number, an open subscriber was not sent whole; 0 of a closed one.
+/// How many versions, the latest of which has this number, an open subscriber was not sent whole.
 fn lag_of<N: Naming, S: Sink<Item<N>>>(latest: u64, subscriber: &Subscriber<N, S>) -> u64
-    requires { latest ≤ 65536 }
+    requires few { latest ≤ 65536 }
+    requires opened { subscriber.now.closed ≡ false }
     ensures { result ≡ lag_of latest subscriber.now }
 {
-    if subscriber.is_closed() {
-        return 0;
-    }
     (latest + 1).saturating_sub(subscriber.cursor())
 }
 
-/// That of the slowest.
+/// That of the slowest, where these are the ids of those that are open.
 pub(crate) fn greatest_lag<N: Naming, S: Sink<Item<N>>>(
     latest: u64,
     subscribers: &[Subscriber<N, S>],
+    ids: &[usize],
 ) -> u64
-    requires { latest ≤ 65536 }
+    requires few { latest ≤ 65536 }
+    requires opened { ids.now ≡ open_ids 0 subscribers.now }
     ensures { result ≡ greatest_lag latest subscribers.now }
 {
     let mut greatest = 0;
-    for subscriber in subscribers {
-        greatest = greatest.max(lag_of(latest, subscriber));
+    for &id in ids {
+        greatest = greatest.max(lag_of(latest, &subscribers[id]));
     }
     greatest
-}
-
-/// How many are open.
-pub(crate) fn open_count<N: Naming, S: Sink<Item<N>>>(subscribers: &[Subscriber<N, S>]) -> u64
-    requires { length subscribers.now ≤ 64 }
-    ensures { result ≡ count_by is_open subscribers.now }
-{
-    let mut count = 0;
-    for subscriber in subscribers {
-        if !subscriber.is_closed() {
-            count += 1;
-        }
-    }
-    count
 }

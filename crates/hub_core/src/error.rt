@@ -4,7 +4,7 @@ use thiserror::Error;
 /// Why a subscriber was not added.
 #[derive(Clone, Copy, Debug, PartialEq, Eq, Error)]
 pub enum SubscribeError {
-    /// 64 subscribers were added, closed ones counted.
+    /// As many subscribers were added, closed ones counted, or are open, as the size of the hub allows.
     #[error("{SUBSCRIBERS_FULL}")]
     SubscribersFull,
     /// The first version is above the latest one.

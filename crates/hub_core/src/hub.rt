@@ -1,5 +1,5 @@
 ghost use Rattle.std.specs.Prelude.{◌≡◌, ◌+◌, ◌<◌, ◌≤◌, ◌↔◌, ◌++◌, ◌∷◌, [], Some, length, map, slice_get, IsTrue, IfOk};
-ghost use Rattle.std.specs.Prelude.{OnOk, MatchOption, vec_len, vec_capacity};
+ghost use Rattle.std.specs.Prelude.{OnOk, MatchOption, ℕ, remove, vec_len, vec_capacity};
 ghost use Rattle.change_ops.specs.Changes.{Change};
 ghost use Rattle.change_ops.specs.Sizes.{most_changes};
 ghost use Rattle.char_sequence.specs.Newest.{IsLastCounter};
@@ -16,9 +16,9 @@ ghost use Rattle.hub_core.specs.Counting.{AreCounts, AreWithinLimits};
 ghost use Rattle.hub_core.specs.Runs.{CommitsJob};
 ghost use Rattle.hub_core.specs.Accepting.{Accepts, HasLatest};
 ghost use Rattle.hub_core.specs.Machine.{IsStart, Submits, Subscribes, Commits, Pumps, Reissues, Closes, TakesJob};
-ghost use Rattle.hub_core.specs.Machine.{Misses, FindsAt, FindsJob};
+ghost use Rattle.hub_core.specs.Machine.{HasNoPlace, IsOpen, Misses, FindsAt, FindsJob};
 
-use crate::counts::{Counts, greatest_lag, open_count};
+use crate::counts::{Counts, greatest_lag};
 use crate::error::{CommitError, NoSubscriber, SubscribeError};
 use change_history::history::{Draft, History};
 use change_history::refusal::SubmitError;
@@ -33,16 +33,15 @@ use std::marker::Model;
 use std::sync::Wait;
 use version_history::published::{Naming, ProgramToken, Published, VersionToken};
 
-/// The most subscribers that are ever added.
-pub const SUBSCRIBER_LIMIT: usize = 64;
-
-/// The core of a hub: the accepted changes, the tokens of their versions, and the subscribers.
+/// The core of a hub: the accepted changes, the tokens of their versions, the subscribers, and the ids of those that
+/// are open, so that no call takes time for closed ones.
 pub struct Core<'p, N: Naming, S: Sink<Item<N>>> {
     alloc: Global,
     published: Published<'p, N>,
     history: History,
     versions: Vec<VersionToken<N>>,
     subscribers: Vec<Subscriber<N, S>>,
+    open: Vec<usize>,
 }
 
 // By hand, so that a proof of a function that lets a core go sees one call there.
@@ -54,6 +53,7 @@ impl<'p, N: Naming, S: Sink<Item<N>>> Drop for Core<'p, N, S> {
             history: _,
             versions: _,
             subscribers: _,
+            open: _,
         } = self;
     }
 }
@@ -62,6 +62,7 @@ impl<'p, N: Naming, S: Sink<Item<N>>> Model for Core<'p, N, S> {
     ghost use Rattle.std.specs.Prelude.{◌≡◌};
     ghost use Rattle.std.specs.Coded.{codes};
     ghost use Rattle.hub_core.specs.Machine.{Core as CoreValue, IsSound};
+    ghost use Rattle.hub_core.specs.Opened.{open_ids};
 
     ghost Value = { CoreValue S };
 
@@ -80,7 +81,7 @@ impl<'p, N: Naming, S: Sink<Item<N>>> Model for Core<'p, N, S> {
           changes = c.history.changes;
           versions = c.versions.items;
           subscribers = c.subscribers.items;
-        }) };
+        }) × (c.open.items ≡ open_ids 0 c.subscribers.items) };
 }
 
 /// Publishes the version that the changes make with the one of a draft, made from the latest one, once there is room
@@ -159,6 +160,19 @@ fn latest(history: &History) -> u64
     history.len() as u64
 }
 
+/// Takes an id out of those that it is one of.
+fn take_out(ids: &mut Vec<usize>, id: usize)
+    requires { (index : ℕ) × (slice_get ids.old.items index ≡ Some id) }
+    ensures { (index : ℕ) × (slice_get ids.old.items index ≡ Some id) × (ids.new.items ≡ remove ids.old.items index) }
+{
+    for index in 0..ids.len() {
+        if ids[index] == id {
+            ids.remove(index);
+            return;
+        }
+    }
+}
+
 impl<'p, N: Naming, S: Sink<Item<N>>> Core<'p, N, S> {
     /// A core with no change and no subscriber, which publishes version 0; all else that can fail comes before.
     pub fn new<R: Wait>(
@@ -178,6 +192,7 @@ impl<'p, N: Naming, S: Sink<Item<N>>> Core<'p, N, S> {
             history: History::new(alloc, published.size()),
             versions,
             subscribers: Vec::new(alloc),
+            open: Vec::new(alloc),
         })
     }
 
@@ -243,9 +258,9 @@ impl<'p, N: Naming, S: Sink<Item<N>>> Core<'p, N, S> {
             changes,
             inserted: self.history.inserted() as u64,
             marks: self.history.mark_count() as u64,
-            subscribers: open_count(subscribers),
+            subscribers: self.open.len() as u64,
             subscribed: subscribers.len() as u64,
-            lag: greatest_lag(changes, subscribers),
+            lag: greatest_lag(changes, subscribers, self.open.as_slice()),
         }
     }
 
@@ -265,11 +280,12 @@ impl<'p, N: Naming, S: Sink<Item<N>>> Core<'p, N, S> {
         let _ = self.history.len();
     }
 
-    /// Whether as many subscribers were added as ever are. A closed one keeps its id, so that this stays so for good.
+    /// Whether as many subscribers were added as the size allows, closed ones counted, or as many are open.
     pub fn is_full(&self) -> bool
-        ensures { IsTrue result ↔ (length self.now.subscribers ≡ 64) }
+        ensures { IsTrue result ↔ HasNoPlace self.now }
     {
-        self.subscribers.len() == SUBSCRIBER_LIMIT
+        let size = self.history.size();
+        self.subscribers.len() >= size.subscribers() || self.open.len() >= size.open_subscribers()
     }
 
     /// Adds a subscriber, from the latest version on, to a sink that was sent nothing, and of which nothing is promised
@@ -302,8 +318,7 @@ impl<'p, N: Naming, S: Sink<Item<N>>> Core<'p, N, S> {
         requires suits { Suits (S.promise sink) N.size program.value first }
         ensures { Subscribes self.old first program sink result self.new }
     {
-        let id = self.subscribers.len();
-        if id == SUBSCRIBER_LIMIT {
+        if self.is_full() {
             return Err(SubscribeError::SubscribersFull);
         }
         let newest = latest(&self.history);
@@ -313,30 +328,31 @@ impl<'p, N: Naming, S: Sink<Item<N>>> Core<'p, N, S> {
         if self.subscribers.reserve(1).is_err() {
             return Err(SubscribeError::OutOfMemory);
         }
+        if self.open.reserve(1).is_err() {
+            return Err(SubscribeError::OutOfMemory);
+        }
         let Ok(subscriber) = Subscriber::new(self.alloc, program, first, sink) else {
             return Err(SubscribeError::OutOfMemory);
         };
+        let id = self.subscribers.len();
         self.subscribers.push_reserved(subscriber);
+        self.open.push_reserved(id);
         Ok(id)
     }
 
-    /// The next version of a subscriber, if it is open and has one.
+    /// The next version of an open subscriber, if it has one.
     fn next_version(&self, id: usize) -> Option<u64>
-        requires { id < length self.now.subscribers }
+        requires { (a : SubscriberValue S) × IsOpen self.now id a }
         ensures { FindsAt self.now id result }
     {
-        let sub = &self.subscribers[id];
-        if sub.is_closed() {
-            return None;
-        }
-        sub.next_version(latest(&self.history))
+        self.subscribers[id].next_version(latest(&self.history))
     }
 
     /// An open subscriber that a version is due to, the one with the least id, and its next version.
     fn next_job(&self) -> Option<(usize, u64)>
         ensures { FindsJob self.now result }
     {
-        for id in 0..self.subscribers.len() {
+        for &id in self.open.as_slice() {
             if let Some(number) = self.next_version(id) {
                 return Some((id, number));
             }
@@ -424,13 +440,14 @@ impl<'p, N: Naming, S: Sink<Item<N>>> Core<'p, N, S> {
         Ok(())
     }
 
-    /// Closes a subscriber for good, and drops the batches that it holds.
+    /// Closes a subscriber for good, with its sink, and drops the batches that it holds.
     pub fn close(&mut self, id: usize) -> Result<(), NoSubscriber>
-        ensures { Closes self.old id result self.new }
+        ensures { Closes S.closed self.old id result self.new }
     {
         if id >= self.subscribers.len() || self.subscribers[id].is_closed() {
             return Err(NoSubscriber);
         }
+        take_out(&mut self.open, id);
         self.subscribers[id].close();
         Ok(())
     }

@@ -204,7 +204,7 @@ fn serve_on<
 ) -> Result<(), ServeError>
     requires named { (plan.now.terms.now.size ≡ N.size) × (versions.now ≡ N.versions) × (programs.now ≡ N.programs) }
     requires blank { (blank.name ≡ N.name) × (blank.parts ≡ N.parts) × (N.parts ≡ sessions) }
-    requires sessions { (1 ≤ sessions) × (sessions ≤ 64) }
+    requires sessions { (1 ≤ sessions) × (sessions ≤ 256) }
 {
     let published = Published::<N>::new(plan.terms.size, versions, programs);
     let (hub, shares) = Hub::new(&rt, alloc, blank, &published, sessions)?;
@@ -339,7 +339,7 @@ fn serve_kept_on<
 ) -> Result<Served<L>, NotServed<L>>
     requires named { (plan.now.terms.now.size ≡ N.size) × (versions.now ≡ N.versions) × (programs.now ≡ N.programs) }
     requires blank { (blank.name ≡ N.name) × (blank.parts ≡ N.parts) × (N.parts ≡ sessions) }
-    requires sessions { (1 ≤ sessions) × (sessions ≤ 64) }
+    requires sessions { (1 ≤ sessions) × (sessions ≤ 256) }
     requires log { (texts : List (List ℕ)) × L.kept log texts }
     requires progress { P.IsAlwaysCallable progress }
     requires kept { (texts : List (List ℕ)) (log : L) → L.kept log texts → N.kept.texts texts }

@@ -7,6 +7,7 @@ pub mod limits;
 pub mod serving;
 
 ghost use Rattle.std.specs.Prelude.{◌≡◌, ◌≤◌, SomeIff};
+ghost use Rattle.change_ops.specs.Sizes.{most_sessions};
 
 use crate::limits::SessionOptions;
 use crate::serving::{Doors, Terms};
@@ -83,9 +84,6 @@ pub enum Command {
 /// The most threads that a session's filtering may have.
 pub const MOST_WORKERS: u32 = 16;
 
-/// The most sessions that are served before the program ends, and at once.
-pub const MOST_SESSIONS: u32 = 64;
-
 /// How many threads a session filters versions with, 1 to 16.
 #[derive(Clone, Copy)]
 pub struct Workers {
@@ -133,7 +131,7 @@ impl Workers {
     }
 }
 
-/// How many sessions are served before the program ends, or at once: 1 to 64.
+/// How many sessions are served before the program ends, or at once: 1 to as many as the hub's size allows.
 #[derive(Clone, Copy)]
 pub struct Sessions {
     count: usize,
@@ -146,28 +144,36 @@ impl Model for Sessions {
 
     ghost view = { λ s. s.count };
 
-    ghost invariant = { λ s. (1 ≤ s.count) × (s.count ≤ 64) };
+    ghost invariant = { λ s. (1 ≤ s.count) × (s.count ≤ 256) };
 
     ghost inverse = { λ n. record { count = n } };
 }
 
 impl Sessions {
-    /// This count, if it is within the limits.
-    pub fn new(count: u32) -> Option<Self>
-        ensures { SomeIff result ((1 ≤ count) × (count ≤ 64)) count }
+    /// This count, if it is within the limits of the size.
+    pub fn new(size: Size, count: u32) -> Option<Self>
+        ensures { SomeIff result ((1 ≤ count) × (count ≤ most_sessions size)) count }
     {
-        if count >= 1 && count <= MOST_SESSIONS {
-            Some(Sessions {
-                count: count as usize,
-            })
+        let count = count as usize;
+        if count >= 1 && count <= size.sessions() {
+            Some(Sessions { count })
         } else {
             None
         }
     }
 
+    /// As many as the size allows.
+    pub fn most(size: Size) -> Self
+        ensures { result ≡ most_sessions size }
+    {
+        Sessions {
+            count: size.sessions(),
+        }
+    }
+
     pub fn count(self) -> usize
         ensures value { result ≡ self }
-        ensures limits { (1 ≤ result) × (result ≤ 64) }
+        ensures limits { (1 ≤ result) × (result ≤ 256) }
     {
         self.count
     }

@@ -77,8 +77,8 @@ pub fn restore<N: Naming + Ledger, R: Wait + Copy, L: ChangeLog, P: FnMut(usize,
 ) -> Result<StoredHistory<L>, NotRestored<L>>
     requires log { (texts : List (List ℕ)) × L.kept log texts }
     requires progress { P.IsAlwaysCallable progress }
-    ensures restored { IfOk result (λ stored. AreIngested N.size share.old stored.changes × AreAccepted N.size stored.changes
-        × L.kept stored.log (map change_text stored.changes)) }
+    ensures restored { IfOk result (λ stored. AreIngested N.size share.old stored.changes
+        × AreAccepted N.size stored.changes × L.kept stored.log (map change_text stored.changes)) }
     ensures size { IfOk result (λ stored. stored.size ≡ N.size) }
     ensures share { IfOk result (λ stored. share.new ≡ share.old + length stored.changes) }
     ensures same { (texts : List (List ℕ)) → L.kept log texts → IfOk result (λ stored. L.kept stored.log texts) }

@@ -1,6 +1,6 @@
 -- How the exchanges of a session add up, and how it ends after them.
 use Rattle.std.proofs.Common.{◌≡◌, ℕ, ◌+◌, ◌≤◌, List, [], ◌∷◌, ◌++◌, Option, Result, Ok, Err, refl, sym, ap, subst, ◌∙◌, append_assoc, append-nil, IsErrAnd, inl, inr, arith, length}
-use Rattle.std.specs.Prelude.{IfOk, IfErr, OnOk, All, suc, ⊤}
+use Rattle.std.specs.Prelude.{Bool, IfOk, IfErr, OnOk, All, suc, ⊤}
 use Rattle.std.specs.List.{flat_map}
 use Rattle.std.specs.Io.KnownBytes.{Appends}
 use Rattle.std.proofs.KnownBytes.{Appends-nil, Appends-trans}
@@ -140,8 +140,8 @@ broke_short (Ok t) s text s' is p = tt
 broke_short (Err f) s text s' is p = subst (λ z. BreaksTurn z s text s') (sym is) p
 
 -- all lines of items are kept, and none more
-whole_lines : (count : ℕ) (end end' : Subscription) (out out' : List ℕ) (answer : Reply) → Pulls count end end' out out' answer → TakesShort count end end' out out'
-whole_lines count end end' out out' answer p = record {
+whole_lines : (size : Size) (reads : Bool) (count : ℕ) (end end' : Subscription) (out out' : List ℕ) (answer : Reply) → Pulls size reads count end end' out out' answer → TakesShort count end end' out out'
+whole_lines size reads count end end' out out' answer p = record {
   shown = p.takes.items;
   unshown = [];
   next = p.takes.next ∙ ap (λ l. record end { taken = end.taken ++ l }) (sym (append-nil p.takes.items));
@@ -155,8 +155,9 @@ pub unanswered : {size : Size} {kept : Kept} (request : SessionRequest) (s : Ses
     → Answers request s [] (text ++ lines) answer s' → AreApart request text lines → FallsShort s lines s'
 unanswered (asked.Change change) s text lines answer s' met none = inl (sym (ap (λ l. l ++ lines) none) ∙ met.2)
 unanswered (asked.Subscribe profile capacity program first) s text lines answer s' met none = inl (sym (ap (λ l. l ++ lines) none) ∙ met.2)
-unanswered (asked.Pull id count) s text lines answer s' met none =
-    let pulled : PullsAny id count s.held s'.held [] lines answer = subst (λ l. PullsAny id count s.held s'.held [] (l ++ lines) answer) none met.0 in
+unanswered {size} (asked.Pull id count) s text lines answer s' met none =
+    let reads = s.options.reads in
+    let pulled : PullsAny size reads id count s.held s'.held [] lines answer = subst (λ l. PullsAny size reads id count s.held s'.held [] (l ++ lines) answer) none met.0 in
     elim pulled [
       | inl held ↦ inr (
         id,
@@ -170,7 +171,7 @@ unanswered (asked.Pull id count) s text lines answer s' met none =
           others = held.others;
           orderly = held.orderly;
           promised = held.promised;
-          takes = whole_lines count held.one.items held.items [] lines answer held.pulls;
+          takes = whole_lines size reads count held.one.items held.items [] lines answer held.pulls;
         },
       )
       | inr none' ↦ inl none'.printed

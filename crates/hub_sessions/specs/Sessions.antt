@@ -54,8 +54,8 @@ Answers {size} {kept} (asked.Change change) s out out' answer s' =
 Answers {size} (asked.Subscribe profile capacity program first) s out out' answer s' =
     Adds size profile capacity program.items first s.left s.held answer s'.left s'.held
     × (s'.count ≡ s.count) × (out' ≡ out) × (s'.options ≡ s.options) × (s'.stores ≡ s.stores)
-Answers (asked.Pull id count) s out out' answer s' =
-    PullsAny id count s.held s'.held out out' answer
+Answers {size} (asked.Pull id count) s out out' answer s' =
+    PullsAny size s.options.reads id count s.held s'.held out out' answer
     × (s'.count ≡ s.count) × (s'.left ≡ s.left) × (s'.options ≡ s.options) × (s'.stores ≡ s.stores)
 Answers {size} (asked.Close id) s out out' answer s' =
     Closes size s.held id answer s'.held

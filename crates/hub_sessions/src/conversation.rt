@@ -134,7 +134,8 @@ fn answer<'s, N: Naming + Ledger + Send + Sync, R: Threads + Wait + Copy + Send 
         (session_state N.size K.kept (K.stores keeper.old) share.old held.old.items left.old hub.now.options)
         (string_bytes out.old)
         (found_text answer.found ++ string_bytes out.new)
-        answer.reply (session_state N.size K.kept (K.stores keeper.new) share.new held.new.items left.new hub.now.options)) }
+        answer.reply
+        (session_state N.size K.kept (K.stores keeper.new) share.new held.new.items left.new hub.now.options)) }
     ensures apart { IfOk result (λ answer. AreApart request (found_text answer.found) (string_bytes out.new)) }
     ensures short { OnErr result (FallsShort
         (session_state N.size K.kept (K.stores keeper.old) share.old held.old.items left.old hub.now.options)
@@ -197,7 +198,8 @@ fn take_turn<
     ensures ok { IfOk result (λ turn. TakesTurn turn
         (session_state N.size K.kept (K.stores keeper.old) share.old held.old.items left.old hub.now.options)
         lines.old.left (found_in turn ++ string_bytes out.new)
-        (session_state N.size K.kept (K.stores keeper.new) share.new held.new.items left.new hub.now.options) lines.new.left) }
+        (session_state N.size K.kept (K.stores keeper.new) share.new held.new.items left.new hub.now.options)
+        lines.new.left) }
     ensures err { IfErr result (λ fault. BreaksTurn fault
         (session_state N.size K.kept (K.stores keeper.old) share.old held.old.items left.old hub.now.options)
         (string_bytes out.new)
@@ -242,7 +244,8 @@ fn converse<
     writer: &mut O,
 ) -> Result<(), SessionFault>
     ensures ends { Ends result
-        (session_state N.size K.kept (K.stores keeper.old) share.old held.old.items left.old hub.now.options) lines.old.left
+        (session_state N.size K.kept (K.stores keeper.old) share.old held.old.items left.old hub.now.options)
+        lines.old.left
         (O.contents writer.old) share.new (O.contents writer.new) }
     ensures share { share.old ≤ share.new }
     ensures same { K.stores keeper.new ≡ K.stores keeper.old }

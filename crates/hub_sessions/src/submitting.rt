@@ -177,8 +177,8 @@ pub(crate) fn submit<N: Naming + Ledger, R: Wait + Copy, K: Keeper>(
     left: &mut SessionLimits,
     change: Change,
 ) -> Reply
-    ensures submits { Submits N.size K.kept (K.stores keeper.old) hub.now.options.counter_jump change share.old left.old result
-        share.new left.new }
+    ensures submits { Submits N.size K.kept (K.stores keeper.old) hub.now.options.counter_jump change share.old left.old
+        result share.new left.new }
     ensures share { share.old ≤ share.new }
     ensures same { K.stores keeper.new ≡ K.stores keeper.old }
 {

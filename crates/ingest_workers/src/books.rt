@@ -9,9 +9,10 @@ ghost use Rattle.feeds.specs.Feed.{Subscriber};
 ghost use Rattle.feeds.specs.Promise.{Suits};
 ghost use Rattle.feeds.specs.Stream.{BeginsStream};
 ghost use Rattle.change_history.specs.Accepted.{AreAccepted, operations_of};
-ghost use Rattle.hub_core.specs.Machine.{Submits, Subscribes, TakesJob, Misses, Commits, Pumps, Reissues, Closes};
+ghost use Rattle.hub_core.specs.Machine.{HasNoPlace, Submits, Subscribes, TakesJob, Misses, Commits, Pumps, Reissues};
+ghost use Rattle.hub_core.specs.Machine.{Closes};
 ghost use Rattle.hub_core.specs.Counting.{AreCounts, AreWithinLimits};
-ghost use Rattle.subscriber_queues.specs.Queue.{QueueSink as QueueSinkValue, was_sent, IsFull};
+ghost use Rattle.subscriber_queues.specs.Queue.{QueueSink as QueueSinkValue, was_sent, IsFull, closed_end};
 ghost use Rattle.ingest_workers.specs.Holdings.{IsStateOf, AreConsistent};
 
 use crate::share::Share;
@@ -113,9 +114,9 @@ impl<'p, N: Naming + Ledger, R: Wait + Copy> Books<'p, N, R> {
         Ok(token)
     }
 
-    /// Whether as many subscribers were added as ever are, closed ones counted.
+    /// Whether as many subscribers were added, closed ones counted, or are open, as the size allows.
     pub fn is_full(&self) -> bool
-        ensures full { IsTrue result ↔ (length self.now.subscribers ≡ 64) }
+        ensures full { IsTrue result ↔ HasNoPlace self.now }
         ensures consistent { IsStateOf N.size self.now }
     {
         self.core.is_full()
@@ -212,9 +213,9 @@ impl<'p, N: Naming + Ledger, R: Wait + Copy> Books<'p, N, R> {
         found
     }
 
-    /// Closes a subscriber for good, and drops the batches that it holds.
+    /// Closes a subscriber for good, with its queue's end, and drops the batches that it holds.
     pub fn close(&mut self, id: usize) -> Result<(), NoSubscriber>
-        ensures event { Closes self.old id result self.new }
+        ensures event { Closes closed_end self.old id result self.new }
         ensures consistent { AreConsistent N.size self.old self.new }
     {
         let found = self.core.close(id);

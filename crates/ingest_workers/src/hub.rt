@@ -5,9 +5,9 @@ ghost use Rattle.char_sequence.specs.Newest.{IsLastCounter};
 ghost use Rattle.change_counters.specs.Counters.{greatest_counter};
 ghost use Rattle.feeds.specs.Promise.{Suits};
 ghost use Rattle.change_history.specs.Accepted.{operations_of};
-ghost use Rattle.hub_core.specs.Machine.{Subscribes, TakesJob, Misses, Commits, Pumps, Reissues, Closes};
+ghost use Rattle.hub_core.specs.Machine.{HasNoPlace, Subscribes, TakesJob, Misses, Commits, Pumps, Reissues, Closes};
 ghost use Rattle.hub_core.specs.Counting.{AreCounts, AreWithinLimits};
-ghost use Rattle.subscriber_queues.specs.Queue.{was_sent, IsFull};
+ghost use Rattle.subscriber_queues.specs.Queue.{was_sent, IsFull, closed_end};
 ghost use Rattle.ingest_workers.specs.Holdings.{InOneHolding};
 
 use crate::books::Books;
@@ -64,7 +64,7 @@ fn locked<'p, N: Naming + Ledger, R: Wait + Copy>(
     requires { book.total ≡ 0 }
 {
     // All other memory is found before version 0 is published, which stays published.
-    let kept = Kept::new(alloc)?;
+    let kept = Kept::new(alloc, published.size())?;
     let core = Core::new(rt, alloc, published)?;
     Ok(Hub {
         published: published.again(),
@@ -86,7 +86,7 @@ impl<'p, N: Naming + Ledger, R: Wait + Copy> Hub<'p, N, R> {
     ) -> Result<(Hub<'p, N, R>, Vec<Share<N>>), AllocError>
         requires name { blank.name ≡ N.name }
         requires parts { (blank.parts ≡ N.parts) × (N.parts ≡ shares) }
-        requires range { (1 ≤ shares) × (shares ≤ 64) }
+        requires range { (1 ≤ shares) × (shares ≤ 256) }
         ensures { IfOk result (λ made. (vec_len made.1 ≡ shares) × All (λ s. s ≡ 0) made.1.items) }
     {
         let (book, all) = blank.open::<N>();
@@ -111,10 +111,10 @@ impl<'p, N: Naming + Ledger, R: Wait + Copy> Hub<'p, N, R> {
         }
     }
 
-    /// Whether as many subscribers were added as ever are, closed ones counted. It stays so for good, so one that asks
-    /// first need not publish a program that no subscriber will have.
+    /// Whether as many subscribers were added, closed ones counted, or were open, as the size allows. One that asks
+    /// first need not publish a program that no subscriber would have.
     pub fn is_full(&self, rt: &R) -> bool
-        ensures { InOneHolding N.size (λ old new. (new ≡ old) × (IsTrue result ↔ (length old.subscribers ≡ 64))) }
+        ensures { InOneHolding N.size (λ old new. (new ≡ old) × (IsTrue result ↔ HasNoPlace old)) }
     {
         self.hold(rt).books.is_full()
     }
@@ -184,7 +184,8 @@ impl<'p, N: Naming + Ledger, R: Wait + Copy> Hub<'p, N, R> {
 
     /// The greatest counter of all accepted operations, 0 where there were none. Later it may be greater, never less.
     pub fn greatest_counter(&self, rt: &R) -> u64
-        ensures { InOneHolding N.size (λ old new. (new ≡ old) × (result ≡ greatest_counter (operations_of old.changes))) }
+        ensures { InOneHolding N.size (λ old new. (new ≡ old)
+            × (result ≡ greatest_counter (operations_of old.changes))) }
     {
         self.hold(rt).books.greatest_counter()
     }
@@ -255,9 +256,10 @@ impl<'p, N: Naming + Ledger, R: Wait + Copy> Hub<'p, N, R> {
         self.hold(rt).books.reissue(id)
     }
 
-    /// Closes a subscriber for good, and drops the batches that it holds and what is kept of its verdicts.
+    /// Closes a subscriber for good, with its queue's end, and drops the batches that it holds and what is kept of its
+    /// verdicts.
     pub fn close(&self, rt: &R, id: usize) -> Result<(), NoSubscriber>
-        ensures { InOneHolding N.size (λ old new. Closes old id result new) }
+        ensures { InOneHolding N.size (λ old new. Closes closed_end old id result new) }
     {
         let closed = self.hold(rt).books.close(id);
         self.kept.close(rt, id);

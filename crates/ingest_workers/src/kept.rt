@@ -1,9 +1,9 @@
 //! What a hub keeps of its subscribers' verdicts.
 ghost use Rattle.std.specs.Prelude.{◌≡◌, IfSome};
 
+use change_ops::size::Size;
 use feeds::kept::KeptVerdicts;
 use feeds::stretch::Stretch;
-use hub_core::hub::SUBSCRIBER_LIMIT;
 use std::alloc::{AllocError, Global};
 use std::sync::{Mutex, Wait};
 use version_history::published::{Naming, Published, VersionToken};
@@ -81,10 +81,11 @@ pub struct Kept<N: Naming> {
 }
 
 impl<N: Naming> Kept<N> {
-    /// Keeps nothing yet.
-    pub(crate) fn new(alloc: Global) -> Result<Kept<N>, AllocError> {
-        let mut entries = Vec::with_capacity(alloc, SUBSCRIBER_LIMIT)?;
-        for _subscriber in 0..SUBSCRIBER_LIMIT {
+    /// Keeps nothing yet; it has an entry for each subscriber that the size allows.
+    pub(crate) fn new(alloc: Global, size: Size) -> Result<Kept<N>, AllocError> {
+        let most = size.subscribers();
+        let mut entries = Vec::with_capacity(alloc, most)?;
+        for _subscriber in 0..most {
             entries.push(Entry::Nothing)?;
         }
         let shelf = Shelf {

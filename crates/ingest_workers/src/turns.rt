@@ -4,7 +4,7 @@ use std::sync::atomic::{AtomicU64, Ordering};
 
 /// How many words there are to wait at. While no more threads wait, each waits at a word of its own, so that the end
 /// of a turn wakes one thread and not all.
-const WORDS: u64 = 64;
+const WORDS: u64 = 256;
 
 /// The order in which threads come to what they share: first come, first served. Each takes a ticket and waits until
 /// the one before it has left. It keeps no two threads apart by itself: a lock does, which only the thread whose turn

@@ -8,8 +8,9 @@ use Rattle.refusals.specs.declared.reason.Reason.TheVariants as reason
 use Rattle.session_lines.specs.declared.fault.LineRefusal.{LineRefusal}
 use Rattle.session_lines.specs.declared.fault.LineRefusal.TheVariants as line
 use Rattle.session_lines.specs.declared.reply.Reply.{Reply}
-use Rattle.session_lines.specs.declared.reply.Reply.TheVariants.{Version, Subscribed, Hit, End, Items, Closed, Latest}
-use Rattle.session_lines.specs.declared.reply.Reply.TheVariants.{Left, Hub, Stats, Spans, Changes, Newest, Refused}
+use Rattle.session_lines.specs.declared.reply.Reply.TheVariants.{Version, Subscribed, Hit, End, Items, NoItemsFull}
+use Rattle.session_lines.specs.declared.reply.Reply.TheVariants.{Closed, Latest, Left, Hub, Stats, Spans, Changes}
+use Rattle.session_lines.specs.declared.reply.Reply.TheVariants.{Newest, Refused}
 use Rattle.session_lines.specs.declared.stats.PerLimit.{PerLimit}
 use Rattle.session_lines.specs.declared.stats.Stats.{Stats as StatsValue}
 
@@ -43,6 +44,7 @@ reply_text (Hit version span verdict) =
     codes "hit " ++ decimal version ++ codes " " ++ decimal span ++ codes " " ++ decimal verdict
 reply_text (End version spans) = codes "end " ++ decimal version ++ codes " " ++ decimal spans
 reply_text (Items count) = codes "ok items " ++ decimal count
+reply_text NoItemsFull = codes "ok items 0 full"
 reply_text (Closed id) = codes "ok closed " ++ decimal id
 reply_text (Latest number) = codes "ok latest " ++ decimal number
 reply_text (Left left) = left_text left

@@ -33,6 +33,8 @@ pub enum Reply {
     },
     /// The count of the items that were taken.
     Items(usize),
+    /// No item was taken, and the hub takes no change any more.
+    NoItemsFull,
     /// The subscriber of this id is closed.
     Closed(usize),
     /// The latest version has this number.
@@ -150,6 +152,17 @@ fn push_end(out: &mut String, version: u64, spans: usize) -> Result<(), AllocErr
     Ok(())
 }
 
+/// Appends the line of a pull that took nothing of a full hub.
+fn push_no_items_full(out: &mut String) -> Result<(), AllocError>
+    ensures ok { OnOk result (string_bytes out.new ≡ string_bytes out.old
+        ++ (reply_text told.NoItemsFull ++ 10 ∷ [])) }
+    ensures err { OnErr result (string_bytes out.new ≡ string_bytes out.old) }
+{
+    out.reserve(NUMBER_ROOM)?;
+    append(out, "ok items 0 full\n");
+    Ok(())
+}
+
 /// Appends the line of what is left.
 fn push_left(out: &mut String, left: PerLimit) -> Result<(), AllocError>
     ensures ok { OnOk result (string_bytes out.new ≡ string_bytes out.old ++ (left_text left ++ 10 ∷ [])) }
@@ -263,6 +276,7 @@ impl Reply {
             } => push_hit(out, version, span, verdict),
             Reply::End { version, spans } => push_end(out, version, spans),
             Reply::Items(count) => push_number(out, "ok items ", count as u64),
+            Reply::NoItemsFull => push_no_items_full(out),
             Reply::Closed(id) => push_number(out, "ok closed ", id as u64),
             Reply::Latest(number) => push_number(out, "ok latest ", number),
             Reply::Left(left) => push_left(out, left),

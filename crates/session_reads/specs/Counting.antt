@@ -1,7 +1,7 @@
 -- How much there is of a hub, and how much it still takes.
-use Rattle.std.specs.Prelude.{◌≡◌, ℕ, ◌*◌, ◌/◌, ◌-◌, Some, length, chars, slice_get}
+use Rattle.std.specs.Prelude.{◌≡◌, ℕ, ◌*◌, ◌/◌, ◌-◌, min, max, Some, length, chars, slice_get}
 use Rattle.change_ops.specs.declared.size.Size.{Size}
-use Rattle.change_ops.specs.Sizes.{most_characters, most_marks, most_changes}
+use Rattle.change_ops.specs.Sizes.{most_characters, most_marks, most_changes, most_subscribers, most_open}
 use Rattle.span_flatten.specs.Version.{Version}
 use Rattle.version_history.specs.Tokens.{Token}
 use Rattle.hub_core.specs.Machine.{Core}
@@ -11,20 +11,20 @@ use Rattle.subscriber_queues.specs.Queue.{QueueSink}
 use Rattle.session_lines.specs.declared.stats.PerLimit.{PerLimit}
 use Rattle.session_lines.specs.declared.stats.Stats.{Stats}
 
--- what is left of each limit, of which all but the last are by the hub's size
+-- what is left of each limit; of the two of subscribers the less
 abbrev pub left_of : Size → Counts → PerLimit
 left_of size counts =
     record {
       changes = most_changes size - counts.changes;
       characters = most_characters size - counts.inserted;
       marks = most_marks size - counts.marks;
-      subscribers = 64 - counts.subscribed;
+      subscribers = min (most_subscribers size - counts.subscribed) (most_open size - counts.subscribers);
     }
 
 abbrev pub IsLeft : Size → Core QueueSink → PerLimit → Type 0
 IsLeft size s left = (counts : Counts) × AreCounts s counts × (left ≡ left_of size counts)
 
--- how much of a limit is used, in parts of a thousand
+-- how much of a limit is used, in parts of a thousand; of the two of subscribers the more
 abbrev pub used_of : ℕ → ℕ → ℕ
 used_of count limit = count * 1000 / limit
 
@@ -34,7 +34,8 @@ used_by size counts =
       changes = used_of counts.changes (most_changes size);
       characters = used_of counts.inserted (most_characters size);
       marks = used_of counts.marks (most_marks size);
-      subscribers = used_of counts.subscribed 64;
+      subscribers = max (used_of counts.subscribed (most_subscribers size))
+          (used_of counts.subscribers (most_open size));
     }
 
 -- what is told of so much, where this is the latest version, and there are so many sessions; a character that was

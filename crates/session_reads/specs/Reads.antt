@@ -52,7 +52,8 @@ IsPeer node = (1 ≤ node) × (node ≤ 65535)
 
 -- the greatest counter of a peer's accepted operations; or the number is none of a peer
 abbrev pub Counts : Size → ℕ → Reply → Type 0
-Counts size node (reply.Newest counter) = IsPeer node × WasSo size (λ s. IsLastCounter (operations_of s.changes) node counter)
+Counts size node (reply.Newest counter) =
+    IsPeer node × WasSo size (λ s. IsLastCounter (operations_of s.changes) node counter)
 Counts size node (reply.Refused (reason.Unread (change.Limit line))) = (¬ (IsPeer node)) × (line ≡ 1)
 Counts size node _ = ⊥
 

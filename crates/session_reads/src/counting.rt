@@ -1,13 +1,12 @@
 //! How much there is of a hub, and how much it still takes.
 ghost use Rattle.std.specs.Prelude.{◌≡◌, ◌<◌, ◌≤◌};
-ghost use Rattle.change_ops.specs.Sizes.{most_changes, most_characters, most_marks};
+ghost use Rattle.change_ops.specs.Sizes.{most_changes, most_characters, most_marks, most_subscribers, most_open};
 ghost use Rattle.hub_core.specs.Counting.{AreWithinLimits};
 ghost use Rattle.session_reads.specs.Counting.{used_of, used_by, left_of, IsLeft, AreStats, stats_of};
 ghost use Rattle.session_reads.specs.Reads.{WasSo};
 
 use change_ops::size::Size;
 use hub_core::counts::Counts;
-use hub_core::hub::SUBSCRIBER_LIMIT;
 use ingest_workers::hub::Hub;
 use session_lines::stats::{PerLimit, Stats};
 use std::sync::Wait;
@@ -29,11 +28,13 @@ fn used_by(size: Size, counts: Counts) -> PerLimit
     requires { AreWithinLimits size counts }
     ensures { result ≡ used_by size counts }
 {
+    let ever = used_of(counts.subscribed, size.subscribers() as u64);
+    let open = used_of(counts.subscribers, size.open_subscribers() as u64);
     PerLimit {
         changes: used_of(counts.changes, size.changes() as u64),
         characters: used_of(counts.inserted, size.characters() as u64),
         marks: used_of(counts.marks, size.marks() as u64),
-        subscribers: used_of(counts.subscribed, SUBSCRIBER_LIMIT as u64),
+        subscribers: ever.max(open),
     }
 }
 
@@ -42,11 +43,13 @@ fn left_of(size: Size, counts: Counts) -> PerLimit
     requires { AreWithinLimits size counts }
     ensures { result ≡ left_of size counts }
 {
+    let ever = size.subscribers() as u64 - counts.subscribed;
+    let open = size.open_subscribers() as u64 - counts.subscribers;
     PerLimit {
         changes: size.changes() as u64 - counts.changes,
         characters: size.characters() as u64 - counts.inserted,
         marks: size.marks() as u64 - counts.marks,
-        subscribers: SUBSCRIBER_LIMIT as u64 - counts.subscribed,
+        subscribers: ever.min(open),
     }
 }
 

@@ -1,5 +1,5 @@
 -- How taken items add up.
-use Rattle.std.proofs.Common.{◌≡◌, ℕ, ◌+◌, ◌<◌, ◌≤◌, List, [], ◌∷◌, ◌++◌, arith, refl, sym, ap, ◌∙◌, append_assoc, length-append}
+use Rattle.std.proofs.Common.{◌≡◌, ℕ, ◌+◌, ◌<◌, ◌≤◌, List, [], ◌∷◌, ◌++◌, arith, refl, sym, ap, subst, ◌∙◌, append_assoc, length-append}
 use Rattle.std.specs.Prelude.{Result, Ok, Err, OnErr}
 use Rattle.std.specs.List.{flat_map}
 use Rattle.feeds.specs.Batches.{Item}
@@ -58,6 +58,11 @@ taken_short n m most a b c out out' out'' le one two = record {
   few = omega (arith, length-append one.items two.shown, one.many, two.few, le);
   last = two.last;
 }
+
+-- at most so many items, of which the number, the queue and the lines are told in another way
+pub taken_so : (n n' most : ℕ) (a b b' : Subscription) (out o o' : List ℕ) → n' ≡ n → b' ≡ b → o' ≡ o → Takes n a b out o × (n ≤ most) → Takes n' a b' out o' × (n' ≤ most)
+taken_so n n' most a b b' out o o' number queue lines taken =
+    subst (λ (x : ℕ × Subscription × List ℕ). Takes x.0 a x.1 out x.2 × (x.0 ≤ most)) (λ i. (sym number i, sym queue i, sym lines i)) taken
 
 -- what is so where an error is answered, whichever it is
 pub where_err : {T E : Type 0} (r : Result T E) (P : Type 0) → P → OnErr r P

@@ -1,8 +1,9 @@
 -- The subscribers of a session, and what requests do to them.
-use Rattle.std.specs.Prelude.{◌≡◌, ◌<◌, ◌≤◌, ◌⊎◌, ◌==◌, ℕ, Option, None, Some, Result, Ok, List, [], ◌∷◌, ◌++◌, length}
-use Rattle.std.specs.Prelude.{position, slice_get, slice_set, IsTrue, IsFalse, ⊤}
+use Rattle.std.specs.Prelude.{◌≡◌, ◌<◌, ◌≤◌, ◌⊎◌, ◌==◌, ℕ, Bool, true, Option, None, Some, Result, Ok, List, []}
+use Rattle.std.specs.Prelude.{◌∷◌, ◌++◌, length, position, slice_get, slice_set, IsTrue, IsFalse, ⊤}
 use Rattle.std.specs.List.{remove}
 use Rattle.change_ops.specs.declared.size.Size.{Size}
+use Rattle.change_ops.specs.Sizes.{most_changes}
 use Rattle.span_context.specs.declared.profile.Profile.{Profile}
 use Rattle.bpf_words.specs.Words.{IsProgram, IsRefused, program_of}
 use Rattle.semantics.specs.Step.{Program}
@@ -12,9 +13,9 @@ use Rattle.verifier.specs.Decides.{IsAllowed}
 use Rattle.version_history.specs.Tokens.{Token}
 use Rattle.feeds.specs.Orderly.{IsOrderly}
 use Rattle.feeds.specs.Promise.{Promise, IsPromised}
-use Rattle.hub_core.specs.Machine.{Core, Subscribes, Closes as ClosesAtHub}
+use Rattle.hub_core.specs.Machine.{Core, HasNoPlace, Subscribes, Closes as ClosesAtHub}
 use Rattle.hub_core.specs.declared.error.NoSubscriber.{NoSubscriber}
-use Rattle.subscriber_queues.specs.Queue.{Line, QueueSink, Subscription, IsCapacity}
+use Rattle.subscriber_queues.specs.Queue.{Line, QueueSink, Subscription, IsCapacity, closed_end}
 use Rattle.ingest_workers.specs.Holdings.{InOneHolding}
 use Rattle.hub_requests.specs.Limits.{takes_subscriber, after_subscriber}
 use Rattle.hub_requests.specs.declared.limits.SessionLimits.{SessionLimits}
@@ -54,8 +55,13 @@ pub record IsSubscribed (size : Size) (profile : Profile) (capacity : ℕ) (byte
   pub token : Token Program
   pub same : token.value ≡ program_of bytes
   pub holding : InOneHolding size
-      (λ old new. Subscribes old (first_of first old) token
-      (record { line = line; sent = []; capacity = capacity; promise = Some (promise_of size bytes first) }) (Ok id) new)
+      (λ old new. Subscribes old (first_of first old) token (record {
+        line = line;
+        sent = [];
+        capacity = capacity;
+        promise = Some (promise_of size bytes first);
+        sends = true;
+      }) (Ok id) new)
 
 -- the bytes are a program that the rules allow, each run of which on what the profile lends ends with a number
 abbrev pub AreSafe : Profile → List ℕ → Type 0
@@ -68,7 +74,7 @@ IsNotSubscribed size profile capacity bytes first (reason.Unverified error) =
     IsProgram bytes × Rejects profile (program_of bytes) error
 IsNotSubscribed size profile capacity bytes first reason.BadCapacity = AreSafe profile bytes × (¬ IsCapacity capacity)
 IsNotSubscribed size profile capacity bytes first reason.SubscribersFull =
-    AreSafe profile bytes × InOneHolding size (λ old new. (new ≡ old) × (length old.subscribers ≡ 64))
+    AreSafe profile bytes × InOneHolding size (λ old new. (new ≡ old) × HasNoPlace old)
 IsNotSubscribed size profile capacity bytes (Some number) reason.NoVersion =
     AreSafe profile bytes × InOneHolding size (λ old new. (new ≡ old) × (length old.changes < number))
 IsNotSubscribed size profile capacity bytes first reason.OutOfMemory = AreSafe profile bytes
@@ -99,7 +105,8 @@ Adds size profile capacity bytes first left held _ left' held' = ⊥
 -- the hub was asked to close this one; where the hub has it as closed, it is refused and stays so; it says nothing of
 -- the hub, since a refusal (Err) meets it for every id
 abbrev pub IsClosed : Size → ℕ → Type 0
-IsClosed size id = (found : Result ⊤ NoSubscriber) × InOneHolding size (λ old new. ClosesAtHub old id found new)
+IsClosed size id =
+    (found : Result ⊤ NoSubscriber) × InOneHolding size (λ old new. ClosesAtHub closed_end old id found new)
 
 -- the one with the id is closed at the hub and held no more, and the others are; or none had it
 abbrev pub Closes : Size → List Held → ℕ → Reply → List Held → Type 0
@@ -108,17 +115,35 @@ Closes size held id (reply.Closed closed) held' =
 Closes size held id (reply.Refused why) held' = (why ≡ reason.NoSubscriber) × (index_in held id ≡ None) × (held' ≡ held)
 Closes size held id _ held' = ⊥
 
+-- the hub had accepted as many changes as its size allows, so that no version comes any more; or fewer
+abbrev pub WasFull : Size → Type 0
+WasFull size = InOneHolding size (λ old new. (new ≡ old) × (length old.changes ≡ most_changes size))
+
+abbrev pub WasNotFull : Size → Type 0
+WasNotFull size = InOneHolding size (λ old new. (new ≡ old) × (length old.changes < most_changes size))
+
+-- how a pull is answered that asked for at most `count` items and took so many: with their number, or that no memory
+-- was found. A session that may read of the text is told besides where it took none since the hub is full
+abbrev pub TellsItems : Size → Bool → ℕ → ℕ → Reply → Type 0
+TellsItems size reads count many (reply.Items told) =
+    (told ≡ many) × (many ≡ 0 → 0 < count → IsTrue reads → WasNotFull size)
+TellsItems size reads count many reply.NoItemsFull = (many ≡ 0) × (0 < count) × IsTrue reads × WasFull size
+TellsItems size reads count many (reply.Refused why) = why ≡ reason.OutOfMemory
+TellsItems size reads count many _ = ⊥
+
 -- items of one subscriber were taken, at most `count`, and it is answered how many; or that no memory was found
-pub record Pulls (count : ℕ) (items items' : Subscription) (out out' : List ℕ) (answer : Reply) : Type 0 where
+pub record Pulls (size : Size) (reads : Bool) (count : ℕ) (items items' : Subscription) (out out' : List ℕ)
+    (answer : Reply) : Type 0 where
   pub many : ℕ
   pub most : many ≤ count
   pub takes : Takes many items items' out out'
-  pub told : (answer ≡ reply.Items many) ⊎ (answer ≡ reply.Refused reason.OutOfMemory)
+  pub told : TellsItems size reads count many answer
 
 -- items of the subscriber with the id were taken, and of no other. All that the session ever took of it are the batches
 -- of one program on versions one after another, the last perhaps unfinished; and as was promised: they begin the stream
 -- of its own program over accepted changes, from its first version on
-pub record PullsHeld (id count : ℕ) (held held' : List Held) (out out' : List ℕ) (answer : Reply) : Type 0 where
+pub record PullsHeld (size : Size) (reads : Bool) (id count : ℕ) (held held' : List Held) (out out' : List ℕ)
+    (answer : Reply) : Type 0 where
   pub index : ℕ
   pub there : index_in held id ≡ Some index
   pub one : Held
@@ -127,7 +152,7 @@ pub record PullsHeld (id count : ℕ) (held held' : List Held) (out out' : List 
   pub others : held' ≡ slice_set held index (record one { items = items })
   pub orderly : IsOrderly items.taken
   pub promised : IsPromised one.items.promise items.taken
-  pub pulls : Pulls count one.items items out out' answer
+  pub pulls : Pulls size reads count one.items items out out' answer
 
 -- or none had it, and nothing was done
 pub record PullsNone (id : ℕ) (held held' : List Held) (out out' : List ℕ) (answer : Reply) : Type 0 where
@@ -136,9 +161,9 @@ pub record PullsNone (id : ℕ) (held held' : List Held) (out out' : List ℕ) (
   pub printed : out' ≡ out
   pub told : answer ≡ reply.Refused reason.NoSubscriber
 
-abbrev pub PullsAny : ℕ → ℕ → List Held → List Held → List ℕ → List ℕ → Reply → Type 0
-PullsAny id count held held' out out' answer =
-    PullsHeld id count held held' out out' answer ⊎ PullsNone id held held' out out' answer
+abbrev pub PullsAny : Size → Bool → ℕ → ℕ → List Held → List Held → List ℕ → List ℕ → Reply → Type 0
+PullsAny size reads id count held held' out out' answer =
+    PullsHeld size reads id count held held' out out' answer ⊎ PullsNone id held held' out out' answer
 
 -- no memory was found for the lines of a pull: items of the subscriber with the id were taken, and of no other, and
 -- whole lines of them are printed

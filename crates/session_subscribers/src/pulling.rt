@@ -1,4 +1,5 @@
-ghost use Rattle.std.specs.Prelude.{◌≡◌, ◌≤◌, IfOk, OnErr, string_bytes};
+ghost use Rattle.std.specs.Prelude.{◌≡◌, ◌<◌, ◌≤◌, ◌⊎◌, ◌↔◌, IfOk, OnErr, IsTrue, string_bytes};
+ghost use Rattle.change_ops.specs.Sizes.{most_changes};
 ghost use Rattle.session_subscribers.specs.Holding.{Pulls, PullsAny, PullsShort};
 ghost use Rattle.session_subscribers.specs.Items.{item_reply, Takes, TakesShort};
 
@@ -118,6 +119,21 @@ impl<N: Naming + Ledger + Send + Sync, R: Threads + Wait + Copy + Send + Sync> S
         }
     }
 
+    /// What answers a pull of at most `count` items that took so many, where the latest version had this number before.
+    /// Where it took none since the hub is full, none comes any more: a session that may read is told so.
+    fn items_reply(&self, count: usize, taken: usize, latest: u64) -> Reply
+        ensures full { (result ≡ Reply.NoItemsFull) ↔ ((taken ≡ 0) × (0 < count) × IsTrue self.now.options.reads
+            × (latest ≡ most_changes N.size)) }
+        ensures either { (result ≡ Reply.NoItemsFull) ⊎ (result ≡ Reply.Items taken) }
+    {
+        let is_full = latest == self.hub.size().changes() as u64;
+        if taken == 0 && count > 0 && self.options.reads && is_full {
+            Reply::NoItemsFull
+        } else {
+            Reply::Items(taken)
+        }
+    }
+
     /// Computes and takes items of the versions up to the one that is the latest now, until `count` are taken or none
     /// is due.
     ///
@@ -130,14 +146,15 @@ impl<N: Naming + Ledger + Send + Sync, R: Threads + Wait + Copy + Send + Sync> S
         count: usize,
         out: &mut String,
     ) -> Result<Reply, AllocError>
-        ensures ok { IfOk result (Pulls count items.old items.new (string_bytes out.old) (string_bytes out.new)) }
+        ensures ok { IfOk result (Pulls N.size self.now.options.reads count items.old items.new (string_bytes out.old)
+            (string_bytes out.new)) }
         ensures err { OnErr result (TakesShort count items.old items.new (string_bytes out.old)
             (string_bytes out.new)) }
     {
-        let last = self.hub.latest(&self.rt);
+        let latest = self.hub.latest(&self.rt);
         let mut taken = 0;
         for _round in 0..count {
-            let computed = self.compute_own(id, last);
+            let computed = self.compute_own(id, latest);
             let more = self.drain(id, items, count - taken, out)?;
             taken += more;
             let Ok(waited) = computed else {
@@ -147,7 +164,7 @@ impl<N: Naming + Ledger + Send + Sync, R: Threads + Wait + Copy + Send + Sync> S
                 break;
             }
         }
-        Ok(Reply::Items(taken))
+        Ok(self.items_reply(count, taken, latest))
     }
 
     /// Takes items of a subscriber of the session, appends their lines, and answers what is printed after them.
@@ -158,8 +175,8 @@ impl<N: Naming + Ledger + Send + Sync, R: Threads + Wait + Copy + Send + Sync> S
         count: usize,
         out: &mut String,
     ) -> Result<Reply, AllocError>
-        ensures ok { IfOk result (PullsAny id count held.old.items held.new.items (string_bytes out.old)
-            (string_bytes out.new)) }
+        ensures ok { IfOk result (PullsAny N.size self.now.options.reads id count held.old.items held.new.items
+            (string_bytes out.old) (string_bytes out.new)) }
         ensures err { OnErr result (PullsShort id count held.old.items held.new.items (string_bytes out.old)
             (string_bytes out.new)) }
     {

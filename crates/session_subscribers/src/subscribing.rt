@@ -1,4 +1,4 @@
-ghost use Rattle.std.specs.Prelude.{◌≡◌, ℕ, List, Option, Some, [], Ok, IfOk, IfErr};
+ghost use Rattle.std.specs.Prelude.{◌≡◌, ℕ, true, List, Option, Some, [], Ok, IfOk, IfErr};
 ghost use Rattle.change_ops.specs.declared.size.Size.{Size as TheSize};
 ghost use Rattle.bpf_words.specs.Words.{IsProgram, program_of};
 ghost use Rattle.span_context.specs.declared.profile.Profile.{Profile as TheProfile};
@@ -31,7 +31,8 @@ fn ends<N: Naming, R: Wait + Copy>(
     first: Option<u64>,
 ) -> Result<(QueueSink<N, R>, Subscription<N, R>), Reason>
     ensures sink { IfOk result (λ q. (q.0.sent ≡ []) × (q.0.capacity ≡ capacity)
-        × (q.0.promise ≡ Some (record { size = N.size; program = program.now; first = first }))) }
+        × (q.0.promise ≡ Some (record { size = N.size; program = program.now; first = first }))
+        × (q.0.sends ≡ true)) }
     ensures end { IfOk result (λ q. q.1
         ≡ record {
           line = q.0.line;
@@ -136,9 +137,9 @@ impl<N: Naming + Ledger, R: Wait + Copy> SessionHub<'_, '_, N, R> {
 
     /// Adds a subscriber, and keeps it among those of the session, unless the session has none left.
     ///
-    /// What is published stays for good, so the program is published last, and not at all once the hub is full, which
-    /// it then remains, or where the first version isn't there yet. Only where sessions race for the hub's last
-    /// subscriber may each of them leave one program that no subscriber has.
+    /// What is published stays for good, so the program is published last, and not at all where the hub is full or the
+    /// first version isn't there yet. Only where sessions race for the hub's last place may each of them leave one
+    /// program that no subscriber has.
     fn add(
         &self,
         held: &mut Vec<Held<N, R>>,

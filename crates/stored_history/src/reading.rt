@@ -27,7 +27,8 @@ fn accept_text(
     number: usize,
     text: &str,
 ) -> Result<Change, OpenError>
-    ensures accepted { MatchResult result (λ change. FollowsBy history.old.size text.now change history.old.changes history.new.changes)
+    ensures accepted { MatchResult result
+        (λ change. FollowsBy history.old.size text.now change history.old.changes history.new.changes)
         (IsFaultOf history.old.size history.old.changes text.now number) }
     ensures size { history.new.size ≡ history.old.size }
 {

@@ -1,5 +1,5 @@
 -- What a clause sees of the ends of a subscriber's queue.
-use Rattle.std.specs.Prelude.{◌≡◌, ℕ, ◌≤◌, Option, List, ◌++◌, length}
+use Rattle.std.specs.Prelude.{◌≡◌, ℕ, ◌≤◌, ◌⊎◌, Bool, false, Option, List, ◌++◌, length}
 use Rattle.atomic_table.specs.Seated.{TableId}
 use Rattle.feeds.specs.Batches.{Item}
 use Rattle.feeds.specs.Promise.{Promise}
@@ -8,12 +8,14 @@ use Rattle.feeds.specs.Promise.{Promise}
 abbrev pub Line : Type 0
 Line = TableId
 
--- the hub's end: of which queue, what was sent, how many items may wait, and what is promised of all that is sent
+-- the hub's end: of which queue, what was sent, how many items may wait, what is promised of all that is sent, and
+-- whether it still sends
 pub record QueueSink : Type 0 where
   pub line : Line
   pub sent : List Item
   pub capacity : ℕ
   pub promise : Option Promise
+  pub sends : Bool
 
 -- the subscriber's end: of which queue, what it was promised, what was taken, and what it knows to have been sent at
 -- least
@@ -35,9 +37,13 @@ IsCapacity n = (1 ≤ n) × (n ≤ 1024)
 abbrev pub was_sent : QueueSink → List Item
 was_sent end = end.sent
 
--- no fewer were sent than may wait, so that it may refuse one
+-- it is closed, or no fewer were sent than may wait, so that it may refuse one
 abbrev pub IsFull : QueueSink → Type 0
-IsFull end = end.capacity ≤ length end.sent
+IsFull end = (end.sends ≡ false) ⊎ (end.capacity ≤ length end.sent)
+
+-- the end once it is closed
+abbrev pub closed_end : QueueSink → QueueSink
+closed_end end = record end { sends = false }
 
 -- the first list is a beginning of the second
 abbrev pub Begins : List Item → List Item → Type 0

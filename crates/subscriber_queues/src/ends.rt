@@ -1,5 +1,6 @@
 //! The two ends of a subscriber's queue.
-ghost use Rattle.std.specs.Prelude.{◌≡◌, ◌<◌, ◌↔◌, Some, None, [], ◌∷◌, ◌++◌, IfOk, IfErr, OnOk, IfSome, IfNone};
+ghost use Rattle.std.specs.Prelude.{◌≡◌, ◌<◌, ◌↔◌, Some, None, true, false, [], ◌∷◌, ◌++◌, IfOk, IfErr, OnOk};
+ghost use Rattle.std.specs.Prelude.{IfSome, IfNone, MatchOption};
 ghost use Rattle.crossbeam_queue.specs.Passes.{view as view_of};
 ghost use Rattle.feeds.specs.Orderly.{IsOrderly};
 ghost use Rattle.feeds.specs.Promise.{IsPromised};
@@ -20,11 +21,12 @@ use version_history::published::Naming;
 /// The most items that may wait in a queue.
 pub const CAPACITY_LIMIT: usize = 1024;
 
-/// The hub's end of a subscriber's queue. Contracts see which queue it is of, what was sent, the capacity, and what is
-/// promised of all that is sent.
+/// The hub's end of a subscriber's queue. Contracts see which queue it is of, what was sent, the capacity, what is
+/// promised of all that is sent, and whether it is open. A closed one doesn't keep the queue, whose memory goes with
+/// the subscriber's end; what it knows of the queue takes none.
 pub struct QueueSink<N: Naming, R: Wait + Copy> {
     rt: R,
-    line: Arc<Line<N>, Global>,
+    line: Option<Arc<Line<N>, Global>>,
     pass: Pass<Item<N>, Knows<N>>,
 }
 
@@ -39,7 +41,7 @@ impl<N: Naming, R: Wait + Copy> Drop for QueueSink<N, R> {
 }
 
 impl<N: Naming, R: Wait + Copy> Model for QueueSink<N, R> {
-    ghost use Rattle.std.specs.Prelude.{◌≡◌, true};
+    ghost use Rattle.std.specs.Prelude.{◌≡◌, true, [], is_some, IfSome};
     ghost use Rattle.std.specs.Arc.{arc_value};
     ghost use Rattle.crossbeam_queue.specs.Passes.{view as view_of, IsPassOf, ruled_capacity};
     ghost use Rattle.subscriber_queues.specs.Queue.{QueueSink as QueueSinkValue};
@@ -49,12 +51,14 @@ impl<N: Naming, R: Wait + Copy> Model for QueueSink<N, R> {
     ghost view = { λ s. record {
       line = s.pass.table_id;
       sent = (view_of s.pass).sent;
-      capacity = ruled_capacity (arc_value s.line);
+      capacity = (view_of s.pass).capacity;
       promise = (view_of s.pass).gives;
+      sends = is_some s.line;
     } };
 
-    ghost invariant = { λ s. IsPassOf (arc_value s.line) s.pass × ((view_of s.pass).sends ≡ true)
-        × ((view_of s.pass).capacity ≡ ruled_capacity (arc_value s.line)) };
+    ghost invariant = { λ s. (s.pass.me.1 ≡ []) × ((view_of s.pass).sends ≡ true)
+        × IfSome s.line (λ line. IsPassOf (arc_value line) s.pass
+        × ((view_of s.pass).capacity ≡ ruled_capacity (arc_value line))) };
 }
 
 /// The subscriber's end of its queue. Contracts see which queue it is of, what it was promised, what was taken, and
@@ -131,39 +135,55 @@ impl<N: Naming> Shown<N> {
 }
 
 impl<N: Naming, R: Wait + Copy> Sink<Item<N>> for QueueSink<N, R> {
-    ghost use Rattle.std.specs.Prelude.{◌≡◌, ◌≤◌, ◌++◌, ◌∷◌, [], length, IfErr, OnOk};
+    ghost use Rattle.std.specs.Prelude.{◌≡◌, ◌++◌, ◌∷◌, [], IfErr, OnOk};
+    ghost use Rattle.subscriber_queues.specs.Queue.{IsFull, closed_end};
 
     ghost sent = { λ s. s.sent };
 
-    ghost full = { λ s. s.capacity ≤ length s.sent };
+    ghost full = { IsFull };
 
     ghost promise = { λ s. s.promise };
+
+    ghost closed = { closed_end };
 
     fn push(&mut self, item: Item<N>) -> Result<(), Item<N>>
         requires orderly { IsOrderly (self.old.sent ++ item ∷ []) }
         requires promised { IsPromised self.old.promise (self.old.sent ++ item ∷ []) }
         ensures ok { OnOk result (self.new.sent ≡ self.old.sent ++ item ∷ []) }
-        ensures err { IfErr result (λ back. (back ≡ item) × (self.new.sent ≡ self.old.sent)
-            × (self.new.capacity ≤ length self.new.sent)) }
+        ensures err { IfErr result (λ back. (back ≡ item) × (self.new.sent ≡ self.old.sent) × IsFull self.new) }
         ensures kept { self.new.promise ≡ self.old.promise }
         ensures capacity { self.new.capacity ≡ self.old.capacity }
         ensures line { self.new.line ≡ self.old.line }
+        ensures stays { self.new.sends ≡ self.old.sends }
+        ensures sends { OnOk result (self.old.sends ≡ true) }
     {
-        let line = &self.line;
+        let Some(line) = &self.line else {
+            return Err(item);
+        };
         line.push_as::<Sends, R>(&self.rt, &mut self.pass, item)
+    }
+
+    /// The queue's memory goes with the subscriber's end.
+    fn close(&mut self)
+        ensures value { self.new ≡ closed_end self.old }
+    {
+        self.line = None;
     }
 }
 
 impl<N: Naming, R: Wait + Copy> QueueSink<N, R> {
-    /// Shows what was sent so far.
-    pub fn shown(&mut self) -> Shown<N>
+    /// Shows what was sent so far; None where it is closed.
+    pub fn shown(&mut self) -> Option<Shown<N>>
         ensures same { self.new ≡ self.old }
-        ensures shown { result ≡ record { line = self.old.line; shown = self.old.sent } }
+        ensures shown { MatchOption result (self.old.sends ≡ false) (λ shown. (self.old.sends ≡ true)
+            × (shown ≡ record { line = self.old.line; shown = self.old.sent })) }
     {
-        let line = &self.line;
-        Shown {
+        let Some(line) = &self.line else {
+            return None;
+        };
+        Some(Shown {
             pass: line.another::<Shows>(&mut self.pass),
-        }
+        })
     }
 }
 
@@ -198,8 +218,8 @@ impl<N: Naming, R: Wait + Copy> Subscription<N, R> {
         self.line.absorb::<Shows>(&mut self.pass, shown.into_pass());
     }
 
-    /// The law of the two ends of one queue: what was taken of it is a beginning of what was sent, and no more waits
-    /// than may.
+    /// The law of the two ends of one queue, the hub's closed or not: what was taken of it is a beginning of what was
+    /// sent, and no more waits than may.
     pub fn compare(self, sink: &mut QueueSink<N, R>) -> Subscription<N, R>
         requires { self.line ≡ sink.old.line }
         ensures sink { sink.new ≡ sink.old }
@@ -207,10 +227,9 @@ impl<N: Naming, R: Wait + Copy> Subscription<N, R> {
         ensures ends { AreEnds sink.old self }
     {
         let Subscription { rt, line, pass } = self;
-        let theirs = &sink.line;
-        theirs.absorb::<Whole>(&mut sink.pass, pass);
-        theirs.learn_as::<Whole>(&mut sink.pass);
-        let pass = theirs.another::<Whole>(&mut sink.pass);
+        line.absorb::<Whole>(&mut sink.pass, pass);
+        line.learn_as::<Whole>(&mut sink.pass);
+        let pass = line.another::<Whole>(&mut sink.pass);
         Subscription { rt, line, pass }
     }
 }
@@ -233,7 +252,8 @@ pub fn queue<N: Naming, R: Wait + Copy>(
     alloc: Global,
     capacity: usize,
 ) -> Result<(QueueSink<N, R>, Subscription<N, R>), QueueError>
-    ensures sink { IfOk result (λ q. (q.0.sent ≡ []) × (q.0.capacity ≡ capacity) × (q.0.promise ≡ None)) }
+    ensures sink { IfOk result (λ q. (q.0.sent ≡ []) × (q.0.capacity ≡ capacity) × (q.0.promise ≡ None)
+        × (q.0.sends ≡ true)) }
     ensures end { IfOk result (λ q. q.1 ≡ record { line = q.0.line; promise = None; taken = []; shown = [] }) }
     ensures range { OnOk result (IsCapacity capacity) }
     ensures bad { IfErr result (λ e. (e ≡ QueueError.BadCapacity) ↔ ¬ IsCapacity capacity) }
@@ -242,7 +262,8 @@ pub fn queue<N: Naming, R: Wait + Copy>(
 }
 
 /// The two ends of a new queue, as of [`queue`], with a promise: all that is sent begins the stream of this program
-/// over changes that are accepted at the hub's size, from this version on or, where none is named, from some version on.
+/// over changes that are accepted at the hub's size, from this version on or, where none is named, from some version
+/// on.
 pub fn queue_for<N: Naming, R: Wait + Copy>(
     rt: R,
     alloc: Global,
@@ -251,7 +272,8 @@ pub fn queue_for<N: Naming, R: Wait + Copy>(
     first: Option<u64>,
 ) -> Result<(QueueSink<N, R>, Subscription<N, R>), QueueError>
     ensures sink { IfOk result (λ q. (q.0.sent ≡ []) × (q.0.capacity ≡ capacity)
-        × (q.0.promise ≡ Some (record { size = N.size; program = program.now; first = first }))) }
+        × (q.0.promise ≡ Some (record { size = N.size; program = program.now; first = first }))
+        × (q.0.sends ≡ true)) }
     ensures end { IfOk result (λ q. q.1
         ≡ record {
           line = q.0.line;
@@ -275,7 +297,8 @@ fn promised<N: Naming, R: Wait + Copy, C: Room>(
 ) -> Result<(QueueSink<N, R>, Subscription<N, R>), QueueError>
     requires room { capacity ≡ C.room }
     requires promise { C.promise ≡ Some (record { size = N.size; program = program.now; first = first }) }
-    ensures sink { IfOk result (λ q. (q.0.sent ≡ []) × (q.0.capacity ≡ capacity) × (q.0.promise ≡ C.promise)) }
+    ensures sink { IfOk result (λ q. (q.0.sent ≡ []) × (q.0.capacity ≡ capacity) × (q.0.promise ≡ C.promise)
+        × (q.0.sends ≡ true)) }
     ensures end { IfOk result (λ q. q.1 ≡ record { line = q.0.line; promise = C.promise; taken = []; shown = [] }) }
     ensures range { OnOk result (IsCapacity capacity) }
     ensures bad { IfErr result (λ e. (e ≡ QueueError.BadCapacity) ↔ ¬ IsCapacity capacity) }
@@ -292,7 +315,8 @@ fn sized<N: Naming, R: Wait + Copy, C: Room>(
     capacity: usize,
 ) -> Result<(QueueSink<N, R>, Subscription<N, R>), QueueError>
     requires { capacity ≡ C.room }
-    ensures sink { IfOk result (λ q. (q.0.sent ≡ []) × (q.0.capacity ≡ capacity) × (q.0.promise ≡ C.promise)) }
+    ensures sink { IfOk result (λ q. (q.0.sent ≡ []) × (q.0.capacity ≡ capacity) × (q.0.promise ≡ C.promise)
+        × (q.0.sends ≡ true)) }
     ensures end { IfOk result (λ q. q.1 ≡ record { line = q.0.line; promise = C.promise; taken = []; shown = [] }) }
     ensures range { OnOk result (IsCapacity capacity) }
     ensures bad { IfErr result (λ e. (e ≡ QueueError.BadCapacity) ↔ ¬ IsCapacity capacity) }
@@ -315,7 +339,8 @@ fn made<N: Naming, R: Wait + Copy, C: Room>(
 ) -> Result<(QueueSink<N, R>, Subscription<N, R>), AllocError>
     requires some { 0 < capacity }
     requires room { capacity ≡ C.room }
-    ensures sink { IfOk result (λ q. (q.0.sent ≡ []) × (q.0.capacity ≡ capacity) × (q.0.promise ≡ C.promise)) }
+    ensures sink { IfOk result (λ q. (q.0.sent ≡ []) × (q.0.capacity ≡ capacity) × (q.0.promise ≡ C.promise)
+        × (q.0.sends ≡ true)) }
     ensures end { IfOk result (λ q. q.1 ≡ record { line = q.0.line; promise = C.promise; taken = []; shown = [] }) }
 {
     let (line, mut sender) = Line::<N>::ruled(alloc, capacity)?;
@@ -325,7 +350,7 @@ fn made<N: Naming, R: Wait + Copy, C: Room>(
     Ok((
         QueueSink {
             rt,
-            line,
+            line: Some(line),
             pass: sender,
         },
         Subscription {

@@ -4,6 +4,7 @@
 #![tactic(auto)]
 
 mod client;
+mod crowd;
 mod fault;
 mod few_clients;
 mod limited_clients;
@@ -40,6 +41,7 @@ pub fn trials<
         Trial::SilentAndVanishing,
         Trial::Many,
         Trial::Limited,
+        Trial::Crowd,
     ] {
         let (status, told) = trial.run(rt, alloc);
         match told {

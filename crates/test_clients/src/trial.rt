@@ -1,4 +1,5 @@
 use crate::client::connect;
+use crate::crowd::{CROWD, crowd};
 use crate::fault::Fault;
 use crate::few_clients::{silent_and_vanishing, three};
 use crate::limited_clients::limited;
@@ -24,6 +25,8 @@ pub enum Trial {
     Many,
     /// One that has nothing left that it may have accepted, one that sends the greatest counter, and what they may do.
     Limited,
+    /// 65 at once at a large hub whose changes are kept.
+    Crowd,
 }
 
 static THREE_WORDS: [&str; 8] = [
@@ -72,6 +75,19 @@ static LIMITED_WORDS: [&str; 10] = [
     "changes=2,subscribers=1",
 ];
 
+static CROWD_WORDS: [&str; 10] = [
+    "hub",
+    "serve",
+    "--port",
+    "0",
+    "--size",
+    "large",
+    "--sessions",
+    "65",
+    "--store",
+    "kept",
+];
+
 impl Trial {
     pub fn name(self) -> &'static str {
         match self {
@@ -79,6 +95,7 @@ impl Trial {
             Trial::SilentAndVanishing => "a silent client, one that vanishes, one that sends on",
             Trial::Many => "eight clients with 1,000 changes",
             Trial::Limited => "a session with nothing left, and the greatest counter",
+            Trial::Crowd => "65 clients at once",
         }
     }
 
@@ -89,6 +106,7 @@ impl Trial {
             Trial::SilentAndVanishing => SILENT_WORDS.as_slice(),
             Trial::Many => MANY_WORDS.as_slice(),
             Trial::Limited => LIMITED_WORDS.as_slice(),
+            Trial::Crowd => CROWD_WORDS.as_slice(),
         }
     }
 
@@ -103,6 +121,7 @@ impl Trial {
             Trial::SilentAndVanishing => silent_and_vanishing(rt, alloc, port),
             Trial::Many => many(rt, alloc, port),
             Trial::Limited => limited(rt, alloc, port),
+            Trial::Crowd => crowd(rt, alloc, port),
         }
     }
 
@@ -117,7 +136,7 @@ impl Trial {
         let port = port.wait(rt).ok_or(Fault::Port)?;
         let told = self.clients(rt, alloc, port);
         if told.is_err() {
-            for _ in 0..8u8 {
+            for _ in 0..CROWD {
                 let _ = connect(rt, port);
             }
         }

@@ -274,7 +274,7 @@ fn tell_sinks<N: Naming>(
     core: &Core<'_, N, ListSink<N>>,
     told: &mut String,
 ) -> Result<(), AllocError> {
-    for id in 0..65usize {
+    for id in 0..core.size().subscribers() {
         let Some(sink) = core.sink(id) else {
             return Ok(());
         };

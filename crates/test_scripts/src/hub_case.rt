@@ -30,7 +30,7 @@ pub fn play_hub<R: Threads + Wait + Copy + Send + Sync>(
 ) -> Result<(), AllocError> {
     let versions = boxcar::Vec::new(alloc)?;
     let programs = boxcar::Vec::new(alloc)?;
-    let shares = shares.clamp(1, 64);
+    let shares = shares.clamp(1, 256);
     let lines = String::from_str(alloc, lines)?;
     on_lists::<Brand, _>(
         rt,
@@ -56,7 +56,7 @@ fn on_lists<N: Naming + Ledger + Send + Sync, R: Threads + Wait + Copy + Send + 
 ) -> Result<(), AllocError>
     requires named { (Small ≡ N.size) × (versions.now ≡ N.versions) × (programs.now ≡ N.programs) }
     requires blank { (blank.name ≡ N.name) × (blank.parts ≡ N.parts) × (N.parts ≡ shares) }
-    requires range { (1 ≤ shares) × (shares ≤ 64) }
+    requires range { (1 ≤ shares) × (shares ≤ 256) }
 {
     let published = Published::<N>::new(Size::Small, versions, programs);
     let (hub, mut shares) = Hub::new(&rt, alloc, blank, &published, shares)?;

@@ -7,7 +7,7 @@
 //! |---|---|
 //! | `core NAME` | a core with sinks that keep what they are sent, to which all events are handed at once |
 //! | `hub NAME` | a hub with queues, by its calls |
-//! | `hub NAME N` | the same, of which N shares are cut, 1 to 64 |
+//! | `hub NAME N` | the same, of which N shares are cut, 1 to 256 |
 //! | `threads NAME N` | a hub with two shares, by which two threads ingest N changes each; there is no further line |
 //!
 //! Each further line is an event, and is answered by a line with its first word. Programs, subscribers, jobs, shares

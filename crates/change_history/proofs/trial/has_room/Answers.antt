@@ -1,8 +1,8 @@
 use Rattle.std.proofs.Common.{◌≡◌, ◌+◌, ◌<◌, arith, sym, true, false}
 use Rattle.std.specs.List.{sum_by}
 use Rattle.std.proofs.lemmas.Bool.{le-leb}
+use Rattle.change_ops.specs.Operations.{bytes_of}
 use Rattle.change_ops.specs.Lines.{ops_of, ops_of_lines}
-use Rattle.char_sequence.specs.Acceptance.{bytes_of}
 use Rattle.change_history.proofs.Spacing.{line_more, line_none, not_le}
 use Rattle.change_history.proofs.trial.has_room.Goals as goal
 

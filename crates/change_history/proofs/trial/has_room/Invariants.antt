@@ -1,7 +1,7 @@
 use Rattle.std.proofs.Common.{◌≡◌, ◌+◌, drop}
 use Rattle.std.specs.List.{sum_by}
+use Rattle.change_ops.specs.Operations.{bytes_of}
 use Rattle.change_ops.specs.Lines.{ops_of_lines}
-use Rattle.char_sequence.specs.Acceptance.{bytes_of}
 use Rattle.change_history.proofs.trial.has_room.Given as goal
 
 abbrev pub invariant-loop-line : goal.invariant-loop-line

@@ -1,8 +1,8 @@
 use Rattle.std.proofs.Common.{◌-◌, ◌≤◌, arith, sym, subst, ◌∙◌}
 use Rattle.std.specs.List.{sum_by}
 use Rattle.std.proofs.lemmas.Bool.{leb-true}
+use Rattle.change_ops.specs.Operations.{bytes_of}
 use Rattle.change_ops.specs.Lines.{ops_of_lines}
-use Rattle.char_sequence.specs.Acceptance.{bytes_of}
 use Rattle.change_history.specs.Tally.{AreShort}
 use Rattle.change_history.proofs.Spacing.{small_short, large_short}
 use Rattle.change_history.proofs.trial.has_space.Goals as goal

@@ -1,8 +1,8 @@
 use Rattle.std.proofs.Common.{◌≡◌, ◌+◌, ◌<◌, MatchOption, length, ap, sym, subst, ◌∙◌}
 use Rattle.std.specs.Prelude.{encode_utf8_all}
 use Rattle.std.specs.List.{sum_by}
+use Rattle.change_ops.specs.Operations.{bytes_of}
 use Rattle.change_ops.specs.Lines.{ops_of}
-use Rattle.char_sequence.specs.Acceptance.{bytes_of}
 use Rattle.change_history.proofs.Spacing.{run_bytes}
 use Rattle.change_history.proofs.trial.room_behind_line.Goals as goal
 

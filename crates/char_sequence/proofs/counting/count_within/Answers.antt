@@ -13,11 +13,11 @@ returns-then-is_whole-clause-value c =
     let items = c.as_slice-items.ensures.value in
     let piece : c.part-piece.result.now ≡ slice_range chunk a b = c.part-piece.ensures.value ∙ ap (λ z. slice_range z a b) items in
     let whole : slice_range chunk a b ≡ chunk = range_whole chunk a b (sym (ap length piece) ∙ c.if-is_whole.ensures refl ∙ ap length items) in
-    c.shown.ensures ∙ ap visible_count (sym whole)
+    c.shown.ensures.value ∙ ap visible_count (sym whole)
 
 pub returns-then-is_whole-clause-limit : goal.returns-then-is_whole-clause-limit
 returns-then-is_whole-clause-limit c =
-    let shown = c.shown.ensures in
+    let shown = c.shown.ensures.value in
     let most = count_by-le-length (λ (e : Element). e.visible) c.args.chunk.now in
     omega (arith, shown, most)
 

@@ -23,6 +23,13 @@ overflow_add-self c =
     let added = c.text.ensures.few in
     omega (arith, total, few, most, added)
 
+pub recount-requires : goal.recount-requires
+recount-requires c =
+    let s = c.unwrap-spot.result in
+    let spot : IsSpotOf c.self.inside.chunks.items c.args.id s.position s.at =
+    subst (λ v. IsSpotOf v.chunks c.args.id s.position s.at) (sym c.self.view_is) (option_at _ (λ z. IsSpotOf c.args.self.now.chunks c.args.id z.position z.at) c.spot_of.result s c.unwrap-spot.ensures c.spot_of.ensures.found) in
+    (c.self.inside.chunks.items, c.self.invariant.2, position_here _ _ _ _ spot)
+
 pub invariant_of-self : goal.invariant_of-self
 invariant_of-self c =
     let s = c.unwrap-spot.result in
@@ -32,7 +39,7 @@ invariant_of-self c =
     let with_it = ap length c.text-with_it.ensures.value in
     let without = ap length c.text.ensures.value in
     let bytes = recounted c.self.inside.chunks.items s.position c.index_mut-chunk.result.now c.hide.new.self c.self.inside.bytes here c.self.invariant.1 in
-    (kept_hidden _ _ _ _ _ _ c.args.id _ _ c.self.invariant.0 spot here c.hide.ensures, omega (arith, with_it, without, bytes))
+    (kept_hidden _ _ _ _ _ _ c.args.id _ _ c.self.invariant.0 spot here c.hide.ensures, omega (arith, with_it, without, bytes), c.recount.ensures.counts _ c.self.invariant.2)
 
 pub returns : goal.returns
 returns c =

@@ -13,7 +13,7 @@ enter-requires-clause-above c =
     above_indexed _ _ _ c.self.invariant.0.indexed c.args.element.id (subst (λ v. IsAboveAll (joined v.chunks) c.args.element.id) (sym c.self.view_is) c.requires.above)
 
 pub invariant_of-self : goal.invariant_of-self
-invariant_of-self c = (kept_same _ _ _ _ _ c.self.invariant.0 c.in_err-enter.ensures.unchanged, c.self.invariant.1)
+invariant_of-self c = (kept_same _ _ _ _ _ c.self.invariant.0 c.in_err-enter.ensures.unchanged, c.self.invariant.1, c.self.invariant.2)
 
 pub overflow_sub-self : goal.overflow_sub-self
 overflow_sub-self c =
@@ -34,23 +34,29 @@ overflow_add-self c =
     let added = c.text.ensures.few in
     omega (arith, total, few, most, added)
 
+pub recount-requires : goal.recount-requires
+recount-requires c =
+    let same = ap (λ v. v.chunks) c.self.view_is in
+    let there = c.requires.there in
+    let old : slice_get c.self.inside.chunks.items c.args.spot.position ≡ Some there.0 = ap (λ z. slice_get z c.args.spot.position) same ∙ there.1 in
+    (c.self.inside.chunks.items, c.self.invariant.2, slice_get_within c.self.inside.chunks.items c.args.spot.position _ old)
+
 pub invariant_of-self-2 : goal.invariant_of-self-2
 invariant_of-self-2 c =
     let same = ap (λ v. v.chunks) c.self.view_is in
     let there = c.requires.there in
     let old : slice_get c.self.inside.chunks.items c.args.spot.position ≡ Some there.0 = ap (λ z. slice_get z c.args.spot.position) same ∙ there.1 in
     let low = slice_get_within c.self.inside.chunks.items c.args.spot.position _ old in
-    let counted = c.self.invariant.0.indexed.counted in
     let here = here_at c.self.inside.chunks.items c.args.spot.position c.index_mut-chunk.result.now low c.index_mut-chunk.ensures.value in
-    let name = here_at c.self.inside.names.items c.args.spot.position c.index-name.result.now (omega (arith, low, counted)) c.index-name.ensures in
+    let name = c.name_at-name.ensures in
     let one = same_Some c.index_mut-chunk.result.now _ (sym here ∙ old) in
     let within : c.args.spot.at ≤ length c.index_mut-chunk.result.now = subst (λ z. c.args.spot.at ≤ length z) (sym one) there.3 in
     let few : length (joined c.self.inside.chunks.items) < 262144 = subst (λ z. length (joined z) < 262144) (sym same) c.requires.few in
     let before = ap length c.text-before.ensures.value in
     let after = ap length c.text.ensures.value in
     let bytes = recounted c.self.inside.chunks.items c.args.spot.position c.index_mut-chunk.result.now c.insert.new.self c.self.inside.bytes here c.self.invariant.1 in
-    let kept = kept_put _ _ _ _ _ c.args.spot.at c.index-name.result.now _ _ _ c.args.element c.self.invariant.0 here name within c.insert.ensures few c.in_ok-enter.ensures.named c.in_ok-enter.ensures.kept in
-    (kept, omega (arith, before, after, bytes))
+    let kept = kept_put _ _ _ _ _ c.args.spot.at c.name_at-name.result _ _ _ c.args.element c.self.invariant.0 here name within c.insert.ensures few c.in_ok-enter.ensures.named c.in_ok-enter.ensures.kept in
+    (kept, omega (arith, before, after, bytes), c.recount.ensures.counts _ c.self.invariant.2)
 
 pub returns-clause-ok : goal.returns-clause-ok
 returns-clause-ok c =

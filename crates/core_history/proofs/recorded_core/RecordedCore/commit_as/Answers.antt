@@ -5,5 +5,5 @@ use Rattle.core_history.proofs.recorded_core.RecordedCore.commit_as.Goals as goa
 
 pub record-requires-clause-led : goal.record-requires-clause-led
 record-requires-clause-led g c =
-    led_as g.N.Naming.size g.S.Sink.sent g.S.Sink.full _ _ (call.Commit c.args.batch) g.A.Asked.call (reply.Committed c.commit-committed.result) _
+    led_as g.N.Naming.size g.S.Sink.sent g.S.Sink.full g.S.Sink.closed _ _ (call.Commit c.args.batch) g.A.Asked.call (reply.Committed c.commit-committed.result) _
     c.requires.call c.self.invariant c.commit-committed.ensures.commits

@@ -5,5 +5,5 @@ use Rattle.core_history.proofs.recorded_core.RecordedCore.subscribe_as.Goals as 
 
 pub record-requires-clause-led : goal.record-requires-clause-led
 record-requires-clause-led g c =
-    led_as g.N.Naming.size g.S.Sink.sent g.S.Sink.full _ _ (call.Subscribe c.args.program c.args.sink) g.A.Asked.call (reply.Subscribed c.subscribe-subscribed.result) _
+    led_as g.N.Naming.size g.S.Sink.sent g.S.Sink.full g.S.Sink.closed _ _ (call.Subscribe c.args.program c.args.sink) g.A.Asked.call (reply.Subscribed c.subscribe-subscribed.result) _
     c.requires.call c.self.invariant c.subscribe-subscribed.ensures

@@ -3,22 +3,29 @@ use Rattle.span_flatten.specs.Version.{Version}
 use Rattle.version_history.specs.Tokens.{Token}
 use Rattle.feeds.specs.Batches.{Job}
 use Rattle.feeds.specs.Feed.{IsFed}
-use Rattle.hub_core.proofs.Sound.{sound_set, committed, refused}
+use Rattle.hub_core.proofs.Opened.{ids_kept}
+use Rattle.hub_core.proofs.Sound.{sound_set, kept_closed, committed, refused}
 use Rattle.hub_core.proofs.hub.Core.commit.Goals as goal
 
 pub invariant_of-self : goal.invariant_of-self
-invariant_of-self g c = (
-  c.self.invariant.0,
-  sound_set g.S.Sink.sent g.S.Sink.full _ c.behind-batch.inside.subscriber c.commit-kept.new.self c.self.invariant.1
-      (subst (λ (ts : List (Token Version)). IsFed g.S.Sink.sent g.S.Sink.full ts c.commit-kept.new.self) c.as_slice.ensures.value c.commit-kept.ensures.fed),
-)
+invariant_of-self g c =
+    let within : c.behind-batch.inside.subscriber < length c.self.inside.subscribers.items = omega arith in
+    let same = kept_closed g.S.Sink.sent g.S.Sink.full _ c.index_mut-sub.result.now c.args.batch c.commit-kept.result c.commit-kept.new.self c.commit-kept.ensures.keeps in (
+      c.self.invariant.0,
+      sound_set g.S.Sink.sent g.S.Sink.full _ c.behind-batch.inside.subscriber c.index_mut-sub.result.now c.commit-kept.new.self c.self.invariant.1 within c.index_mut-sub.ensures.value same
+          (subst (λ (ts : List (Token Version)). IsFed g.S.Sink.sent g.S.Sink.full ts c.commit-kept.new.self) c.as_slice.ensures.value c.commit-kept.ensures.fed),
+      ids_kept _ _ c.behind-batch.inside.subscriber c.index_mut-sub.result.now c.commit-kept.new.self within c.index_mut-sub.ensures.value same c.self.invariant.2,
+    )
 
 pub invariant_of-self-2 : goal.invariant_of-self-2
-invariant_of-self-2 g c = (
-  c.self.invariant.0,
-  sound_set g.S.Sink.sent g.S.Sink.full _ c.behind-batch.inside.subscriber c.commit-kept.new.self c.self.invariant.1
-      (subst (λ (ts : List (Token Version)). IsFed g.S.Sink.sent g.S.Sink.full ts c.commit-kept.new.self) c.as_slice.ensures.value c.commit-kept.ensures.fed),
-)
+invariant_of-self-2 g c =
+    let within : c.behind-batch.inside.subscriber < length c.self.inside.subscribers.items = omega arith in
+    let same = kept_closed g.S.Sink.sent g.S.Sink.full _ c.index_mut-sub.result.now c.args.batch c.commit-kept.result c.commit-kept.new.self c.commit-kept.ensures.keeps in (
+      c.self.invariant.0,
+      sound_set g.S.Sink.sent g.S.Sink.full _ c.behind-batch.inside.subscriber c.index_mut-sub.result.now c.commit-kept.new.self c.self.invariant.1 within c.index_mut-sub.ensures.value same
+          (subst (λ (ts : List (Token Version)). IsFed g.S.Sink.sent g.S.Sink.full ts c.commit-kept.new.self) c.as_slice.ensures.value c.commit-kept.ensures.fed),
+      ids_kept _ _ c.behind-batch.inside.subscriber c.index_mut-sub.result.now c.commit-kept.new.self within c.index_mut-sub.ensures.value same c.self.invariant.2,
+    )
 
 pub returns-then-kept-clause-commits : goal.returns-then-kept-clause-commits
 returns-then-kept-clause-commits g c =

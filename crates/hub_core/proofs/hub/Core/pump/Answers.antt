@@ -1,9 +1,10 @@
-use Rattle.std.proofs.Common.{◌<◌, List, length, arith, subst, sym, ◌∙◌}
+use Rattle.std.proofs.Common.{◌<◌, List, length, arith, ap, subst, sym, ◌∙◌}
 use Rattle.change_ops.specs.declared.size.Size.{Size}
 use Rattle.span_flatten.specs.Version.{Version}
 use Rattle.version_history.specs.Tokens.{Token}
 use Rattle.feeds.specs.Promise.{AreOfChanges}
-use Rattle.feeds.specs.Feed.{IsFed}
+use Rattle.feeds.specs.Feed.{Subscriber, IsFed}
+use Rattle.hub_core.proofs.Opened.{ids_kept}
 use Rattle.hub_core.proofs.Sound.{of_changes, fed_at, sound_set, pumped}
 use Rattle.hub_core.proofs.hub.Core.pump.Goals as goal
 
@@ -18,11 +19,14 @@ pump-requires-clause-fed g c =
     (fed_at g.S.Sink.sent g.S.Sink.full _ c.args.id c.index_mut-sub.result.now c.self.invariant.1 within c.index_mut-sub.ensures.value)
 
 pub invariant_of-self : goal.invariant_of-self
-invariant_of-self g c = (
-  c.self.invariant.0,
-  sound_set g.S.Sink.sent g.S.Sink.full _ c.args.id c.pump.new.self c.self.invariant.1
-      (subst (λ (ts : List (Token Version)). IsFed g.S.Sink.sent g.S.Sink.full ts c.pump.new.self) c.as_slice.ensures.value c.pump.ensures.fed),
-)
+invariant_of-self g c =
+    let within : c.args.id < length c.self.inside.subscribers.items = omega arith in
+    let same = ap (λ (z : Subscriber g.row.S.Denot). z.closed) c.pump.ensures.moved.same in (
+      c.self.invariant.0,
+      sound_set g.S.Sink.sent g.S.Sink.full _ c.args.id c.index_mut-sub.result.now c.pump.new.self c.self.invariant.1 within c.index_mut-sub.ensures.value same
+          (subst (λ (ts : List (Token Version)). IsFed g.S.Sink.sent g.S.Sink.full ts c.pump.new.self) c.as_slice.ensures.value c.pump.ensures.fed),
+      ids_kept _ _ c.args.id c.index_mut-sub.result.now c.pump.new.self within c.index_mut-sub.ensures.value same c.self.invariant.2,
+    )
 
 pub returns : goal.returns
 returns g c =

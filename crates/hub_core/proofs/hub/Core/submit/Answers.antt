@@ -9,6 +9,7 @@ pub invariant_of-self : goal.invariant_of-self
 invariant_of-self g c = (
   c.accept.ensures.size ∙ c.self.invariant.0,
   sound_accepted g.S.Sink.sent g.S.Sink.full _ c.args.change c.accept.result _ _ _ c.self.invariant.1 c.accept.ensures.accepts c.accept.ensures.size,
+  c.self.invariant.2,
 )
 
 pub returns : goal.returns

@@ -67,7 +67,7 @@ returns-clause-ok g c =
         token = c.in_ok-token.token;
         same = c.in_ok-token.ensures.ok ∙ c.in_ok-program.ensures.ok.1;
         holding = subst (λ (q : QueueSink). InOneHolding g.N.Naming.size (λ old new. Subscribes old (first_of c.args.first old) c.in_ok-token.token q (Ok c.in_ok-id.id) new))
-            (λ i. record { line = queue.line; sent = c.in_ok-sink.ensures.sink.0 i; capacity = c.in_ok-sink.ensures.sink.1 i; promise = promise i }) c.in_ok-id.ensures.ok;
+            (λ i. record { line = queue.line; sent = c.in_ok-sink.ensures.sink.0 i; capacity = c.in_ok-sink.ensures.sink.1 i; promise = promise i; sends = c.in_ok-sink.ensures.sink.3 i }) c.in_ok-id.ensures.ok;
       },
       may,
       c.spend_subscriber.ensures,

@@ -4,13 +4,13 @@ use Rattle.session_subscribers.proofs.Holdings.{none_pulled, pulled_ok, pulled_e
 use Rattle.session_subscribers.proofs.session_hub.SessionHub.pull.Goals as goal
 
 pub returns-in_default-clause-ok : goal.returns-in_default-clause-ok
-returns-in_default-clause-ok g c = none_pulled _ _ _ _ (sym (c.in_default.ensures ∙ ap (λ l. index_in l c.args.id) c.as_slice.ensures.value))
+returns-in_default-clause-ok g c = none_pulled _ _ _ _ _ _ (sym (c.in_default.ensures ∙ ap (λ l. index_in l c.args.id) c.as_slice.ensures.value))
 
 pub returns-clause-ok : goal.returns-clause-ok
 returns-clause-ok g c =
     let held = c.args.held.now.items in
     let there = sym (c.in-Some.ensures ∙ ap (λ l. index_in l c.args.id) c.as_slice.ensures.value) in
-    pulled_ok c.pull_from-reply.result c.args.id c.args.count c.in-Some.index held (record { id = c.one.inside.id; items = c.one.inside.items }) c.pull_from-reply.new.items _ _ there
+    pulled_ok c.pull_from-reply.result _ _ c.args.id c.args.count c.in-Some.index held (record { id = c.one.inside.id; items = c.one.inside.items }) c.pull_from-reply.new.items _ _ there
     (subst (λ (z : Held). z ≡ get_or held c.in-Some.index z) (sym c.one.view_is) c.index_mut-one.ensures.value) c.stays_orderly.ensures.orderly c.stays_orderly.ensures.promised c.pull_from-reply.ensures.ok
 
 pub returns-clause-err : goal.returns-clause-err

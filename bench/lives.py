@@ -1,0 +1,80 @@
+"""A document's life, the same in every run: changes of four characters by one who types on here and there, with a mark now and then. Past a number
+of bytes what is typed takes the place of as much. bench/life.py and tests/life send it."""
+
+WIDTH, CHANGES_A_MARK = 4, 131
+
+
+class Replica:
+    """All characters in order, removed ones too: a list of [id, character, whether it is visible]. Counters rise over all peers, so what
+    is inserted stands right behind its parent."""
+
+    def __init__(self):
+        self.order, self.visible, self.counter, self.inserted = [], 0, 0, 0
+
+    def typed(self, node, place, text):
+        """The lines of an insert before the element at a place, and what it adds."""
+        parent = f"{name_of(self.order[place - 1][0])}" if place else "-"
+        first = self.counter + 1
+        self.order[place:place] = [[(first + at, node), character, True] for at, character in enumerate(text)]
+        self.counter += len(text)
+        self.visible += len(text)
+        self.inserted += len(text)
+        lines = []
+        for start in range(0, len(text), 256):
+            codes = [f"{ord(character):x}" for character in text[start:start + 256]]
+            own = f"{first + start}@{node}"
+            lines.append((f"r {own} {parent} {len(codes)} {' '.join(codes)}" if len(codes) > 1 else f"i {own} {parent} {codes[0]}", len(codes)))
+            parent = f"{first + start + len(codes) - 1}@{node}"
+        return lines
+
+    def removed(self, node, element):
+        self.counter += 1
+        self.visible -= 1
+        element[2] = False
+        return f"d {self.counter}@{node} {name_of(element[0])}", 1
+
+    def text(self):
+        return "".join(character for _, character, visible in self.order if visible)
+
+
+def name_of(own):
+    return f"{own[0]}@{own[1]}"
+
+
+class Life:
+    """A text that grows to `kept` bytes, and stays so long while it is written on."""
+
+    def __init__(self, rng, kept):
+        self.rng, self.kept = rng, kept
+        self.replica, self.at, self.changes, self.marks = Replica(), 0, 0, 0
+
+    def change(self, node):
+        """The lines of the next change, by this peer."""
+        if self.rng.random() < 0.02:
+            self.at = self.rng.randrange(len(self.replica.order) + 1)
+        lines = self.typed(node)
+        self.at += WIDTH
+        self.changes += 1
+        if self.changes % CHANGES_A_MARK == 0:
+            lines.append(self.marked(node))
+        return [f"change2 {node} {len(lines)}", *lines]
+
+    def typed(self, node):
+        """Four characters at the place, where there are many in place of those behind it, or of the last before it."""
+        replica, behind, before = self.replica, self.at + WIDTH, self.at - 1
+        ops = replica.typed(node, self.at, "".join(self.rng.choice("etaoin shrdlu") for _ in range(WIDTH)))
+        while replica.visible > self.kept:
+            if behind < len(replica.order):
+                element, behind = replica.order[behind], behind + 1
+            else:
+                element, before = replica.order[before], before - 1
+            if element[2]:
+                ops.append(replica.removed(node, element))
+        return [line for line, _ in ops]
+
+    def marked(self, node):
+        self.replica.counter += 1
+        self.marks += 1
+        first = self.rng.randrange(len(self.replica.order) - 60)
+        ends = f"<{name_of(self.replica.order[first][0])} >{name_of(self.replica.order[first + self.rng.randrange(60)][0])}"
+        return f"m {self.replica.counter}@{node} strong - {ends}"

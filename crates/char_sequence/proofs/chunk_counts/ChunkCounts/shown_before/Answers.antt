@@ -1,0 +1,19 @@
+use Rattle.std.proofs.Common.{◌≡◌, sum, take, ap, ◌∙◌, arith}
+use Rattle.char_sequence.proofs.Counts.{shown_few, shown_before}
+use Rattle.char_sequence.proofs.chunk_counts.ChunkCounts.shown_before.Goals as goal
+
+pub sum_of-requires : goal.sum_of-requires
+sum_of-requires c =
+    let counts = c.args.self.now in
+    let front : c.split_at.result.0.now ≡ take c.args.position counts.shown = c.split_at.ensures.front ∙ ap (take c.args.position) (c.deref.ensures.value ∙ ap (λ v. v.shown) c.self.view_is) in
+    let same = ap sum front in
+    let few = shown_few c.requires.0 counts c.args.position c.requires.1 in
+    let limit = c.requires.3 in
+    omega (arith, same, few, limit)
+
+pub returns : goal.returns
+returns c =
+    λ chunks are.
+    let counts = c.args.self.now in
+    let front : c.split_at.result.0.now ≡ take c.args.position counts.shown = c.split_at.ensures.front ∙ ap (take c.args.position) (c.deref.ensures.value ∙ ap (λ v. v.shown) c.self.view_is) in
+    c.sum_of.ensures ∙ ap sum front ∙ shown_before chunks counts c.args.position are
