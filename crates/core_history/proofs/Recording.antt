@@ -4,8 +4,20 @@ use Rattle.change_ops.specs.declared.size.Size.{Size}
 use Rattle.feeds.specs.Batches.{Item}
 use Rattle.hub_core.specs.Machine.{Core}
 use Rattle.hub_core.specs.Consistent.{IsConsistent}
+use Rattle.call_history.specs.Calls.{Holds, Extends, TakesIn, IsWhole}
 use Rattle.core_history.specs.declared.entry.Entry.TheVariants as entry
 use Rattle.core_history.specs.Runs.{CoreCall, CoreReply, CoreEntry, called, started, Happens, IsRun, IsRunOf, IsLegal, LedTo}
+
+-- what is kept of a token by one rule is kept by another that allows what it has seen
+module _ {E : Type 0} (rule other : List E → Type 0) (v w : Holds E) where
+  pub extends_by : (e : E) → Extends rule v e w → other w.seen → Extends other v e w
+  extends_by e more allowed = record { between = more.between; seen = more.seen; own = more.own; parts = more.parts; legal = allowed }
+
+  pub takes_in_by : (u : Holds E) → TakesIn rule v u w → other w.seen → TakesIn other v u w
+  takes_in_by u took allowed = record { first = took.first; second = took.second; own = took.own; parts = took.parts; legal = allowed }
+
+  pub whole_by : (all : List E) → IsWhole rule all v → other all → IsWhole other all v
+  whole_by all whole allowed = record { legal = allowed; begins = whole.begins; places = whole.places; distinct = whole.distinct; count = whole.count }
 
 module _ {S : Type 0} (sent : S → List Item) (full : S → Type 0) (closed_sink : S → S) where
   run_on : (s : Core S) (log : List (CoreEntry S)) (m : Core S) (c : CoreCall S) (r : CoreReply) (t : Core S)

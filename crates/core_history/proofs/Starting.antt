@@ -42,21 +42,21 @@ module _ {S : Type 0} (size : Size) (sent : S → List Item) (full : S → Type 
       let history : log' ≡ one ∷ [] = more one (entry_is size s start) ∙ ap (λ l. l ++ one ∷ []) none in
       subst (λ l. IsRunOf size sent full closed_sink l s) (sym history) (run_started s start)
 
-  pub starts : (s : Core S) → IsStart size s → (parts : ℕ) (log log' : List (CoreEntry S)) (v w : Holds (CoreEntry S)) → log ≡ [] → v ≡ nothing parts
-      → ((x : CoreEntry S) → first_entry s ≡ Some x → log' ≡ log ++ x ∷ [])
-      → ((x : CoreEntry S) → first_entry s ≡ Some x → Extends (IsLegal size sent full closed_sink) v x w)
-      → w.seen ≡ log' → Starts size s parts (record { core = s; history = log' }) w
-  starts s start parts log log' v w none idle more mine seen =
-      let first = start.version.0 in
-      let one : CoreEntry S = entry.Started first in
-      let history : log' ≡ one ∷ [] = more one (entry_is size s start) ∙ ap (λ l. l ++ one ∷ []) none in
-      let own = subst (λ u. Extends (IsLegal size sent full closed_sink) u one w) idle (mine one (entry_is size s start)) in
-      let all : w.seen ≡ one ∷ [] = seen ∙ history in
-      let before : length own.between ≡ 0 = omega (arith, length-append own.between (one ∷ []), ap length own.seen, ap length all) in
-      record {
-        first = first;
-        start = start;
-        core = is_started size s start;
-        recorded = λ i. record { core = s; history = history i };
-        all = λ i. record { seen = all i; own = (own.own ∙ ap (λ n. n ∷ []) before) i; parts = own.parts i };
-      }
+pub starts : {S : Type 0} (rule : List (CoreEntry S) → Type 0) (size : Size) (s : Core S) → IsStart size s → (parts : ℕ) (log log' : List (CoreEntry S)) (v w : Holds (CoreEntry S)) → log ≡ [] → v ≡ nothing parts
+    → ((x : CoreEntry S) → first_entry s ≡ Some x → log' ≡ log ++ x ∷ [])
+    → ((x : CoreEntry S) → first_entry s ≡ Some x → Extends rule v x w)
+    → w.seen ≡ log' → Starts size s parts (record { core = s; history = log' }) w
+starts {S} rule size s start parts log log' v w none idle more mine seen =
+    let first = start.version.0 in
+    let one : CoreEntry S = entry.Started first in
+    let history : log' ≡ one ∷ [] = more one (entry_is size s start) ∙ ap (λ l. l ++ one ∷ []) none in
+    let own = subst (λ u. Extends rule u one w) idle (mine one (entry_is size s start)) in
+    let all : w.seen ≡ one ∷ [] = seen ∙ history in
+    let before : length own.between ≡ 0 = omega (arith, length-append own.between (one ∷ []), ap length own.seen, ap length all) in
+    record {
+      first = first;
+      start = start;
+      core = is_started size s start;
+      recorded = λ i. record { core = s; history = history i };
+      all = λ i. record { seen = all i; own = (own.own ∙ ap (λ n. n ∷ []) before) i; parts = own.parts i };
+    }

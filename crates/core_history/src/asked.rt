@@ -1,15 +1,15 @@
 //! What a call was given, where the core has used it up before the call is recorded.
-use crate::entry::Call;
 use std::marker::Brand;
 
 /// Which call is made. Each picks it.
-pub(crate) trait Asked<P, S, J> {
-    ghost use Rattle.core_history.specs.declared.entry.Call.{Call};
+pub(crate) trait Asked {
+    ghost use Rattle.subscriber_queues.specs.Queue.{QueueSink};
+    ghost use Rattle.core_history.specs.Runs.{CoreCall};
 
-    ghost call: { Call P S J };
+    ghost call: { CoreCall QueueSink };
 }
 
-impl<P, S, J> Asked<P, S, J> for Brand {
+impl Asked for Brand {
     ghost use Rattle.core_history.specs.declared.entry.Call.TheVariants.{TakeJob};
 
     ghost call = { TakeJob };

@@ -1,11 +1,9 @@
 //! What a core's history consists of.
+use crate::known::{KnownJob, KnownProgram, KnownSink, KnownVersion};
 use call_history::knowledge::{Board, HistoryPass, Lawful};
 use call_history::token::Token;
 use change_ops::change::Change;
-use feeds::item::{Item, Job};
-use feeds::sink::Sink;
 use hub_core::run::Reply;
-use version_history::published::{Naming, ProgramToken, VersionToken};
 
 /// A call of a core, with what it was given. `P` is a program's token, `S` a sink, `J` a job. No value of it is made.
 pub enum Call<P, S, J> {
@@ -29,20 +27,21 @@ pub enum Entry<P, S, V, J> {
     Called(Call<P, S, J>, Reply<V, J>),
 }
 
-/// An entry of the history of a core of the hub `N`.
-pub type CoreEntry<N, S> = Entry<ProgramToken<N>, S, VersionToken<N>, Job<N>>;
+/// An entry of the history of a core. It names no hub, so that a token of the history needs no more of one than the
+/// history's name.
+pub type CoreEntry = Entry<KnownProgram, KnownSink, KnownVersion, KnownJob>;
 
 /// What the threads that call a core share of its history, beside the lock.
-pub type CoreBoard<N, S> = Board<CoreEntry<N, S>>;
+pub type CoreBoard = Board<CoreEntry>;
 
 /// A pass of a core's history.
-pub type CorePass<N, S> = HistoryPass<CoreEntry<N, S>>;
+pub type CorePass = HistoryPass<CoreEntry>;
 
 /// What a caller has seen of a core's history, and the places of its own calls in it.
-pub type CoreToken<N, S> = Token<N, CoreEntry<N, S>>;
+pub type CoreToken<N> = Token<N, CoreEntry>;
 
-impl<N: Naming, S: Sink<Item<N>>> Lawful for Entry<ProgramToken<N>, S, VersionToken<N>, Job<N>> {
-    ghost use Rattle.core_history.specs.Runs.{IsLegal};
+impl Lawful for Entry<KnownProgram, KnownSink, KnownVersion, KnownJob> {
+    ghost use Rattle.core_history.specs.Lawful.{IsLawful};
 
-    ghost legal = { IsLegal N.size S.sent S.full S.closed };
+    ghost legal = { IsLawful };
 }

@@ -4,4 +4,6 @@
 
 mod asked;
 pub mod entry;
+pub mod known;
 pub mod recorded_core;
+pub mod share;

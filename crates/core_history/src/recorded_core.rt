@@ -9,6 +9,7 @@ ghost use Rattle.hub_core.specs.Machine.{IsStart};
 ghost use Rattle.hub_core.specs.declared.run.Reply.TheVariants as reply;
 ghost use Rattle.call_history.specs.Calls.{Extends, IsWhole, TakesIn, looked};
 ghost use Rattle.call_history.specs.Rules.{recording};
+ghost use Rattle.subscriber_queues.specs.Queue.{QueueSink as QueueSinkValue, was_sent, IsFull, closed_end};
 ghost use Rattle.core_history.specs.Runs.{CoreEntry as Entered, IsLegal, IsRunOf, LedTo, Starts, Records};
 ghost use Rattle.core_history.specs.declared.entry.Call.TheVariants as call;
 
@@ -19,23 +20,23 @@ use call_history::knowledge::{HistoryNaming, NextEntry};
 use change_history::refusal::SubmitError;
 use change_ops::change::Change;
 use feeds::batch::Batch;
-use feeds::item::{Item, Job};
-use feeds::sink::Sink;
+use feeds::item::Job;
 use hub_core::error::{CommitError, NoSubscriber, SubscribeError};
 use hub_core::hub::Core;
 use std::marker::{Brand, Model};
 use std::sync::Wait;
 use std::sync::ledger::{Blank, Ledger};
+use subscriber_queues::ends::QueueSink;
 use version_history::published::{Naming, ProgramToken, VersionToken};
 
 /// A hub's core, whose state is the end of the history `N`. Each call of it adds an entry to the history, a refused one
 /// too, which is the caller's own. Contracts see both.
-pub struct RecordedCore<'p, N: Naming + HistoryNaming + Ledger, S: Sink<Item<N>>> {
-    core: Core<'p, N, S>,
-    history: History<N, CoreEntry<N, S>>,
+pub struct RecordedCore<'p, N: Naming + HistoryNaming + Ledger, R: Wait + Copy> {
+    core: Core<'p, N, QueueSink<N, R>>,
+    history: History<N, CoreEntry>,
 }
 
-impl<'p, N: Naming + HistoryNaming + Ledger, S: Sink<Item<N>>> Drop for RecordedCore<'p, N, S> {
+impl<'p, N: Naming + HistoryNaming + Ledger, R: Wait + Copy> Drop for RecordedCore<'p, N, R> {
     fn drop(self) {
         let RecordedCore {
             core: _,
@@ -44,33 +45,31 @@ impl<'p, N: Naming + HistoryNaming + Ledger, S: Sink<Item<N>>> Drop for Recorded
     }
 }
 
-impl<'p, N: Naming + HistoryNaming + Ledger, S: Sink<Item<N>>> Model for RecordedCore<'p, N, S> {
-    ghost use Rattle.std.specs.Coded.{codes};
+impl<'p, N: Naming + HistoryNaming + Ledger, R: Wait + Copy> Model for RecordedCore<'p, N, R> {
+    ghost use Rattle.subscriber_queues.specs.Queue.{QueueSink, was_sent, IsFull, closed_end};
     ghost use Rattle.core_history.specs.Runs.{Recorded, IsRunOf};
 
-    ghost Value = { Recorded S };
-
-    ghost coded = { Prim.hlevel (codes, S.code) };
+    ghost Value = { Recorded QueueSink };
 
     ghost view = { λ r. record { core = r.core; history = r.history } };
 
-    ghost invariant = { λ r. IsRunOf N.size S.sent S.full S.closed r.history r.core };
+    ghost invariant = { λ r. IsRunOf N.size was_sent IsFull closed_end r.history r.core };
 }
 
 /// Records the call by which a core has come to its state. `C` names the entry, by what it is about.
-fn record<N: Naming + HistoryNaming + Ledger, S: Sink<Item<N>>, C: NextEntry<CoreEntry<N, S>>, X>(
-    core: &Core<'_, N, S>,
-    history: &mut History<N, CoreEntry<N, S>>,
-    board: &CoreBoard<N, S>,
-    me: &mut CoreToken<N, S>,
+fn record<N: Naming + HistoryNaming + Ledger, R: Wait + Copy, C: NextEntry<CoreEntry>, X>(
+    core: &Core<'_, N, QueueSink<N, R>>,
+    history: &mut History<N, CoreEntry>,
+    board: &CoreBoard,
+    me: &mut CoreToken<N>,
     about: &X,
 )
     requires here { board.now.table.shared.table_id ≡ N.table }
-    requires led { LedTo N.size S.sent S.full S.closed history.old C.entry core.now }
-    ensures run { IsRunOf N.size S.sent S.full S.closed history.new core.now }
-    ensures history { (e : Entered S) → C.entry ≡ Some e → history.new ≡ history.old ++ e ∷ [] }
-    ensures extends { (e : Entered S) → C.entry ≡ Some e
-        → Extends (IsLegal N.size S.sent S.full S.closed) me.old e me.new }
+    requires led { LedTo N.size was_sent IsFull closed_end history.old C.entry core.now }
+    ensures run { IsRunOf N.size was_sent IsFull closed_end history.new core.now }
+    ensures history { (e : Entered QueueSinkValue) → C.entry ≡ Some e → history.new ≡ history.old ++ e ∷ [] }
+    ensures extends { (e : Entered QueueSinkValue) → C.entry ≡ Some e
+        → Extends (IsLegal N.size was_sent IsFull closed_end) me.old e me.new }
     ensures seen { me.new.seen ≡ history.new }
 {
     core.stays_consistent();
@@ -78,7 +77,9 @@ fn record<N: Naming + HistoryNaming + Ledger, S: Sink<Item<N>>, C: NextEntry<Cor
 }
 
 /// Why a change is refused where memory is wanting: a history that is full needs none.
-fn refusal_without_memory<N: Naming, S: Sink<Item<N>>>(core: &Core<'_, N, S>) -> SubmitError
+fn refusal_without_memory<N: Naming, R: Wait + Copy>(
+    core: &Core<'_, N, QueueSink<N, R>>,
+) -> SubmitError
     ensures { (change : ChangeValue) → IsRefused core.now.size core.now.changes change result }
 {
     if core.count() >= core.size().changes() {
@@ -88,14 +89,14 @@ fn refusal_without_memory<N: Naming, S: Sink<Item<N>>>(core: &Core<'_, N, S>) ->
     }
 }
 
-impl<'p, N: Naming + HistoryNaming + Ledger, S: Sink<Item<N>>> RecordedCore<'p, N, S> {
+impl<'p, N: Naming + HistoryNaming + Ledger, R: Wait + Copy> RecordedCore<'p, N, R> {
     /// Records a core at its start, and gives the token of all parts, whose own call is the start.
     pub fn new(
-        core: Core<'p, N, S>,
-        board: &CoreBoard<N, S>,
-        recorder: CorePass<N, S>,
+        core: Core<'p, N, QueueSink<N, R>>,
+        board: &CoreBoard,
+        recorder: CorePass,
         blank: Blank,
-    ) -> (RecordedCore<'p, N, S>, CoreToken<N, S>)
+    ) -> (RecordedCore<'p, N, R>, CoreToken<N>)
         requires start { IsStart N.size core }
         requires name { blank.name ≡ N.name }
         requires parts { (blank.parts ≡ N.parts) × (0 < N.parts) }
@@ -110,44 +111,44 @@ impl<'p, N: Naming + HistoryNaming + Ledger, S: Sink<Item<N>>> RecordedCore<'p, 
     }
 
     /// The core, for what reads it.
-    pub fn core(&self) -> &Core<'p, N, S>
+    pub fn core(&self) -> &Core<'p, N, QueueSink<N, R>>
         ensures core { result.now ≡ self.now.core }
-        ensures run { IsRunOf N.size S.sent S.full S.closed self.now.history self.now.core }
+        ensures run { IsRunOf N.size was_sent IsFull closed_end self.now.history self.now.core }
     {
         &self.core
     }
 
     /// Accepts a change after those before it and publishes its version, whole; where it is refused the core stays as
     /// it was.
-    pub fn submit<R: Wait>(
+    pub fn submit(
         &mut self,
         rt: &R,
-        board: &CoreBoard<N, S>,
-        me: &mut CoreToken<N, S>,
+        board: &CoreBoard,
+        me: &mut CoreToken<N>,
         change: Change,
     ) -> Result<VersionToken<N>, SubmitError>
         requires { board.now.table.shared.table_id ≡ N.table }
-        ensures { Records N.size S.sent S.full S.closed self.old me.old (call.Submit change)
+        ensures { Records N.size was_sent IsFull closed_end self.old me.old (call.Submit change)
             (reply.Submitted result) self.new me.new }
     {
-        self.submit_as::<R, Brand>(rt, board, me, change)
+        self.submit_as::<Brand>(rt, board, me, change)
     }
 
     /// Submits the change of the call that `A` names.
-    fn submit_as<R: Wait, A: Asked<ProgramToken<N>, S, Job<N>>>(
+    fn submit_as<A: Asked>(
         &mut self,
         rt: &R,
-        board: &CoreBoard<N, S>,
-        me: &mut CoreToken<N, S>,
+        board: &CoreBoard,
+        me: &mut CoreToken<N>,
         change: Change,
     ) -> Result<VersionToken<N>, SubmitError>
         requires here { board.now.table.shared.table_id ≡ N.table }
         requires call { A.call ≡ call.Submit change }
-        ensures { Records N.size S.sent S.full S.closed self.old me.old A.call
+        ensures { Records N.size was_sent IsFull closed_end self.old me.old A.call
             (reply.Submitted result) self.new me.new }
     {
         let submitted = self.core.submit(rt, change);
-        record::<N, S, Brand, _>(&self.core, &mut self.history, board, me, &submitted);
+        record::<N, R, Brand, _>(&self.core, &mut self.history, board, me, &submitted);
         submitted
     }
 
@@ -155,32 +156,32 @@ impl<'p, N: Naming + HistoryNaming + Ledger, S: Sink<Item<N>>> RecordedCore<'p, 
     /// nothing.
     pub fn refuse_submit(
         &mut self,
-        board: &CoreBoard<N, S>,
-        me: &mut CoreToken<N, S>,
+        board: &CoreBoard,
+        me: &mut CoreToken<N>,
         change: &Change,
     ) -> SubmitError
         requires { board.now.table.shared.table_id ≡ N.table }
-        ensures { Records N.size S.sent S.full S.closed self.old me.old (call.Submit change.now)
+        ensures { Records N.size was_sent IsFull closed_end self.old me.old (call.Submit change.now)
             (reply.Submitted (Err result)) self.new me.new }
     {
         let refusal = refusal_without_memory(&self.core);
-        record::<N, S, Brand, _>(&self.core, &mut self.history, board, me, &(change, refusal));
+        record::<N, R, Brand, _>(&self.core, &mut self.history, board, me, &(change, refusal));
         refusal
     }
 
     /// Closes a subscriber for good, with its sink, and drops the batches that it holds.
     pub fn close(
         &mut self,
-        board: &CoreBoard<N, S>,
-        me: &mut CoreToken<N, S>,
+        board: &CoreBoard,
+        me: &mut CoreToken<N>,
         id: usize,
     ) -> Result<(), NoSubscriber>
         requires { board.now.table.shared.table_id ≡ N.table }
-        ensures { Records N.size S.sent S.full S.closed self.old me.old (call.Close id)
+        ensures { Records N.size was_sent IsFull closed_end self.old me.old (call.Close id)
             (reply.Closed result) self.new me.new }
     {
         let closed = self.core.close(id);
-        record::<N, S, Brand, _>(&self.core, &mut self.history, board, me, &(id, closed));
+        record::<N, R, Brand, _>(&self.core, &mut self.history, board, me, &(id, closed));
         closed
     }
 
@@ -188,37 +189,37 @@ impl<'p, N: Naming + HistoryNaming + Ledger, S: Sink<Item<N>>> RecordedCore<'p, 
     /// but this program's stream. Ids rise from 0.
     pub fn subscribe(
         &mut self,
-        board: &CoreBoard<N, S>,
-        me: &mut CoreToken<N, S>,
+        board: &CoreBoard,
+        me: &mut CoreToken<N>,
         program: ProgramToken<N>,
-        sink: S,
+        sink: QueueSink<N, R>,
     ) -> Result<usize, SubscribeError>
         requires here { board.now.table.shared.table_id ≡ N.table }
-        requires none { S.sent sink ≡ [] }
-        requires suits { Suits (S.promise sink) N.size program.value (length self.old.core.changes) }
-        ensures { Records N.size S.sent S.full S.closed self.old me.old (call.Subscribe program sink)
+        requires none { sink.sent ≡ [] }
+        requires suits { Suits sink.promise N.size program.value (length self.old.core.changes) }
+        ensures { Records N.size was_sent IsFull closed_end self.old me.old (call.Subscribe program sink)
             (reply.Subscribed result) self.new me.new }
     {
         self.subscribe_as::<Brand>(board, me, program, sink)
     }
 
     /// Adds the subscriber of the call that `A` names.
-    fn subscribe_as<A: Asked<ProgramToken<N>, S, Job<N>>>(
+    fn subscribe_as<A: Asked>(
         &mut self,
-        board: &CoreBoard<N, S>,
-        me: &mut CoreToken<N, S>,
+        board: &CoreBoard,
+        me: &mut CoreToken<N>,
         program: ProgramToken<N>,
-        sink: S,
+        sink: QueueSink<N, R>,
     ) -> Result<usize, SubscribeError>
         requires here { board.now.table.shared.table_id ≡ N.table }
         requires call { A.call ≡ call.Subscribe program sink }
-        requires none { S.sent sink ≡ [] }
-        requires suits { Suits (S.promise sink) N.size program.value (length self.old.core.changes) }
-        ensures { Records N.size S.sent S.full S.closed self.old me.old A.call
+        requires none { sink.sent ≡ [] }
+        requires suits { Suits sink.promise N.size program.value (length self.old.core.changes) }
+        ensures { Records N.size was_sent IsFull closed_end self.old me.old A.call
             (reply.Subscribed result) self.new me.new }
     {
         let subscribed = self.core.subscribe(program, sink);
-        record::<N, S, Brand, _>(&self.core, &mut self.history, board, me, &subscribed);
+        record::<N, R, Brand, _>(&self.core, &mut self.history, board, me, &subscribed);
         subscribed
     }
 
@@ -226,62 +227,62 @@ impl<'p, N: Naming + HistoryNaming + Ledger, S: Sink<Item<N>>> RecordedCore<'p, 
     /// nothing is promised but this program's stream from there on. Ids rise from 0.
     pub fn subscribe_from(
         &mut self,
-        board: &CoreBoard<N, S>,
-        me: &mut CoreToken<N, S>,
+        board: &CoreBoard,
+        me: &mut CoreToken<N>,
         program: ProgramToken<N>,
-        sink: S,
+        sink: QueueSink<N, R>,
         first: u64,
     ) -> Result<usize, SubscribeError>
         requires here { board.now.table.shared.table_id ≡ N.table }
-        requires none { S.sent sink ≡ [] }
-        requires suits { Suits (S.promise sink) N.size program.value first }
-        ensures { Records N.size S.sent S.full S.closed self.old me.old (call.SubscribeFrom program sink first)
+        requires none { sink.sent ≡ [] }
+        requires suits { Suits sink.promise N.size program.value first }
+        ensures { Records N.size was_sent IsFull closed_end self.old me.old (call.SubscribeFrom program sink first)
             (reply.Subscribed result) self.new me.new }
     {
         self.subscribe_from_as::<Brand>(board, me, program, sink, first)
     }
 
     /// Adds the subscriber of the call that `A` names.
-    fn subscribe_from_as<A: Asked<ProgramToken<N>, S, Job<N>>>(
+    fn subscribe_from_as<A: Asked>(
         &mut self,
-        board: &CoreBoard<N, S>,
-        me: &mut CoreToken<N, S>,
+        board: &CoreBoard,
+        me: &mut CoreToken<N>,
         program: ProgramToken<N>,
-        sink: S,
+        sink: QueueSink<N, R>,
         first: u64,
     ) -> Result<usize, SubscribeError>
         requires here { board.now.table.shared.table_id ≡ N.table }
         requires call { A.call ≡ call.SubscribeFrom program sink first }
-        requires none { S.sent sink ≡ [] }
-        requires suits { Suits (S.promise sink) N.size program.value first }
-        ensures { Records N.size S.sent S.full S.closed self.old me.old A.call
+        requires none { sink.sent ≡ [] }
+        requires suits { Suits sink.promise N.size program.value first }
+        ensures { Records N.size was_sent IsFull closed_end self.old me.old A.call
             (reply.Subscribed result) self.new me.new }
     {
         let subscribed = self.core.subscribe_from(program, sink, first);
-        record::<N, S, Brand, _>(&self.core, &mut self.history, board, me, &subscribed);
+        record::<N, R, Brand, _>(&self.core, &mut self.history, board, me, &subscribed);
         subscribed
     }
 
     /// Hands out a version that a subscriber's program is to be run on; None only where there is none.
-    pub fn take_job(&mut self, board: &CoreBoard<N, S>, me: &mut CoreToken<N, S>) -> Option<Job<N>>
+    pub fn take_job(&mut self, board: &CoreBoard, me: &mut CoreToken<N>) -> Option<Job<N>>
         requires { board.now.table.shared.table_id ≡ N.table }
-        ensures { Records N.size S.sent S.full S.closed self.old me.old call.TakeJob
+        ensures { Records N.size was_sent IsFull closed_end self.old me.old call.TakeJob
             (reply.Handed result) self.new me.new }
     {
         let job = self.core.take_job();
-        record::<N, S, Brand, _>(&self.core, &mut self.history, board, me, &job);
+        record::<N, R, Brand, _>(&self.core, &mut self.history, board, me, &job);
         job
     }
 
     /// Holds a batch, if its subscriber waits for it.
     pub fn commit(
         &mut self,
-        board: &CoreBoard<N, S>,
-        me: &mut CoreToken<N, S>,
+        board: &CoreBoard,
+        me: &mut CoreToken<N>,
         batch: Batch<N>,
     ) -> Result<(), CommitError>
         requires { board.now.table.shared.table_id ≡ N.table }
-        ensures records { Records N.size S.sent S.full S.closed self.old me.old (call.Commit batch)
+        ensures records { Records N.size was_sent IsFull closed_end self.old me.old (call.Commit batch)
             (reply.Committed result) self.new me.new }
         ensures takes_no_memory { ¬ (result ≡ Err CommitError.OutOfMemory) }
     {
@@ -289,76 +290,71 @@ impl<'p, N: Naming + HistoryNaming + Ledger, S: Sink<Item<N>>> RecordedCore<'p, 
     }
 
     /// Commits the batch of the call that `A` names.
-    fn commit_as<A: Asked<ProgramToken<N>, S, Job<N>>>(
+    fn commit_as<A: Asked>(
         &mut self,
-        board: &CoreBoard<N, S>,
-        me: &mut CoreToken<N, S>,
+        board: &CoreBoard,
+        me: &mut CoreToken<N>,
         batch: Batch<N>,
     ) -> Result<(), CommitError>
         requires here { board.now.table.shared.table_id ≡ N.table }
         requires call { A.call ≡ call.Commit batch }
-        ensures records { Records N.size S.sent S.full S.closed self.old me.old A.call
+        ensures records { Records N.size was_sent IsFull closed_end self.old me.old A.call
             (reply.Committed result) self.new me.new }
         ensures takes_no_memory { ¬ (result ≡ Err CommitError.OutOfMemory) }
     {
         let committed = self.core.commit(batch);
-        record::<N, S, Brand, _>(&self.core, &mut self.history, board, me, &committed);
+        record::<N, R, Brand, _>(&self.core, &mut self.history, board, me, &committed);
         committed
     }
 
     /// Sends what can be sent to a subscriber. It answers how many items.
     pub fn pump(
         &mut self,
-        board: &CoreBoard<N, S>,
-        me: &mut CoreToken<N, S>,
+        board: &CoreBoard,
+        me: &mut CoreToken<N>,
         id: usize,
     ) -> Result<usize, NoSubscriber>
         requires { board.now.table.shared.table_id ≡ N.table }
-        ensures { Records N.size S.sent S.full S.closed self.old me.old (call.Pump id)
+        ensures { Records N.size was_sent IsFull closed_end self.old me.old (call.Pump id)
             (reply.Pumped result) self.new me.new }
     {
         let pumped = self.core.pump(id);
-        record::<N, S, Brand, _>(&self.core, &mut self.history, board, me, &(id, pumped));
+        record::<N, R, Brand, _>(&self.core, &mut self.history, board, me, &(id, pumped));
         pumped
     }
 
     /// What a subscriber doesn't hold may be handed out again.
     pub fn reissue(
         &mut self,
-        board: &CoreBoard<N, S>,
-        me: &mut CoreToken<N, S>,
+        board: &CoreBoard,
+        me: &mut CoreToken<N>,
         id: usize,
     ) -> Result<(), NoSubscriber>
         requires { board.now.table.shared.table_id ≡ N.table }
-        ensures { Records N.size S.sent S.full S.closed self.old me.old (call.Reissue id)
+        ensures { Records N.size was_sent IsFull closed_end self.old me.old (call.Reissue id)
             (reply.Reissued result) self.new me.new }
     {
         let reissued = self.core.reissue(id);
-        record::<N, S, Brand, _>(&self.core, &mut self.history, board, me, &(id, reissued));
+        record::<N, R, Brand, _>(&self.core, &mut self.history, board, me, &(id, reissued));
         reissued
     }
 
     /// Shows a caller the history so far, which has led to the core's state.
-    pub fn look(&mut self, board: &CoreBoard<N, S>, me: &mut CoreToken<N, S>)
+    pub fn look(&mut self, board: &CoreBoard, me: &mut CoreToken<N>)
         requires { board.now.table.shared.table_id ≡ N.table }
         ensures same { self.new ≡ self.old }
         ensures begins { IsPrefix me.old.seen self.old.history }
-        ensures run { IsRunOf N.size S.sent S.full S.closed self.old.history self.old.core }
+        ensures run { IsRunOf N.size was_sent IsFull closed_end self.old.history self.old.core }
         ensures me { me.new ≡ looked me.old self.old.history }
     {
         self.history.look(board, me);
     }
 
     /// A caller's token takes in another, with its calls, and sees the history so far.
-    pub fn take_in(
-        &mut self,
-        board: &CoreBoard<N, S>,
-        me: &mut CoreToken<N, S>,
-        other: CoreToken<N, S>,
-    )
+    pub fn take_in(&mut self, board: &CoreBoard, me: &mut CoreToken<N>, other: CoreToken<N>)
         requires { board.now.table.shared.table_id ≡ N.table }
         ensures same { self.new ≡ self.old }
-        ensures me { TakesIn (IsLegal N.size S.sent S.full S.closed) me.old other me.new }
+        ensures me { TakesIn (IsLegal N.size was_sent IsFull closed_end) me.old other me.new }
         ensures seen { me.new.seen ≡ self.old.history }
     {
         self.history.take_in(board, me, other);
@@ -366,12 +362,12 @@ impl<'p, N: Naming + HistoryNaming + Ledger, S: Sink<Item<N>>> RecordedCore<'p, 
 
     /// The law of the token that has all parts: the whole history is a run that has led to the core's state, and each
     /// of its entries is the token's own, once.
-    pub fn settle(&mut self, board: &CoreBoard<N, S>, all: CoreToken<N, S>)
+    pub fn settle(&mut self, board: &CoreBoard, all: CoreToken<N>)
         requires here { board.now.table.shared.table_id ≡ N.table }
         requires all { all.parts ≡ N.parts }
         ensures same { self.new ≡ self.old }
-        ensures run { IsRunOf N.size S.sent S.full S.closed self.old.history self.old.core }
-        ensures whole { IsWhole (IsLegal N.size S.sent S.full S.closed) self.old.history all }
+        ensures run { IsRunOf N.size was_sent IsFull closed_end self.old.history self.old.core }
+        ensures whole { IsWhole (IsLegal N.size was_sent IsFull closed_end) self.old.history all }
     {
         self.history.settle(board, all);
     }
