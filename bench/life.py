@@ -1,8 +1,7 @@
 #!/usr/bin/env python3
 """Measures a document's whole life in one hub of the large size: life.py HUB [--changes N] [--keep FOLDER]
 
-65,536 changes of four characters to 131,068 bytes, half of the characters removed on the way, with 500 marks, by one session of `replay`. A text of
-131,072 bytes, its limit, isn't measured: there a change that removes and inserts costs far more, since it is tried on a copy of the text. At each
+65,536 changes of four characters to 131,072 bytes, the limit, where each then takes the place of as much, with 500 marks, by one session of `replay`. At each
 tenth it prints the memory of the hub, and how many instructions the last changes took each, counted by valgrind in a second hub that is sent the
 same: other work on the machine changes no figure. --keep leaves callgrind's profile of each tenth in a folder. Exit status: 0 where memory and the
 last tenth are within their aims, else 1."""
@@ -28,7 +27,7 @@ def tell(life, memory, count):
 
 def measure_life(hub, changes, keep):
     """The memory and the instructions of a change at each tenth."""
-    life = Life(random.Random(1), BYTES - WIDTH)
+    life = Life(random.Random(1), BYTES)
     plain, counted, tenths = Replay(hub, size="large"), Counted(hub, "--size", "large"), []
 
     def next_change():
@@ -57,7 +56,7 @@ def main():
     parser.add_argument("--changes", type=int, default=CHANGES)
     parser.add_argument("--keep", metavar="FOLDER")
     asked = parser.parse_args()
-    print(f"\nA document's life: {asked.changes:,} changes of {WIDTH} characters, of which up to {BYTES - WIDTH:,} are visible, --size large")
+    print(f"\nA document's life: {asked.changes:,} changes of {WIDTH} characters, of which up to {BYTES:,} are visible, --size large")
     tenths = measure_life(os.path.abspath(asked.hub), asked.changes, asked.keep)
     (_, first), (memory, last) = tenths[0], tenths[-1]
     figures = [

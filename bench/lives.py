@@ -60,17 +60,17 @@ class Life:
         return [f"change2 {node} {len(lines)}", *lines]
 
     def typed(self, node):
-        """Four characters at the place, where there are many in place of those behind it, or of the last before it."""
-        replica, behind, before = self.replica, self.at + WIDTH, self.at - 1
-        ops = replica.typed(node, self.at, "".join(self.rng.choice("etaoin shrdlu") for _ in range(WIDTH)))
-        while replica.visible > self.kept:
+        """Four characters at the place, where there are many in place of those behind it, or of the last before it: these are removed first."""
+        replica, behind, before, lines = self.replica, self.at, self.at - 1, []
+        while replica.visible + WIDTH > self.kept:
             if behind < len(replica.order):
                 element, behind = replica.order[behind], behind + 1
             else:
                 element, before = replica.order[before], before - 1
             if element[2]:
-                ops.append(replica.removed(node, element))
-        return [line for line, _ in ops]
+                lines.append(replica.removed(node, element))
+        lines += replica.typed(node, self.at, "".join(self.rng.choice("etaoin shrdlu") for _ in range(WIDTH)))
+        return [line for line, _ in lines]
 
     def marked(self, node):
         self.replica.counter += 1

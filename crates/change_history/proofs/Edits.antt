@@ -1,17 +1,12 @@
 -- The edits among operations have all their inserts, so they accept what the operations accept.
-use Rattle.std.proofs.Common.{◌≡◌, List, [], ◌∷◌, Bool, true, false, length, refl, sym, ap, ◌∙◌, subst}
+use Rattle.std.proofs.Common.{◌≡◌, List, [], ◌∷◌, true, length, refl, sym, ap, ◌∙◌}
 use Rattle.std.specs.List.{filter, count_by}
 use Rattle.std.proofs.lemmas.Bool.{false≢true}
 use Rattle.std.proofs.lemmas.List.Sums.{length-filter}
 use Rattle.change_ops.specs.declared.operation.Op.{Op}
 use Rattle.change_ops.specs.declared.operation.Op.TheVariants.{Insert, Remove, AddMark, RemoveMark}
-use Rattle.change_ops.specs.Operations.{id_of, is_insert, is_edit}
-use Rattle.char_sequence.specs.Acceptance.{Used, Accepts, Checked}
-use Rattle.char_sequence.specs.declared.sequence.SequenceError.{SequenceError}
-use Rattle.change_ops.specs.declared.id.OpId.{OpId}
-use Rattle.change_history.specs.declared.parts.Parts.{Parts}
-use Rattle.change_history.specs.Kept.{Keeps}
-use Rattle.std.specs.Prelude.{Result, IsTrue, ◌↔◌}
+use Rattle.change_ops.specs.Operations.{is_insert, is_edit}
+use Rattle.char_sequence.specs.Acceptance.{Accepts}
 use Rattle.char_sequence.specs.Order.{Shows}
 use Rattle.char_sequence.specs.declared.sequence.Element.{Element}
 use Rattle.char_sequence.specs.Held.{HasInserts}
@@ -49,9 +44,3 @@ module _ {size : Size} where
   -- ---- acceptance over the edits
   pub accepts_part : (ops : List Op) (es : List Element) → Shows es ops → (op : Op) → Accepts size ops op → Accepts size (filter is_edit ops) op
   accepts_part ops es shows op a = parts.accepts_part ops (filter is_edit ops) (edits_part ops) es shows op a
-
--- what a check of the sequence says, where no operation used the id
-pub checked_edits : {T : Type 0} (size : Size) (ops : List Op) (op : Op) (kept : Parts) (r : Result T SequenceError) (id : OpId) (used : Bool) → Keeps ops kept → id ≡ id_of op → IsTrue used ↔ Used ops id → used ≡ false → Checked size (filter is_edit ops) op r → Checked size ops op r
-checked_edits size ops op kept r id used k is told unused checked =
-    parts.checked_all size ops (filter is_edit ops) (edits_part ops) kept.sequence.elements k.shows op r
-    (λ u. false≢true (sym unused ∙ told.1 (subst (λ i. Used ops i) (sym is) u))) checked

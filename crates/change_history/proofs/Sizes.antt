@@ -1,5 +1,5 @@
 -- What is accepted at any size is accepted at the large one.
-use Rattle.std.proofs.Common.{ℕ, ◌≤◌, List, length, take, ◌⊎◌, inl, inr, ⊎_elim, arith}
+use Rattle.std.proofs.Common.{ℕ, ◌≤◌, List, length, take, inl, inr, ⊎_elim, arith}
 use Rattle.std.specs.List.{count_by}
 use Rattle.change_ops.specs.Changes.{Change, operations}
 use Rattle.change_ops.specs.Operations.{is_insert, is_mark}

@@ -3,6 +3,7 @@ pub mod Accepted
 pub mod Kept
 pub mod Next
 pub mod Tally
+pub mod Room
 pub mod Trial
 pub mod VersionAt
 pub mod Alike

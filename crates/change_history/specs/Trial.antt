@@ -1,32 +1,41 @@
--- How far the operations of a change are accepted, as they are applied one after the other.
+-- How far the operations of a change are accepted, where their inserts may have no room.
 use Rattle.std.specs.Prelude.{ℕ, ◌+◌, ◌<◌, List, ◌++◌, length, take, Result, Ok, Err}
 use Rattle.change_ops.specs.declared.operation.Op.{Op}
 use Rattle.change_ops.specs.declared.size.Size.{Size}
 use Rattle.change_history.specs.declared.parts.Parts.{Parts}
+use Rattle.change_history.specs.declared.trial.Trial.{Trial}
 use Rattle.change_history.specs.declared.refusal.ApplyError.{ApplyError}
 use Rattle.change_history.specs.declared.refusal.ApplyError.TheVariants as apply
 use Rattle.change_history.specs.Accepted.{AllFollow, IsFirstRefused}
 use Rattle.change_history.specs.Kept.{Keeps, StandAt}
+use Rattle.change_history.specs.Room.{IsRoom}
+use Rattle.change_history.specs.Tally.{AreOf, IsTally}
 
--- the first `count` of the operations are accepted, and applied
-pub record IsTried (size : Size) (ops added : List Op) (count : ℕ) (parts : Parts) : Type 0 where
+-- the first `count` of a peer's operations are accepted after those applied, and are counted, with the room that is
+-- left behind them
+pub record IsTried (size : Size) (ops added : List Op) (count node : ℕ) (parts : Parts) (trial : Trial) : Type 0 where
+  pub kept : Keeps ops parts
+  pub own : AreOf node added
   pub follow : AllFollow size ops added count
-  pub kept : Keeps (ops ++ take count added) parts
+  pub counted : IsTally ops (take count added) node trial.tally
+  pub room : IsRoom parts.sequence.elements (ops ++ take count added) trial.room
 
--- the operations are the next ones
-abbrev pub CanTry : Size → List Op → Parts → Type 0
-CanTry size next parts =
-    (ops : List Op) × ((added : List Op) × ((from : ℕ) × IsTried size ops added from parts × StandAt added from next))
+-- the operations are the next ones of a peer
+abbrev pub CanTry : Size → List Op → Parts → Trial → Type 0
+CanTry size next parts trial =
+    (ops : List Op)
+    × ((added : List Op)
+    × ((from : ℕ) × ((node : ℕ) × IsTried size ops added from node parts trial × StandAt added from next)))
 
 -- what the trial of `count` operations, those from the index `from` on, answers, and leaves
-abbrev pub StretchTried : Size → List Op → List Op → ℕ → ℕ → Parts → Result (Unit {0}) ApplyError → Type 0
-StretchTried size ops added from count new (Ok done) = IsTried size ops added (from + count) new
-StretchTried size ops added from count new (Err (apply.Refused refusal)) =
+abbrev pub StretchTried : Size → List Op → List Op → ℕ → ℕ → ℕ → Parts → Trial → Result (Unit {0}) ApplyError → Type 0
+StretchTried size ops added from count node parts new (Ok done) = IsTried size ops added (from + count) node parts new
+StretchTried size ops added from count node parts new (Err (apply.Refused refusal)) =
     (offset : ℕ) × (offset < count) × IsFirstRefused size ops added (from + offset) refusal
-StretchTried size ops added from count new (Err apply.OutOfMemory) = Unit {0}
+StretchTried size ops added from count node parts new (Err apply.OutOfMemory) = Unit {0}
 
 -- the same of the next ones, whatever stands before and behind them
-abbrev pub Tries : Size → List Op → Parts → Parts → Result (Unit {0}) ApplyError → Type 0
-Tries size next old new result =
-    (ops added : List Op) (from : ℕ) → IsTried size ops added from old → StandAt added from next
-    → StretchTried size ops added from (length next) new result
+abbrev pub Tries : Size → List Op → Parts → Trial → Trial → Result (Unit {0}) ApplyError → Type 0
+Tries size next parts old new result =
+    (ops added : List Op) (from node : ℕ) → IsTried size ops added from node parts old → StandAt added from next
+    → StretchTried size ops added from (length next) node parts new result

@@ -120,6 +120,6 @@ pub(crate) fn admit_all(
     if has_space(parts, size, lines) {
         count_all(alloc, size, parts, node, lines)
     } else {
-        try_all(parts, size, lines)
+        try_all(alloc, size, parts, node, lines)
     }
 }

@@ -5,5 +5,6 @@ mod admission;
 pub mod history;
 mod parts;
 pub mod refusal;
+mod room;
 mod tally;
 mod trial;

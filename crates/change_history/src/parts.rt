@@ -15,7 +15,8 @@ ghost use Rattle.mark_places.specs.Places.{AreMarkPlaces};
 ghost use Rattle.span_flatten.specs.Spans.{Span, AreSpans};
 ghost use Rattle.span_flatten.specs.Version.{IsVersion};
 ghost use Rattle.change_history.specs.Accepted.{MayFollow, MayNotFollow};
-ghost use Rattle.char_sequence.specs.Acceptance.{IsUnknown};
+ghost use Rattle.char_sequence.specs.Acceptance.{IsUnknown, IsFull};
+ghost use Rattle.change_ops.specs.declared.size.Size.{Size};
 ghost use Rattle.change_history.specs.Kept.{Keeps};
 ghost use Rattle.change_history.specs.Next.{AreNextParts};
 ghost use Rattle.change_history.specs.Tally.{IsTally, IsShort, AreNext, Admits};
@@ -29,7 +30,7 @@ use change_ops::operation::{Named, Op};
 use change_ops::size::Size;
 use char_sequence::newest::Newest;
 use char_sequence::runs::later;
-use char_sequence::sequence::{Sequence, SequenceError};
+use char_sequence::sequence::Sequence;
 use mark_anchors::format::Format;
 use mark_anchors::marks::{Marks, MarksError};
 use mark_places::boundary::place_of;
@@ -162,26 +163,27 @@ impl Parts {
         Ok(())
     }
 
-    /// Whether an operation is accepted after those applied.
-    pub fn check_applied(&self, size: Size, op: &Op) -> Result<(), Refusal>
-        ensures { (ops : List Op) → Keeps ops self.now
-            → MatchResult result (λ _. MayFollow size ops op.now) (MayNotFollow size ops op.now) }
+    /// Why a peer's operation, which the visible text has no room for, is not accepted after those applied and those
+    /// counted since.
+    pub fn check_full(&self, tally: &Tally, op: &Op) -> Refusal
+        ensures { (size : Size) (ops own : List Op) (node : ℕ) → Keeps ops self.now → IsTally ops own node tally.now
+            → (id_of op.now).node ≡ node → IsFull size (ops ++ own) op.now
+            → MayNotFollow size (ops ++ own) op.now result }
     {
-        // The sequence has noted the edits alone.
-        if self.newest.is_used(op.id()) {
-            return Err(Refusal::StaleCounter);
+        if tally.is_stale(op) {
+            return Refusal::StaleCounter;
         }
-        match self.sequence.check(size, op) {
-            Err(SequenceError::StaleCounter) => Err(Refusal::StaleCounter),
-            Err(SequenceError::UnknownRef) => Err(Refusal::UnknownRef),
-            Err(SequenceError::DocumentFull) => Err(Refusal::DocumentFull),
-            Ok(()) => {
-                if op.is_mark() && self.marks.operations().len() >= size.marks() {
-                    return Err(Refusal::MarksFull);
-                }
-                Ok(())
-            }
+        if self.is_unknown(tally, op) {
+            return Refusal::UnknownRef;
         }
+        Refusal::DocumentFull
+    }
+
+    /// The characters, in their order.
+    pub fn sequence(&self) -> &Sequence
+        ensures { result.now ≡ self.now.sequence }
+    {
+        &self.sequence
     }
 
     /// How many bytes the visible text has.

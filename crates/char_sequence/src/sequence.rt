@@ -276,6 +276,14 @@ impl Sequence {
         self.elements.has(id)
     }
 
+    /// The character of this id, removed or not, if it is there.
+    pub fn element_of(&self, id: OpId) -> Option<Element>
+        ensures { MatchOption result (HasId self.now.elements id → ⊥)
+            (λ e. (k : ℕ) × (slice_get self.now.elements k ≡ Some e) × (e.id ≡ id)) }
+    {
+        self.elements.element_of(id)
+    }
+
     /// Whether the character is there and not removed.
     pub fn visible(&self, id: OpId) -> bool
         ensures { (ops : List Op) → Shows self.now.elements ops

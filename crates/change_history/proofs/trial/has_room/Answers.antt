@@ -1,4 +1,4 @@
-use Rattle.std.proofs.Common.{◌≡◌, ◌+◌, ◌<◌, arith, sym, true, false}
+use Rattle.std.proofs.Common.{◌≡◌, ◌+◌, ◌<◌, arith, sym}
 use Rattle.std.specs.List.{sum_by}
 use Rattle.std.proofs.lemmas.Bool.{le-leb}
 use Rattle.change_ops.specs.Operations.{bytes_of}

@@ -5,13 +5,13 @@ use Rattle.change_history.specs.Trial.{CanTry, Tries}
 use Rattle.change_history.proofs.trial.try_line.Goals as goal
 
 pub try_one-requires : goal.try_one-requires
-try_one-requires c = subst (λ (l : Line). CanTry c.args.size (ops_of l) c.args.parts.now) c.in-Operation.is c.requires
+try_one-requires c = subst (λ (l : Line). CanTry c.args.size (ops_of l) c.args.parts.now c.args.trial.now) c.in-Operation.is c.requires
 
 pub try_run-requires : goal.try_run-requires
-try_run-requires c = subst (λ (l : Line). CanTry c.args.size (ops_of l) c.args.parts.now) c.in-Run.is c.requires
+try_run-requires c = subst (λ (l : Line). CanTry c.args.size (ops_of l) c.args.parts.now c.args.trial.now) c.in-Run.is c.requires
 
 pub returns-in-Operation : goal.returns-in-Operation
-returns-in-Operation c = subst (λ (l : Line). Tries c.args.size (ops_of l) c.args.parts.now c.try_one.new.parts c.try_one.result) (sym c.in-Operation.is) c.try_one.ensures
+returns-in-Operation c = subst (λ (l : Line). Tries c.args.size (ops_of l) c.args.parts.now c.args.trial.now c.try_one.new.trial c.try_one.result) (sym c.in-Operation.is) c.try_one.ensures
 
 pub returns-in-Run : goal.returns-in-Run
-returns-in-Run c = subst (λ (l : Line). Tries c.args.size (ops_of l) c.args.parts.now c.try_run.new.parts c.try_run.result) (sym c.in-Run.is) c.try_run.ensures
+returns-in-Run c = subst (λ (l : Line). Tries c.args.size (ops_of l) c.args.parts.now c.args.trial.now c.try_run.new.trial c.try_run.result) (sym c.in-Run.is) c.try_run.ensures

@@ -6,4 +6,4 @@ use Rattle.change_history.specs.Trial.{IsTried}
 use Rattle.change_history.proofs.trial.try_run.Given as goal
 
 abbrev pub invariant-loop-index : goal.invariant-loop-index
-invariant-loop-index l = (ops added : List Op) (from : ℕ) → IsTried l.size ops added from l.fn.parts → StandAt added from (inserts_of l.run) → IsTried l.size ops added (from + l.index) l.parts
+invariant-loop-index l = (ops added : List Op) (from node : ℕ) → IsTried l.size ops added from node l.parts l.fn.trial → StandAt added from (inserts_of l.run) → IsTried l.size ops added (from + l.index) node l.parts l.trial

@@ -1,0 +1,12 @@
+use Rattle.change_history.proofs.parts.Parts.check_full.Goals as goal
+
+pub returns-then-is_stale : goal.returns-then-is_stale
+returns-then-is_stale c = λ size ops own node k t of full. c.is_stale.ensures.yes ops own node t of c.if-is_stale.true
+
+pub returns-then-is_unknown : goal.returns-then-is_unknown
+returns-then-is_unknown c = λ size ops own node k t of full. (c.is_stale.ensures.no ops own node t of c.if-is_stale.false, c.is_unknown.ensures.yes ops own node k t c.if-is_unknown.true)
+
+pub returns : goal.returns
+returns c = λ size ops own node k t of full.
+    let known = c.is_unknown.ensures.no ops own node k t c.if-is_unknown.false in
+    (c.is_stale.ensures.no ops own node t of c.if-is_stale.false, λ u. u.2 (known u.0 u.1), full)
