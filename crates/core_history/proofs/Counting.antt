@@ -1,5 +1,5 @@
 -- How many accepted changes a history has, and a share of it counts.
-use Rattle.std.proofs.Common.{◌≡◌, ℕ, ◌+◌, ◌≤◌, false, cond, Result, Ok, Err, is_ok, None, Some, List, [], ◌∷◌, length, count_by, refl, ap, sym, ◌∙◌, subst, ⊎_elim, arith, length-append, zero-le}
+use Rattle.std.proofs.Common.{◌≡◌, ℕ, ◌+◌, ◌≤◌, false, cond, Result, Ok, Err, OnOk, OnErr, is_ok, None, Some, List, [], ◌∷◌, length, count_by, refl, ap, sym, ◌∙◌, subst, ⊎_elim, arith, length-append, zero-le}
 use Rattle.std.proofs.lemmas.List.Sums.{sum_by-cons}
 use mathlib.Core.List.{IsPrefix}
 use Rattle.change_ops.specs.Changes.{Change}
@@ -14,7 +14,7 @@ use Rattle.hub_core.specs.Machine.{Core}
 use Rattle.hub_core.specs.declared.error.SubscribeError.TheVariants as subscribe
 use Rattle.hub_core.specs.declared.error.CommitError.TheVariants as commit
 use Rattle.hub_core.specs.declared.run.Reply.TheVariants as reply
-use Rattle.call_history.specs.Calls.{Holds, AreDistinct, Extends, TakesIn, IsWhole, looked}
+use Rattle.call_history.specs.Calls.{Holds, AreOwn, AreDistinct, Extends, TakesIn, IsWhole, looked, own_count}
 use Rattle.call_history.proofs.Places.{count_within, count_most, count_all, own_more, count_more, within_both, count_both}
 use Rattle.core_history.specs.declared.entry.Call.TheVariants as call
 use Rattle.core_history.specs.declared.entry.Entry.TheVariants as entry
@@ -102,6 +102,12 @@ module _ {S : Type 0} (size : Size) (sent : S → List Item) (full : S → Type 
   pub few_counted : (n : ℕ) (v : Holds (CoreEntry S)) → Counts n v → IsLegal size sent full closed_sink v.seen → n ≤ most
   few_counted n v counts legal = omega (arith, counts.accepted, count_most is_accepted v counts.own, few_legal v.seen legal)
 
+  -- nor more than the core that all it has seen led to
+  pub within_core : (v : Holds (CoreEntry S)) (log : List (CoreEntry S)) (t : Core S) → AreOwn v → v.seen ≡ log → IsRunOf size sent full closed_sink log t
+      → own_count is_accepted v ≤ length t.changes
+  within_core v log t own seen run =
+      omega (arith, count_most is_accepted v own, ap (count_by is_accepted) seen, changes_of log t run)
+
   -- a share of all parts counts all
   pub all_counted : (n : ℕ) (v : Holds (CoreEntry S)) (all : List (CoreEntry S)) (t : Core S) (rule : List (CoreEntry S) → Type 0) → Counts n v → IsWhole rule all v → IsRunOf size sent full closed_sink all t
       → n ≡ length t.changes
@@ -132,6 +138,22 @@ module _ {S : Type 0} (rule : List (CoreEntry S) → Type 0) where
       → Counts (n + k) w
   counts_submitted n v w change r k counts more is =
       subst (λ m. Counts m w) (ap (λ b. n + cond b 1 0) (weight_of S change r) ∙ ap (λ m. n + m) (sym is)) (counts_on n v w (called (call.Submit change) (reply.Submitted r)) counts more)
+
+  -- a submission adds to the count where the change was accepted
+  pub submission_counts : (n : ℕ) (v w : Holds (CoreEntry S)) (change : Change) (r : Result (Token Version) SubmitError) → Counts n v → Extends rule v (called (call.Submit change) (reply.Submitted r)) w
+      → own_count is_accepted w ≡ own_count is_accepted v + cond (is_ok r) 1 0
+  submission_counts n v w change r counts more =
+      omega (arith, counts.accepted, (counts_submitted n v w change r (cond (is_ok r) 1 0) counts more refl).accepted)
+
+  pub accepted_more : (n : ℕ) (v w : Holds (CoreEntry S)) (change : Change) (r : Result (Token Version) SubmitError) → Counts n v → Extends rule v (called (call.Submit change) (reply.Submitted r)) w
+      → OnOk r (own_count is_accepted w ≡ own_count is_accepted v + 1)
+  accepted_more n v w change (Ok t) counts more = submission_counts n v w change (Ok t) counts more
+  accepted_more n v w change (Err e) counts more = tt
+
+  pub refused_same : (n : ℕ) (v w : Holds (CoreEntry S)) (change : Change) (r : Result (Token Version) SubmitError) → Counts n v → Extends rule v (called (call.Submit change) (reply.Submitted r)) w
+      → OnErr r (own_count is_accepted w ≡ own_count is_accepted v)
+  refused_same n v w change (Ok t) counts more = tt
+  refused_same n v w change (Err e) counts more = omega (arith, submission_counts n v w change (Err e) counts more)
 
   -- the calls of another
   pub counts_both : (n m : ℕ) (v u w : Holds (CoreEntry S)) → Counts n v → Counts m u → TakesIn rule v u w → AreDistinct w.own → Counts (n + m) w

@@ -11,6 +11,10 @@ abbrev pub is_accepted : {S : Type 0} → CoreEntry S → Bool
 is_accepted (entry.Called (call.Submit change) (reply.Submitted (Ok version))) = true
 is_accepted _ = false
 
+-- how many of a token's own calls are changes that were accepted
+abbrev pub accepted_count : {S : Type 0} → Holds (CoreEntry S) → ℕ
+accepted_count v = own_count is_accepted v
+
 -- the token's own calls stand within what it has seen, each there once, and so many of them are accepted changes
 pub record Counts {S : Type 0} (count : ℕ) (v : Holds (CoreEntry S)) : Type 0 where
   pub own : AreOwn v

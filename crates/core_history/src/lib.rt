@@ -7,3 +7,4 @@ pub mod entry;
 pub mod known;
 pub mod recorded_core;
 pub mod share;
+pub mod start;

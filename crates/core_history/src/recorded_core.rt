@@ -1,20 +1,19 @@
 //! A core, and the history that has led to it.
 ghost use Rattle.std.specs.Prelude.{◌≡◌, ◌<◌, ◌++◌, ◌∷◌, [], ℕ, Some, Err, length};
 ghost use mathlib.Core.List.{IsPrefix};
-ghost use Rattle.crossbeam_queue.specs.Passes.{view as view_of};
 ghost use Rattle.change_ops.specs.Changes.{Change as ChangeValue};
 ghost use Rattle.change_history.specs.Accepted.{IsRefused};
 ghost use Rattle.feeds.specs.Promise.{Suits};
 ghost use Rattle.hub_core.specs.Machine.{IsStart};
 ghost use Rattle.hub_core.specs.declared.run.Reply.TheVariants as reply;
 ghost use Rattle.call_history.specs.Calls.{Extends, IsWhole, TakesIn, looked};
-ghost use Rattle.call_history.specs.Rules.{recording};
 ghost use Rattle.subscriber_queues.specs.Queue.{QueueSink as QueueSinkValue, was_sent, IsFull, closed_end};
 ghost use Rattle.core_history.specs.Runs.{CoreEntry as Entered, IsLegal, IsRunOf, LedTo, Starts, Records};
 ghost use Rattle.core_history.specs.declared.entry.Call.TheVariants as call;
 
 use crate::asked::Asked;
-use crate::entry::{CoreBoard, CoreEntry, CorePass, CoreToken};
+use crate::entry::{CoreBoard, CoreEntry, CoreToken};
+use crate::start::Start;
 use call_history::history::History;
 use call_history::knowledge::{HistoryNaming, NextEntry};
 use change_history::refusal::SubmitError;
@@ -25,7 +24,7 @@ use hub_core::error::{CommitError, NoSubscriber, SubscribeError};
 use hub_core::hub::Core;
 use std::marker::{Brand, Model};
 use std::sync::Wait;
-use std::sync::ledger::{Blank, Ledger};
+use std::sync::ledger::Ledger;
 use subscriber_queues::ends::QueueSink;
 use version_history::published::{Naming, ProgramToken, VersionToken};
 
@@ -90,24 +89,23 @@ fn refusal_without_memory<N: Naming, R: Wait + Copy>(
 }
 
 impl<'p, N: Naming + HistoryNaming + Ledger, R: Wait + Copy> RecordedCore<'p, N, R> {
-    /// Records a core at its start, and gives the token of all parts, whose own call is the start.
+    /// Records a core at its start, and gives the history's board and the token of all parts, whose own call is the
+    /// start.
     pub fn new(
         core: Core<'p, N, QueueSink<N, R>>,
-        board: &CoreBoard,
-        recorder: CorePass,
-        blank: Blank,
-    ) -> (RecordedCore<'p, N, R>, CoreToken<N>)
-        requires start { IsStart N.size core }
-        requires name { blank.name ≡ N.name }
-        requires parts { (blank.parts ≡ N.parts) × (0 < N.parts) }
-        requires here { board.now.table.shared.table_id ≡ N.table }
-        requires recorder { (recorder.table_id ≡ N.table) × (recorder.me.1 ≡ [])
-            × (view_of recorder ≡ recording []) }
-        ensures { Starts N.size core.entry N.parts result.0 result.1 }
+        start: Start,
+    ) -> (RecordedCore<'p, N, R>, CoreBoard, CoreToken<N>)
+        requires begins { IsStart N.size core }
+        requires name { start.name ≡ N.name }
+        requires parts { (start.parts ≡ N.parts) × (0 < N.parts) }
+        requires table { start.table ≡ N.table }
+        ensures starts { Starts N.size core.entry N.parts result.0 result.2 }
+        ensures here { result.1.table.shared.table_id ≡ N.table }
     {
-        let (mut history, mut all) = History::new(board, recorder, blank);
-        history.append::<Brand, _>(board, &mut all, &core);
-        (RecordedCore { core, history }, all)
+        let (blank, board, recorder) = start.into_parts();
+        let (mut history, mut all) = History::new(&board, recorder, blank);
+        history.append::<Brand, _>(&board, &mut all, &core);
+        (RecordedCore { core, history }, board, all)
     }
 
     /// The core, for what reads it.

@@ -1,12 +1,12 @@
 //! What each of several callers holds of a core's history.
-ghost use Rattle.std.specs.Prelude.{◌≡◌, ◌-◌, ◌<◌, [], Err, cond, length};
+ghost use Rattle.std.specs.Prelude.{◌≡◌, ◌+◌, ◌-◌, ◌<◌, ◌≤◌, [], Err, OnOk, OnErr, cond, length};
 ghost use mathlib.Core.List.{IsPrefix};
 ghost use Rattle.feeds.specs.Promise.{Suits};
 ghost use Rattle.hub_core.specs.declared.run.Reply.TheVariants as reply;
 ghost use Rattle.call_history.specs.Calls.{AreOwn, IsWhole, TakesIn, looked, own_count};
 ghost use Rattle.subscriber_queues.specs.Queue.{was_sent, IsFull, closed_end};
 ghost use Rattle.core_history.specs.Runs.{IsLegal, IsRunOf, Records};
-ghost use Rattle.core_history.specs.Shares.{is_accepted};
+ghost use Rattle.core_history.specs.Shares.{is_accepted, accepted_count};
 ghost use Rattle.core_history.specs.declared.entry.Call.TheVariants as call;
 
 use crate::entry::{CoreBoard, CoreToken};
@@ -81,7 +81,7 @@ impl<N: Naming + HistoryNaming + Ledger> Share<N> {
 
     /// How many of its own calls are changes that were accepted.
     pub fn count(&self) -> u64
-        ensures { result ≡ own_count is_accepted self.now }
+        ensures { result ≡ accepted_count self.now }
     {
         self.count
     }
@@ -95,10 +95,14 @@ impl<N: Naming + HistoryNaming + Ledger> Share<N> {
         change: Change,
     ) -> Result<VersionToken<N>, SubmitError>
         requires { board.now.table.shared.table_id ≡ N.table }
-        ensures { Records N.size was_sent IsFull closed_end core.old self.old (call.Submit change)
+        ensures records { Records N.size was_sent IsFull closed_end core.old self.old (call.Submit change)
             (reply.Submitted result) core.new self.new }
+        ensures ok { OnOk result (accepted_count self.new ≡ accepted_count self.old + 1) }
+        ensures err { OnErr result (accepted_count self.new ≡ accepted_count self.old) }
+        ensures within { accepted_count self.new ≤ length core.new.core.changes }
     {
         let submitted = core.submit(rt, board, &mut self.token, change);
+        let _ = core.core();
         self.count += counted(submitted.is_ok());
         submitted
     }
@@ -111,8 +115,9 @@ impl<N: Naming + HistoryNaming + Ledger> Share<N> {
         change: &Change,
     ) -> SubmitError
         requires { board.now.table.shared.table_id ≡ N.table }
-        ensures { Records N.size was_sent IsFull closed_end core.old self.old (call.Submit change.now)
+        ensures records { Records N.size was_sent IsFull closed_end core.old self.old (call.Submit change.now)
             (reply.Submitted (Err result)) core.new self.new }
+        ensures count { accepted_count self.new ≡ accepted_count self.old }
     {
         core.refuse_submit(board, &mut self.token, change)
     }
@@ -244,6 +249,7 @@ impl<N: Naming + HistoryNaming + Ledger> Share<N> {
         ensures same { core.new ≡ core.old }
         ensures me { TakesIn (IsLegal N.size was_sent IsFull closed_end) self.old other self.new }
         ensures seen { self.new.seen ≡ core.old.history }
+        ensures count { accepted_count self.new ≡ accepted_count self.old + accepted_count other }
     {
         let Share { token, count } = other;
         core.take_in(board, &mut self.token, token);

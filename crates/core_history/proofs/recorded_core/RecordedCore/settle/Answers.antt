@@ -1,4 +1,4 @@
-use Rattle.std.proofs.Common.{inr, ap, subst}
+use Rattle.std.proofs.Common.{inr, subst}
 use Rattle.subscriber_queues.specs.Queue.{QueueSink, was_sent, IsFull, closed_end}
 use Rattle.core_history.specs.Runs.{Recorded, IsLegal}
 use Rattle.core_history.specs.Lawful.{IsLawful}

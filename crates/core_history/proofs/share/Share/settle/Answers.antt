@@ -1,4 +1,4 @@
-use Rattle.std.proofs.Common.{◌∙◌, sym, ap, subst}
+use Rattle.std.proofs.Common.{◌∙◌, ap, subst}
 use Rattle.subscriber_queues.specs.Queue.{QueueSink, was_sent, IsFull, closed_end}
 use Rattle.call_history.specs.Calls.{Holds, IsWhole, own_count}
 use Rattle.core_history.specs.Runs.{CoreEntry, IsLegal}
