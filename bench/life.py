@@ -1,10 +1,10 @@
 #!/usr/bin/env python3
 """Measures a document's whole life in one hub of the large size: life.py HUB [--changes N] [--keep FOLDER]
 
-65,536 changes of four characters to 131,072 bytes, the limit, where each then takes the place of as much, with 500 marks, by one session of `replay`. At each
-tenth it prints the memory of the hub, and how many instructions the last changes took each, counted by valgrind in a second hub that is sent the
-same: other work on the machine changes no figure. --keep leaves callgrind's profile of each tenth in a folder. Exit status: 0 where memory and the
-last tenth are within their aims, else 1."""
+65,536 changes of four characters to 131,072 bytes, the limit, where each then takes the place of as much, with 500 marks, by one session of
+`replay`. At each tenth it prints the memory of the hub, and how many instructions the last changes took each, counted by valgrind in a second hub
+that is sent the same: other work on the machine changes no figure. --keep leaves callgrind's profile of each tenth in a folder. Exit status: 0 where
+memory and the last tenth are within their aims, else 1."""
 
 import argparse
 import os

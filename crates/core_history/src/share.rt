@@ -102,6 +102,7 @@ impl<N: Naming + HistoryNaming + Ledger> Share<N> {
         ensures within { accepted_count self.new ≤ length core.new.core.changes }
     {
         let submitted = core.submit(rt, board, &mut self.token, change);
+        // Tells the proof that the history has led to the core's state.
         let _ = core.core();
         self.count += counted(submitted.is_ok());
         submitted
