@@ -3,17 +3,19 @@ ghost use Rattle.change_ops.specs.declared.size.Size.TheVariants.{Small};
 ghost use Rattle.std.specs.Prelude.{◌≡◌};
 
 use anyhow::{Context, Result};
+use call_history::knowledge::HistoryNaming;
 use change_ops::size::Size;
+use core_history::share::Share;
+use core_history::start::Start;
 use feeds::item::Finding;
 use filter_workers::gate::Open;
 use filter_workers::work::work;
 use ingest_workers::hub::Hub;
 use ingest_workers::ingest::ingest;
-use ingest_workers::share::Share;
 use std::alloc::Global;
 use std::marker::Brand;
 use std::sync::Wait;
-use std::sync::ledger::{Blank, Ledger};
+use std::sync::ledger::Ledger;
 use std::thread::Threads;
 use subscriber_queues::ends::queue;
 use verifier::verify::Verified;
@@ -21,7 +23,10 @@ use version_blocks::version::BlockVersion;
 use version_history::published::{Naming, Published};
 
 /// What a new subscriber of a hub is sent, of the version that is there and of those that the changes make.
-fn findings<N: Naming + Ledger + Send + Sync, R: Threads + Wait + Copy + Send + Sync>(
+fn findings<
+    N: Naming + HistoryNaming + Ledger + Send + Sync,
+    R: Threads + Wait + Copy + Send + Sync,
+>(
     rt: &R,
     alloc: Global,
     hub: &Hub<'_, N, R>,
@@ -59,31 +64,27 @@ pub fn on_new_hub<R: Threads + Wait + Copy + Send + Sync>(
 ) -> Result<Vec<Finding>> {
     let versions = boxcar::Vec::new(alloc)?;
     let programs = boxcar::Vec::new(alloc)?;
-    on_lists::<Brand, _>(
-        rt,
-        alloc,
-        Blank::new(1),
-        &versions,
-        &programs,
-        program,
-        changes,
-    )
+    let start = Start::new(alloc, 2)?; // a part for each share, and one for the hub's own calls
+    on_lists::<Brand, _>(rt, alloc, start, &versions, &programs, program, changes)
 }
 
-fn on_lists<N: Naming + Ledger + Send + Sync, R: Threads + Wait + Copy + Send + Sync>(
+fn on_lists<
+    N: Naming + HistoryNaming + Ledger + Send + Sync,
+    R: Threads + Wait + Copy + Send + Sync,
+>(
     rt: &R,
     alloc: Global,
-    blank: Blank,
+    start: Start,
     versions: &boxcar::Vec<BlockVersion>,
     programs: &boxcar::Vec<Verified>,
     program: Verified,
     changes: &[&str],
 ) -> Result<Vec<Finding>>
     requires named { (N.size ≡ Small) × (versions.now ≡ N.versions) × (programs.now ≡ N.programs) }
-    requires blank { (blank.name ≡ N.name) × (blank.parts ≡ N.parts) × (N.parts ≡ 1) }
+    requires start { (start.name ≡ N.name) × (start.table ≡ N.table) × (start.parts ≡ N.parts) × (N.parts ≡ 2) }
 {
     let published = Published::<N>::new(Size::Small, versions, programs);
-    let (hub, mut shares) = Hub::new(rt, alloc, blank, &published, 1)?; // a share for each thread that ingests
+    let (hub, mut shares) = Hub::new(rt, alloc, start, &published, 1)?; // a share for each thread that ingests
     let share = shares.first_mut().context("no share")?;
     findings(rt, alloc, &hub, &published, share, program, changes)
 }

@@ -4,6 +4,7 @@ ghost use Rattle.filter_workers.specs.Turns.{Ends, IsPumped, Turns, Helps, Catch
 
 use crate::filter::{is_short, verdicts};
 use crate::gate::Gate;
+use call_history::knowledge::HistoryNaming;
 use feeds::batch::Batch;
 use feeds::item::Job;
 use feeds::kept::{KeptVerdicts, Known, is_blind_to_position};
@@ -37,7 +38,7 @@ impl TurnEnd {
 
 /// What is known of a job's verdicts by what the hub keeps of its subscriber's: nothing, where the program lists the
 /// index, the count or the number.
-fn known<N: Naming + Ledger, R: Wait + Copy>(
+fn known<N: Naming + HistoryNaming + Ledger, R: Wait + Copy>(
     rt: &R,
     hub: &Hub<'_, N, R>,
     published: &Published<'_, N>,
@@ -53,7 +54,7 @@ fn known<N: Naming + Ledger, R: Wait + Copy>(
 }
 
 /// Computes the batch of a job outside the hub's lock. The verdicts are kept where they may serve for a later version.
-fn batch_of<N: Naming + Ledger, R: Threads + Wait + Copy + Sync>(
+fn batch_of<N: Naming + HistoryNaming + Ledger, R: Threads + Wait + Copy + Sync>(
     rt: &R,
     alloc: Global,
     hub: &Hub<'_, N, R>,
@@ -79,7 +80,7 @@ fn batch_of<N: Naming + Ledger, R: Threads + Wait + Copy + Sync>(
 }
 
 /// Computes the batch of a job outside the lock, and commits it.
-fn answer<N: Naming + Ledger, R: Threads + Wait + Copy + Sync>(
+fn answer<N: Naming + HistoryNaming + Ledger, R: Threads + Wait + Copy + Sync>(
     rt: &R,
     alloc: Global,
     hub: &Hub<'_, N, R>,
@@ -99,7 +100,7 @@ fn answer<N: Naming + Ledger, R: Threads + Wait + Copy + Sync>(
 
 /// Computes the batch of a job, commits it, and has its subscriber sent what can be sent. What the subscriber is owed
 /// is handed out again where no memory was found.
-fn serve<N: Naming + Ledger, R: Threads + Wait + Copy + Sync>(
+fn serve<N: Naming + HistoryNaming + Ledger, R: Threads + Wait + Copy + Sync>(
     rt: &R,
     alloc: Global,
     hub: &Hub<'_, N, R>,
@@ -122,7 +123,7 @@ fn serve<N: Naming + Ledger, R: Threads + Wait + Copy + Sync>(
 }
 
 /// A turn of a worker; None where there was no job.
-fn turn<N: Naming + Ledger, R: Threads + Wait + Copy + Sync, G: Gate<N>>(
+fn turn<N: Naming + HistoryNaming + Ledger, R: Threads + Wait + Copy + Sync, G: Gate<N>>(
     rt: &R,
     alloc: Global,
     hub: &Hub<'_, N, R>,
@@ -143,7 +144,7 @@ fn turn<N: Naming + Ledger, R: Threads + Wait + Copy + Sync, G: Gate<N>>(
 
 /// A worker's turns, until there is no job or no memory was found. It answers how many batches it committed.
 #[tactic(auto, using(crate::proofs::Committed::none_yet, crate::proofs::Committed::wider))]
-fn work_alone<N: Naming + Ledger, R: Threads + Wait + Copy + Sync, G: Gate<N>>(
+fn work_alone<N: Naming + HistoryNaming + Ledger, R: Threads + Wait + Copy + Sync, G: Gate<N>>(
     rt: &R,
     alloc: Global,
     hub: &Hub<'_, N, R>,
@@ -182,7 +183,11 @@ fn total<N: Naming>(counts: &[Result<u64, AllocError>], turns: u64) -> Result<u6
 /// until its turns are over or there is no job. The more they are, the fewer threads each may start to compute one. It
 /// answers how many batches were committed; where a worker found no memory it ends, what its subscriber is owed is
 /// handed out again, and the others go on to their end.
-pub fn work<N: Naming + Ledger + Send + Sync, R: Threads + Wait + Copy + Send + Sync, G: Gate<N>>(
+pub fn work<
+    N: Naming + HistoryNaming + Ledger + Send + Sync,
+    R: Threads + Wait + Copy + Send + Sync,
+    G: Gate<N>,
+>(
     rt: &R,
     alloc: Global,
     hub: &Hub<'_, N, R>,
@@ -212,7 +217,7 @@ pub fn work<N: Naming + Ledger + Send + Sync, R: Threads + Wait + Copy + Send + 
 /// Takes a job, whichever subscriber it is of. If it takes at most `most` steps its batch is computed and committed; a
 /// longer one is left to whoever catches its subscriber up. It answers whether one was computed; where no memory was
 /// found, what the subscriber is owed is handed out again.
-pub fn help<N: Naming + Ledger, R: Threads + Wait + Copy + Sync>(
+pub fn help<N: Naming + HistoryNaming + Ledger, R: Threads + Wait + Copy + Sync>(
     rt: &R,
     alloc: Global,
     hub: &Hub<'_, N, R>,
@@ -234,7 +239,7 @@ pub fn help<N: Naming + Ledger, R: Threads + Wait + Copy + Sync>(
 /// Computes the batch of the first version that a subscriber waits for, whoever its job was handed out to, and commits
 /// it, if the version's number is at most this one; where another committed it meanwhile that is as good. It answers
 /// whether the subscriber waited for such a version.
-pub fn catch_up<N: Naming + Ledger, R: Threads + Wait + Copy + Sync>(
+pub fn catch_up<N: Naming + HistoryNaming + Ledger, R: Threads + Wait + Copy + Sync>(
     rt: &R,
     alloc: Global,
     hub: &Hub<'_, N, R>,

@@ -7,6 +7,7 @@ use crate::journal::Surroundings;
 use crate::lines::serve_lines;
 use crate::stream::{Peer, Stream};
 use crate::web::{refuse_handshake, serve_browser};
+use call_history::knowledge::HistoryNaming;
 use change_keeping::keeping::Keeping;
 use std::io::ErrorKind;
 use std::sync::Wait;
@@ -29,7 +30,7 @@ enum Arrival {
 
 /// What comes next.
 fn next<
-    N: Naming + Ledger + Keeping + Send + Sync,
+    N: Naming + HistoryNaming + Ledger + Keeping + Send + Sync,
     R: Threads + Wait + Copy + Send + Sync,
     J: Surroundings + Send + Sync,
 >(house: &House<'_, '_, '_, '_, N, R, J>, door: &Door) -> Arrival {
@@ -52,7 +53,7 @@ fn next<
 /// Accepts one connection of lines after another, each of which is a session in a thread of its own, or, where no
 /// thread can be made, in this one.
 fn accept_lines<
-    N: Naming + Ledger + Keeping + Send + Sync,
+    N: Naming + HistoryNaming + Ledger + Keeping + Send + Sync,
     R: Threads + Wait + Copy + Send + Sync,
     J: Surroundings + Send + Sync,
 >(house: &House<'_, '_, '_, '_, N, R, J>, door: &Door) {
@@ -83,7 +84,7 @@ fn accept_lines<
 /// Accepts one browser's connection after another, each of which is served in a thread of its own, where there is a
 /// place for its handshake.
 fn accept_browsers<
-    N: Naming + Ledger + Keeping + Send + Sync,
+    N: Naming + HistoryNaming + Ledger + Keeping + Send + Sync,
     R: Threads + Wait + Copy + Send + Sync,
     J: Surroundings + Send + Sync,
 >(house: &House<'_, '_, '_, '_, N, R, J>, door: &Door) {
@@ -108,7 +109,7 @@ fn accept_browsers<
 
 /// Accepts one connection after another until no session begins any more, and returns when all of them have ended.
 pub(crate) fn accept_all<
-    N: Naming + Ledger + Keeping + Send + Sync,
+    N: Naming + HistoryNaming + Ledger + Keeping + Send + Sync,
     R: Threads + Wait + Copy + Send + Sync,
     J: Surroundings + Send + Sync,
 >(house: &House<'_, '_, '_, '_, N, R, J>, door: &Door) {

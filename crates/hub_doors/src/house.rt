@@ -7,11 +7,12 @@ use crate::journal::{Surroundings, Visit};
 use crate::link::{Patience, Traffic};
 use crate::stream::Peer;
 use crate::tally::Tally;
+use call_history::knowledge::HistoryNaming;
 use change_keeping::desk::Desk;
 use change_keeping::keeping::Keeping;
+use core_history::share::Share;
 use hub_requests::serving::{Service, Terms, WebDoor};
 use ingest_workers::hub::Hub;
-use ingest_workers::share::Share;
 use lending_pool::{Lent, Pool};
 use std::alloc::Global;
 use std::sync::atomic::{AtomicBool, AtomicU64, Ordering};
@@ -74,7 +75,7 @@ pub(crate) struct House<
     'g,
     'a,
     'p,
-    N: Naming + Ledger + Keeping + Send + Sync,
+    N: Naming + HistoryNaming + Ledger + Keeping + Send + Sync,
     R: Wait + Copy,
     J,
 > {
@@ -99,7 +100,7 @@ impl<
     'g,
     'a,
     'p,
-    N: Naming + Ledger + Keeping + Send + Sync,
+    N: Naming + HistoryNaming + Ledger + Keeping + Send + Sync,
     R: Threads + Wait + Copy + Send + Sync,
     J: Surroundings + Send + Sync,
 > House<'h, 'g, 'a, 'p, N, R, J> {

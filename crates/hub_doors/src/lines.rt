@@ -7,10 +7,11 @@ use crate::journal::Surroundings;
 use crate::link::{Link, Patient, Traffic};
 use crate::stream::{Peer, Stream};
 use crate::tally::{Tallied, Tally};
+use call_history::knowledge::HistoryNaming;
 use change_keeping::clerk::Clerk;
 use change_keeping::keeping::Keeping;
+use core_history::share::Share;
 use hub_sessions::conversation::{SessionFault, session};
-use ingest_workers::share::Share;
 use lending_pool::Lent;
 use std::io;
 use std::io::ErrorKind;
@@ -21,7 +22,7 @@ use version_history::published::Naming;
 
 /// Runs a session over a connection.
 fn session_over<
-    N: Naming + Ledger + Keeping + Send + Sync,
+    N: Naming + HistoryNaming + Ledger + Keeping + Send + Sync,
     R: Threads + Wait + Copy + Send + Sync,
     J: Surroundings + Send + Sync,
 >(
@@ -57,7 +58,7 @@ fn session_over<
 /// Runs a session over a connection by a share, which is given back once the connection has ended.
 pub(crate) fn serve_lines<
     'h,
-    N: Naming + Ledger + Keeping + Send + Sync,
+    N: Naming + HistoryNaming + Ledger + Keeping + Send + Sync,
     R: Threads + Wait + Copy + Send + Sync,
     J: Surroundings + Send + Sync,
 >(

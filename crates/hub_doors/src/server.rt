@@ -1,5 +1,5 @@
 //! Sessions at doors, all of them on one hub.
-ghost use Rattle.std.specs.Prelude.{◌≡◌, ◌≤◌, ℕ, List};
+ghost use Rattle.std.specs.Prelude.{◌≡◌, ◌≤◌, ◌+◌, ℕ, List};
 ghost use Rattle.hub_doors.specs.declared.server.ServeError.TheVariants as serve_error;
 
 use crate::accepting::accept_all;
@@ -8,14 +8,16 @@ use crate::fault::ConnectionFault;
 use crate::house::{House, State};
 use crate::journal::Surroundings;
 use crate::socket_file::SocketFault;
+use call_history::knowledge::HistoryNaming;
 use change_keeping::desk::Desk;
 use change_keeping::keeping::Keeping;
 use change_keeping::serving::keep_all;
 use change_log::log::ChangeLog;
+use core_history::share::Share;
+use core_history::start::Start;
 use hub_requests::serving::{Doors, Terms};
 use hub_restoring::restoring::{NotRestored, restore};
 use ingest_workers::hub::Hub;
-use ingest_workers::share::Share;
 use lending_pool::Pool;
 use std::alloc::{AllocError, Global};
 use std::fs::Files;
@@ -23,7 +25,7 @@ use std::io::Write;
 use std::marker::Brand;
 use std::net::{Net, TcpListener, TcpStream};
 use std::sync::Wait;
-use std::sync::ledger::{Blank, Ledger};
+use std::sync::ledger::Ledger;
 use std::thread::Threads;
 use std::{io, thread};
 use stored_history::history::StoredHistory;
@@ -92,7 +94,7 @@ fn places(alloc: Global, count: usize) -> Result<Pool<()>, AllocError> {
 /// Serves what comes in at each door, the first one's in this thread, until no session begins any more and all have
 /// ended.
 fn serve_doors<
-    N: Naming + Ledger + Keeping + Send + Sync,
+    N: Naming + HistoryNaming + Ledger + Keeping + Send + Sync,
     R: Threads + Wait + Copy + Send + Sync,
     J: Surroundings + Send + Sync,
 >(house: &House<'_, '_, '_, '_, N, R, J>) {
@@ -112,7 +114,7 @@ fn serve_doors<
 
 /// Serves at the doors in a thread of its own, and keeps in this one what the sessions leave at the desk.
 fn serve_and_keep<
-    N: Naming + Ledger + Keeping + Send + Sync,
+    N: Naming + HistoryNaming + Ledger + Keeping + Send + Sync,
     R: Threads + Wait + Copy + Send + Sync,
     J: Surroundings + Send + Sync,
     L: ChangeLog,
@@ -142,13 +144,13 @@ fn serve_and_keep<
 
 /// What the threads of a server share, but for its doors and its hub.
 #[derive(Drop)]
-struct Common<N: Naming + Ledger> {
+struct Common<N: Naming + HistoryNaming + Ledger> {
     shares: Pool<Share<N>>,
     handshakes: Pool<()>,
     state: State,
 }
 
-impl<N: Naming + Ledger> Common<N> {
+impl<N: Naming + HistoryNaming + Ledger> Common<N> {
     fn new(alloc: Global, shares: Vec<Share<N>>) -> Result<Common<N>, AllocError> {
         let handshakes = places(alloc, shares.len())?;
         Ok(Common {
@@ -182,7 +184,7 @@ fn leave<R: Files>(rt: &R, doors: &[Door]) {
 /// Serves sessions on the hub `N`, which is made before the doors are opened.
 fn serve_on<
     'p,
-    N: Naming + Ledger + Keeping + Send + Sync,
+    N: Naming + HistoryNaming + Ledger + Keeping + Send + Sync,
     R: Threads
         + Wait
         + Net<Listener = TcpListener, Stream = TcpStream>
@@ -195,7 +197,7 @@ fn serve_on<
 >(
     rt: R,
     alloc: Global,
-    blank: Blank,
+    start: Start,
     versions: &'p boxcar::Vec<BlockVersion>,
     programs: &'p boxcar::Vec<Verified>,
     sessions: usize,
@@ -203,11 +205,12 @@ fn serve_on<
     writer: &mut W,
 ) -> Result<(), ServeError>
     requires named { (plan.now.terms.now.size ≡ N.size) × (versions.now ≡ N.versions) × (programs.now ≡ N.programs) }
-    requires blank { (blank.name ≡ N.name) × (blank.parts ≡ N.parts) × (N.parts ≡ sessions) }
+    requires start { (start.name ≡ N.name) × (start.table ≡ N.table) × (start.parts ≡ N.parts)
+        × (N.parts ≡ sessions + 1) }
     requires sessions { (1 ≤ sessions) × (sessions ≤ 256) }
 {
     let published = Published::<N>::new(plan.terms.size, versions, programs);
-    let (hub, shares) = Hub::new(&rt, alloc, blank, &published, sessions)?;
+    let (hub, shares) = Hub::new(&rt, alloc, start, &published, sessions)?;
     let common = Common::new(alloc, shares)?;
     let doors = open(&rt, alloc, plan.doors, writer)?;
     serve_doors(&House {
@@ -245,10 +248,11 @@ pub fn serve<
     let versions = boxcar::Vec::new(alloc)?;
     let programs = boxcar::Vec::new(alloc)?;
     let sessions = plan.terms.service.sessions();
+    let start = Start::new(alloc, sessions.count() as u64 + 1)?;
     serve_on::<Brand, _, _, _>(
         rt,
         alloc,
-        Blank::new(sessions.count() as u64),
+        start,
         &versions,
         &programs,
         sessions.count(),
@@ -261,7 +265,7 @@ pub fn serve<
 fn serve_stored<
     'g,
     'p,
-    N: Naming + Ledger + Keeping + Send + Sync,
+    N: Naming + HistoryNaming + Ledger + Keeping + Send + Sync,
     R: Threads
         + Wait
         + Net<Listener = TcpListener, Stream = TcpStream>
@@ -313,7 +317,7 @@ fn serve_stored<
 /// Serves sessions on the hub `N`, whose changes a log keeps.
 fn serve_kept_on<
     'p,
-    N: Naming + Ledger + Keeping + Send + Sync,
+    N: Naming + HistoryNaming + Ledger + Keeping + Send + Sync,
     R: Threads
         + Wait
         + Net<Listener = TcpListener, Stream = TcpStream>
@@ -328,7 +332,7 @@ fn serve_kept_on<
 >(
     rt: R,
     alloc: Global,
-    blank: Blank,
+    start: Start,
     versions: &'p boxcar::Vec<BlockVersion>,
     programs: &'p boxcar::Vec<Verified>,
     sessions: usize,
@@ -338,7 +342,8 @@ fn serve_kept_on<
     writer: &mut W,
 ) -> Result<Served<L>, NotServed<L>>
     requires named { (plan.now.terms.now.size ≡ N.size) × (versions.now ≡ N.versions) × (programs.now ≡ N.programs) }
-    requires blank { (blank.name ≡ N.name) × (blank.parts ≡ N.parts) × (N.parts ≡ sessions) }
+    requires start { (start.name ≡ N.name) × (start.table ≡ N.table) × (start.parts ≡ N.parts)
+        × (N.parts ≡ sessions + 1) }
     requires sessions { (1 ≤ sessions) × (sessions ≤ 256) }
     requires log { (texts : List (List ℕ)) × L.kept log texts }
     requires progress { P.IsAlwaysCallable progress }
@@ -346,7 +351,7 @@ fn serve_kept_on<
     requires size { N.kept.size ≡ N.size }
 {
     let published = Published::<N>::new(plan.terms.size, versions, programs);
-    let Ok((hub, mut shares)) = Hub::new(&rt, alloc, blank, &published, sessions) else {
+    let Ok((hub, mut shares)) = Hub::new(&rt, alloc, start, &published, sessions) else {
         return Err(NotServed::OutOfMemory(log));
     };
     let Some(share) = shares.last_mut() else {
@@ -404,10 +409,13 @@ pub fn serve_kept<
         return Err(NotServed::OutOfMemory(log));
     };
     let sessions = plan.terms.service.sessions();
+    let Ok(start) = Start::new(alloc, sessions.count() as u64 + 1) else {
+        return Err(NotServed::OutOfMemory(log));
+    };
     serve_kept_on::<Brand, _, _, _, _, _>(
         rt,
         alloc,
-        Blank::new(sessions.count() as u64),
+        start,
         &versions,
         &programs,
         sessions.count(),

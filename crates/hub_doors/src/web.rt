@@ -8,11 +8,12 @@ use crate::journal::Surroundings;
 use crate::link::{Link, Patience, Traffic};
 use crate::stream::{Peer, Stream};
 use crate::tally::{Tallied, Tally};
+use call_history::knowledge::HistoryNaming;
 use change_keeping::clerk::Clerk;
 use change_keeping::keeping::Keeping;
+use core_history::share::Share;
 use hub_requests::serving::WebDoor;
 use hub_sessions::conversation::{SessionFault, session};
-use ingest_workers::share::Share;
 use lending_pool::Lent;
 use std::alloc::Global;
 use std::cell::Cell;
@@ -46,7 +47,7 @@ pub(crate) fn write_status<W: Write>(writer: &mut W, status: &str) -> io::Result
 
 /// Runs a session over messages.
 fn session_over<
-    N: Naming + Ledger + Keeping + Send + Sync,
+    N: Naming + HistoryNaming + Ledger + Keeping + Send + Sync,
     R: Threads + Wait + Copy + Send + Sync,
     J: Surroundings + Send + Sync,
 >(
@@ -87,7 +88,7 @@ fn session_over<
 /// Runs a session by a share, which is given back once the connection has ended.
 fn serve_session<
     'h,
-    N: Naming + Ledger + Keeping + Send + Sync,
+    N: Naming + HistoryNaming + Ledger + Keeping + Send + Sync,
     R: Threads + Wait + Copy + Send + Sync,
     J: Surroundings + Send + Sync,
 >(
@@ -116,7 +117,7 @@ fn serve_session<
 
 /// Tells over a WebSocket that no session is free, and closes it.
 fn turn_away<
-    N: Naming + Ledger + Keeping + Send + Sync,
+    N: Naming + HistoryNaming + Ledger + Keeping + Send + Sync,
     R: Threads + Wait + Copy + Send + Sync,
     J: Surroundings + Send + Sync,
 >(house: &House<'_, '_, '_, '_, N, R, J>, stream: &Stream) {
@@ -129,7 +130,7 @@ fn turn_away<
 /// Begins a session, where one is free; what stands behind the handshake is the session's.
 fn begin_session<
     'h,
-    N: Naming + Ledger + Keeping + Send + Sync,
+    N: Naming + HistoryNaming + Ledger + Keeping + Send + Sync,
     R: Threads + Wait + Copy + Send + Sync,
     J: Surroundings + Send + Sync,
 >(
@@ -157,7 +158,7 @@ fn begin_session<
 
 /// Reads a request's head; None where nothing is to be answered.
 fn opening_of<
-    N: Naming + Ledger + Keeping + Send + Sync,
+    N: Naming + HistoryNaming + Ledger + Keeping + Send + Sync,
     R: Threads + Wait + Copy + Send + Sync,
     J: Surroundings + Send + Sync,
 >(house: &House<'_, '_, '_, '_, N, R, J>, stream: &Stream) -> Option<Opening> {
@@ -189,7 +190,7 @@ fn answer_file_or_refusal<J: Surroundings>(
 /// Answers what a request asks for.
 fn answer_request<
     'h,
-    N: Naming + Ledger + Keeping + Send + Sync,
+    N: Naming + HistoryNaming + Ledger + Keeping + Send + Sync,
     R: Threads + Wait + Copy + Send + Sync,
     J: Surroundings + Send + Sync,
 >(
@@ -211,7 +212,7 @@ fn answer_request<
 /// Serves a browser's connection.
 pub(crate) fn serve_browser<
     'h,
-    N: Naming + Ledger + Keeping + Send + Sync,
+    N: Naming + HistoryNaming + Ledger + Keeping + Send + Sync,
     R: Threads + Wait + Copy + Send + Sync,
     J: Surroundings + Send + Sync,
 >(house: &House<'h, '_, '_, '_, N, R, J>, peer: Peer, place: Lent<'h, (), R>, stream: Stream) {

@@ -3,14 +3,16 @@ ghost use Rattle.std.specs.Prelude.{◌≡◌, ◌+◌, ℕ, List, Ok, length, m
 ghost use Rattle.change_ops.specs.Spelling.{change_text};
 ghost use Rattle.change_history.specs.Accepted.{AreAccepted};
 ghost use Rattle.stored_history.specs.Texts.{IsNotOpened};
+ghost use Rattle.core_history.specs.Shares.{accepted_count};
 ghost use Rattle.ingest_workers.specs.Holdings.{InOneHolding, Ingests};
 ghost use Rattle.hub_restoring.specs.Restoring.{AreIngested};
 
+use call_history::knowledge::HistoryNaming;
 use change_log::log::ChangeLog;
 use change_ops::change::Change;
+use core_history::share::Share;
 use ingest_workers::hub::Hub;
 use ingest_workers::ingest::ingest_change;
-use ingest_workers::share::Share;
 use std::alloc::{AllocError, Global};
 use std::sync::Wait;
 use std::sync::ledger::Ledger;
@@ -27,14 +29,14 @@ pub struct NotRestored<L: ChangeLog> {
 
 /// Accepts a change in a hub of which this share had all changes accepted. A hub that has those before it accepts it,
 /// unless there is no memory for it.
-fn restore_one<N: Naming + Ledger, R: Wait + Copy>(
+fn restore_one<N: Naming + HistoryNaming + Ledger, R: Wait + Copy>(
     rt: &R,
     hub: &Hub<'_, N, R>,
     share: &mut Share<N>,
     change: Change,
 ) -> Result<(), AllocError>
-    ensures ok { OnOk result (InOneHolding N.size (λ old new. Ingests old change (Ok share.new) new)) }
-    ensures share { OnOk result (share.new ≡ share.old + 1) }
+    ensures ok { OnOk result (InOneHolding N.size (λ old new. Ingests old change (Ok (accepted_count share.new)) new)) }
+    ensures share { OnOk result (accepted_count share.new ≡ accepted_count share.old + 1) }
 {
     match ingest_change(rt, hub, share, change) {
         Ok(number) if number == share.count() => Ok(()),
@@ -43,7 +45,7 @@ fn restore_one<N: Naming + Ledger, R: Wait + Copy>(
 }
 
 /// Accepts changes in a hub, in order, behind those of this share.
-fn restore_all<N: Naming + Ledger, R: Wait + Copy, P: FnMut(usize, usize)>(
+fn restore_all<N: Naming + HistoryNaming + Ledger, R: Wait + Copy, P: FnMut(usize, usize)>(
     rt: &R,
     hub: &Hub<'_, N, R>,
     share: &mut Share<N>,
@@ -51,8 +53,8 @@ fn restore_all<N: Naming + Ledger, R: Wait + Copy, P: FnMut(usize, usize)>(
     progress: P,
 ) -> Result<(), AllocError>
     requires progress { P.IsAlwaysCallable progress }
-    ensures ok { OnOk result (AreIngested N.size share.old changes.items) }
-    ensures share { OnOk result (share.new ≡ share.old + length changes.items) }
+    ensures ok { OnOk result (AreIngested N.size (accepted_count share.old) changes.items) }
+    ensures share { OnOk result (accepted_count share.new ≡ accepted_count share.old + length changes.items) }
 {
     let mut progress = progress;
     let all = changes.len();
@@ -67,7 +69,12 @@ fn restore_all<N: Naming + Ledger, R: Wait + Copy, P: FnMut(usize, usize)>(
 
 /// Accepts the changes whose texts a log keeps, in order, at the hub's size, and then in a new hub, before any session.
 /// `progress` is told how many of how many.
-pub fn restore<N: Naming + Ledger, R: Wait + Copy, L: ChangeLog, P: FnMut(usize, usize)>(
+pub fn restore<
+    N: Naming + HistoryNaming + Ledger,
+    R: Wait + Copy,
+    L: ChangeLog,
+    P: FnMut(usize, usize),
+>(
     rt: &R,
     alloc: Global,
     hub: &Hub<'_, N, R>,
@@ -77,10 +84,11 @@ pub fn restore<N: Naming + Ledger, R: Wait + Copy, L: ChangeLog, P: FnMut(usize,
 ) -> Result<StoredHistory<L>, NotRestored<L>>
     requires log { (texts : List (List ℕ)) × L.kept log texts }
     requires progress { P.IsAlwaysCallable progress }
-    ensures restored { IfOk result (λ stored. AreIngested N.size share.old stored.changes
+    ensures restored { IfOk result (λ stored. AreIngested N.size (accepted_count share.old) stored.changes
         × AreAccepted N.size stored.changes × L.kept stored.log (map change_text stored.changes)) }
     ensures size { IfOk result (λ stored. stored.size ≡ N.size) }
-    ensures share { IfOk result (λ stored. share.new ≡ share.old + length stored.changes) }
+    ensures share { IfOk result (λ stored. accepted_count share.new
+        ≡ accepted_count share.old + length stored.changes) }
     ensures same { (texts : List (List ℕ)) → L.kept log texts → IfOk result (λ stored. L.kept stored.log texts) }
     ensures err { IfErr result (λ left. IsNotOpened N.size L.kept left.log left.error) }
 {

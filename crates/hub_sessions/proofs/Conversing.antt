@@ -1,6 +1,6 @@
 -- How the exchanges of a session add up, and how it ends after them.
 use Rattle.std.proofs.Common.{◌≡◌, ℕ, ◌+◌, ◌≤◌, List, [], ◌∷◌, ◌++◌, Option, Result, Ok, Err, refl, sym, ap, subst, ◌∙◌, append_assoc, append-nil, IsErrAnd, inl, inr, arith, length}
-use Rattle.std.specs.Prelude.{Bool, IfOk, IfErr, OnOk, All, suc, ⊤}
+use Rattle.std.specs.Prelude.{Bool, IfOk, IfErr, OnOk, All, suc, ⊤, count_by}
 use Rattle.std.specs.List.{flat_map}
 use Rattle.std.specs.Io.KnownBytes.{Appends}
 use Rattle.std.proofs.KnownBytes.{Appends-nil, Appends-trans}
@@ -10,7 +10,11 @@ use Rattle.session_lines.specs.declared.reply.Reply.{Reply}
 use Rattle.session_lines.specs.declared.reply.Reply.TheVariants as reply
 use Rattle.session_lines.specs.declared.request.SessionRequest.{SessionRequest}
 use Rattle.session_lines.specs.declared.request.SessionRequest.TheVariants as asked
-use Rattle.subscriber_queues.specs.Queue.{Subscription}
+use Rattle.subscriber_queues.specs.Queue.{Subscription, QueueSink}
+use Rattle.call_history.specs.Calls.{Holds, is_at}
+use Rattle.core_history.specs.Runs.{CoreEntry}
+use Rattle.core_history.specs.Shares.{is_accepted, accepted_count}
+use Rattle.ingest_workers.specs.Holdings.{IsIdle}
 use Rattle.session_subscribers.specs.Items.{TakesShort}
 use Rattle.session_subscribers.specs.Holding.{Pulls, PullsAny, PullsShort}
 use Rattle.session_reads.specs.Found.{found_text}
@@ -115,10 +119,14 @@ pub not_begun : {size : Size} {kept : Kept} (r : Result ⊤ SessionFault) (s : S
     → OnOk r (Appends old new (reply_line (reply.Refused reason.OutOfMemory))) → IfErr r IsUnwritten → Ends r s left old count new
 not_begun r s left old new count b e = unfinished r s left old s left old [] s old new count (begun s left old) (inl refl) (Appends-nil old) b e
 
--- the last share that was cut is 0, as each is
-pub last_is_none : (others : List ℕ) (last : ℕ) → All (λ count. count ≡ 0) (others ++ last ∷ []) → last ≡ 0
-last_is_none [] last all = all 0 0 (omega arith)
-last_is_none (x ∷ others) last all = last_is_none others last (λ k d low. all (suc k) d (omega (arith, low)))
+-- the last is as each is
+last_is : {X : Type 0} (P : X → Type 0) (others : List X) (last : X) → All P (others ++ last ∷ []) → P last
+last_is P [] last all = all 0 last (omega arith)
+last_is P (x ∷ others) last all = last_is P others last (λ k d low. all (suc k) d (omega (arith, low)))
+
+-- the last share that was cut has no accepted change, as each has none
+pub last_is_none : (others : List (Holds (CoreEntry QueueSink))) (last : Holds (CoreEntry QueueSink)) → All IsIdle (others ++ last ∷ []) → accepted_count last ≡ 0
+last_is_none others last all = ap (λ (own : List ℕ). count_by (is_at is_accepted last.seen) own) (last_is IsIdle others last all).own
 
 -- a turn of which it is known that it met want of memory: nothing was found, and what it has of its lines was written
 pub broke : {size : Size} {kept : Kept} (r : Result Turn TurnFault) (s : SessionState size kept) (text : List ℕ) (s' : SessionState size kept) (mid new : Option (List ℕ)) → r ≡ Err broken.Memory

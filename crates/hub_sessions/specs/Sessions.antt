@@ -20,6 +20,10 @@ use Rattle.change_ops.specs.Changes.{Change}
 use Rattle.change_ops.specs.declared.size.Size.{Size}
 use Rattle.change_ops.specs.declared.size.Size.TheVariants.{Small}
 use Rattle.change_keeping.specs.Kept.{Kept, none_kept, some_log, AreStored}
+use Rattle.call_history.specs.Calls.{Holds}
+use Rattle.subscriber_queues.specs.Queue.{QueueSink}
+use Rattle.core_history.specs.Runs.{CoreEntry}
+use Rattle.core_history.specs.Shares.{accepted_count}
 use Rattle.hub_restoring.specs.Restoring.{AreIngested}
 use Rattle.hub_sessions.specs.Submitting.{Submits}
 use Rattle.hub_sessions.specs.declared.conversation.SessionFault.{SessionFault}
@@ -40,10 +44,10 @@ pub record SessionState (size : Size) (kept : Kept) : Type 0 where
   pub left : SessionLimits
   pub options : SessionOptions
 
-abbrev pub session_state : (size : Size) (kept : Kept) → Bool → ℕ → List Held → SessionLimits → SessionOptions
-    → SessionState size kept
-session_state size kept stores count held left options =
-    record { stores = stores; count = count; held = held; left = left; options = options }
+abbrev pub session_state : (size : Size) (kept : Kept) → Bool → Holds (CoreEntry QueueSink) → List Held → SessionLimits
+    → SessionOptions → SessionState size kept
+session_state size kept stores share held left options =
+    record { stores = stores; count = accepted_count share; held = held; left = left; options = options }
 
 -- what is done for a request, the lines of items or of what is read that are printed, and the reply after them
 abbrev pub Answers : {size : Size} {kept : Kept} → SessionRequest → SessionState size kept → List ℕ → List ℕ → Reply
@@ -189,7 +193,8 @@ Ends (Err (fault.Write error)) s left old count new = ⊤
 
 -- a session's state at its start: it holds nothing, and all that it may have accepted is left
 abbrev pub begins : (size : Size) (kept : Kept) → Bool → ℕ → SessionOptions → SessionState size kept
-begins size kept stores count options = session_state size kept stores count [] options.limits options
+begins size kept stores count options =
+    record { stores = stores; count = count; held = []; left = options.limits; options = options }
 
 -- a session on a hub of its own, which is of this size and has no change yet; or no memory was found for the hub, and
 -- nothing was printed. No change is kept, so nothing is asked of the size at which none is

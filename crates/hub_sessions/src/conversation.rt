@@ -3,16 +3,18 @@ ghost use Rattle.std.specs.Io.KnownBytes.{Appends};
 ghost use Rattle.refusals.specs.declared.reason.Reason.TheVariants as why;
 ghost use Rattle.session_lines.specs.declared.fault.ReadFault.TheVariants as read_fault;
 ghost use Rattle.session_lines.specs.declared.reply.Reply.TheVariants as told;
+ghost use Rattle.core_history.specs.Shares.{accepted_count};
 ghost use Rattle.session_reads.specs.Found.{found_text};
 ghost use Rattle.hub_sessions.specs.Sessions.{session_state, begins, Answers, AreApart, FallsShort, found_in, read_in};
 ghost use Rattle.hub_sessions.specs.Sessions.{TakesTurn, BreaksTurn, Ends, IsUnwritten, reply_line};
 ghost use Rattle.hub_sessions.specs.declared.conversation.TurnFault.TheVariants as turn_fault;
 
 use crate::submitting::submit;
+use call_history::knowledge::HistoryNaming;
 use change_keeping::keeper::Keeper;
+use core_history::share::Share;
 use hub_requests::limits::{SessionLimits, SessionOptions};
 use ingest_workers::hub::Hub;
-use ingest_workers::share::Share;
 use refusals::reason::Reason;
 use session_lines::fault::ReadFault;
 use session_lines::reader::LineReader;
@@ -120,7 +122,12 @@ fn write_reply<W: Write>(
 
 /// Does what is asked, appends the lines of items to an empty string, and answers what was found and the line after
 /// that or those.
-fn answer<'s, N: Naming + Ledger + Send + Sync, R: Threads + Wait + Copy + Send + Sync, K: Keeper>(
+fn answer<
+    's,
+    N: Naming + HistoryNaming + Ledger + Send + Sync,
+    R: Threads + Wait + Copy + Send + Sync,
+    K: Keeper,
+>(
     hub: &SessionHub<'s, '_, N, R>,
     keeper: &mut K,
     share: &mut Share<N>,
@@ -141,7 +148,7 @@ fn answer<'s, N: Naming + Ledger + Send + Sync, R: Threads + Wait + Copy + Send 
         (session_state N.size K.kept (K.stores keeper.old) share.old held.old.items left.old hub.now.options)
         (string_bytes out.new)
         (session_state N.size K.kept (K.stores keeper.new) share.new held.new.items left.new hub.now.options)) }
-    ensures share { share.old ≤ share.new }
+    ensures share { accepted_count share.old ≤ accepted_count share.new }
     ensures same { K.stores keeper.new ≡ K.stores keeper.old }
 {
     match request {
@@ -182,7 +189,7 @@ fn empty_reply(out: &mut String)
 /// line is there before what was found is written, so that no want of memory can come between them.
 fn take_turn<
     's,
-    N: Naming + Ledger + Send + Sync,
+    N: Naming + HistoryNaming + Ledger + Send + Sync,
     R: Threads + Wait + Copy + Send + Sync,
     K: Keeper,
     I: Read,
@@ -204,7 +211,7 @@ fn take_turn<
         (session_state N.size K.kept (K.stores keeper.old) share.old held.old.items left.old hub.now.options)
         (string_bytes out.new)
         (session_state N.size K.kept (K.stores keeper.new) share.new held.new.items left.new hub.now.options)) }
-    ensures share { share.old ≤ share.new }
+    ensures share { accepted_count share.old ≤ accepted_count share.new }
     ensures same { K.stores keeper.new ≡ K.stores keeper.old }
 {
     empty_reply(out);
@@ -228,7 +235,7 @@ fn take_turn<
 
 /// Answers one request after another.
 fn converse<
-    N: Naming + Ledger + Send + Sync,
+    N: Naming + HistoryNaming + Ledger + Send + Sync,
     R: Threads + Wait + Copy + Send + Sync,
     K: Keeper,
     I: Read,
@@ -246,8 +253,8 @@ fn converse<
     ensures ends { Ends result
         (session_state N.size K.kept (K.stores keeper.old) share.old held.old.items left.old hub.now.options)
         lines.old.left
-        (O.contents writer.old) share.new (O.contents writer.new) }
-    ensures share { share.old ≤ share.new }
+        (O.contents writer.old) (accepted_count share.new) (O.contents writer.new) }
+    ensures share { accepted_count share.old ≤ accepted_count share.new }
     ensures same { K.stores keeper.new ≡ K.stores keeper.old }
 {
     for _ in hub.rt.forever() {
@@ -265,7 +272,7 @@ fn converse<
 
 /// Makes the room for lines and replies, and answers one request after another.
 fn begin<
-    N: Naming + Ledger + Send + Sync,
+    N: Naming + HistoryNaming + Ledger + Send + Sync,
     R: Threads + Wait + Copy + Send + Sync,
     K: Keeper,
     I: Read + Drop,
@@ -282,8 +289,8 @@ fn begin<
     ensures ends { Ends result
         (session_state N.size K.kept (K.stores keeper.old) share.old held.old.items left.old hub.now.options)
         (I.remaining reader)
-        (O.contents writer.old) share.new (O.contents writer.new) }
-    ensures share { share.old ≤ share.new }
+        (O.contents writer.old) (accepted_count share.new) (O.contents writer.new) }
+    ensures share { accepted_count share.old ≤ accepted_count share.new }
     ensures same { K.stores keeper.new ≡ K.stores keeper.old }
 {
     let Ok(mut lines) = LineReader::new(hub.alloc, reader) else {
@@ -299,7 +306,7 @@ fn begin<
 /// answered whole, and then flushed, before the next is read. However it ends, its subscribers are closed.
 pub fn session<
     'p,
-    N: Naming + Ledger + Send + Sync,
+    N: Naming + HistoryNaming + Ledger + Send + Sync,
     R: Threads + Wait + Copy + Send + Sync,
     K: Keeper,
     I: Read + Drop,
@@ -317,9 +324,9 @@ pub fn session<
     options: SessionOptions,
 ) -> Result<(), SessionFault>
     requires workers { (1 ≤ workers) × (workers ≤ 16) }
-    ensures ends { Ends result (begins N.size K.kept (K.stores keeper.old) share.old options) (I.remaining reader)
-        (O.contents writer.old) share.new (O.contents writer.new) }
-    ensures share { share.old ≤ share.new }
+    ensures ends { Ends result (begins N.size K.kept (K.stores keeper.old) (accepted_count share.old) options)
+        (I.remaining reader) (O.contents writer.old) (accepted_count share.new) (O.contents writer.new) }
+    ensures share { accepted_count share.old ≤ accepted_count share.new }
     ensures same { K.stores keeper.new ≡ K.stores keeper.old }
 {
     let _counted = hub.begin_session();

@@ -4,11 +4,13 @@ ghost use Rattle.hub_sessions.specs.Sessions.{Replays, ReplaysKept};
 ghost use Rattle.hub_sessions.specs.declared.replaying.ReplayError.TheVariants as replay_error;
 
 use crate::conversation::{SessionFault, session};
+use call_history::knowledge::HistoryNaming;
 use change_keeping::keeper::NoStore;
 use change_keeping::keeping::Keeping;
 use change_keeping::own::OwnStore;
 use change_log::log::ChangeLog;
 use change_ops::size::Size;
+use core_history::start::Start;
 use hub_requests::limits::SessionOptions;
 use hub_restoring::restoring::{NotRestored, restore};
 use ingest_workers::hub::Hub;
@@ -16,7 +18,7 @@ use std::alloc::{AllocError, Global};
 use std::io::{Read, Write};
 use std::marker::Brand;
 use std::sync::Wait;
-use std::sync::ledger::{Blank, Ledger};
+use std::sync::ledger::Ledger;
 use std::thread::Threads;
 use verifier::verify::Verified;
 use version_blocks::version::BlockVersion;
@@ -41,7 +43,7 @@ impl From<AllocError> for ReplayError {
 
 /// Runs a session on the hub `N`.
 fn replay_on<
-    N: Naming + Ledger + Send + Sync,
+    N: Naming + HistoryNaming + Ledger + Send + Sync,
     R: Threads + Wait + Copy + Send + Sync,
     I: Read + Drop,
     O: Write,
@@ -49,7 +51,7 @@ fn replay_on<
     rt: &R,
     alloc: Global,
     size: Size,
-    blank: Blank,
+    start: Start,
     versions: &boxcar::Vec<BlockVersion>,
     programs: &boxcar::Vec<Verified>,
     reader: I,
@@ -58,12 +60,12 @@ fn replay_on<
     options: SessionOptions,
 ) -> Result<(), ReplayError>
     requires named { (size ≡ N.size) × (versions.now ≡ N.versions) × (programs.now ≡ N.programs) }
-    requires blank { (blank.name ≡ N.name) × (blank.parts ≡ N.parts) × (N.parts ≡ 1) }
+    requires start { (start.name ≡ N.name) × (start.table ≡ N.table) × (start.parts ≡ N.parts) × (N.parts ≡ 2) }
     requires workers { (1 ≤ workers) × (workers ≤ 16) }
     ensures { Replays size options result (I.remaining reader) (O.contents writer.old) (O.contents writer.new) }
 {
     let published = Published::<N>::new(size, versions, programs);
-    let (hub, mut shares) = Hub::new(rt, alloc, blank, &published, 1)?;
+    let (hub, mut shares) = Hub::new(rt, alloc, start, &published, 1)?;
     let Some(mut share) = shares.pop() else {
         unreachable!()
     };
@@ -99,17 +101,10 @@ pub fn replay<R: Threads + Wait + Copy + Send + Sync, I: Read + Drop, O: Write>(
 {
     let versions = boxcar::Vec::new(alloc)?;
     let programs = boxcar::Vec::new(alloc)?;
+    // One part is the session's share, the other the hub's own.
+    let start = Start::new(alloc, 2)?;
     replay_on::<Brand, _, _, _>(
-        rt,
-        alloc,
-        size,
-        Blank::new(1),
-        &versions,
-        &programs,
-        reader,
-        writer,
-        workers,
-        options,
+        rt, alloc, size, start, &versions, &programs, reader, writer, workers, options,
     )
 }
 
@@ -133,7 +128,7 @@ pub enum NotReplayed<L: ChangeLog> {
 
 /// Runs a session on the hub `N`, whose changes a log keeps.
 fn replay_kept_on<
-    N: Naming + Ledger + Keeping + Send + Sync,
+    N: Naming + HistoryNaming + Ledger + Keeping + Send + Sync,
     R: Threads + Wait + Copy + Send + Sync,
     L: ChangeLog,
     I: Read + Drop,
@@ -143,7 +138,7 @@ fn replay_kept_on<
     rt: &R,
     alloc: Global,
     size: Size,
-    blank: Blank,
+    start: Start,
     versions: &boxcar::Vec<BlockVersion>,
     programs: &boxcar::Vec<Verified>,
     log: L,
@@ -154,7 +149,7 @@ fn replay_kept_on<
     options: SessionOptions,
 ) -> Result<Replayed<L>, NotReplayed<L>>
     requires named { (size ≡ N.size) × (versions.now ≡ N.versions) × (programs.now ≡ N.programs) }
-    requires blank { (blank.name ≡ N.name) × (blank.parts ≡ N.parts) × (N.parts ≡ 1) }
+    requires start { (start.name ≡ N.name) × (start.table ≡ N.table) × (start.parts ≡ N.parts) × (N.parts ≡ 2) }
     requires kept { N.kept.size ≡ size }
     requires workers { (1 ≤ workers) × (workers ≤ 16) }
     requires log { (texts : List (List ℕ)) × L.kept log texts }
@@ -164,7 +159,7 @@ fn replay_kept_on<
     ensures err { OnErr result (Keeps (O.contents writer.old) (O.contents writer.new)) }
 {
     let published = Published::<N>::new(size, versions, programs);
-    let Ok((hub, mut shares)) = Hub::new(rt, alloc, blank, &published, 1) else {
+    let Ok((hub, mut shares)) = Hub::new(rt, alloc, start, &published, 1) else {
         return Err(NotReplayed::OutOfMemory(log));
     };
     let Some(mut share) = shares.pop() else {
@@ -226,18 +221,11 @@ pub fn replay_kept<
     let Ok(programs) = boxcar::Vec::new(alloc) else {
         return Err(NotReplayed::OutOfMemory(log));
     };
+    let Ok(start) = Start::new(alloc, 2) else {
+        return Err(NotReplayed::OutOfMemory(log));
+    };
     replay_kept_on::<Brand, _, _, _, _, _>(
-        rt,
-        alloc,
-        size,
-        Blank::new(1),
-        &versions,
-        &programs,
-        log,
-        progress,
-        reader,
-        writer,
-        workers,
+        rt, alloc, size, start, &versions, &programs, log, progress, reader, writer, workers,
         options,
     )
 }

@@ -2,6 +2,7 @@
 ghost use Rattle.std.specs.Prelude.{◌≡◌, ◌⊎◌, ◌+◌, ◌≤◌, None, Some, Ok, IfOk, IfErr, OnErr, length};
 ghost use Rattle.change_ops.specs.declared.size.Size.{Size};
 ghost use Rattle.change_ops.specs.Spelling.{change_text};
+ghost use Rattle.core_history.specs.Shares.{accepted_count};
 ghost use Rattle.ingest_workers.specs.Holdings.{InOneHolding, Ingests};
 ghost use Rattle.hub_requests.specs.Limits.{takes_change, after_change};
 ghost use Rattle.hub_requests.specs.declared.limits.SessionLimits.{SessionLimits as Limits};
@@ -10,15 +11,16 @@ ghost use Rattle.change_keeping.specs.Kept.{IsKeptAs};
 ghost use Rattle.hub_sessions.specs.Submitting.{IsInReach, IsAdmitted, IsNotAdmitted, IsNotAccepted, Submits};
 ghost use Rattle.hub_sessions.specs.Submitting.{IsKeptIf, IsCountAfter};
 
+use call_history::knowledge::HistoryNaming;
 use change_counters::first_jump;
 use change_history::refusal::SubmitError;
 use change_keeping::keeper::{KeepError, Keeper};
 use change_ops::change::Change;
 use change_ops::refusal::ChangeError;
 use change_ops::writing::write_change;
+use core_history::share::Share;
 use hub_requests::limits::SessionLimits;
 use ingest_workers::ingest::ingest_change;
-use ingest_workers::share::Share;
 use refusals::reason::Reason;
 use session_lines::reply::Reply;
 use session_subscribers::session_hub::SessionHub;
@@ -48,7 +50,7 @@ fn counted_bytes(alloc: Global, left: SessionLimits, change: &Change) -> Result<
 /// Refuses a change with a counter that is further above all accepted ones than this. The hub is asked once the whole
 /// change was read, so the answer has all counters that its peer had seen. They only rise: it refuses no less than a
 /// later one.
-fn check_jump<N: Naming + Ledger, R: Wait + Copy>(
+fn check_jump<N: Naming + HistoryNaming + Ledger, R: Wait + Copy>(
     hub: &SessionHub<'_, '_, N, R>,
     jump: u64,
     change: &Change,
@@ -64,7 +66,7 @@ fn check_jump<N: Naming + Ledger, R: Wait + Copy>(
 }
 
 /// Refuses a change with a counter that is further above all accepted ones than the session may go.
-fn check_counters<N: Naming + Ledger, R: Wait + Copy>(
+fn check_counters<N: Naming + HistoryNaming + Ledger, R: Wait + Copy>(
     hub: &SessionHub<'_, '_, N, R>,
     change: &Change,
 ) -> Result<(), Reason>
@@ -79,7 +81,7 @@ fn check_counters<N: Naming + Ledger, R: Wait + Copy>(
 }
 
 /// Whether the session may submit a change: how many bytes of it are to be counted, or why it may not.
-fn admit<N: Naming + Ledger, R: Wait + Copy>(
+fn admit<N: Naming + HistoryNaming + Ledger, R: Wait + Copy>(
     hub: &SessionHub<'_, '_, N, R>,
     left: SessionLimits,
     change: &Change,
@@ -119,17 +121,19 @@ fn keep<K: Keeper>(keeper: &mut K, change: &Change) -> Result<Option<u64>, Reaso
 
 /// Shows a change that is kept. Where it isn't shown, or under another number, it is not to be acknowledged, and no
 /// later one is.
-fn show_kept<N: Naming + Ledger, R: Wait + Copy>(
+fn show_kept<N: Naming + HistoryNaming + Ledger, R: Wait + Copy>(
     hub: &SessionHub<'_, '_, N, R>,
     share: &mut Share<N>,
     change: Change,
     kept: u64,
 ) -> Result<u64, Reason>
-    ensures ok { IfOk result (λ number. (number ≡ kept) × (share.new ≡ share.old + 1) × (share.new ≤ number)
+    ensures ok { IfOk result (λ number. (number ≡ kept)
+        × (accepted_count share.new ≡ accepted_count share.old + 1) × (accepted_count share.new ≤ number)
         × InOneHolding N.size (λ old new. Ingests old change (Ok number) new)) }
     ensures err { IfErr result (λ why. (why ≡ reason.StoreFailed)
-        × ((share.new ≡ share.old) ⊎ (share.new ≡ share.old + 1))) }
-    ensures share { share.old ≤ share.new }
+        × ((accepted_count share.new ≡ accepted_count share.old)
+        ⊎ (accepted_count share.new ≡ accepted_count share.old + 1))) }
+    ensures share { accepted_count share.old ≤ accepted_count share.new }
 {
     match ingest_change(&hub.rt, hub.hub, share, change) {
         Ok(number) if number == kept => Ok(number),
@@ -139,7 +143,7 @@ fn show_kept<N: Naming + Ledger, R: Wait + Copy>(
 
 /// Shows a change under the number that it is kept by, or one that isn't to be kept.
 #[tactic(auto, using(crate::proofs::Keeping::shown_ok, crate::proofs::Keeping::shown_err, crate::proofs::Keeping::alone_ok, crate::proofs::Keeping::alone_err))]
-fn show<N: Naming + Ledger, R: Wait + Copy, K: Keeper>(
+fn show<N: Naming + HistoryNaming + Ledger, R: Wait + Copy, K: Keeper>(
     hub: &SessionHub<'_, '_, N, R>,
     keeper: &mut K,
     share: &mut Share<N>,
@@ -147,12 +151,13 @@ fn show<N: Naming + Ledger, R: Wait + Copy, K: Keeper>(
     kept: Option<u64>,
 ) -> Result<u64, Reason>
     requires { IsKeptAs K.kept (K.stores keeper.old) change kept }
-    ensures ok { IfOk result (λ number. (share.new ≡ share.old + 1) × (share.new ≤ number)
+    ensures ok { IfOk result (λ number. (accepted_count share.new ≡ accepted_count share.old + 1)
+        × (accepted_count share.new ≤ number)
         × InOneHolding N.size (λ old new. Ingests old change (Ok number) new)
         × IsKeptIf K.kept (K.stores keeper.old) number change) }
-    ensures err { IfErr result (λ why. IsCountAfter share.old why share.new
+    ensures err { IfErr result (λ why. IsCountAfter (accepted_count share.old) why (accepted_count share.new)
         × IsNotAccepted N.size K.kept (K.stores keeper.old) change why) }
-    ensures share { share.old ≤ share.new }
+    ensures share { accepted_count share.old ≤ accepted_count share.new }
     ensures same { K.stores keeper.new ≡ K.stores keeper.old }
 {
     match kept {
@@ -170,16 +175,16 @@ fn show<N: Naming + Ledger, R: Wait + Copy, K: Keeper>(
 
 /// Submits a change, and counts it where it is accepted.
 #[tactic(auto, using(crate::proofs::Keeping::kept_still, crate::proofs::Keeping::turned_away, crate::proofs::Keeping::not_shown, crate::proofs::Keeping::shown))]
-pub(crate) fn submit<N: Naming + Ledger, R: Wait + Copy, K: Keeper>(
+pub(crate) fn submit<N: Naming + HistoryNaming + Ledger, R: Wait + Copy, K: Keeper>(
     hub: &SessionHub<'_, '_, N, R>,
     keeper: &mut K,
     share: &mut Share<N>,
     left: &mut SessionLimits,
     change: Change,
 ) -> Reply
-    ensures submits { Submits N.size K.kept (K.stores keeper.old) hub.now.options.counter_jump change share.old left.old
-        result share.new left.new }
-    ensures share { share.old ≤ share.new }
+    ensures submits { Submits N.size K.kept (K.stores keeper.old) hub.now.options.counter_jump change
+        (accepted_count share.old) left.old result (accepted_count share.new) left.new }
+    ensures share { accepted_count share.old ≤ accepted_count share.new }
     ensures same { K.stores keeper.new ≡ K.stores keeper.old }
 {
     let bytes = match admit(hub, *left, &change) {

@@ -8,7 +8,10 @@ use Rattle.change_ops.specs.declared.refusal.ChangeError.{ChangeError}
 use Rattle.change_ops.specs.declared.refusal.ChangeError.TheVariants.{BadLine, OutOfMemory}
 use Rattle.ingest_workers.specs.declared.ingest.HubError.{HubError}
 use Rattle.ingest_workers.specs.declared.ingest.HubError.TheVariants as fault
-use Rattle.ingest_workers.specs.Holdings.{InOneHolding, Ingests}
+use Rattle.call_history.specs.Calls.{Holds}
+use Rattle.core_history.specs.Runs.{CoreEntry}
+use Rattle.subscriber_queues.specs.Queue.{QueueSink}
+use Rattle.ingest_workers.specs.Holdings.{InOneHolding, Ingests, IngestsBy}
 
 abbrev pub IsOneChange : List ℕ → Change → Type 0
 IsOneChange text change = Spells text change []
@@ -31,3 +34,12 @@ IngestsText size text (Ok number) =
 IngestsText size text (Err (fault.Change e)) = IsNotOne text e
 IngestsText size text (Err (fault.Submit e)) =
     (change : Change) × IsOneChange text change × InOneHolding size (λ old new. Ingests old change (Err e) new)
+
+-- the same, where the submission is a call of the share; a text that isn't one change's is none
+abbrev pub IngestsTextBy : Size → Holds (CoreEntry QueueSink) → List ℕ → Result ℕ HubError → Holds (CoreEntry QueueSink)
+    → Type 0
+IngestsTextBy size v text (Ok number) w =
+    (change : Change) × IsOneChange text change × IngestsBy size v change (Ok number) w
+IngestsTextBy size v text (Err (fault.Change e)) w = (w ≡ v) × IsNotOne text e
+IngestsTextBy size v text (Err (fault.Submit e)) w =
+    (change : Change) × IsOneChange text change × IngestsBy size v change (Err e) w

@@ -1,5 +1,5 @@
 ghost use Rattle.std.specs.Prelude.{◌≡◌, ℕ, ◌<◌, ◌≤◌, ◌↔◌, [], Some, Err, length, map, take, drop, slice_get, All};
-ghost use Rattle.std.specs.Prelude.{IsTrue, IfOk, MatchOption, vec_len};
+ghost use Rattle.std.specs.Prelude.{IsTrue, IfOk, MatchOption, ◌+◌, vec_len, vec_capacity};
 ghost use Rattle.change_ops.specs.Spelling.{change_text};
 ghost use Rattle.char_sequence.specs.Newest.{IsLastCounter};
 ghost use Rattle.change_counters.specs.Counters.{greatest_counter};
@@ -8,22 +8,26 @@ ghost use Rattle.change_history.specs.Accepted.{operations_of};
 ghost use Rattle.hub_core.specs.Machine.{HasNoPlace, Subscribes, TakesJob, Misses, Commits, Pumps, Reissues, Closes};
 ghost use Rattle.hub_core.specs.Counting.{AreCounts, AreWithinLimits};
 ghost use Rattle.subscriber_queues.specs.Queue.{was_sent, IsFull, closed_end};
-ghost use Rattle.ingest_workers.specs.Holdings.{InOneHolding};
+ghost use Rattle.ingest_workers.specs.Holdings.{InOneHolding, IsIdle};
 
 use crate::books::Books;
 use crate::kept::Kept;
 use crate::open_sessions::{OpenSession, OpenSessions};
-use crate::share::{Share, cut};
 use crate::turns::{Turn, Turns};
+use call_history::knowledge::HistoryNaming;
 use change_log::text::ChangeText;
 use change_ops::size::Size;
+use core_history::entry::CoreBoard;
+use core_history::recorded_core::RecordedCore;
+use core_history::share::Share;
+use core_history::start::Start;
 use feeds::batch::Batch;
 use feeds::item::Job;
 use hub_core::counts::Counts;
 use hub_core::error::{CommitError, NoSubscriber, SubscribeError};
 use hub_core::hub::Core;
 use std::alloc::{AllocError, Global};
-use std::sync::ledger::{Blank, Book, Ledger};
+use std::sync::ledger::Ledger;
 use std::sync::{Mutex, MutexGuard, Wait};
 use subscriber_queues::ends::QueueSink;
 use version_history::published::{Naming, ProgramToken, Published, VersionToken};
@@ -31,7 +35,7 @@ use version_history::published::{Naming, ProgramToken, Published, VersionToken};
 /// A hub that threads share. Each call holds its lock once, for one call of the books, and calls have it in the order
 /// in which they came.
 #[derive(Drop)]
-pub struct Hub<'p, N: Naming + Ledger, R: Wait + Copy> {
+pub struct Hub<'p, N: Naming + HistoryNaming + Ledger, R: Wait + Copy> {
     pub(crate) published: Published<'p, N>,
     turns: Turns,
     books: Mutex<Books<'p, N, R>>,
@@ -40,12 +44,12 @@ pub struct Hub<'p, N: Naming + Ledger, R: Wait + Copy> {
 }
 
 /// What lies under a hub's lock, for as long as a turn is held.
-pub(crate) struct Holding<'h, 'p, N: Naming + Ledger, R: Wait + Copy> {
+pub(crate) struct Holding<'h, 'p, N: Naming + HistoryNaming + Ledger, R: Wait + Copy> {
     pub(crate) books: MutexGuard<'h, Books<'p, N, R>>,
     turn: Turn<'h>,
 }
 
-impl<N: Naming + Ledger, R: Wait + Copy> Drop for Holding<'_, '_, N, R> {
+impl<N: Naming + HistoryNaming + Ledger, R: Wait + Copy> Drop for Holding<'_, '_, N, R> {
     /// The lock is given back before the turn ends, so that no other thread waits for it than the one whose turn it is.
     fn drop(self) {
         let Holding { books, turn } = self;
@@ -54,45 +58,56 @@ impl<N: Naming + Ledger, R: Wait + Copy> Drop for Holding<'_, '_, N, R> {
     }
 }
 
-/// A hub with no change, whose book is this.
-fn locked<'p, N: Naming + Ledger, R: Wait + Copy>(
-    rt: &R,
-    alloc: Global,
-    book: Book<N>,
-    published: &Published<'p, N>,
-) -> Result<Hub<'p, N, R>, AllocError>
-    requires { book.total ≡ 0 }
+/// Cuts so many parts off a share, for which there is room among these.
+fn cut_all<N: Naming + HistoryNaming + Ledger>(
+    share: &mut Share<N>,
+    board: &CoreBoard,
+    given: &mut Vec<Share<N>>,
+    count: usize,
+)
+    requires here { board.now.table.shared.table_id ≡ N.table }
+    requires parts { share.old.parts ≡ count + 1 }
+    requires room { vec_len given.old + count ≤ vec_capacity given.old }
+    ensures left { share.new ≡ record { seen = share.old.seen; own = share.old.own; parts = 1 } }
+    ensures count { vec_len given.new ≡ vec_len given.old + count }
+    ensures idle { All IsIdle given.old.items → All IsIdle given.new.items }
 {
-    // All other memory is found before version 0 is published, which stays published.
-    let kept = Kept::new(alloc, published.size())?;
-    let core = Core::new(rt, alloc, published)?;
-    Ok(Hub {
-        published: published.again(),
-        turns: Turns::new(),
-        books: Mutex::new(Books::new(alloc, core, book)),
-        kept,
-        sessions: OpenSessions::new(),
-    })
+    for _i in 0..count {
+        given.push_reserved(share.cut(board));
+    }
 }
 
-impl<'p, N: Naming + Ledger, R: Wait + Copy> Hub<'p, N, R> {
-    /// A hub with no change and no subscriber, which publishes version 0, and `shares` shares of its count, each 0.
+impl<'p, N: Naming + HistoryNaming + Ledger, R: Wait + Copy> Hub<'p, N, R> {
+    /// A hub with no change and no subscriber, which publishes version 0, and `shares` shares of its history, none of
+    /// which has made a call.
     pub fn new(
         rt: &R,
         alloc: Global,
-        blank: Blank,
+        start: Start,
         published: &Published<'p, N>,
         shares: usize,
     ) -> Result<(Hub<'p, N, R>, Vec<Share<N>>), AllocError>
-        requires name { blank.name ≡ N.name }
-        requires parts { (blank.parts ≡ N.parts) × (N.parts ≡ shares) }
+        requires name { (start.name ≡ N.name) × (start.table ≡ N.table) }
+        requires parts { (start.parts ≡ N.parts) × (N.parts ≡ shares + 1) }
         requires range { (1 ≤ shares) × (shares ≤ 256) }
-        ensures { IfOk result (λ made. (vec_len made.1 ≡ shares) × All (λ s. s ≡ 0) made.1.items) }
+        ensures { IfOk result (λ made. (vec_len made.1 ≡ shares) × All IsIdle made.1.items) }
     {
-        let (book, all) = blank.open::<N>();
-        let shares = cut(alloc, all, shares)?;
-        let hub = locked(rt, alloc, book, published)?;
-        Ok((hub, shares))
+        // All other memory is found before version 0 is published, which stays published.
+        let kept = Kept::new(alloc, published.size())?;
+        let mut given = Vec::with_capacity(alloc, shares)?;
+        let core = Core::new(rt, alloc, published)?;
+        let (recorded, board, all) = RecordedCore::new(core, start);
+        let mut house = Share::new(all);
+        cut_all(&mut house, &board, &mut given, shares);
+        let books = Books::new(alloc, recorded, board, house);
+        let hub = Hub {
+            published: published.again(),
+            turns: Turns::new(),
+            books: Mutex::new(books),
+            kept,
+            sessions: OpenSessions::new(),
+        };
+        Ok((hub, given))
     }
 
     /// How much its document may hold.
@@ -264,6 +279,18 @@ impl<'p, N: Naming + Ledger, R: Wait + Copy> Hub<'p, N, R> {
         let closed = self.hold(rt).books.close(id);
         self.kept.close(rt, id);
         closed
+    }
+
+    /// What lies under the lock, for good.
+    pub(crate) fn into_books(self) -> Books<'p, N, R> {
+        let Hub {
+            published: _,
+            turns: _,
+            books,
+            kept: _,
+            sessions: _,
+        } = self;
+        books.into_inner()
     }
 
     /// What is kept of the subscribers' verdicts, under a lock of its own.

@@ -1,16 +1,18 @@
-ghost use Rattle.std.specs.Prelude.{◌≡◌, ◌+◌, ◌≤◌, List, length, sum, IfOk, IfErr, OnOk, OnErr, vec_len};
-ghost use Rattle.change_ops.specs.Changes.{Change};
+ghost use Rattle.std.specs.Prelude.{◌≡◌, ◌+◌, ◌≤◌, sum, map, IfOk, IfErr, OnOk, OnErr};
 ghost use Rattle.change_ops.specs.Sizes.{most_changes};
-ghost use Rattle.change_history.specs.Accepted.{AreAccepted};
-ghost use Rattle.ingest_workers.specs.Holdings.{InOneHolding, Ingests};
-ghost use Rattle.ingest_workers.specs.Texts.{IsOneChange, IsNotOne, IngestsText};
+ghost use Rattle.core_history.specs.Runs.{Recorded};
+ghost use Rattle.core_history.specs.Shares.{accepted_count};
+ghost use Rattle.subscriber_queues.specs.Queue.{QueueSink};
+ghost use Rattle.ingest_workers.specs.Holdings.{InOneHolding, Ingests, IngestsBy, Settles};
+ghost use Rattle.ingest_workers.specs.Texts.{IsOneChange, IsNotOne, IngestsText, IngestsTextBy};
 ghost use Rattle.ingest_workers.specs.declared.ingest.HubError.TheVariants as hub_error;
 
 use crate::hub::Hub;
-use crate::share::Share;
+use call_history::knowledge::HistoryNaming;
 use change_history::refusal::SubmitError;
 use change_ops::change::{Change, read_change};
 use change_ops::refusal::ChangeError;
+use core_history::share::Share;
 use std::alloc::Global;
 use std::sync::Wait;
 use std::sync::ledger::Ledger;
@@ -56,58 +58,50 @@ fn one_change(alloc: Global, text: &str) -> Result<Change, ChangeError>
     Ok(change)
 }
 
-/// Submits a change by a share, and answers its version's number.
-pub fn ingest_change<N: Naming + Ledger, R: Wait + Copy>(
+/// Submits a change, as a call of this share, and answers its version's number.
+pub fn ingest_change<N: Naming + HistoryNaming + Ledger, R: Wait + Copy>(
     rt: &R,
     hub: &Hub<'_, N, R>,
     share: &mut Share<N>,
     change: Change,
 ) -> Result<u64, SubmitError>
+    ensures call { IngestsBy N.size share.old change result share.new }
     ensures event { InOneHolding N.size (λ old new. Ingests old change result new) }
-    ensures ok { OnOk result (share.new ≡ share.old + 1) }
-    ensures err { OnErr result (share.new ≡ share.old) }
-    ensures numbered { IfOk result (λ number. (share.new ≤ number) × (number ≤ most_changes N.size)) }
+    ensures ok { OnOk result (accepted_count share.new ≡ accepted_count share.old + 1) }
+    ensures err { OnErr result (accepted_count share.new ≡ accepted_count share.old) }
+    ensures numbered { IfOk result (λ number. (accepted_count share.new ≤ number) × (number ≤ most_changes N.size)) }
 {
     let token = hub.hold(rt).books.submit(rt, share, change)?;
     Ok(hub.published.look(&token).number())
 }
 
-/// Reads the change that a text is of, without the lock, and submits it by a share. It answers the number of the
-/// change's version.
-pub fn ingest<N: Naming + Ledger, R: Wait + Copy>(
+/// Reads the change that a text is of, without the lock, and submits it, as a call of this share. It answers the number
+/// of the change's version.
+pub fn ingest<N: Naming + HistoryNaming + Ledger, R: Wait + Copy>(
     rt: &R,
     alloc: Global,
     hub: &Hub<'_, N, R>,
     share: &mut Share<N>,
     text: &str,
 ) -> Result<u64, HubError>
+    ensures call { IngestsTextBy N.size share.old text.now result share.new }
     ensures text { IngestsText N.size text.now result }
-    ensures ok { OnOk result (share.new ≡ share.old + 1) }
-    ensures err { OnErr result (share.new ≡ share.old) }
-    ensures numbered { IfOk result (λ number. (share.new ≤ number) × (number ≤ most_changes N.size)) }
+    ensures ok { OnOk result (accepted_count share.new ≡ accepted_count share.old + 1) }
+    ensures err { OnErr result (accepted_count share.new ≡ accepted_count share.old) }
+    ensures numbered { IfOk result (λ number. (accepted_count share.new ≤ number) × (number ≤ most_changes N.size)) }
 {
     let change = one_change(alloc, text)?;
     let number = ingest_change(rt, hub, share, change)?;
     Ok(number)
 }
 
-/// The number of accepted changes, which all shares of a hub counted together.
-pub fn settle<N: Naming + Ledger, R: Wait + Copy>(
-    rt: &R,
-    hub: &Hub<'_, N, R>,
+/// Ends a hub, all shares of which are given back. It answers the number of accepted changes.
+pub fn settle<N: Naming + HistoryNaming + Ledger, R: Wait + Copy>(
+    hub: Hub<'_, N, R>,
     shares: Vec<Share<N>>,
 ) -> u64
-    requires { vec_len shares ≡ N.parts }
-    ensures sum { result ≡ sum shares.items }
-    ensures accepted { (changes : List Change) × AreAccepted N.size changes × (result ≡ length changes) }
+    requires { sum (map (λ share. share.parts) shares.items) + 1 ≡ N.parts }
+    ensures { (found : Recorded QueueSink) × Settles N.size found shares.items result }
 {
-    let mut shares = shares;
-    let Some(first) = shares.pop() else {
-        return 0;
-    };
-    let mut all = first.into_part();
-    while let Some(share) = shares.pop() {
-        all.merge(share.into_part());
-    }
-    hub.hold(rt).books.settle(&mut all)
+    hub.into_books().settle(shares)
 }

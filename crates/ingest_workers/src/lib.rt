@@ -6,6 +6,5 @@ pub mod hub;
 pub mod ingest;
 pub mod kept;
 pub mod open_sessions;
-pub mod share;
 mod text;
 mod turns;

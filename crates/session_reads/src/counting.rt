@@ -5,6 +5,7 @@ ghost use Rattle.hub_core.specs.Counting.{AreWithinLimits};
 ghost use Rattle.session_reads.specs.Counting.{used_of, used_by, left_of, IsLeft, AreStats, stats_of};
 ghost use Rattle.session_reads.specs.Reads.{WasSo};
 
+use call_history::knowledge::HistoryNaming;
 use change_ops::size::Size;
 use hub_core::counts::Counts;
 use ingest_workers::hub::Hub;
@@ -74,7 +75,10 @@ fn stats_of(size: Size, counts: Counts, version: &BlockVersion, sessions: u64) -
 }
 
 /// How much of each limit of a hub is left.
-pub(crate) fn left<N: Naming + Ledger, R: Wait + Copy>(rt: &R, hub: &Hub<'_, N, R>) -> PerLimit
+pub(crate) fn left<N: Naming + HistoryNaming + Ledger, R: Wait + Copy>(
+    rt: &R,
+    hub: &Hub<'_, N, R>,
+) -> PerLimit
     ensures { WasSo N.size (λ s. IsLeft N.size s result) }
 {
     let (_, counts) = hub.counts(rt);
@@ -82,7 +86,7 @@ pub(crate) fn left<N: Naming + Ledger, R: Wait + Copy>(rt: &R, hub: &Hub<'_, N, 
 }
 
 /// How much there is of a hub. Its text is looked at without its lock.
-pub(crate) fn stats<N: Naming + Ledger, R: Wait + Copy>(
+pub(crate) fn stats<N: Naming + HistoryNaming + Ledger, R: Wait + Copy>(
     rt: &R,
     hub: &Hub<'_, N, R>,
     published: &Published<'_, N>,

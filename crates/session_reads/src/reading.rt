@@ -5,6 +5,7 @@ ghost use Rattle.session_lines.specs.declared.query.Query.TheVariants as query;
 
 use crate::counting::{left, stats};
 use crate::found::{Answer, Found};
+use call_history::knowledge::HistoryNaming;
 use change_ops::refusal::ChangeError;
 use hub_requests::identity::HubId;
 use ingest_workers::hub::Hub;
@@ -18,7 +19,7 @@ use std::sync::ledger::Ledger;
 use version_history::published::{Naming, Published};
 
 /// `most` spans of a version, from one of them on.
-fn show<'a, N: Naming + Ledger, R: Wait + Copy>(
+fn show<'a, N: Naming + HistoryNaming + Ledger, R: Wait + Copy>(
     rt: &R,
     hub: &Hub<'_, N, R>,
     published: &'a Published<'_, N>,
@@ -44,7 +45,7 @@ fn show<'a, N: Naming + Ledger, R: Wait + Copy>(
 }
 
 /// `most` accepted changes behind a version.
-fn list<'a, N: Naming + Ledger, R: Wait + Copy>(
+fn list<'a, N: Naming + HistoryNaming + Ledger, R: Wait + Copy>(
     rt: &R,
     hub: &Hub<'_, N, R>,
     from: u64,
@@ -63,7 +64,11 @@ fn list<'a, N: Naming + Ledger, R: Wait + Copy>(
 }
 
 /// The greatest counter of a peer's accepted operations, where the number is one of a peer.
-fn count<N: Naming + Ledger, R: Wait + Copy>(rt: &R, hub: &Hub<'_, N, R>, node: u64) -> Reply
+fn count<N: Naming + HistoryNaming + Ledger, R: Wait + Copy>(
+    rt: &R,
+    hub: &Hub<'_, N, R>,
+    node: u64,
+) -> Reply
     ensures { Counts N.size node result }
 {
     if node < 1 || node > 65535 {
@@ -83,7 +88,7 @@ fn name(id: Option<HubId>) -> Reply
 }
 
 /// What a query is told.
-fn told<'a, N: Naming + Ledger, R: Wait + Copy>(
+fn told<'a, N: Naming + HistoryNaming + Ledger, R: Wait + Copy>(
     rt: &R,
     hub: &Hub<'_, N, R>,
     published: &'a Published<'_, N>,
@@ -109,7 +114,7 @@ fn told<'a, N: Naming + Ledger, R: Wait + Copy>(
 
 /// Reads of a hub with this id: what is found, and the reply behind it. A hub that isn't read refuses. Reading changes
 /// nothing, and copies nothing of the text: no memory is taken but for a list of up to 64 texts.
-pub fn read<'a, N: Naming + Ledger, R: Wait + Copy>(
+pub fn read<'a, N: Naming + HistoryNaming + Ledger, R: Wait + Copy>(
     rt: &R,
     hub: &Hub<'_, N, R>,
     published: &'a Published<'_, N>,

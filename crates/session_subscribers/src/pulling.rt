@@ -4,6 +4,7 @@ ghost use Rattle.session_subscribers.specs.Holding.{Pulls, PullsAny, PullsShort}
 ghost use Rattle.session_subscribers.specs.Items.{item_reply, Takes, TakesShort};
 
 use crate::session_hub::{Held, SessionHub, index_of};
+use call_history::knowledge::HistoryNaming;
 use feeds::item::Finding;
 use filter_workers::work::{catch_up, help};
 use refusals::reason::Reason;
@@ -56,12 +57,10 @@ fn take_waiting<N: Naming, R: Wait + Copy>(
     Ok(most)
 }
 
-impl<N: Naming + Ledger + Send + Sync, R: Threads + Wait + Copy + Send + Sync> SessionHub<
-    '_,
-    '_,
-    N,
-    R,
-> {
+impl<
+    N: Naming + HistoryNaming + Ledger + Send + Sync,
+    R: Threads + Wait + Copy + Send + Sync,
+> SessionHub<'_, '_, N, R> {
     /// Has items sent and takes them, until `most` are taken or none is left. It answers how many.
     fn drain(
         &self,

@@ -1,6 +1,7 @@
 ghost use Rattle.std.specs.Prelude.{◌≡◌, ◌≤◌, ◌==◌};
 ghost use Rattle.session_subscribers.specs.Holding.{index_in};
 
+use call_history::knowledge::HistoryNaming;
 use hub_requests::limits::SessionOptions;
 use ingest_workers::hub::Hub;
 use std::alloc::Global;
@@ -13,7 +14,7 @@ use version_history::published::{Naming, Published};
 
 /// The hub as a session uses it.
 #[derive(Drop)]
-pub struct SessionHub<'s, 'p, N: Naming + Ledger, R: Wait + Copy> {
+pub struct SessionHub<'s, 'p, N: Naming + HistoryNaming + Ledger, R: Wait + Copy> {
     pub rt: R,
     pub alloc: Global,
     pub hub: &'s Hub<'p, N, R>,

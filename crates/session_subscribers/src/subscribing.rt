@@ -10,6 +10,7 @@ ghost use Rattle.session_subscribers.specs.Holding.{AreSafe, first_of, IsNotSubs
 
 use crate::session_hub::{Held, SessionHub, index_of};
 use bpf_words::words::Words;
+use call_history::knowledge::HistoryNaming;
 use hub_core::error::SubscribeError;
 use hub_requests::limits::SessionLimits;
 use refusals::reason::Reason;
@@ -67,7 +68,7 @@ fn accepted(alloc: Global, profile: Profile, bytes: &[u8]) -> Result<Verified, R
     }
 }
 
-impl<N: Naming + Ledger, R: Wait + Copy> SessionHub<'_, '_, N, R> {
+impl<N: Naming + HistoryNaming + Ledger, R: Wait + Copy> SessionHub<'_, '_, N, R> {
     /// The token of a program, which is published.
     fn publish(&self, program: Verified) -> Result<ProgramToken<N>, Reason>
         ensures ok { IfOk result (λ token. token.value ≡ program) }

@@ -2,15 +2,17 @@ ghost use Rattle.std.specs.Prelude.{◌≡◌};
 ghost use Rattle.change_ops.specs.declared.size.Size.TheVariants.{Small};
 
 use crate::lines::{QUEUE_OF_ONE, QUEUE_OF_ONE_REPLIES};
+use call_history::knowledge::HistoryNaming;
 use change_keeping::keeper::NoStore;
 use change_ops::size::Size;
+use core_history::start::Start;
 use hub_requests::limits::SessionOptions;
 use hub_sessions::conversation::{SessionFault, session};
 use ingest_workers::hub::Hub;
 use std::alloc::Global;
 use std::marker::Brand;
 use std::sync::Wait;
-use std::sync::ledger::{Blank, Ledger};
+use std::sync::ledger::Ledger;
 use std::test::Fail;
 use std::thread::Threads;
 use test_inputs::devices::{FailingReader, FailingWriter};
@@ -44,31 +46,27 @@ fn tried<R: Threads + Wait + Copy + Send + Sync>(
 ) -> Result<Outcome, Fail> {
     let versions = boxcar::Vec::new(alloc)?;
     let programs = boxcar::Vec::new(alloc)?;
-    tried_on::<Brand, _>(
-        rt,
-        alloc,
-        Blank::new(2),
-        &versions,
-        &programs,
-        reads,
-        writes,
-    )
+    let start = Start::new(alloc, 3)?;
+    tried_on::<Brand, _>(rt, alloc, start, &versions, &programs, reads, writes)
 }
 
-fn tried_on<N: Naming + Ledger + Send + Sync, R: Threads + Wait + Copy + Send + Sync>(
+fn tried_on<
+    N: Naming + HistoryNaming + Ledger + Send + Sync,
+    R: Threads + Wait + Copy + Send + Sync,
+>(
     rt: &R,
     alloc: Global,
-    blank: Blank,
+    start: Start,
     versions: &boxcar::Vec<BlockVersion>,
     programs: &boxcar::Vec<Verified>,
     reads: usize,
     writes: usize,
 ) -> Result<Outcome, Fail>
     requires named { (Small ≡ N.size) × (versions.now ≡ N.versions) × (programs.now ≡ N.programs) }
-    requires blank { (blank.name ≡ N.name) × (blank.parts ≡ N.parts) × (N.parts ≡ 2) }
+    requires start { (start.name ≡ N.name) × (start.table ≡ N.table) × (start.parts ≡ N.parts) × (N.parts ≡ 3) }
 {
     let published = Published::<N>::new(Size::Small, versions, programs);
-    let (hub, mut shares) = Hub::new(rt, alloc, blank, &published, 2)?;
+    let (hub, mut shares) = Hub::new(rt, alloc, start, &published, 2)?;
     let Some(mut one) = shares.pop() else {
         return Err(Fail::from("shares"));
     };

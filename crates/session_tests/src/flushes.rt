@@ -2,8 +2,10 @@ ghost use Rattle.std.specs.Prelude.{◌≡◌};
 ghost use Rattle.change_ops.specs.declared.size.Size.TheVariants.{Small};
 
 use crate::lines::{TWO_SUBSCRIBERS, TWO_SUBSCRIBERS_REPLIES};
+use call_history::knowledge::HistoryNaming;
 use change_keeping::keeper::NoStore;
 use change_ops::size::Size;
+use core_history::start::Start;
 use hub_requests::limits::SessionOptions;
 use hub_sessions::conversation::session;
 use ingest_workers::hub::Hub;
@@ -12,7 +14,7 @@ use std::io;
 use std::marker::Brand;
 use std::process::Abort;
 use std::sync::Wait;
-use std::sync::ledger::{Blank, Ledger};
+use std::sync::ledger::Ledger;
 use std::test::*;
 use std::thread::Threads;
 use verifier::verify::Verified;
@@ -47,21 +49,25 @@ impl io::Write for FlushNotes {
 fn each_answer_is_flushed_and_all_subscribers_closed(rt: HostRuntime) -> Result<(), Fail> {
     let versions = boxcar::Vec::new(rt.alloc())?;
     let programs = boxcar::Vec::new(rt.alloc())?;
-    two_subscribed::<Brand, _>(&rt, rt.alloc(), Blank::new(1), &versions, &programs)
+    let start = Start::new(rt.alloc(), 2)?;
+    two_subscribed::<Brand, _>(&rt, rt.alloc(), start, &versions, &programs)
 }
 
-fn two_subscribed<N: Naming + Ledger + Send + Sync, R: Threads + Wait + Abort + Copy + Send + Sync>(
+fn two_subscribed<
+    N: Naming + HistoryNaming + Ledger + Send + Sync,
+    R: Threads + Wait + Abort + Copy + Send + Sync,
+>(
     rt: &R,
     alloc: Global,
-    blank: Blank,
+    start: Start,
     versions: &boxcar::Vec<BlockVersion>,
     programs: &boxcar::Vec<Verified>,
 ) -> Result<(), Fail>
     requires named { (Small ≡ N.size) × (versions.now ≡ N.versions) × (programs.now ≡ N.programs) }
-    requires blank { (blank.name ≡ N.name) × (blank.parts ≡ N.parts) × (N.parts ≡ 1) }
+    requires start { (start.name ≡ N.name) × (start.table ≡ N.table) × (start.parts ≡ N.parts) × (N.parts ≡ 2) }
 {
     let published = Published::<N>::new(Size::Small, versions, programs);
-    let (hub, mut shares) = Hub::new(rt, alloc, blank, &published, 1)?;
+    let (hub, mut shares) = Hub::new(rt, alloc, start, &published, 1)?;
     let mut writer = FlushNotes {
         bytes: Vec::new(alloc),
         flushed: Vec::new(alloc),

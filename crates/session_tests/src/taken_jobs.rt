@@ -2,18 +2,20 @@ ghost use Rattle.std.specs.Prelude.{◌≡◌};
 ghost use Rattle.change_ops.specs.declared.size.Size.TheVariants.{Small};
 
 use crate::lines::{TEN_VERSIONS, TEN_VERSIONS_REPLIES};
+use call_history::knowledge::HistoryNaming;
 use change_keeping::keeper::NoStore;
 use change_ops::size::Size;
+use core_history::share::Share;
+use core_history::start::Start;
 use hub_requests::limits::SessionOptions;
 use hub_sessions::conversation::session;
 use ingest_workers::hub::Hub;
-use ingest_workers::share::Share;
 use std::alloc::Global;
 use std::io;
 use std::marker::Brand;
 use std::process::Abort;
 use std::sync::Wait;
-use std::sync::ledger::{Blank, Ledger};
+use std::sync::ledger::Ledger;
 use std::test::*;
 use std::thread::Threads;
 use verifier::verify::Verified;
@@ -23,14 +25,14 @@ use version_history::published::{Naming, Published};
 /// A reader that gives one line a read. Before each it takes all jobs of the hub and drops them, as workers of other
 /// sessions would that never come to an end.
 #[derive(Drop)]
-struct JobTaker<'a, 'h, 'p, N: Naming + Ledger, R: Wait + Copy> {
+struct JobTaker<'a, 'h, 'p, N: Naming + HistoryNaming + Ledger, R: Wait + Copy> {
     rt: R,
     hub: &'h Hub<'p, N, R>,
     rest: &'a [u8],
     jobs: u32,
 }
 
-impl<N: Naming + Ledger, R: Wait + Copy> JobTaker<'_, '_, '_, N, R> {
+impl<N: Naming + HistoryNaming + Ledger, R: Wait + Copy> JobTaker<'_, '_, '_, N, R> {
     fn take_jobs(&mut self) {
         for _ in 0..100u32 {
             if self.hub.take_job(&self.rt).is_none() {
@@ -41,7 +43,7 @@ impl<N: Naming + Ledger, R: Wait + Copy> JobTaker<'_, '_, '_, N, R> {
     }
 }
 
-impl<N: Naming + Ledger, R: Wait + Copy> io::Read for JobTaker<'_, '_, '_, N, R> {
+impl<N: Naming + HistoryNaming + Ledger, R: Wait + Copy> io::Read for JobTaker<'_, '_, '_, N, R> {
     fn read(&mut self, buf: &mut [u8]) -> io::Result<usize> {
         self.take_jobs();
         let mut given = 0;
@@ -65,21 +67,25 @@ impl<N: Naming + Ledger, R: Wait + Copy> io::Read for JobTaker<'_, '_, '_, N, R>
 fn a_pull_answers_what_is_due_though_others_took_its_jobs(rt: HostRuntime) -> Result<(), Fail> {
     let versions = boxcar::Vec::new(rt.alloc())?;
     let programs = boxcar::Vec::new(rt.alloc())?;
-    taken::<Brand, _>(rt, rt.alloc(), Blank::new(1), &versions, &programs)
+    let start = Start::new(rt.alloc(), 2)?;
+    taken::<Brand, _>(rt, rt.alloc(), start, &versions, &programs)
 }
 
-fn taken<N: Naming + Ledger + Send + Sync, R: Threads + Wait + Abort + Copy + Send + Sync>(
+fn taken<
+    N: Naming + HistoryNaming + Ledger + Send + Sync,
+    R: Threads + Wait + Abort + Copy + Send + Sync,
+>(
     rt: R,
     alloc: Global,
-    blank: Blank,
+    start: Start,
     versions: &boxcar::Vec<BlockVersion>,
     programs: &boxcar::Vec<Verified>,
 ) -> Result<(), Fail>
     requires named { (Small ≡ N.size) × (versions.now ≡ N.versions) × (programs.now ≡ N.programs) }
-    requires blank { (blank.name ≡ N.name) × (blank.parts ≡ N.parts) × (N.parts ≡ 1) }
+    requires start { (start.name ≡ N.name) × (start.table ≡ N.table) × (start.parts ≡ N.parts) × (N.parts ≡ 2) }
 {
     let published = Published::<N>::new(Size::Small, versions, programs);
-    let (hub, mut shares) = Hub::new(&rt, alloc, blank, &published, 1)?;
+    let (hub, mut shares) = Hub::new(&rt, alloc, start, &published, 1)?;
     let mut out = Vec::new(alloc);
     let jobs = with_jobs_taken(&rt, alloc, &hub, &published, &mut shares[0], &mut out);
     assert_eq!(rt; out.as_slice(), TEN_VERSIONS_REPLIES.as_bytes());
@@ -88,7 +94,11 @@ fn taken<N: Naming + Ledger + Send + Sync, R: Threads + Wait + Abort + Copy + Se
 }
 
 /// Runs the session, and answers how many jobs were taken from it.
-fn with_jobs_taken<'p, N: Naming + Ledger + Send + Sync, R: Threads + Wait + Copy + Send + Sync>(
+fn with_jobs_taken<
+    'p,
+    N: Naming + HistoryNaming + Ledger + Send + Sync,
+    R: Threads + Wait + Copy + Send + Sync,
+>(
     rt: &R,
     alloc: Global,
     hub: &Hub<'p, N, R>,

@@ -1,19 +1,22 @@
-ghost use Rattle.std.specs.Prelude.{◌≡◌, ◌≤◌, vec_len};
+ghost use Rattle.std.specs.Prelude.{◌≡◌, ◌+◌, ◌≤◌};
 ghost use Rattle.change_ops.specs.declared.size.Size.TheVariants.{Small};
+ghost use Rattle.test_scripts.specs.Parts.{all_parts};
 
 use crate::answer::{Answer, Fault, tell, without_memory};
 use crate::findings::push_end;
 use crate::machine::{Machine, taken};
 use crate::script::{keep, number, parted, unmarked};
 use crate::tricks::Trick;
+use call_history::knowledge::HistoryNaming;
 use change_ops::size::Size;
+use core_history::share::Share;
+use core_history::start::Start;
 use ingest_workers::hub::Hub;
 use ingest_workers::ingest::settle;
-use ingest_workers::share::Share;
 use std::alloc::{AllocError, Global};
 use std::marker::Brand;
 use std::sync::Wait;
-use std::sync::ledger::{Blank, Ledger};
+use std::sync::ledger::Ledger;
 use std::thread::Threads;
 use subscriber_queues::ends::Subscription;
 use verifier::verify::Verified;
@@ -32,22 +35,17 @@ pub fn play_hub<R: Threads + Wait + Copy + Send + Sync>(
     let programs = boxcar::Vec::new(alloc)?;
     let shares = shares.clamp(1, 256);
     let lines = String::from_str(alloc, lines)?;
-    on_lists::<Brand, _>(
-        rt,
-        alloc,
-        Blank::new(shares as u64),
-        &versions,
-        &programs,
-        shares,
-        lines,
-        told,
-    )
+    let start = Start::new(alloc, shares as u64 + 1)?;
+    on_lists::<Brand, _>(rt, alloc, start, &versions, &programs, shares, lines, told)
 }
 
-fn on_lists<N: Naming + Ledger + Send + Sync, R: Threads + Wait + Copy + Send + Sync>(
+fn on_lists<
+    N: Naming + HistoryNaming + Ledger + Send + Sync,
+    R: Threads + Wait + Copy + Send + Sync,
+>(
     rt: R,
     alloc: Global,
-    blank: Blank,
+    start: Start,
     versions: &boxcar::Vec<BlockVersion>,
     programs: &boxcar::Vec<Verified>,
     shares: usize,
@@ -55,11 +53,12 @@ fn on_lists<N: Naming + Ledger + Send + Sync, R: Threads + Wait + Copy + Send + 
     told: &mut String,
 ) -> Result<(), AllocError>
     requires named { (Small ≡ N.size) × (versions.now ≡ N.versions) × (programs.now ≡ N.programs) }
-    requires blank { (blank.name ≡ N.name) × (blank.parts ≡ N.parts) × (N.parts ≡ shares) }
+    requires start { (start.name ≡ N.name) × (start.table ≡ N.table) × (start.parts ≡ N.parts)
+        × (N.parts ≡ shares + 1) }
     requires range { (1 ≤ shares) × (shares ≤ 256) }
 {
     let published = Published::<N>::new(Size::Small, versions, programs);
-    let (hub, mut shares) = Hub::new(&rt, alloc, blank, &published, shares)?;
+    let (hub, mut shares) = Hub::new(&rt, alloc, start, &published, shares)?;
     let subscriptions = play_machine(
         rt,
         alloc,
@@ -69,9 +68,9 @@ fn on_lists<N: Naming + Ledger + Send + Sync, R: Threads + Wait + Copy + Send + 
         lines.as_str(),
         told,
     )?;
-    let text = format!(in alloc; "settled: {}\n", settle(&rt, &hub, shares))?;
+    let settled = settle(hub, shares);
+    let text = format!(in alloc; "settled: {settled}\n")?;
     told.push_str(text.as_str())?;
-    drop(hub);
     tell_queues(alloc, told, subscriptions)
 }
 
@@ -81,7 +80,7 @@ fn play_machine<
     'b,
     'p,
     'q,
-    N: Naming + Ledger + Send + Sync,
+    N: Naming + HistoryNaming + Ledger + Send + Sync,
     R: Threads + Wait + Copy + Send + Sync,
 >(
     rt: R,
@@ -91,7 +90,9 @@ fn play_machine<
     shares: &mut [Share<N>],
     lines: &str,
     told: &mut String,
-) -> Result<Vec<Subscription<N, R>>, AllocError> {
+) -> Result<Vec<Subscription<N, R>>, AllocError>
+    ensures { all_parts shares.new ≡ all_parts shares.old }
+{
     let mut machine = Machine {
         rt,
         alloc,
@@ -122,12 +123,17 @@ fn tell_queues<N: Naming, R: Wait + Copy>(
     Ok(())
 }
 
-fn play_lines<N: Naming + Ledger + Send + Sync, R: Threads + Wait + Copy + Send + Sync>(
+fn play_lines<
+    N: Naming + HistoryNaming + Ledger + Send + Sync,
+    R: Threads + Wait + Copy + Send + Sync,
+>(
     machine: &mut Machine<'_, '_, '_, '_, N, R>,
     shares: &mut [Share<N>],
     lines: &str,
     told: &mut String,
-) -> Result<(), AllocError> {
+) -> Result<(), AllocError>
+    ensures { all_parts shares.new ≡ all_parts shares.old }
+{
     for line in lines.lines() {
         let (line, is_untold) = unmarked(line);
         let (key, rest) = parted(line);
@@ -146,12 +152,14 @@ fn play_lines<N: Naming + Ledger + Send + Sync, R: Threads + Wait + Copy + Send 
     Ok(())
 }
 
-fn answer<N: Naming + Ledger + Send + Sync, R: Threads + Wait + Copy + Send + Sync>(
+fn answer<N: Naming + HistoryNaming + Ledger + Send + Sync, R: Threads + Wait + Copy + Send + Sync>(
     machine: &mut Machine<'_, '_, '_, '_, N, R>,
     shares: &mut [Share<N>],
     key: &str,
     rest: &str,
-) -> Result<Answer, Fault> {
+) -> Result<Answer, Fault>
+    ensures { all_parts shares.new ≡ all_parts shares.old }
+{
     match key {
         "program" => machine.publish(rest),
         "sub" => machine.subscribe(rest),
@@ -171,12 +179,17 @@ fn answer<N: Naming + Ledger + Send + Sync, R: Threads + Wait + Copy + Send + Sy
     }
 }
 
-fn by_share_or_workers<N: Naming + Ledger + Send + Sync, R: Threads + Wait + Copy + Send + Sync>(
+fn by_share_or_workers<
+    N: Naming + HistoryNaming + Ledger + Send + Sync,
+    R: Threads + Wait + Copy + Send + Sync,
+>(
     machine: &mut Machine<'_, '_, '_, '_, N, R>,
     shares: &mut [Share<N>],
     key: &str,
     rest: &str,
-) -> Result<Answer, Fault> {
+) -> Result<Answer, Fault>
+    ensures { all_parts shares.new ≡ all_parts shares.old }
+{
     let (first, second) = parted(rest);
     match key {
         "ingest" => by_share(machine, shares, 0, rest),
@@ -189,19 +202,21 @@ fn by_share_or_workers<N: Naming + Ledger + Send + Sync, R: Threads + Wait + Cop
     }
 }
 
-fn by_share<N: Naming + Ledger, R: Wait + Copy>(
+fn by_share<N: Naming + HistoryNaming + Ledger, R: Wait + Copy>(
     machine: &mut Machine<'_, '_, '_, '_, N, R>,
     shares: &mut [Share<N>],
     index: usize,
     rest: &str,
-) -> Result<Answer, Fault> {
+) -> Result<Answer, Fault>
+    ensures { all_parts shares.new ≡ all_parts shares.old }
+{
     if index >= shares.len() {
         return Err(Fault::Nothing);
     }
     machine.ingest(&mut shares[index], rest)
 }
 
-fn worked<N: Naming + Ledger + Send + Sync, R: Threads + Wait + Copy + Send + Sync>(
+fn worked<N: Naming + HistoryNaming + Ledger + Send + Sync, R: Threads + Wait + Copy + Send + Sync>(
     machine: &mut Machine<'_, '_, '_, '_, N, R>,
     trick: Trick,
     at: u64,

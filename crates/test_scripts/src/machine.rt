@@ -1,15 +1,18 @@
+ghost use Rattle.std.specs.Prelude.{◌≡◌};
+
 use crate::answer::{Answer, Fault};
 use crate::findings::findings_of;
 use crate::programs::{published_program, push};
 use crate::script::{change_text, number, parted};
 use crate::tricks::{Trick, Tricks};
+use call_history::knowledge::HistoryNaming;
+use core_history::share::Share;
 use feeds::batch::Batch;
 use feeds::item::{Finding, Job};
 use filter_workers::filter::filter;
 use filter_workers::work::{catch_up, work};
 use ingest_workers::hub::Hub;
-use ingest_workers::ingest::ingest;
-use ingest_workers::share::Share;
+use ingest_workers::ingest::{HubError, ingest};
 use std::alloc::{AllocError, Global};
 use std::sync::Wait;
 use std::sync::atomic::{AtomicU64, Ordering};
@@ -20,7 +23,7 @@ use version_history::published::{Naming, ProgramToken, Published};
 
 /// A hub, and what its callers hold.
 #[derive(Drop)]
-pub struct Machine<'a, 'b, 'p, 'q, N: Naming + Ledger, R: Wait + Copy> {
+pub struct Machine<'a, 'b, 'p, 'q, N: Naming + HistoryNaming + Ledger, R: Wait + Copy> {
     pub rt: R,
     pub alloc: Global,
     pub hub: &'a Hub<'p, N, R>,
@@ -37,7 +40,7 @@ pub struct Machine<'a, 'b, 'p, 'q, N: Naming + Ledger, R: Wait + Copy> {
 }
 
 /// Subscribes a program with a new queue.
-fn subscribed<N: Naming + Ledger, R: Wait + Copy>(
+fn subscribed<N: Naming + HistoryNaming + Ledger, R: Wait + Copy>(
     rt: &R,
     alloc: Global,
     hub: &Hub<'_, N, R>,
@@ -47,6 +50,19 @@ fn subscribed<N: Naming + Ledger, R: Wait + Copy>(
     let (sink, subscription) = queue(*rt, alloc, capacity)?;
     let id = hub.subscribe(rt, program, sink)?;
     Ok((id, subscription))
+}
+
+/// Ingests a change by a share, which keeps its parts.
+pub fn ingested<N: Naming + HistoryNaming + Ledger, R: Wait + Copy>(
+    rt: &R,
+    alloc: Global,
+    hub: &Hub<'_, N, R>,
+    share: &mut Share<N>,
+    text: &str,
+) -> Result<u64, HubError>
+    ensures { share.new.parts ≡ share.old.parts }
+{
+    ingest(rt, alloc, hub, share, text)
 }
 
 /// The first items that wait, `most` at most.
@@ -81,7 +97,14 @@ fn made_up_job<N: Naming>(jobs: &[Job<N>], rest: &str) -> Option<Job<N>> {
     })
 }
 
-impl<'a, 'b, 'p, 'q, N: Naming + Ledger, R: Wait + Copy> Machine<'a, 'b, 'p, 'q, N, R> {
+impl<'a, 'b, 'p, 'q, N: Naming + HistoryNaming + Ledger, R: Wait + Copy> Machine<
+    'a,
+    'b,
+    'p,
+    'q,
+    N,
+    R,
+> {
     /// The subscribers' ends of their queues.
     pub fn into_subscriptions(self) -> Vec<Subscription<N, R>> {
         let Machine {
@@ -108,10 +131,12 @@ impl<'a, 'b, 'p, 'q, N: Naming + Ledger, R: Wait + Copy> Machine<'a, 'b, 'p, 'q,
         Ok(Answer::Number(index as u64))
     }
 
-    pub fn ingest(&mut self, share: &mut Share<N>, rest: &str) -> Result<Answer, Fault> {
+    pub fn ingest(&mut self, share: &mut Share<N>, rest: &str) -> Result<Answer, Fault>
+        ensures { share.new.parts ≡ share.old.parts }
+    {
         let text = change_text(self.alloc, self.kept.as_str(), rest)?;
         self.kept.clear();
-        let number = ingest(&self.rt, self.alloc, self.hub, share, text.as_str())?;
+        let number = ingested(&self.rt, self.alloc, self.hub, share, text.as_str())?;
         Ok(Answer::Number(number))
     }
 
@@ -201,7 +226,7 @@ impl<'a, 'b, 'p, 'q, N: Naming + Ledger, R: Wait + Copy> Machine<'a, 'b, 'p, 'q,
     }
 }
 
-impl<'a, 'b, 'p, 'q, N: Naming + Ledger, R: Threads + Wait + Copy + Sync> Machine<
+impl<'a, 'b, 'p, 'q, N: Naming + HistoryNaming + Ledger, R: Threads + Wait + Copy + Sync> Machine<
     'a,
     'b,
     'p,
@@ -235,7 +260,7 @@ impl<
     'b,
     'p,
     'q,
-    N: Naming + Ledger + Send + Sync,
+    N: Naming + HistoryNaming + Ledger + Send + Sync,
     R: Threads + Wait + Copy + Send + Sync,
 > Machine<'a, 'b, 'p, 'q, N, R> {
     /// Has workers take turns, with a trick on the jobs of one version.

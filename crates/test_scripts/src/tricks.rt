@@ -1,3 +1,4 @@
+use call_history::knowledge::HistoryNaming;
 use feeds::batch::Batch;
 use feeds::item::Job;
 use filter_workers::gate::Gate;
@@ -23,7 +24,7 @@ pub enum Trick {
 
 /// A gate that plays a trick on the jobs of one version.
 #[derive(Drop)]
-pub struct Tricks<'a, 'b, 'p, 'q, N: Naming + Ledger, R: Wait + Copy> {
+pub struct Tricks<'a, 'b, 'p, 'q, N: Naming + HistoryNaming + Ledger, R: Wait + Copy> {
     pub rt: R,
     pub alloc: Global,
     pub hub: &'a Hub<'p, N, R>,
@@ -34,7 +35,14 @@ pub struct Tricks<'a, 'b, 'p, 'q, N: Naming + Ledger, R: Wait + Copy> {
     pub is_late: AtomicU64,
 }
 
-impl<'a, 'b, 'p, 'q, N: Naming + Ledger, R: Wait + Copy> Tricks<'a, 'b, 'p, 'q, N, R> {
+impl<'a, 'b, 'p, 'q, N: Naming + HistoryNaming + Ledger, R: Wait + Copy> Tricks<
+    'a,
+    'b,
+    'p,
+    'q,
+    N,
+    R,
+> {
     fn wait_for_second(&self) {
         for _ in 0..1_000_000u32 {
             if self.second_is_done.load(Ordering::SeqCst) == 1 {
@@ -63,8 +71,14 @@ impl<'a, 'b, 'p, 'q, N: Naming + Ledger, R: Wait + Copy> Tricks<'a, 'b, 'p, 'q, 
     }
 }
 
-impl<'a, 'b, 'p, 'q, N: Naming + Ledger + Send + Sync, R: Wait + Copy + Send + Sync> Gate<N>
-    for Tricks<'a, 'b, 'p, 'q, N, R> {
+impl<
+    'a,
+    'b,
+    'p,
+    'q,
+    N: Naming + HistoryNaming + Ledger + Send + Sync,
+    R: Wait + Copy + Send + Sync,
+> Gate<N> for Tricks<'a, 'b, 'p, 'q, N, R> {
     fn before(&self, job: &Job<N>) {
         if job.number == self.at {
             self.play(job);

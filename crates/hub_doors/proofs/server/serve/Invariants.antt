@@ -5,7 +5,10 @@ abbrev pub ghosts-serve_on-N-Naming : goal.ghosts-serve_on-N-Naming
 ghosts-serve_on-N-Naming g a = record { size = a.plan.now.terms.now.size; versions = a.versions.now; programs = a.programs.now }
 
 abbrev pub ghosts-serve_on-N-Ledger : goal.ghosts-serve_on-N-Ledger
-ghosts-serve_on-N-Ledger g a = record { name = a.blank.name; parts = a.blank.parts }
+ghosts-serve_on-N-Ledger g a = record { name = a.start.name; parts = a.start.parts }
+
+abbrev pub ghosts-serve_on-N-HistoryNaming : goal.ghosts-serve_on-N-HistoryNaming
+ghosts-serve_on-N-HistoryNaming g a = record { table = a.start.table }
 
 -- nothing is kept
 abbrev pub ghosts-serve_on-N-Keeping : goal.ghosts-serve_on-N-Keeping

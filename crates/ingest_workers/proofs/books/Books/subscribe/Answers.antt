@@ -1,9 +1,14 @@
-use Rattle.std.proofs.Common.{length, subst, sym}
+use Rattle.std.proofs.Common.{length, refl, subst, sym}
 use Rattle.feeds.specs.Promise.{Suits}
-use Rattle.hub_core.specs.Machine.{Core}
 use Rattle.subscriber_queues.specs.Queue.{QueueSink}
+use Rattle.core_history.specs.Runs.{Recorded}
+use Rattle.ingest_workers.proofs.House.{kept}
 use Rattle.ingest_workers.proofs.books.Books.subscribe.Goals as goal
 
 pub subscribe-id-requires-clause-suits : goal.subscribe-id-requires-clause-suits
 subscribe-id-requires-clause-suits g c =
-    subst (λ (s : Core QueueSink). Suits c.args.sink.promise g.N.Naming.size c.args.program.value (length s.changes)) (sym c.self.view_is) c.requires.suits
+    subst (λ (s : Recorded QueueSink). Suits c.args.sink.promise g.N.Naming.size c.args.program.value (length s.core.changes)) (sym c.self.view_is) c.requires.suits
+
+pub invariant_of-self : goal.invariant_of-self
+invariant_of-self g c =
+    kept _ g.N.Naming.size _ _ _ _ _ _ _ _ _ c.subscribe-id.ensures refl c.self.invariant c.core.ensures.core c.stays_consistent.ensures.consistent c.stays_consistent.ensures.size
