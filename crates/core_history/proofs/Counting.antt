@@ -32,9 +32,9 @@ few_of_size Large n h = h
 same_changes : {S : Type 0} (s s' : Core S) → s'.changes ≡ s.changes → length s'.changes ≡ length s.changes + 0
 same_changes s s' e = omega (arith, ap length e)
 
-module _ {S : Type 0} (sent : S → List Item) (full : S → Type 0) (closed_sink : S → S) where
+module _ {S : Type 0} (sent : S → List Item) (full : S → Type 0) (closed_sink bare : S → S) where
   -- a call leaves a change more where it is one that was accepted
-  call_adds : (s : Core S) (c : CoreCall S) (r : CoreReply) (s' : Core S) → Happens sent full closed_sink s c r s' → length s'.changes ≡ length s.changes + cond (is_accepted (called c r)) 1 0
+  call_adds : (s : Core S) (c : CoreCall S) (r : CoreReply) (s' : Core S) → Happens sent full closed_sink bare s c r s' → length s'.changes ≡ length s.changes + cond (is_accepted (called c r)) 1 0
   call_adds s (call.Submit change) (reply.Submitted (Ok t)) s' h = ap (λ (x : Core S). length x.changes) h.2 ∙ length-append s.changes (change ∷ [])
   call_adds s (call.Submit change) (reply.Submitted (Err e)) s' h = same_changes s s' (ap (λ (x : Core S). x.changes) h.0)
   call_adds s (call.Subscribe p sink) (reply.Subscribed (Ok id)) s' h = same_changes s s' (ap (λ (x : Core S). x.changes) h.3)
@@ -59,7 +59,7 @@ module _ {S : Type 0} (sent : S → List Item) (full : S → Type 0) (closed_sin
   call_adds s (call.Close id) (reply.Closed (Err e)) s' h = same_changes s s' (ap (λ (x : Core S). x.changes) h.0)
   call_adds s _ _ s' h = absurd h
 
-  run_adds : (s : Core S) (log : List (CoreEntry S)) (t : Core S) → IsRun sent full closed_sink s log t → length t.changes ≡ length s.changes + count_by is_accepted log
+  run_adds : (s : Core S) (log : List (CoreEntry S)) (t : Core S) → IsRun sent full closed_sink bare s log t → length t.changes ≡ length s.changes + count_by is_accepted log
   run_adds s [] t run = same_changes s t (ap (λ (x : Core S). x.changes) run)
   run_adds s (entry.Called c r ∷ log) t run =
       omega (
@@ -70,46 +70,46 @@ module _ {S : Type 0} (sent : S → List Item) (full : S → Type 0) (closed_sin
       )
   run_adds s (entry.Started first ∷ log) t run = absurd run
 
-  run_few : (s : Core S) (log : List (CoreEntry S)) (t : Core S) → length s.changes ≤ most → IsRun sent full closed_sink s log t → length t.changes ≤ most
+  run_few : (s : Core S) (log : List (CoreEntry S)) (t : Core S) → length s.changes ≤ most → IsRun sent full closed_sink bare s log t → length t.changes ≤ most
   run_few s [] t few run = subst (λ (x : Core S). length x.changes ≤ most) (sym run) few
   run_few s (entry.Called c r ∷ log) t few run =
       run_few run.0 log t (few_of_size run.0.size (length run.0.changes) run.2.sound.few) run.3
   run_few s (entry.Started first ∷ log) t few run = absurd run
 
-module _ {S : Type 0} (size : Size) (sent : S → List Item) (full : S → Type 0) (closed_sink : S → S) where
+module _ {S : Type 0} (size : Size) (sent : S → List Item) (full : S → Type 0) (closed_sink bare : S → S) where
   -- a history has as many accepted changes as the core that it led to
-  pub changes_of : (log : List (CoreEntry S)) (t : Core S) → IsRunOf size sent full closed_sink log t → count_by is_accepted log ≡ length t.changes
+  pub changes_of : (log : List (CoreEntry S)) (t : Core S) → IsRunOf size sent full closed_sink bare log t → count_by is_accepted log ≡ length t.changes
   changes_of (entry.Started first ∷ log) t run =
       omega (
         arith,
-        run_adds sent full closed_sink (started size first) log t run.1,
+        run_adds sent full closed_sink bare (started size first) log t run.1,
         sum_by-cons (λ (e : CoreEntry S). cond (is_accepted e) 1 0) (entry.Started first) log,
       )
   changes_of (entry.Called c r ∷ log) t run = absurd run
   changes_of [] t run = absurd run
 
-  few_of : (log : List (CoreEntry S)) (t : Core S) → IsRunOf size sent full closed_sink log t → length t.changes ≤ most
-  few_of (entry.Started first ∷ log) t run = run_few sent full closed_sink (started size first) log t zero-le run.1
+  few_of : (log : List (CoreEntry S)) (t : Core S) → IsRunOf size sent full closed_sink bare log t → length t.changes ≤ most
+  few_of (entry.Started first ∷ log) t run = run_few sent full closed_sink bare (started size first) log t zero-le run.1
   few_of (entry.Called c r ∷ log) t run = absurd run
   few_of [] t run = absurd run
 
-  few_legal : (log : List (CoreEntry S)) → IsLegal size sent full closed_sink log → count_by is_accepted log ≤ most
+  few_legal : (log : List (CoreEntry S)) → IsLegal size sent full closed_sink bare log → count_by is_accepted log ≤ most
   few_legal log legal =
       ⊎_elim (λ (none : log ≡ []). subst (λ l. count_by is_accepted l ≤ most) (sym none) zero-le)
-      (λ (led : (t : Core S) × IsRunOf size sent full closed_sink log t). omega (arith, changes_of log led.0 led.1, few_of log led.0 led.1)) legal
+      (λ (led : (t : Core S) × IsRunOf size sent full closed_sink bare log t). omega (arith, changes_of log led.0 led.1, few_of log led.0 led.1)) legal
 
   -- and a share counts no more than a document holds
-  pub few_counted : (n : ℕ) (v : Holds (CoreEntry S)) → Counts n v → IsLegal size sent full closed_sink v.seen → n ≤ most
+  pub few_counted : (n : ℕ) (v : Holds (CoreEntry S)) → Counts n v → IsLegal size sent full closed_sink bare v.seen → n ≤ most
   few_counted n v counts legal = omega (arith, counts.accepted, count_most is_accepted v counts.own, few_legal v.seen legal)
 
   -- nor more than the core that all it has seen led to
-  pub within_core : (v : Holds (CoreEntry S)) (log : List (CoreEntry S)) (t : Core S) → AreOwn v → v.seen ≡ log → IsRunOf size sent full closed_sink log t
+  pub within_core : (v : Holds (CoreEntry S)) (log : List (CoreEntry S)) (t : Core S) → AreOwn v → v.seen ≡ log → IsRunOf size sent full closed_sink bare log t
       → own_count is_accepted v ≤ length t.changes
   within_core v log t own seen run =
       omega (arith, count_most is_accepted v own, ap (count_by is_accepted) seen, changes_of log t run)
 
   -- a share of all parts counts all
-  pub all_counted : (n : ℕ) (v : Holds (CoreEntry S)) (all : List (CoreEntry S)) (t : Core S) (rule : List (CoreEntry S) → Type 0) → Counts n v → IsWhole rule all v → IsRunOf size sent full closed_sink all t
+  pub all_counted : (n : ℕ) (v : Holds (CoreEntry S)) (all : List (CoreEntry S)) (t : Core S) (rule : List (CoreEntry S) → Type 0) → Counts n v → IsWhole rule all v → IsRunOf size sent full closed_sink bare all t
       → n ≡ length t.changes
   all_counted n v all t rule counts whole run =
       counts.accepted

@@ -1,3 +1,4 @@
 pub mod Recording
 pub mod Starting
 pub mod Counting
+pub mod Staying

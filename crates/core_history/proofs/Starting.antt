@@ -23,24 +23,24 @@ is_started size s start = λ i. record { size = start.of i; changes = start.chan
 entry_is : {S : Type 0} (size : Size) (s : Core S) (start : IsStart size s) → first_entry s ≡ Some (entry.Started start.version.0)
 entry_is size s start = ap entry_of start.version.1
 
-module _ {S : Type 0} (size : Size) (sent : S → List Item) (full : S → Type 0) (closed_sink : S → S) where
-  run_started : (s : Core S) (start : IsStart size s) → IsRunOf size sent full closed_sink (entry.Started start.version.0 ∷ []) s
+module _ {S : Type 0} (size : Size) (sent : S → List Item) (full : S → Type 0) (closed_sink bare : S → S) where
+  run_started : (s : Core S) (start : IsStart size s) → IsRunOf size sent full closed_sink bare (entry.Started start.version.0 ∷ []) s
   run_started s start = (subst (IsStart size) (is_started size s start) start, is_started size s start)
 
   pub may_start : (s : Core S) → IsStart size s → (log : List (CoreEntry S)) → log ≡ []
-      → (x : CoreEntry S) × (first_entry s ≡ Some x) × IsLegal size sent full closed_sink (log ++ x ∷ [])
+      → (x : CoreEntry S) × (first_entry s ≡ Some x) × IsLegal size sent full closed_sink bare (log ++ x ∷ [])
   may_start s start log none = (
     entry.Started start.version.0,
     entry_is size s start,
-    subst (λ l. IsLegal size sent full closed_sink (l ++ entry.Started start.version.0 ∷ [])) (sym none) (inr (s, run_started s start)),
+    subst (λ l. IsLegal size sent full closed_sink bare (l ++ entry.Started start.version.0 ∷ [])) (sym none) (inr (s, run_started s start)),
   )
 
   pub begun : (s : Core S) → IsStart size s → (log log' : List (CoreEntry S)) → log ≡ []
-      → ((x : CoreEntry S) → first_entry s ≡ Some x → log' ≡ log ++ x ∷ []) → IsRunOf size sent full closed_sink log' s
+      → ((x : CoreEntry S) → first_entry s ≡ Some x → log' ≡ log ++ x ∷ []) → IsRunOf size sent full closed_sink bare log' s
   begun s start log log' none more =
       let one : CoreEntry S = entry.Started start.version.0 in
       let history : log' ≡ one ∷ [] = more one (entry_is size s start) ∙ ap (λ l. l ++ one ∷ []) none in
-      subst (λ l. IsRunOf size sent full closed_sink l s) (sym history) (run_started s start)
+      subst (λ l. IsRunOf size sent full closed_sink bare l s) (sym history) (run_started s start)
 
 pub starts : {S : Type 0} (rule : List (CoreEntry S) → Type 0) (size : Size) (s : Core S) → IsStart size s → (parts : ℕ) (log log' : List (CoreEntry S)) (v w : Holds (CoreEntry S)) → log ≡ [] → v ≡ nothing parts
     → ((x : CoreEntry S) → first_entry s ≡ Some x → log' ≡ log ++ x ∷ [])

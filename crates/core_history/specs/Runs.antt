@@ -48,7 +48,7 @@ pub record Starts {S : Type 0} (size : Size) (s : Core S) (parts : ℕ) (new : R
     pub recorded : new ≡ record { core = s; history = entry.Started first ∷ [] }
     pub all : w ≡ record { seen = entry.Started first ∷ []; own = 0 ∷ []; parts = parts }
 
-module _ {S : Type 0} (sent : S → List Item) (full : S → Type 0) (closed_sink : S → S) where
+module _ {S : Type 0} (sent : S → List Item) (full : S → Type 0) (closed_sink bare : S → S) where
   -- what a call does that is answered so
   abbrev pub Happens : Core S → CoreCall S → CoreReply → Core S → Type 0
   Happens s (call.Submit change) (reply.Submitted r) s' = Submits s change r s'
@@ -57,7 +57,7 @@ module _ {S : Type 0} (sent : S → List Item) (full : S → Type 0) (closed_sin
   Happens s (call.SubscribeFrom program sink first) (reply.Subscribed r) s' = Subscribes s first program sink r s'
   Happens s call.TakeJob (reply.Handed r) s' = TakesJob s r s'
   Happens s (call.Commit job) (reply.Committed r) s' = Commits s job r s'
-  Happens s (call.Pump id) (reply.Pumped r) s' = Pumps sent full s id r s'
+  Happens s (call.Pump id) (reply.Pumped r) s' = Pumps sent full bare s id r s'
   Happens s (call.Reissue id) (reply.Reissued r) s' = Reissues s id r s'
   Happens s (call.Close id) (reply.Closed r) s' = Closes closed_sink s id r s'
   Happens s _ _ s' = ⊥
@@ -69,11 +69,11 @@ module _ {S : Type 0} (sent : S → List Item) (full : S → Type 0) (closed_sin
       (mid : Core S) × Happens s c r mid × IsConsistent sent full mid × IsRun mid log t
   IsRun s (entry.Started first ∷ log) t = ⊥
 
-module _ {S : Type 0} (size : Size) (sent : S → List Item) (full : S → Type 0) (closed_sink : S → S) where
+module _ {S : Type 0} (size : Size) (sent : S → List Item) (full : S → Type 0) (closed_sink bare : S → S) where
   -- the history begins with the start of a core of this size, and its calls lead from there to this state
   abbrev pub IsRunOf : List (CoreEntry S) → Core S → Type 0
   IsRunOf (entry.Started first ∷ log) t =
-      IsStart size (started {S = S} size first) × IsRun sent full closed_sink (started size first) log t
+      IsStart size (started {S = S} size first) × IsRun sent full closed_sink bare (started size first) log t
   IsRunOf (entry.Called c r ∷ log) t = ⊥
   IsRunOf [] t = ⊥
 
@@ -86,7 +86,7 @@ module _ {S : Type 0} (size : Size) (sent : S → List Item) (full : S → Type 
   pub record Records (old : Recorded S) (v : Holds (CoreEntry S)) (c : CoreCall S) (r : CoreReply) (new : Recorded S)
       (w : Holds (CoreEntry S)) : Type 0
     where
-      pub happens : Happens sent full closed_sink old.core c r new.core
+      pub happens : Happens sent full closed_sink bare old.core c r new.core
       pub history : new.history ≡ old.history ++ called c r ∷ []
       pub extends : Extends IsLegal v (called c r) w
       pub seen : w.seen ≡ new.history
@@ -95,4 +95,4 @@ module _ {S : Type 0} (size : Size) (sent : S → List Item) (full : S → Type 
   abbrev pub LedTo : List (CoreEntry S) → Option (CoreEntry S) → Core S → Type 0
   LedTo log e t =
       (s : Core S) × (c : CoreCall S) × (r : CoreReply) × (e ≡ Some (called c r)) × IsRunOf log s
-      × Happens sent full closed_sink s c r t
+      × Happens sent full closed_sink bare s c r t

@@ -1,13 +1,15 @@
 //! A core, and the history that has led to it.
-ghost use Rattle.std.specs.Prelude.{◌≡◌, ◌<◌, ◌++◌, ◌∷◌, [], ℕ, Some, Err, length};
+ghost use Rattle.std.specs.Prelude.{◌≡◌, ◌<◌, ◌++◌, ◌∷◌, [], ℕ, Some, Err, length, MatchOption};
 ghost use mathlib.Core.List.{IsPrefix};
 ghost use Rattle.change_ops.specs.Changes.{Change as ChangeValue};
 ghost use Rattle.change_history.specs.Accepted.{IsRefused};
+ghost use Rattle.feeds.specs.Feed.{Subscriber as SubscriberValue};
 ghost use Rattle.feeds.specs.Promise.{Suits};
-ghost use Rattle.hub_core.specs.Machine.{IsStart};
+ghost use Rattle.hub_core.specs.Machine.{IsStart, HasNone, IsOpen};
 ghost use Rattle.hub_core.specs.declared.run.Reply.TheVariants as reply;
 ghost use Rattle.call_history.specs.Calls.{Extends, IsWhole, TakesIn, looked};
-ghost use Rattle.subscriber_queues.specs.Queue.{QueueSink as QueueSinkValue, was_sent, IsFull, closed_end};
+ghost use Rattle.subscriber_queues.specs.Queue.{QueueSink as QueueSinkValue, was_sent, IsFull, closed_end, unsent};
+ghost use Rattle.subscriber_queues.specs.Queue.{Meets};
 ghost use Rattle.core_history.specs.Runs.{CoreEntry as Entered, IsLegal, IsRunOf, LedTo, Starts, Records};
 ghost use Rattle.core_history.specs.declared.entry.Call.TheVariants as call;
 
@@ -25,7 +27,7 @@ use hub_core::hub::Core;
 use std::marker::{Brand, Model};
 use std::sync::Wait;
 use std::sync::ledger::Ledger;
-use subscriber_queues::ends::QueueSink;
+use subscriber_queues::ends::{QueueSink, Subscription};
 use version_history::published::{Naming, ProgramToken, VersionToken};
 
 /// A hub's core, whose state is the end of the history `N`. Each call of it adds an entry to the history, a refused one
@@ -45,14 +47,14 @@ impl<'p, N: Naming + HistoryNaming + Ledger, R: Wait + Copy> Drop for RecordedCo
 }
 
 impl<'p, N: Naming + HistoryNaming + Ledger, R: Wait + Copy> Model for RecordedCore<'p, N, R> {
-    ghost use Rattle.subscriber_queues.specs.Queue.{QueueSink, was_sent, IsFull, closed_end};
+    ghost use Rattle.subscriber_queues.specs.Queue.{QueueSink, was_sent, IsFull, closed_end, unsent};
     ghost use Rattle.core_history.specs.Runs.{Recorded, IsRunOf};
 
     ghost Value = { Recorded QueueSink };
 
     ghost view = { λ r. record { core = r.core; history = r.history } };
 
-    ghost invariant = { λ r. IsRunOf N.size was_sent IsFull closed_end r.history r.core };
+    ghost invariant = { λ r. IsRunOf N.size was_sent IsFull closed_end unsent r.history r.core };
 }
 
 /// Records the call by which a core has come to its state. `C` names the entry, by what it is about.
@@ -64,11 +66,11 @@ fn record<N: Naming + HistoryNaming + Ledger, R: Wait + Copy, C: NextEntry<CoreE
     about: &X,
 )
     requires here { board.now.table.shared.table_id ≡ N.table }
-    requires led { LedTo N.size was_sent IsFull closed_end history.old C.entry core.now }
-    ensures run { IsRunOf N.size was_sent IsFull closed_end history.new core.now }
+    requires led { LedTo N.size was_sent IsFull closed_end unsent history.old C.entry core.now }
+    ensures run { IsRunOf N.size was_sent IsFull closed_end unsent history.new core.now }
     ensures history { (e : Entered QueueSinkValue) → C.entry ≡ Some e → history.new ≡ history.old ++ e ∷ [] }
     ensures extends { (e : Entered QueueSinkValue) → C.entry ≡ Some e
-        → Extends (IsLegal N.size was_sent IsFull closed_end) me.old e me.new }
+        → Extends (IsLegal N.size was_sent IsFull closed_end unsent) me.old e me.new }
     ensures seen { me.new.seen ≡ history.new }
 {
     core.stays_consistent();
@@ -111,14 +113,14 @@ impl<'p, N: Naming + HistoryNaming + Ledger, R: Wait + Copy> RecordedCore<'p, N,
     /// The core, for what reads it.
     pub fn core(&self) -> &Core<'p, N, QueueSink<N, R>>
         ensures core { result.now ≡ self.now.core }
-        ensures run { IsRunOf N.size was_sent IsFull closed_end self.now.history self.now.core }
+        ensures run { IsRunOf N.size was_sent IsFull closed_end unsent self.now.history self.now.core }
     {
         &self.core
     }
 
     /// Accepts a change after those before it and publishes its version, whole; where it is refused the core stays as
     /// it was.
-    pub fn submit(
+    pub(crate) fn submit(
         &mut self,
         rt: &R,
         board: &CoreBoard,
@@ -126,7 +128,7 @@ impl<'p, N: Naming + HistoryNaming + Ledger, R: Wait + Copy> RecordedCore<'p, N,
         change: Change,
     ) -> Result<VersionToken<N>, SubmitError>
         requires { board.now.table.shared.table_id ≡ N.table }
-        ensures { Records N.size was_sent IsFull closed_end self.old me.old (call.Submit change)
+        ensures { Records N.size was_sent IsFull closed_end unsent self.old me.old (call.Submit change)
             (reply.Submitted result) self.new me.new }
     {
         self.submit_as::<Brand>(rt, board, me, change)
@@ -142,7 +144,7 @@ impl<'p, N: Naming + HistoryNaming + Ledger, R: Wait + Copy> RecordedCore<'p, N,
     ) -> Result<VersionToken<N>, SubmitError>
         requires here { board.now.table.shared.table_id ≡ N.table }
         requires call { A.call ≡ call.Submit change }
-        ensures { Records N.size was_sent IsFull closed_end self.old me.old A.call
+        ensures { Records N.size was_sent IsFull closed_end unsent self.old me.old A.call
             (reply.Submitted result) self.new me.new }
     {
         let submitted = self.core.submit(rt, change);
@@ -152,14 +154,14 @@ impl<'p, N: Naming + HistoryNaming + Ledger, R: Wait + Copy> RecordedCore<'p, N,
 
     /// Refuses a change where memory is wanting for what its caller keeps beside the core, of which the core is told
     /// nothing.
-    pub fn refuse_submit(
+    pub(crate) fn refuse_submit(
         &mut self,
         board: &CoreBoard,
         me: &mut CoreToken<N>,
         change: &Change,
     ) -> SubmitError
         requires { board.now.table.shared.table_id ≡ N.table }
-        ensures { Records N.size was_sent IsFull closed_end self.old me.old (call.Submit change.now)
+        ensures { Records N.size was_sent IsFull closed_end unsent self.old me.old (call.Submit change.now)
             (reply.Submitted (Err result)) self.new me.new }
     {
         let refusal = refusal_without_memory(&self.core);
@@ -168,14 +170,14 @@ impl<'p, N: Naming + HistoryNaming + Ledger, R: Wait + Copy> RecordedCore<'p, N,
     }
 
     /// Closes a subscriber for good, with its sink, and drops the batches that it holds.
-    pub fn close(
+    pub(crate) fn close(
         &mut self,
         board: &CoreBoard,
         me: &mut CoreToken<N>,
         id: usize,
     ) -> Result<(), NoSubscriber>
         requires { board.now.table.shared.table_id ≡ N.table }
-        ensures { Records N.size was_sent IsFull closed_end self.old me.old (call.Close id)
+        ensures { Records N.size was_sent IsFull closed_end unsent self.old me.old (call.Close id)
             (reply.Closed result) self.new me.new }
     {
         let closed = self.core.close(id);
@@ -185,7 +187,7 @@ impl<'p, N: Naming + HistoryNaming + Ledger, R: Wait + Copy> RecordedCore<'p, N,
 
     /// Adds a subscriber, from the latest version on, to a sink that was sent nothing, and of which nothing is promised
     /// but this program's stream. Ids rise from 0.
-    pub fn subscribe(
+    pub(crate) fn subscribe(
         &mut self,
         board: &CoreBoard,
         me: &mut CoreToken<N>,
@@ -195,7 +197,7 @@ impl<'p, N: Naming + HistoryNaming + Ledger, R: Wait + Copy> RecordedCore<'p, N,
         requires here { board.now.table.shared.table_id ≡ N.table }
         requires none { sink.sent ≡ [] }
         requires suits { Suits sink.promise N.size program.value (length self.old.core.changes) }
-        ensures { Records N.size was_sent IsFull closed_end self.old me.old (call.Subscribe program sink)
+        ensures { Records N.size was_sent IsFull closed_end unsent self.old me.old (call.Subscribe program sink)
             (reply.Subscribed result) self.new me.new }
     {
         self.subscribe_as::<Brand>(board, me, program, sink)
@@ -213,7 +215,7 @@ impl<'p, N: Naming + HistoryNaming + Ledger, R: Wait + Copy> RecordedCore<'p, N,
         requires call { A.call ≡ call.Subscribe program sink }
         requires none { sink.sent ≡ [] }
         requires suits { Suits sink.promise N.size program.value (length self.old.core.changes) }
-        ensures { Records N.size was_sent IsFull closed_end self.old me.old A.call
+        ensures { Records N.size was_sent IsFull closed_end unsent self.old me.old A.call
             (reply.Subscribed result) self.new me.new }
     {
         let subscribed = self.core.subscribe(program, sink);
@@ -223,7 +225,7 @@ impl<'p, N: Naming + HistoryNaming + Ledger, R: Wait + Copy> RecordedCore<'p, N,
 
     /// Adds a subscriber, from the latest version or an earlier one on, to a sink that was sent nothing, and of which
     /// nothing is promised but this program's stream from there on. Ids rise from 0.
-    pub fn subscribe_from(
+    pub(crate) fn subscribe_from(
         &mut self,
         board: &CoreBoard,
         me: &mut CoreToken<N>,
@@ -234,8 +236,8 @@ impl<'p, N: Naming + HistoryNaming + Ledger, R: Wait + Copy> RecordedCore<'p, N,
         requires here { board.now.table.shared.table_id ≡ N.table }
         requires none { sink.sent ≡ [] }
         requires suits { Suits sink.promise N.size program.value first }
-        ensures { Records N.size was_sent IsFull closed_end self.old me.old (call.SubscribeFrom program sink first)
-            (reply.Subscribed result) self.new me.new }
+        ensures { Records N.size was_sent IsFull closed_end unsent self.old me.old
+            (call.SubscribeFrom program sink first) (reply.Subscribed result) self.new me.new }
     {
         self.subscribe_from_as::<Brand>(board, me, program, sink, first)
     }
@@ -253,7 +255,7 @@ impl<'p, N: Naming + HistoryNaming + Ledger, R: Wait + Copy> RecordedCore<'p, N,
         requires call { A.call ≡ call.SubscribeFrom program sink first }
         requires none { sink.sent ≡ [] }
         requires suits { Suits sink.promise N.size program.value first }
-        ensures { Records N.size was_sent IsFull closed_end self.old me.old A.call
+        ensures { Records N.size was_sent IsFull closed_end unsent self.old me.old A.call
             (reply.Subscribed result) self.new me.new }
     {
         let subscribed = self.core.subscribe_from(program, sink, first);
@@ -262,9 +264,9 @@ impl<'p, N: Naming + HistoryNaming + Ledger, R: Wait + Copy> RecordedCore<'p, N,
     }
 
     /// Hands out a version that a subscriber's program is to be run on; None only where there is none.
-    pub fn take_job(&mut self, board: &CoreBoard, me: &mut CoreToken<N>) -> Option<Job<N>>
+    pub(crate) fn take_job(&mut self, board: &CoreBoard, me: &mut CoreToken<N>) -> Option<Job<N>>
         requires { board.now.table.shared.table_id ≡ N.table }
-        ensures { Records N.size was_sent IsFull closed_end self.old me.old call.TakeJob
+        ensures { Records N.size was_sent IsFull closed_end unsent self.old me.old call.TakeJob
             (reply.Handed result) self.new me.new }
     {
         let job = self.core.take_job();
@@ -273,14 +275,14 @@ impl<'p, N: Naming + HistoryNaming + Ledger, R: Wait + Copy> RecordedCore<'p, N,
     }
 
     /// Holds a batch, if its subscriber waits for it.
-    pub fn commit(
+    pub(crate) fn commit(
         &mut self,
         board: &CoreBoard,
         me: &mut CoreToken<N>,
         batch: Batch<N>,
     ) -> Result<(), CommitError>
         requires { board.now.table.shared.table_id ≡ N.table }
-        ensures records { Records N.size was_sent IsFull closed_end self.old me.old (call.Commit batch)
+        ensures records { Records N.size was_sent IsFull closed_end unsent self.old me.old (call.Commit batch)
             (reply.Committed result) self.new me.new }
         ensures takes_no_memory { ¬ (result ≡ Err CommitError.OutOfMemory) }
     {
@@ -296,7 +298,7 @@ impl<'p, N: Naming + HistoryNaming + Ledger, R: Wait + Copy> RecordedCore<'p, N,
     ) -> Result<(), CommitError>
         requires here { board.now.table.shared.table_id ≡ N.table }
         requires call { A.call ≡ call.Commit batch }
-        ensures records { Records N.size was_sent IsFull closed_end self.old me.old A.call
+        ensures records { Records N.size was_sent IsFull closed_end unsent self.old me.old A.call
             (reply.Committed result) self.new me.new }
         ensures takes_no_memory { ¬ (result ≡ Err CommitError.OutOfMemory) }
     {
@@ -306,14 +308,14 @@ impl<'p, N: Naming + HistoryNaming + Ledger, R: Wait + Copy> RecordedCore<'p, N,
     }
 
     /// Sends what can be sent to a subscriber. It answers how many items.
-    pub fn pump(
+    pub(crate) fn pump(
         &mut self,
         board: &CoreBoard,
         me: &mut CoreToken<N>,
         id: usize,
     ) -> Result<usize, NoSubscriber>
         requires { board.now.table.shared.table_id ≡ N.table }
-        ensures { Records N.size was_sent IsFull closed_end self.old me.old (call.Pump id)
+        ensures { Records N.size was_sent IsFull closed_end unsent self.old me.old (call.Pump id)
             (reply.Pumped result) self.new me.new }
     {
         let pumped = self.core.pump(id);
@@ -322,14 +324,14 @@ impl<'p, N: Naming + HistoryNaming + Ledger, R: Wait + Copy> RecordedCore<'p, N,
     }
 
     /// What a subscriber doesn't hold may be handed out again.
-    pub fn reissue(
+    pub(crate) fn reissue(
         &mut self,
         board: &CoreBoard,
         me: &mut CoreToken<N>,
         id: usize,
     ) -> Result<(), NoSubscriber>
         requires { board.now.table.shared.table_id ≡ N.table }
-        ensures { Records N.size was_sent IsFull closed_end self.old me.old (call.Reissue id)
+        ensures { Records N.size was_sent IsFull closed_end unsent self.old me.old (call.Reissue id)
             (reply.Reissued result) self.new me.new }
     {
         let reissued = self.core.reissue(id);
@@ -337,22 +339,35 @@ impl<'p, N: Naming + HistoryNaming + Ledger, R: Wait + Copy> RecordedCore<'p, N,
         reissued
     }
 
+    /// Has an open subscriber's end meet the hub's. It answers how far the subscriber was sent: the first version that
+    /// isn't sent whole; None where no open one has this id, and then nothing is done.
+    pub fn meet(&mut self, id: usize, end: &mut Subscription<N, R>) -> Option<u64>
+        requires fits { (a : SubscriberValue QueueSinkValue) → IsOpen self.old.core id a → end.old.line ≡ a.sink.line }
+        ensures same { self.new ≡ self.old }
+        ensures run { IsRunOf N.size was_sent IsFull closed_end unsent self.old.history self.old.core }
+        ensures met { MatchOption result (HasNone self.old.core id × (end.new ≡ end.old))
+            (λ cursor. (a : SubscriberValue QueueSinkValue) × IsOpen self.old.core id a × (cursor ≡ a.cursor)
+            × Meets a.sink end.old end.new) }
+    {
+        self.core.meet(id, end)
+    }
+
     /// Shows a caller the history so far, which has led to the core's state.
-    pub fn look(&mut self, board: &CoreBoard, me: &mut CoreToken<N>)
+    pub(crate) fn look(&mut self, board: &CoreBoard, me: &mut CoreToken<N>)
         requires { board.now.table.shared.table_id ≡ N.table }
         ensures same { self.new ≡ self.old }
         ensures begins { IsPrefix me.old.seen self.old.history }
-        ensures run { IsRunOf N.size was_sent IsFull closed_end self.old.history self.old.core }
+        ensures run { IsRunOf N.size was_sent IsFull closed_end unsent self.old.history self.old.core }
         ensures me { me.new ≡ looked me.old self.old.history }
     {
         self.history.look(board, me);
     }
 
     /// A caller's token takes in another, with its calls, and sees the history so far.
-    pub fn take_in(&mut self, board: &CoreBoard, me: &mut CoreToken<N>, other: CoreToken<N>)
+    pub(crate) fn take_in(&mut self, board: &CoreBoard, me: &mut CoreToken<N>, other: CoreToken<N>)
         requires { board.now.table.shared.table_id ≡ N.table }
         ensures same { self.new ≡ self.old }
-        ensures me { TakesIn (IsLegal N.size was_sent IsFull closed_end) me.old other me.new }
+        ensures me { TakesIn (IsLegal N.size was_sent IsFull closed_end unsent) me.old other me.new }
         ensures seen { me.new.seen ≡ self.old.history }
     {
         self.history.take_in(board, me, other);
@@ -360,12 +375,12 @@ impl<'p, N: Naming + HistoryNaming + Ledger, R: Wait + Copy> RecordedCore<'p, N,
 
     /// The law of the token that has all parts: the whole history is a run that has led to the core's state, and each
     /// of its entries is the token's own, once.
-    pub fn settle(&mut self, board: &CoreBoard, all: CoreToken<N>)
+    pub(crate) fn settle(&mut self, board: &CoreBoard, all: CoreToken<N>)
         requires here { board.now.table.shared.table_id ≡ N.table }
         requires all { all.parts ≡ N.parts }
         ensures same { self.new ≡ self.old }
-        ensures run { IsRunOf N.size was_sent IsFull closed_end self.old.history self.old.core }
-        ensures whole { IsWhole (IsLegal N.size was_sent IsFull closed_end) self.old.history all }
+        ensures run { IsRunOf N.size was_sent IsFull closed_end unsent self.old.history self.old.core }
+        ensures whole { IsWhole (IsLegal N.size was_sent IsFull closed_end unsent) self.old.history all }
     {
         self.history.settle(board, all);
     }

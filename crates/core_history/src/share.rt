@@ -4,7 +4,7 @@ ghost use mathlib.Core.List.{IsPrefix};
 ghost use Rattle.feeds.specs.Promise.{Suits};
 ghost use Rattle.hub_core.specs.declared.run.Reply.TheVariants as reply;
 ghost use Rattle.call_history.specs.Calls.{AreOwn, IsWhole, TakesIn, looked, own_count};
-ghost use Rattle.subscriber_queues.specs.Queue.{was_sent, IsFull, closed_end};
+ghost use Rattle.subscriber_queues.specs.Queue.{was_sent, IsFull, closed_end, unsent};
 ghost use Rattle.core_history.specs.Runs.{IsLegal, IsRunOf, Records};
 ghost use Rattle.core_history.specs.Shares.{is_accepted, accepted_count};
 ghost use Rattle.core_history.specs.declared.entry.Call.TheVariants as call;
@@ -95,7 +95,7 @@ impl<N: Naming + HistoryNaming + Ledger> Share<N> {
         change: Change,
     ) -> Result<VersionToken<N>, SubmitError>
         requires { board.now.table.shared.table_id ≡ N.table }
-        ensures records { Records N.size was_sent IsFull closed_end core.old self.old (call.Submit change)
+        ensures records { Records N.size was_sent IsFull closed_end unsent core.old self.old (call.Submit change)
             (reply.Submitted result) core.new self.new }
         ensures ok { OnOk result (accepted_count self.new ≡ accepted_count self.old + 1) }
         ensures err { OnErr result (accepted_count self.new ≡ accepted_count self.old) }
@@ -116,7 +116,7 @@ impl<N: Naming + HistoryNaming + Ledger> Share<N> {
         change: &Change,
     ) -> SubmitError
         requires { board.now.table.shared.table_id ≡ N.table }
-        ensures records { Records N.size was_sent IsFull closed_end core.old self.old (call.Submit change.now)
+        ensures records { Records N.size was_sent IsFull closed_end unsent core.old self.old (call.Submit change.now)
             (reply.Submitted (Err result)) core.new self.new }
         ensures count { accepted_count self.new ≡ accepted_count self.old }
     {
@@ -131,7 +131,7 @@ impl<N: Naming + HistoryNaming + Ledger> Share<N> {
         id: usize,
     ) -> Result<(), NoSubscriber>
         requires { board.now.table.shared.table_id ≡ N.table }
-        ensures { Records N.size was_sent IsFull closed_end core.old self.old (call.Close id)
+        ensures { Records N.size was_sent IsFull closed_end unsent core.old self.old (call.Close id)
             (reply.Closed result) core.new self.new }
     {
         core.close(board, &mut self.token, id)
@@ -148,7 +148,7 @@ impl<N: Naming + HistoryNaming + Ledger> Share<N> {
         requires here { board.now.table.shared.table_id ≡ N.table }
         requires none { sink.sent ≡ [] }
         requires suits { Suits sink.promise N.size program.value (length core.old.core.changes) }
-        ensures { Records N.size was_sent IsFull closed_end core.old self.old (call.Subscribe program sink)
+        ensures { Records N.size was_sent IsFull closed_end unsent core.old self.old (call.Subscribe program sink)
             (reply.Subscribed result) core.new self.new }
     {
         core.subscribe(board, &mut self.token, program, sink)
@@ -166,8 +166,8 @@ impl<N: Naming + HistoryNaming + Ledger> Share<N> {
         requires here { board.now.table.shared.table_id ≡ N.table }
         requires none { sink.sent ≡ [] }
         requires suits { Suits sink.promise N.size program.value first }
-        ensures { Records N.size was_sent IsFull closed_end core.old self.old (call.SubscribeFrom program sink first)
-            (reply.Subscribed result) core.new self.new }
+        ensures { Records N.size was_sent IsFull closed_end unsent core.old self.old
+            (call.SubscribeFrom program sink first) (reply.Subscribed result) core.new self.new }
     {
         core.subscribe_from(board, &mut self.token, program, sink, first)
     }
@@ -179,7 +179,7 @@ impl<N: Naming + HistoryNaming + Ledger> Share<N> {
         board: &CoreBoard,
     ) -> Option<Job<N>>
         requires { board.now.table.shared.table_id ≡ N.table }
-        ensures { Records N.size was_sent IsFull closed_end core.old self.old call.TakeJob
+        ensures { Records N.size was_sent IsFull closed_end unsent core.old self.old call.TakeJob
             (reply.Handed result) core.new self.new }
     {
         core.take_job(board, &mut self.token)
@@ -193,7 +193,7 @@ impl<N: Naming + HistoryNaming + Ledger> Share<N> {
         batch: Batch<N>,
     ) -> Result<(), CommitError>
         requires { board.now.table.shared.table_id ≡ N.table }
-        ensures records { Records N.size was_sent IsFull closed_end core.old self.old (call.Commit batch)
+        ensures records { Records N.size was_sent IsFull closed_end unsent core.old self.old (call.Commit batch)
             (reply.Committed result) core.new self.new }
         ensures takes_no_memory { ¬ (result ≡ Err CommitError.OutOfMemory) }
     {
@@ -208,7 +208,7 @@ impl<N: Naming + HistoryNaming + Ledger> Share<N> {
         id: usize,
     ) -> Result<usize, NoSubscriber>
         requires { board.now.table.shared.table_id ≡ N.table }
-        ensures { Records N.size was_sent IsFull closed_end core.old self.old (call.Pump id)
+        ensures { Records N.size was_sent IsFull closed_end unsent core.old self.old (call.Pump id)
             (reply.Pumped result) core.new self.new }
     {
         core.pump(board, &mut self.token, id)
@@ -222,7 +222,7 @@ impl<N: Naming + HistoryNaming + Ledger> Share<N> {
         id: usize,
     ) -> Result<(), NoSubscriber>
         requires { board.now.table.shared.table_id ≡ N.table }
-        ensures { Records N.size was_sent IsFull closed_end core.old self.old (call.Reissue id)
+        ensures { Records N.size was_sent IsFull closed_end unsent core.old self.old (call.Reissue id)
             (reply.Reissued result) core.new self.new }
     {
         core.reissue(board, &mut self.token, id)
@@ -233,7 +233,7 @@ impl<N: Naming + HistoryNaming + Ledger> Share<N> {
         requires { board.now.table.shared.table_id ≡ N.table }
         ensures same { core.new ≡ core.old }
         ensures begins { IsPrefix self.old.seen core.old.history }
-        ensures run { IsRunOf N.size was_sent IsFull closed_end core.old.history core.old.core }
+        ensures run { IsRunOf N.size was_sent IsFull closed_end unsent core.old.history core.old.core }
         ensures me { self.new ≡ looked self.old core.old.history }
     {
         core.look(board, &mut self.token);
@@ -248,7 +248,7 @@ impl<N: Naming + HistoryNaming + Ledger> Share<N> {
     )
         requires { board.now.table.shared.table_id ≡ N.table }
         ensures same { core.new ≡ core.old }
-        ensures me { TakesIn (IsLegal N.size was_sent IsFull closed_end) self.old other self.new }
+        ensures me { TakesIn (IsLegal N.size was_sent IsFull closed_end unsent) self.old other self.new }
         ensures seen { self.new.seen ≡ core.old.history }
         ensures count { accepted_count self.new ≡ accepted_count self.old + accepted_count other }
     {
@@ -264,8 +264,8 @@ impl<N: Naming + HistoryNaming + Ledger> Share<N> {
         requires here { board.now.table.shared.table_id ≡ N.table }
         requires all { self.parts ≡ N.parts }
         ensures same { core.new ≡ core.old }
-        ensures run { IsRunOf N.size was_sent IsFull closed_end core.old.history core.old.core }
-        ensures whole { IsWhole (IsLegal N.size was_sent IsFull closed_end) core.old.history self }
+        ensures run { IsRunOf N.size was_sent IsFull closed_end unsent core.old.history core.old.core }
+        ensures whole { IsWhole (IsLegal N.size was_sent IsFull closed_end unsent) core.old.history self }
         ensures own { result ≡ own_count is_accepted self }
         ensures count { result ≡ length core.old.core.changes }
     {

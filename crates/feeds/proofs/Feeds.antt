@@ -155,36 +155,39 @@ module _ {S : Type 0} (sent : S → List Item) (full : S → Type 0) where
             (h.0 ∙ n, h.1, subst (λ k. slice_get ts k ≡ Some c.version) n h.2);
       }
 
-  pub moved_none : (s : Subscriber S) → Moved sent full s 0 s
-  moved_none s = record {
+  pub moved_none : (bare : S → S) (s : Subscriber S) → Moved sent full bare s 0 s
+  moved_none bare s = record {
     steps = 0;
     more = [];
     same = ap (λ n. record s { cursor = n }) (sym (add-zero s.cursor));
     held = λ i none. absurd (omega arith);
     many = refl;
     sent_more = sym (append-nil (sent s.sink));
+    sink_kept = refl;
   }
 
-  pub moved_part : (s : Subscriber S) (reached m : ℕ) (sink : S) (more : List Item) → length more ≡ m → sent sink ≡ sent s.sink ++ more
-      → Moved sent full s m (record s { count = reached; sink = sink })
-  moved_part s reached m sink more many is = record {
+  pub moved_part : (bare : S → S) (s : Subscriber S) (reached m : ℕ) (sink : S) (more : List Item) → length more ≡ m → sent sink ≡ sent s.sink ++ more
+      → bare sink ≡ bare s.sink → Moved sent full bare s m (record s { count = reached; sink = sink })
+  moved_part bare s reached m sink more many is keeps = record {
     steps = 0;
     more = more;
     same = ap (λ n. record s { cursor = n; count = reached; sink = sink }) (sym (add-zero s.cursor));
     held = λ i none. absurd (omega arith);
     many = many;
     sent_more = is;
+    sink_kept = keeps;
   }
 
-  pub moved_whole : (s : Subscriber S) (b : Job) (m : ℕ) (sink : S) (more : List Item) → slice_get s.held 0 ≡ Some (Some b) → length more ≡ m → sent sink ≡ sent s.sink ++ more
-      → Moved sent full s m (record s { cursor = s.cursor + 1; held = slide s.held; count = 0; sink = sink })
-  moved_whole s b m sink more at many is = record {
+  pub moved_whole : (bare : S → S) (s : Subscriber S) (b : Job) (m : ℕ) (sink : S) (more : List Item) → slice_get s.held 0 ≡ Some (Some b) → length more ≡ m → sent sink ≡ sent s.sink ++ more
+      → bare sink ≡ bare s.sink → Moved sent full bare s m (record s { cursor = s.cursor + 1; held = slide s.held; count = 0; sink = sink })
+  moved_whole bare s b m sink more at many is keeps = record {
     steps = 1;
     more = more;
     same = refl;
     held = λ i one. let e : 0 ≡ i = omega arith in (b, subst (λ k. slice_get s.held k ≡ Some (Some b)) e at);
     many = many;
     sent_more = is;
+    sink_kept = keeps;
   }
 
   held_more : (w : HeldBatches) (m n : ℕ) → ((i : ℕ) → i < m → IsHeldAt w i) → ((i : ℕ) → i < n → IsHeldAt (slid m w) i) → (i : ℕ) → i < m + n → IsHeldAt w i
@@ -197,8 +200,8 @@ module _ {S : Type 0} (sent : S → List Item) (full : S → Type 0) where
       (cases_lt i m)
 
   -- one move after another
-  pub moved_more : (a b c : Subscriber S) (m k : ℕ) → Moved sent full a m b → Moved sent full b k c → Moved sent full a (m + k) c
-  moved_more a b c m k x y =
+  pub moved_more : (bare : S → S) (a b c : Subscriber S) (m k : ℕ) → Moved sent full bare a m b → Moved sent full bare b k c → Moved sent full bare a (m + k) c
+  moved_more bare a b c m k x y =
       let mid : Subscriber S = record a { cursor = a.cursor + x.steps; held = slid x.steps a.held; count = b.count; sink = b.sink } in
       let on : c ≡ record mid { cursor = a.cursor + x.steps + y.steps; held = slid y.steps (slid x.steps a.held); count = c.count; sink = c.sink } =
       y.same ∙ ap (λ (z : Subscriber S). record z { cursor = z.cursor + y.steps; held = slid y.steps z.held; count = c.count; sink = c.sink }) x.same in
@@ -210,11 +213,12 @@ module _ {S : Type 0} (sent : S → List Item) (full : S → Type 0) where
         held = held_more a.held x.steps y.steps x.held (λ i l. subst (λ w. IsHeldAt w i) held (y.held i l));
         many = omega (arith, length-append x.more y.more, x.many, y.many);
         sent_more = y.sent_more ∙ ap (λ l. l ++ y.more) x.sent_more ∙ append_assoc (sent a.sink) x.more y.more;
+        sink_kept = y.sink_kept ∙ x.sink_kept;
       }
 
   -- no more versions were passed than the held has
-  pub steps_fit : (ts : List (Token Version)) (a b : Subscriber S) (m : ℕ) → IsFed sent full ts a → Moved sent full a m b → b.cursor ≤ a.cursor + 8
-  steps_fit ts a b m fed x =
+  pub steps_fit : (bare : S → S) (ts : List (Token Version)) (a b : Subscriber S) (m : ℕ) → IsFed sent full ts a → Moved sent full bare a m b → b.cursor ≤ a.cursor + 8
+  steps_fit bare ts a b m fed x =
       let cursor : b.cursor ≡ a.cursor + x.steps = ap (λ (z : Subscriber S). z.cursor) x.same in
       ⊎_elim (λ (l : x.steps < 9). omega arith)
       (λ (h : 9 ≤ x.steps). let t = x.held 8 (omega arith) in absurd (omega (arith, slice_get_within a.held 8 (Some t.0) t.1, fed.wide)))
@@ -230,33 +234,33 @@ module _ {S : Type 0} (sent : S → List Item) (full : S → Type 0) where
   sent_many s items reached r = omega (arith, length-take (reached - s.count) (drop s.count items), length-drop s.count items)
 
   -- the code sent a part of the batch at the cursor: o is the subscriber before, seen by its fields as s
-  pub sent_part : (ts : List (Token Version)) (o s : Subscriber S) (b : Job) (reached : ℕ) (sink : S) → s ≡ o → IsFed sent full ts o
+  pub sent_part : (bare : S → S) (ts : List (Token Version)) (o s : Subscriber S) (b : Job) (reached : ℕ) (sink : S) → s ≡ o → IsFed sent full ts o
       → slice_get s.held 0 ≡ Some (Some b) → (s.count ≤ reached) × (reached ≤ length (items_of b.program b.version)) → reached < length (items_of b.program b.version)
       → sent sink ≡ sent s.sink ++ take (reached - s.count) (drop s.count (items_of b.program b.version))
-      → IsFed sent full ts (record s { count = reached; sink = sink }) × Moved sent full o (reached - s.count) (record s { count = reached; sink = sink })
-  sent_part ts o s b reached sink same fed' at r high is =
+      → bare sink ≡ bare s.sink → IsFed sent full ts (record s { count = reached; sink = sink }) × Moved sent full bare o (reached - s.count) (record s { count = reached; sink = sink })
+  sent_part bare ts o s b reached sink same fed' at r high is keeps =
       let fed = subst (IsFed sent full ts) (sym same) fed' in
       let items = items_of b.program b.version in (
         fed_part sent full ts s b reached sink fed at r.0 high is,
-        subst (λ z. Moved sent full z (reached - s.count) (record s { count = reached; sink = sink })) same
-            (moved_part sent full s reached (reached - s.count) sink (take (reached - s.count) (drop s.count items)) (sent_many s items reached r) is),
+        subst (λ z. Moved sent full bare z (reached - s.count) (record s { count = reached; sink = sink })) same
+            (moved_part sent full bare s reached (reached - s.count) sink (take (reached - s.count) (drop s.count items)) (sent_many s items reached r) is keeps),
       )
 
-  pub sent_whole : (ts : List (Token Version)) (o s : Subscriber S) (b : Job) (reached : ℕ) (w : HeldBatches) (sink : S) → s ≡ o → IsFed sent full ts o
+  pub sent_whole : (bare : S → S) (ts : List (Token Version)) (o s : Subscriber S) (b : Job) (reached : ℕ) (w : HeldBatches) (sink : S) → s ≡ o → IsFed sent full ts o
       → slice_get s.held 0 ≡ Some (Some b) → (s.count ≤ reached) × (reached ≤ length (items_of b.program b.version)) → length (items_of b.program b.version) ≤ reached
       → w ≡ drop 1 (set s.held 0 None) ++ take 1 (set s.held 0 None)
       → sent sink ≡ sent s.sink ++ take (reached - s.count) (drop s.count (items_of b.program b.version))
-      → IsFed sent full ts (record s { cursor = s.cursor + 1; held = w; count = 0; sink = sink })
-      × Moved sent full o (reached - s.count) (record s { cursor = s.cursor + 1; held = w; count = 0; sink = sink })
-  sent_whole ts o s b reached w sink same fed' at r high turned is =
+      → bare sink ≡ bare s.sink → IsFed sent full ts (record s { cursor = s.cursor + 1; held = w; count = 0; sink = sink })
+      × Moved sent full bare o (reached - s.count) (record s { cursor = s.cursor + 1; held = w; count = 0; sink = sink })
+  sent_whole bare ts o s b reached w sink same fed' at r high turned is keeps =
       let fed = subst (IsFed sent full ts) (sym same) fed' in
       let items = items_of b.program b.version in
       let held : slide s.held ≡ w = sym (turned ∙ slide_is s.held fed.wide) in
       let all : take (reached - s.count) (drop s.count items) ≡ drop s.count items = take_all (reached - s.count) (drop s.count items) (omega (arith, length-drop s.count items)) in
       let New : HeldBatches → Type 0 = λ v. IsFed sent full ts (record s { cursor = s.cursor + 1; held = v; count = 0; sink = sink })
-      × Moved sent full s (reached - s.count) (record s { cursor = s.cursor + 1; held = v; count = 0; sink = sink }) in
+      × Moved sent full bare s (reached - s.count) (record s { cursor = s.cursor + 1; held = v; count = 0; sink = sink }) in
       let new : New w = subst New held (
         fed_whole sent full ts s b sink fed at (is ∙ ap (λ l. sent s.sink ++ l) all),
-        moved_whole sent full s b (reached - s.count) sink (take (reached - s.count) (drop s.count items)) at (sent_many s items reached r) is,
+        moved_whole sent full bare s b (reached - s.count) sink (take (reached - s.count) (drop s.count items)) at (sent_many s items reached r) is keeps,
       ) in
-      (new.0, subst (λ z. Moved sent full z (reached - s.count) (record s { cursor = s.cursor + 1; held = w; count = 0; sink = sink })) same new.1)
+      (new.0, subst (λ z. Moved sent full bare z (reached - s.count) (record s { cursor = s.cursor + 1; held = w; count = 0; sink = sink })) same new.1)

@@ -124,8 +124,8 @@ module _ {S : Type 0} (sent : S → List Item) (full : S → Type 0) where
     pub owed : IsOwed ts s
 
   -- that many items more were sent, all of versions that were held; the cursor went on by some versions, and nothing
-  -- else changed
-  pub record Moved (old : Subscriber S) (m : ℕ) (new : Subscriber S) : Type 0 where
+  -- else changed, of the sink too, which is seen by this view of what a push keeps
+  pub record Moved (bare : S → S) (old : Subscriber S) (m : ℕ) (new : Subscriber S) : Type 0 where
     pub steps : ℕ
     pub more : List Item
     pub same : new ≡ record old {
@@ -137,6 +137,7 @@ module _ {S : Type 0} (sent : S → List Item) (full : S → Type 0) where
     pub held : (i : ℕ) → i < steps → IsHeldAt old.held i
     pub many : length more ≡ m
     pub sent_more : sent new.sink ≡ sent old.sink ++ more
+    pub sink_kept : bare new.sink ≡ bare old.sink
 
   -- the cursor's batch is not held, or the sink may refuse
   abbrev pub Stops : Subscriber S → Type 0

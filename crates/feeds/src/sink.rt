@@ -35,19 +35,38 @@ pub trait Sink<I: AsItem>: Drop {
     /// What it is once it is closed.
     ghost closed: { Self → Self };
 
+    /// What it is but for what it was sent. A push keeps it.
+    ghost bare: { Self → Self };
+
+    /// The subscriber's end, where its items come from.
+    type End: Drop;
+
+    /// The end is of this sink.
+    ghost fits: { Self.End → Self → Type 0 };
+
+    /// What is known of the sink and of its end before and after they met.
+    ghost meets: { Self → Self.End → Self.End → Type 0 };
+
     /// Sends an item. Where the sink is full it comes back.
     fn push(&mut self, item: I) -> Result<(), I>
         requires orderly { IsOrderly (sent self.old ++ I.as_item item ∷ []) }
         requires promised { IsPromised (promise self.old) (sent self.old ++ I.as_item item ∷ []) }
         ensures ok { OnOk result (sent self.new ≡ sent self.old ++ I.as_item item ∷ []) }
         ensures err { IfErr result (λ back. (back ≡ item) × (sent self.new ≡ sent self.old) × full self.new) }
-        ensures kept { promise self.new ≡ promise self.old };
+        ensures kept { promise self.new ≡ promise self.old }
+        ensures bare { bare self.new ≡ bare self.old };
 
     /// Lets go of the memory that waiting items need: nothing is sent from now on. What was sent stays known.
     fn close(&mut self)
         ensures value { self.new ≡ closed self.old }
         ensures sent { sent self.new ≡ sent self.old }
         ensures kept { promise self.new ≡ promise self.old };
+
+    /// The subscriber's end meets the sink.
+    fn meet(&mut self, end: &mut Self::End)
+        requires fits { fits end.old self.old }
+        ensures same { self.new ≡ self.old }
+        ensures meets { meets self.old end.old end.new };
 }
 
 /// A sink that keeps a fixed number of items. Nothing is promised of them.
@@ -85,7 +104,10 @@ impl<N: Naming> ListSink<N> {
 }
 
 impl<N: Naming> Sink<Item<N>> for ListSink<N> {
-    ghost use Rattle.std.specs.Prelude.{◌≡◌, ◌++◌, ◌∷◌, [], length, None, IfErr, OnOk};
+    ghost use Rattle.std.specs.Prelude.{◌≡◌, ◌++◌, ◌∷◌, [], length, None, IfErr, OnOk, ⊤};
+
+    /// Its items are kept where they can be read.
+    type End = ();
 
     ghost sent = { λ s. s.sent };
 
@@ -94,6 +116,12 @@ impl<N: Naming> Sink<Item<N>> for ListSink<N> {
     ghost promise = { λ s. None };
 
     ghost closed = { λ s. s };
+
+    ghost bare = { λ s. record s { sent = [] } };
+
+    ghost fits = { λ end s. ⊤ };
+
+    ghost meets = { λ s end met. ⊤ };
 
     fn push(&mut self, item: Item<N>) -> Result<(), Item<N>>
         ensures ok { OnOk result (self.new.sent ≡ self.old.sent ++ item ∷ []) }
@@ -111,6 +139,12 @@ impl<N: Naming> Sink<Item<N>> for ListSink<N> {
     /// Its items stay, for whoever reads them.
     fn close(&mut self)
         ensures value { self.new ≡ self.old }
+    {
+        let _ = self.items.len();
+    }
+
+    fn meet(&mut self, _end: &mut ())
+        ensures { self.new ≡ self.old }
     {
         let _ = self.items.len();
     }

@@ -62,6 +62,7 @@ fn send_batch<N: Naming, S: Sink<Item<N>>>(sink: &mut S, batch: &Batch<N>, from:
         ++ take (result - from) (drop from (items_of batch.now.program batch.now.version)) }
     ensures stop { (result ≡ length (items_of batch.now.program batch.now.version)) ⊎ S.full sink.new }
     ensures kept { S.promise sink.new ≡ S.promise sink.old }
+    ensures bare { S.bare sink.new ≡ S.bare sink.old }
 {
     let items = batch.items();
     let mut at = from;
@@ -131,7 +132,7 @@ impl<N: Naming, S: Sink<Item<N>>> Subscriber<N, S> {
         requires published { AreOfChanges N.size versions.now }
         requires fed { IsFed S.sent S.full versions.now self.old }
         ensures fed { IsFed S.sent S.full versions.now self.new }
-        ensures moved { Moved S.sent S.full self.old result.0 self.new }
+        ensures moved { Moved S.sent S.full S.bare self.old result.0 self.new }
         ensures few { result.0 ≤ 131073 }
         ensures on { result.1 ≡ true → self.new.cursor ≡ self.old.cursor + 1 }
         ensures stop { result.1 ≡ false → Stops S.sent S.full self.new }
@@ -158,7 +159,7 @@ impl<N: Naming, S: Sink<Item<N>>> Subscriber<N, S> {
         requires published { AreOfChanges N.size versions.now }
         requires fed { IsFed S.sent S.full versions.now self.old }
         ensures fed { IsFed S.sent S.full versions.now self.new }
-        ensures moved { Moved S.sent S.full self.old result self.new }
+        ensures moved { Moved S.sent S.full S.bare self.old result self.new }
         ensures stop { Stops S.sent S.full self.new }
     {
         let mut pushed = 0;
@@ -278,6 +279,17 @@ impl<N: Naming, S: Sink<Item<N>>> Subscriber<N, S> {
     {
         self.program.every_run_ends();
         &self.sink
+    }
+
+    /// Has its end meet its sink. It answers the first version that wasn't sent whole.
+    pub fn meet(&mut self, end: &mut S::End) -> u64
+        requires fits { S.fits end.old self.old.sink }
+        ensures same { self.new ≡ self.old }
+        ensures cursor { result ≡ self.old.cursor }
+        ensures meets { S.meets self.old.sink end.old end.new }
+    {
+        self.sink.meet(end);
+        self.cursor
     }
 
     /// The first version of which no batch is held, where jobs were handed out below this one and this is the latest.

@@ -1,2 +1,4 @@
 pub mod Indexes
-pub mod Committed
+pub mod Worked
+pub mod Totals
+pub mod Turning

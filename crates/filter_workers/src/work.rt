@@ -1,10 +1,17 @@
-ghost use Rattle.std.specs.Prelude.{◌≡◌, ◌≤◌, ◌<◌, ◌*◌, ◌^◌, Ok, All, IfOk, IfSome, length};
+ghost use Rattle.std.specs.Prelude.{◌≡◌, ◌≤◌, ◌<◌, Ok, Result, List, IfOk, IfSome, OnErr, All, length, map};
+ghost use Rattle.std.specs.Thread.{IsSync};
 ghost use Rattle.feeds.specs.Kept.{IsKnownOf};
-ghost use Rattle.filter_workers.specs.Turns.{Ends, IsPumped, Turns, Helps, CatchesUp, AreCommitted, batches_of};
+ghost use Rattle.hub_core.specs.declared.error.CommitError.{CommitError};
+ghost use Rattle.hub_core.specs.declared.run.Reply.TheVariants as reply;
+ghost use Rattle.core_history.specs.declared.entry.Call.TheVariants as call;
+ghost use Rattle.core_history.specs.Hubs.{HubEntry};
+ghost use Rattle.ingest_workers.specs.Calls.{IsCall, Makes};
+ghost use Rattle.filter_workers.specs.Turns.{IsEnd, Serves, Turns, Works, Worked, Totals, Helps, CatchesUp, batches_of};
 
 use crate::filter::{is_short, verdicts};
 use crate::gate::Gate;
 use call_history::knowledge::HistoryNaming;
+use core_history::share::Share;
 use feeds::batch::Batch;
 use feeds::item::Job;
 use feeds::kept::{KeptVerdicts, Known, is_blind_to_position};
@@ -13,7 +20,7 @@ use ingest_workers::hub::Hub;
 use std::alloc::{AllocError, Global};
 use std::sync::Wait;
 use std::sync::ledger::Ledger;
-use std::thread::{Threads, map_indices};
+use std::thread::{Threads, for_each_mut};
 use version_history::published::{Naming, Published};
 
 /// What became of a job's batch.
@@ -79,22 +86,25 @@ fn batch_of<N: Naming + HistoryNaming + Ledger, R: Threads + Wait + Copy + Sync>
     Ok(batch)
 }
 
-/// Computes the batch of a job outside the lock, and commits it.
+/// Computes the batch of a job outside the lock, and commits it. Where no memory is found no call was made.
 fn answer<N: Naming + HistoryNaming + Ledger, R: Threads + Wait + Copy + Sync>(
     rt: &R,
     alloc: Global,
     hub: &Hub<'_, N, R>,
     published: &Published<'_, N>,
+    share: &mut Share<N>,
     job: &Job<N>,
     workers: usize,
 ) -> Result<TurnEnd, AllocError>
-    ensures { IfOk result (Ends N.size job.now) }
+    ensures ok { IfOk result (λ end. (r : Result (Unit {0}) CommitError) × IsEnd r end
+        × IsCall N.size share.old (call.Commit job.now) (reply.Committed r) share.new) }
+    ensures err { OnErr result (share.new ≡ share.old) }
 {
     let batch = batch_of(rt, alloc, hub, published, job, workers)?;
-    match hub.commit(rt, batch) {
+    match hub.commit(rt, share, batch) {
         Ok(()) => Ok(TurnEnd::Committed),
-        Err(CommitError::OutOfMemory) => Err(AllocError),
         Err(CommitError::NoSubscriber | CommitError::Stale) => Ok(TurnEnd::Refused),
+        Err(CommitError::OutOfMemory) => unreachable!(),
     }
 }
 
@@ -105,18 +115,19 @@ fn serve<N: Naming + HistoryNaming + Ledger, R: Threads + Wait + Copy + Sync>(
     alloc: Global,
     hub: &Hub<'_, N, R>,
     published: &Published<'_, N>,
+    share: &mut Share<N>,
     job: &Job<N>,
     workers: usize,
 ) -> Result<TurnEnd, AllocError>
-    ensures { IfOk result (λ end. Ends N.size job.now end × IsPumped N.size job.now.subscriber) }
+    ensures { (calls : List HubEntry) × Makes N.size share.old calls share.new × Serves job.now result calls }
 {
-    match answer(rt, alloc, hub, published, job, workers) {
+    match answer(rt, alloc, hub, published, share, job, workers) {
         Ok(end) => {
-            let _ = hub.pump(rt, job.subscriber);
+            let _ = hub.pump(rt, share, job.subscriber);
             Ok(end)
         }
         Err(error) => {
-            let _ = hub.reissue(rt, job.subscriber);
+            let _ = hub.reissue(rt, share, job.subscriber);
             Err(error)
         }
     }
@@ -129,35 +140,36 @@ fn turn<N: Naming + HistoryNaming + Ledger, R: Threads + Wait + Copy + Sync, G: 
     hub: &Hub<'_, N, R>,
     published: &Published<'_, N>,
     gate: &G,
+    share: &mut Share<N>,
     workers: usize,
 ) -> Result<Option<TurnEnd>, AllocError>
-    ensures { IfOk result (Turns N.size) }
+    ensures { (calls : List HubEntry) × Makes N.size share.old calls share.new × Turns result calls }
 {
-    let Some(job) = hub.take_job(rt) else {
+    let Some(job) = hub.take_job(rt, share) else {
         return Ok(None);
     };
     gate.before(&job);
-    let served = serve(rt, alloc, hub, published, &job, workers);
+    let served = serve(rt, alloc, hub, published, share, &job, workers);
     gate.after(&job);
     Ok(Some(served?))
 }
 
 /// A worker's turns, until there is no job or no memory was found. It answers how many batches it committed.
-#[tactic(auto, using(crate::proofs::Committed::none_yet, crate::proofs::Committed::wider))]
 fn work_alone<N: Naming + HistoryNaming + Ledger, R: Threads + Wait + Copy + Sync, G: Gate<N>>(
     rt: &R,
     alloc: Global,
     hub: &Hub<'_, N, R>,
     published: &Published<'_, N>,
     gate: &G,
+    share: &mut Share<N>,
     workers: usize,
     turns: u32,
 ) -> Result<u64, AllocError>
-    ensures { IfOk result (AreCommitted N.size turns) }
+    ensures { (calls : List HubEntry) × Makes N.size share.old calls share.new × Works turns result calls }
 {
     let mut committed = 0;
     for _turn in 0..turns {
-        let Some(end) = turn(rt, alloc, hub, published, gate, workers)? else {
+        let Some(end) = turn(rt, alloc, hub, published, gate, share, workers)? else {
             break;
         };
         committed += end.batches();
@@ -165,24 +177,42 @@ fn work_alone<N: Naming + HistoryNaming + Ledger, R: Threads + Wait + Copy + Syn
     Ok(committed)
 }
 
-/// What all workers committed together, or want of memory where one met it.
-#[tactic(auto, using(crate::proofs::Committed::none_yet, crate::proofs::Committed::together))]
-fn total<N: Naming>(counts: &[Result<u64, AllocError>], turns: u64) -> Result<u64, AllocError>
-    requires each { All (λ count. IfOk count (AreCommitted N.size turns)) counts.now }
-    requires fits { length counts.now * turns < 2 ^ 64 }
-    ensures { IfOk result (AreCommitted N.size (length counts.now * turns)) }
+/// A worker: the share by which it calls the hub, and how its turns ended.
+#[derive(Drop)]
+pub struct Worker<N: Naming + HistoryNaming + Ledger> {
+    pub share: Share<N>,
+    /// How many batches it committed, or that no memory was found.
+    pub ended: Result<u64, AllocError>,
+}
+
+impl<N: Naming + HistoryNaming + Ledger> Worker<N> {
+    /// A worker that has had no turn.
+    pub fn new(share: Share<N>) -> Self
+        ensures { (result.share ≡ share) × (result.ended ≡ Ok 0) }
+    {
+        Self {
+            share,
+            ended: Ok(0),
+        }
+    }
+}
+
+/// How many batches the workers committed, or that one of them found no memory.
+fn total<N: Naming + HistoryNaming + Ledger>(workers: &[Worker<N>]) -> Result<u64, AllocError>
+    requires { (length workers.now ≤ 16) × All (λ w. IfOk w.ended (λ count. count < 4294967296)) workers.now }
+    ensures { Totals (map (λ w. w.ended) workers.now) result }
 {
     let mut sum = 0;
-    for count in counts {
-        sum += (*count)?;
+    for worker in workers {
+        sum += worker.ended?;
     }
     Ok(sum)
 }
 
-/// Has `workers` workers, of which one runs in this thread, take jobs, compute their batches and commit them, each
-/// until its turns are over or there is no job. The more they are, the fewer threads each may start to compute one. It
-/// answers how many batches were committed; where a worker found no memory it ends, what its subscriber is owed is
-/// handed out again, and the others go on to their end.
+/// Has workers, of which one runs in this thread, take jobs, compute their batches and commit them, each until its
+/// turns are over or there is no job. The more they are, the fewer threads each may start to compute one. It answers
+/// how many batches were committed; where a worker found no memory it ends, what its subscriber is owed is handed out
+/// again, and the others go on to their end.
 pub fn work<
     N: Naming + HistoryNaming + Ledger + Send + Sync,
     R: Threads + Wait + Copy + Send + Sync,
@@ -193,25 +223,31 @@ pub fn work<
     hub: &Hub<'_, N, R>,
     published: &Published<'_, N>,
     gate: &G,
-    workers: usize,
+    workers: &mut [Worker<N>],
     turns: u32,
 ) -> Result<u64, AllocError>
-    requires { (1 ≤ workers) × (workers ≤ 16) }
+    requires { (1 ≤ length workers.old) × (length workers.old ≤ 16) }
     ensures none { turns ≡ 0 → result ≡ Ok 0 }
-    ensures committed { IfOk result (AreCommitted N.size (workers * turns)) }
+    ensures worked { Worked N.size turns (map (λ w. w.share) workers.old) result (map (λ w. w.share) workers.new) }
 {
     if turns == 0 {
         return Ok(0);
     }
-    let counts = map_indices(
+    let count = workers.len();
+    for_each_mut(
         rt,
-        alloc,
         workers,
-        &|_| -> Result<u64, AllocError>
-            ensures { IfOk result (AreCommitted N.size turns) }
-        { work_alone(rt, alloc, hub, published, gate, workers, turns) },
-    )?;
-    total::<N>(counts.as_slice(), u64::from(turns))
+        count,
+        &|_place, worker: &mut Worker<N>|
+            requires { IsSync R.row }
+            ensures { (calls : List HubEntry) × Makes N.size worker.old.share calls worker.new.share
+                × Works turns worker.new.ended calls }
+        {
+            let share = &mut worker.share;
+            worker.ended = work_alone(rt, alloc, hub, published, gate, share, count, turns);
+        },
+    );
+    total(workers)
 }
 
 /// Takes a job, whichever subscriber it is of. If it takes at most `most` steps its batch is computed and committed; a
@@ -222,17 +258,18 @@ pub fn help<N: Naming + HistoryNaming + Ledger, R: Threads + Wait + Copy + Sync>
     alloc: Global,
     hub: &Hub<'_, N, R>,
     published: &Published<'_, N>,
+    share: &mut Share<N>,
     most: usize,
 ) -> Result<bool, AllocError>
-    ensures { IfOk result (Helps N.size most) }
+    ensures { (calls : List HubEntry) × Makes N.size share.old calls share.new × Helps most calls result }
 {
-    let Some(job) = hub.take_job(rt) else {
+    let Some(job) = hub.take_job(rt, share) else {
         return Ok(false);
     };
     if !is_short(published, &job, most) {
         return Ok(false);
     }
-    let _end = serve(rt, alloc, hub, published, &job, 1)?;
+    let _end = serve(rt, alloc, hub, published, share, &job, 1)?;
     Ok(true)
 }
 
@@ -244,19 +281,20 @@ pub fn catch_up<N: Naming + HistoryNaming + Ledger, R: Threads + Wait + Copy + S
     alloc: Global,
     hub: &Hub<'_, N, R>,
     published: &Published<'_, N>,
+    share: &mut Share<N>,
     subscriber: usize,
     last: u64,
     workers: usize,
 ) -> Result<bool, AllocError>
     requires { (1 ≤ workers) × (workers ≤ 16) }
-    ensures { IfOk result (CatchesUp N.size subscriber last) }
+    ensures { CatchesUp N.size subscriber last share.old result share.new }
 {
-    let Some(job) = hub.missing_job(rt, subscriber) else {
+    let Some(job) = hub.missing_job(rt, share, subscriber) else {
         return Ok(false);
     };
     if job.number > last {
         return Ok(false);
     }
-    let _end = answer(rt, alloc, hub, published, &job, workers)?;
+    let _end = answer(rt, alloc, hub, published, share, &job, workers)?;
     Ok(true)
 }

@@ -131,11 +131,11 @@ module _ {S : Type 0} (sent : S → List Item) (full : S → Type 0) where
   pub fed_at : (s : Core S) (id : ℕ) (a : Subscriber S) → IsSound sent full s → id < length s.subscribers → a ≡ get_or s.subscribers id a → IsFed sent full s.versions a
   fed_at s id a sound within is = subst (IsFed sent full s.versions) (sym is) (All-get_or (IsFed sent full s.versions) s.subscribers id a within sound.fed)
 
-  pub pumped : (o s : Core S) (id m : ℕ) (x a b : Subscriber S) → s ≡ o → id < length s.subscribers → x ≡ get_or s.subscribers id x → x.closed ≡ false → a ≡ get_or s.subscribers id a
-      → Moved sent full a m b → Stops sent full b → IsFed sent full s.versions b → Pumps sent full o id (Ok m) (record s { subscribers = set s.subscribers id b })
-  pumped o s id m x a b same within read opened found moved stops fed =
+  pub pumped : (bare : S → S) (o s : Core S) (id m : ℕ) (x a b : Subscriber S) → s ≡ o → id < length s.subscribers → x ≡ get_or s.subscribers id x → x.closed ≡ false → a ≡ get_or s.subscribers id a
+      → Moved sent full bare a m b → Stops sent full b → IsFed sent full s.versions b → Pumps sent full bare o id (Ok m) (record s { subscribers = set s.subscribers id b })
+  pumped bare o s id m x a b same within read opened found moved stops fed =
       let one : a ≡ x = found ∙ get_or_default s.subscribers id a x within ∙ sym read in
-      subst (λ z. Pumps sent full z id (Ok m) (record s { subscribers = set s.subscribers id b })) same
+      subst (λ z. Pumps sent full bare z id (Ok m) (record s { subscribers = set s.subscribers id b })) same
       (a, b, (slice_get_read s.subscribers (length s.subscribers) id a refl within found, ap (λ (z : Subscriber S). z.closed) one ∙ opened), moved, stops, fed, refl)
 
   -- the subscriber that was read as open
@@ -297,6 +297,24 @@ module _ {S : Type 0} where
   -- the sink of the subscriber that was read
   pub sink_there : (o s : Core S) (id : ℕ) (a : Subscriber S) (sink : S) → s ≡ o → id < length s.subscribers → a ≡ get_or s.subscribers id a → sink ≡ a.sink → (x : Subscriber S) × (slice_get o.subscribers id ≡ Some x) × (sink ≡ x.sink)
   sink_there o s id a sink same within at is = (a, subst (λ (y : Core S). slice_get y.subscribers id ≡ Some a) same (reads s id a within at), is)
+
+  -- the subscriber that was read stays what it is, and so does the core
+  pub met_same : (o s : Core S) (id : ℕ) (a b : Subscriber S) → s ≡ o → a ≡ get_or s.subscribers id a → b ≡ a → record s { subscribers = set s.subscribers id b } ≡ o
+  met_same o s id a b same at kept =
+      let back : set s.subscribers id b ≡ s.subscribers = ap (set s.subscribers id) (kept ∙ at) ∙ set-get_or s.subscribers id a in
+      ap (λ (l : List (Subscriber S)). record s { subscribers = l }) back ∙ same
+
+  -- how far the subscriber that was read as open was sent, by its cursor, and what is so of its sink
+  pub met_there : (o s : Core S) (id cursor : ℕ) (x a : Subscriber S) (Met : S → Type 0) → s ≡ o → id < length s.subscribers → x ≡ get_or s.subscribers id x → x.closed ≡ false → a ≡ get_or s.subscribers id a
+      → cursor ≡ a.cursor → Met a.sink → (y : Subscriber S) × IsOpen o id y × (cursor ≡ y.cursor) × Met y.sink
+  met_there o s id cursor x a Met same within read opened found at met =
+      (a, subst (λ (y : Core S). IsOpen y id a) same (open_both s id x a within read opened found), at, met)
+
+  -- what fits the sink of each open one with the id fits that of the one that was read as open
+  pub fits_there : (o s : Core S) (id : ℕ) (x a : Subscriber S) (Fits : S → Type 0) → s ≡ o → id < length s.subscribers → x ≡ get_or s.subscribers id x → x.closed ≡ false → a ≡ get_or s.subscribers id a
+      → ((y : Subscriber S) → IsOpen o id y → Fits y.sink) → Fits a.sink
+  fits_there o s id x a Fits same within read opened found fits =
+      fits a (subst (λ (y : Core S). IsOpen y id a) same (open_both s id x a within read opened found))
 
   -- what holds of it, its program is safe, holds of the one with the id
   pub safe_there : (o s : Core S) (id : ℕ) (a : Subscriber S) → s ≡ o → id < length s.subscribers → a ≡ get_or s.subscribers id a → Safe a.program.value → (x : Subscriber S) → slice_get o.subscribers id ≡ Some x → Safe x.program.value

@@ -131,14 +131,14 @@ Closes closed_sink s id (Err _) s' = (s' ≡ s) × HasNone s id
 
 module _ {S : Type 0} (sent : S → List Item) (full : S → Type 0) where
   -- that many items of held batches are sent, in order, until the next batch isn't held or the sink is full; all that
-  -- was sent is then what the subscriber's cursor and count say; where the state isn't known, Err says nothing of the
-  -- hub, since with no subscriber it holds for every id
-  abbrev pub Pumps : Core S → ℕ → Result ℕ NoSubscriber → Core S → Type 0
-  Pumps s id (Ok m) s' =
-      (a : Subscriber S) × (b : Subscriber S) × IsOpen s id a × Moved sent full a m b × Stops sent full b
+  -- was sent is then what the subscriber's cursor and count say, and the sink stays what it is but for that; where the
+  -- state isn't known, Err says nothing of the hub, since with no subscriber it holds for every id
+  abbrev pub Pumps : (S → S) → Core S → ℕ → Result ℕ NoSubscriber → Core S → Type 0
+  Pumps bare s id (Ok m) s' =
+      (a : Subscriber S) × (b : Subscriber S) × IsOpen s id a × Moved sent full bare a m b × Stops sent full b
       × IsFed sent full s.versions b
       × (s' ≡ with_subscriber s id b)
-  Pumps s id (Err _) s' = (s' ≡ s) × HasNone s id
+  Pumps bare s id (Err _) s' = (s' ≡ s) × HasNone s id
 
   -- what the core's type keeps
   pub record IsSound (s : Core S) : Type 0 where

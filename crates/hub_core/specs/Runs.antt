@@ -25,7 +25,7 @@ abbrev pub handed_by : Reply (Token Version) Job → List Job
 handed_by (reply.Handed (Some job)) = job ∷ []
 handed_by _ = []
 
-module _ {S : Type 0} (sent : S → List Item) (full : S → Type 0) (closed_sink : S → S) where
+module _ {S : Type 0} (sent : S → List Item) (full : S → Type 0) (closed_sink bare : S → S) where
   -- what one event does, where these jobs were handed out before it in its run
   abbrev pub Happens : Core S → List Job → Event (Token Program) S → Reply (Token Version) Job → Core S → Type 0
   Happens s jobs (event.Submit change) (reply.Submitted r) s' = Submits s change r s'
@@ -34,7 +34,7 @@ module _ {S : Type 0} (sent : S → List Item) (full : S → Type 0) (closed_sin
   Happens s jobs (event.SubscribeFrom program sink first) (reply.Subscribed r) s' = Subscribes s first program sink r s'
   Happens s jobs event.TakeJob (reply.Handed r) s' = TakesJob s r s'
   Happens s jobs (event.Commit k) (reply.Committed r) s' = CommitsJob s (slice_get jobs k) r s'
-  Happens s jobs (event.Pump id) (reply.Pumped r) s' = Pumps sent full s id r s'
+  Happens s jobs (event.Pump id) (reply.Pumped r) s' = Pumps sent full bare s id r s'
   Happens s jobs (event.Reissue id) (reply.Reissued r) s' = Reissues s id r s'
   Happens s jobs (event.Close id) (reply.Closed r) s' = Closes closed_sink s id r s'
   Happens s jobs _ _ s' = ⊥

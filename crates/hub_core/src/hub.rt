@@ -16,7 +16,7 @@ ghost use Rattle.hub_core.specs.Counting.{AreCounts, AreWithinLimits};
 ghost use Rattle.hub_core.specs.Runs.{CommitsJob};
 ghost use Rattle.hub_core.specs.Accepting.{Accepts, HasLatest};
 ghost use Rattle.hub_core.specs.Machine.{IsStart, Submits, Subscribes, Commits, Pumps, Reissues, Closes, TakesJob};
-ghost use Rattle.hub_core.specs.Machine.{HasNoPlace, IsOpen, Misses, FindsAt, FindsJob};
+ghost use Rattle.hub_core.specs.Machine.{HasNoPlace, HasNone, IsOpen, Misses, FindsAt, FindsJob};
 
 use crate::counts::{Counts, greatest_lag};
 use crate::error::{CommitError, NoSubscriber, SubscribeError};
@@ -418,7 +418,7 @@ impl<'p, N: Naming, S: Sink<Item<N>>> Core<'p, N, S> {
 
     /// Sends what can be sent to a subscriber. It answers how many items.
     pub fn pump(&mut self, id: usize) -> Result<usize, NoSubscriber>
-        ensures { Pumps S.sent S.full self.old id result self.new }
+        ensures { Pumps S.sent S.full S.bare self.old id result self.new }
     {
         if id >= self.subscribers.len() || self.subscribers[id].is_closed() {
             return Err(NoSubscriber);
@@ -427,6 +427,20 @@ impl<'p, N: Naming, S: Sink<Item<N>>> Core<'p, N, S> {
         let _ = self.history.len();
         let sub = &mut self.subscribers[id];
         Ok(sub.pump(self.versions.as_slice()))
+    }
+
+    /// Has an open subscriber's end meet its sink. It answers how far the subscriber was sent: the first version that
+    /// isn't sent whole; None where no open one has this id, and then nothing is done.
+    pub fn meet(&mut self, id: usize, end: &mut S::End) -> Option<u64>
+        requires fits { (a : SubscriberValue S) → IsOpen self.old id a → S.fits end.old a.sink }
+        ensures same { self.new ≡ self.old }
+        ensures met { MatchOption result (HasNone self.old id × (end.new ≡ end.old)) (λ cursor. (a : SubscriberValue S)
+            × IsOpen self.old id a × (cursor ≡ a.cursor) × S.meets a.sink end.old end.new) }
+    {
+        if id >= self.subscribers.len() || self.subscribers[id].is_closed() {
+            return None;
+        }
+        Some(self.subscribers[id].meet(end))
     }
 
     /// What a subscriber doesn't hold may be handed out again.

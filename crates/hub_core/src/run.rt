@@ -47,7 +47,8 @@ fn take_job<N: Naming, S: Sink<Item<N>>>(
     jobs: &mut Vec<Job<N>>,
 ) -> Reply<VersionToken<N>, Job<N>>
     requires { vec_len jobs.old < vec_capacity jobs.old }
-    ensures happens { (taken : List JobValue) → Happens S.sent S.full S.closed core.old taken TakeJob result core.new }
+    ensures happens { (taken : List JobValue)
+        → Happens S.sent S.full S.closed S.bare core.old taken TakeJob result core.new }
     ensures jobs { jobs.new.items ≡ jobs.old.items ++ handed_by result }
     ensures room { (vec_len jobs.new ≤ vec_len jobs.old + 1) × (vec_capacity jobs.new ≡ vec_capacity jobs.old) }
 {
@@ -67,7 +68,7 @@ fn run_event<N: Naming, S: Sink<Item<N>>, R: Wait>(
 ) -> Reply<VersionToken<N>, Job<N>>
     requires fresh { IsFreshEvent S.sent S.promise N.size event }
     requires room { vec_len jobs.old < vec_capacity jobs.old }
-    ensures happens { Happens S.sent S.full S.closed core.old jobs.old.items event result core.new }
+    ensures happens { Happens S.sent S.full S.closed S.bare core.old jobs.old.items event result core.new }
     ensures jobs { jobs.new.items ≡ jobs.old.items ++ handed_by result }
     ensures room { (vec_len jobs.new ≤ vec_len jobs.old + 1) × (vec_capacity jobs.new ≡ vec_capacity jobs.old) }
 {
@@ -95,7 +96,7 @@ pub fn run_events<N: Naming, S: Sink<Item<N>>, R: Wait>(
     replies: &mut Vec<Reply<VersionToken<N>, Job<N>>>,
 ) -> Result<(), AllocError>
     requires { All (IsFreshEvent S.sent S.promise N.size) events.items }
-    ensures ok { OnOk result (AppendsRun S.sent S.full S.closed replies.old.items core.old events.items
+    ensures ok { OnOk result (AppendsRun S.sent S.full S.closed S.bare replies.old.items core.old events.items
         replies.new.items core.new) }
     ensures err { OnErr result ((replies.new.items ≡ replies.old.items) × (core.new ≡ core.old)) }
 {

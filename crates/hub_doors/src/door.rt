@@ -1,4 +1,7 @@
 //! Where connections come in.
+ghost use Rattle.std.specs.Prelude.{IfErr};
+ghost use Rattle.hub_doors.specs.Serving.{IsUnserved};
+
 use crate::server::ServeError;
 use crate::socket_file;
 use crate::stream::{Peer, Stream};
@@ -88,7 +91,9 @@ impl Door {
     }
 
     /// Writes the line that tells of it.
-    fn tell<W: Write>(&self, writer: &mut W) -> Result<(), ServeError> {
+    fn tell<W: Write>(&self, writer: &mut W) -> Result<(), ServeError>
+        ensures { IfErr result IsUnserved }
+    {
         let kind = self.kind;
         match &self.listener {
             Listener::Tcp(listener) => {
@@ -117,7 +122,9 @@ fn open_each<R: Net<Listener = TcpListener, Stream = TcpStream> + Files>(
     rt: &R,
     alloc: Global,
     asked: &Doors,
-) -> Result<Vec<Door>, ServeError> {
+) -> Result<Vec<Door>, ServeError>
+    ensures { IfErr result IsUnserved }
+{
     let mut doors = Vec::with_capacity(alloc, 3)?;
     if let Some(port) = asked.port {
         let door = Door::at_port(rt, DoorKind::Port, asked.host, port);
@@ -144,7 +151,9 @@ pub(crate) fn open<R: Net<Listener = TcpListener, Stream = TcpStream> + Files, W
     alloc: Global,
     asked: &Doors,
     writer: &mut W,
-) -> Result<Vec<Door>, ServeError> {
+) -> Result<Vec<Door>, ServeError>
+    ensures { IfErr result IsUnserved }
+{
     let doors = open_each(rt, alloc, asked)?;
     for door in &doors {
         door.tell(writer)?;

@@ -5,12 +5,12 @@ use crate::door::{Door, DoorKind};
 use crate::fault::ConnectionFault;
 use crate::journal::{Surroundings, Visit};
 use crate::link::{Patience, Traffic};
+use crate::session_share::SessionShare;
 use crate::stream::Peer;
 use crate::tally::Tally;
 use call_history::knowledge::HistoryNaming;
 use change_keeping::desk::Desk;
 use change_keeping::keeping::Keeping;
-use core_history::share::Share;
 use hub_requests::serving::{Service, Terms, WebDoor};
 use ingest_workers::hub::Hub;
 use lending_pool::{Lent, Pool};
@@ -85,7 +85,7 @@ pub(crate) struct House<
     pub published: &'g Published<'p, N>,
     pub desk: Option<&'h Desk<N>>,
     /// The sessions that there may still be, or may be at once.
-    pub shares: &'h Pool<Share<N>>,
+    pub shares: &'h Pool<SessionShare<N>>,
     /// As many handshakes may be unfinished at once.
     pub handshakes: &'h Pool<()>,
     pub doors: &'h [Door],
@@ -118,14 +118,14 @@ impl<
     }
 
     /// A share for a session.
-    pub(crate) fn take_share(&self) -> Option<Lent<'h, Share<N>, R>> {
+    pub(crate) fn take_share(&self) -> Option<Lent<'h, SessionShare<N>, R>> {
         self.shares.lend(&self.rt)
     }
 
     /// Gives a share back, unless it is used up.
-    pub(crate) fn give_back(&self, lent: Lent<'h, Share<N>, R>) {
+    pub(crate) fn give_back(&self, lent: Lent<'h, SessionShare<N>, R>) {
         if self.uses_up() {
-            drop(lent.keep());
+            lent.use_up();
         } else {
             drop(lent);
         }

@@ -2,6 +2,7 @@
 #![tactic(auto)]
 
 mod accepting;
+mod common;
 pub mod door;
 mod ending;
 pub mod fault;
@@ -11,6 +12,7 @@ pub mod journal;
 mod lines;
 mod link;
 pub mod server;
+mod session_share;
 pub mod socket_file;
 pub mod stream;
 mod tally;

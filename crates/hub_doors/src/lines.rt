@@ -5,13 +5,13 @@ use crate::fault::ConnectionFault;
 use crate::house::House;
 use crate::journal::Surroundings;
 use crate::link::{Link, Patient, Traffic};
+use crate::session_share::SessionShare;
 use crate::stream::{Peer, Stream};
 use crate::tally::{Tallied, Tally};
 use call_history::knowledge::HistoryNaming;
 use change_keeping::clerk::Clerk;
 use change_keeping::keeping::Keeping;
-use core_history::share::Share;
-use hub_sessions::conversation::{SessionFault, session};
+use hub_sessions::conversation::SessionFault;
 use lending_pool::Lent;
 use std::io;
 use std::io::ErrorKind;
@@ -28,7 +28,7 @@ fn session_over<
 >(
     house: &House<'_, '_, '_, '_, N, R, J>,
     kind: DoorKind,
-    share: &mut Share<N>,
+    share: &mut SessionShare<N>,
     stream: &Stream,
     tally: &Tally,
     traffic: &Traffic,
@@ -41,13 +41,12 @@ fn session_over<
     let Ok(mut clerk) = Clerk::new(house.rt, house.alloc, house.desk) else {
         return Err(SessionFault::Read(io::Error::from(ErrorKind::OutOfMemory)));
     };
-    session(
+    share.session(
         &house.rt,
         house.alloc,
         house.hub,
         house.published,
         &mut clerk,
-        share,
         Patient::new(link),
         &mut Tallied::new(link, tally),
         house.terms.workers.count(),
@@ -65,7 +64,7 @@ pub(crate) fn serve_lines<
     house: &House<'h, '_, '_, '_, N, R, J>,
     kind: DoorKind,
     peer: Peer,
-    lent: Lent<'h, Share<N>, R>,
+    lent: Lent<'h, SessionShare<N>, R>,
     stream: Stream,
 ) {
     let mut lent = lent;

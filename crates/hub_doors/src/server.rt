@@ -1,11 +1,14 @@
 //! Sessions at doors, all of them on one hub.
-ghost use Rattle.std.specs.Prelude.{◌≡◌, ◌≤◌, ◌+◌, ℕ, List};
+ghost use Rattle.std.specs.Prelude.{◌≡◌, ◌≤◌, ◌+◌, ℕ, List, All, IfOk, vec_len};
+ghost use Rattle.change_keeping.specs.Kept.{none_kept, some_log};
+ghost use Rattle.hub_doors.specs.Serving.{IsBegun, Serves};
 ghost use Rattle.hub_doors.specs.declared.server.ServeError.TheVariants as serve_error;
 
 use crate::accepting::accept_all;
+use crate::common::Common;
 use crate::door::{Door, DoorKind, open};
 use crate::fault::ConnectionFault;
-use crate::house::{House, State};
+use crate::house::House;
 use crate::journal::Surroundings;
 use crate::socket_file::SocketFault;
 use call_history::knowledge::HistoryNaming;
@@ -18,7 +21,6 @@ use core_history::start::Start;
 use hub_requests::serving::{Doors, Terms};
 use hub_restoring::restoring::{NotRestored, restore};
 use ingest_workers::hub::Hub;
-use lending_pool::Pool;
 use std::alloc::{AllocError, Global};
 use std::fs::Files;
 use std::io::Write;
@@ -46,6 +48,8 @@ pub enum ServeError {
     Connection(ConnectionFault),
     /// The log failed, or the hub didn't show what it keeps.
     Kept,
+    /// The share of a session didn't come back, which cannot be: all threads have ended then.
+    Unreturned,
     /// No memory was found for the hub.
     OutOfMemory,
 }
@@ -80,15 +84,6 @@ pub enum NotServed<L: ChangeLog> {
     NotRestored(NotRestored<L>),
     /// No memory was found for the hub.
     OutOfMemory(L),
-}
-
-/// As many places as this.
-fn places(alloc: Global, count: usize) -> Result<Pool<()>, AllocError> {
-    let mut places = Vec::with_capacity(alloc, count)?;
-    for _ in 0..count {
-        places.push(())?;
-    }
-    Pool::new(alloc, places)
 }
 
 /// Serves what comes in at each door, the first one's in this thread, until no session begins any more and all have
@@ -142,38 +137,6 @@ fn serve_and_keep<
     )
 }
 
-/// What the threads of a server share, but for its doors and its hub.
-#[derive(Drop)]
-struct Common<N: Naming + HistoryNaming + Ledger> {
-    shares: Pool<Share<N>>,
-    handshakes: Pool<()>,
-    state: State,
-}
-
-impl<N: Naming + HistoryNaming + Ledger> Common<N> {
-    fn new(alloc: Global, shares: Vec<Share<N>>) -> Result<Common<N>, AllocError> {
-        let handshakes = places(alloc, shares.len())?;
-        Ok(Common {
-            shares: Pool::new(alloc, shares)?,
-            handshakes,
-            state: State::new(),
-        })
-    }
-
-    /// How serving ended, once all threads have.
-    fn ended(self) -> Result<(), ServeError> {
-        let Common {
-            shares: _,
-            handshakes: _,
-            state,
-        } = self;
-        match state.into_fault() {
-            Some(fault) => Err(ServeError::Connection(fault)),
-            None => Ok(()),
-        }
-    }
-}
-
 /// Takes the socket file away.
 fn leave<R: Files>(rt: &R, doors: &[Door]) {
     for door in doors {
@@ -208,6 +171,7 @@ fn serve_on<
     requires start { (start.name ≡ N.name) × (start.table ≡ N.table) × (start.parts ≡ N.parts)
         × (N.parts ≡ sessions + 1) }
     requires sessions { (1 ≤ sessions) × (sessions ≤ 256) }
+    ensures { Serves N.size N.kept result }
 {
     let published = Published::<N>::new(plan.terms.size, versions, programs);
     let (hub, shares) = Hub::new(&rt, alloc, start, &published, sessions)?;
@@ -228,7 +192,7 @@ fn serve_on<
         state: &common.state,
     });
     leave(&rt, &doors);
-    common.ended()
+    common.end(hub, sessions, false)
 }
 
 /// Serves sessions at the doors that a plan names, all of them on one hub and each in a thread of its own, and returns
@@ -244,7 +208,9 @@ pub fn serve<
         + Sync,
     J: Surroundings + Send + Sync,
     W: Write,
->(rt: R, alloc: Global, plan: &Plan<'_, J>, writer: &mut W) -> Result<(), ServeError> {
+>(rt: R, alloc: Global, plan: &Plan<'_, J>, writer: &mut W) -> Result<(), ServeError>
+    ensures { Serves plan.now.terms.now.size (none_kept plan.now.terms.now.size) result }
+{
     let versions = boxcar::Vec::new(alloc)?;
     let programs = boxcar::Vec::new(alloc)?;
     let sessions = plan.terms.service.sessions();
@@ -279,7 +245,7 @@ fn serve_stored<
 >(
     rt: R,
     alloc: Global,
-    hub: &'g Hub<'p, N, R>,
+    hub: Hub<'p, N, R>,
     published: &'g Published<'p, N>,
     shares: Vec<Share<N>>,
     stored: &mut StoredHistory<L>,
@@ -288,14 +254,18 @@ fn serve_stored<
 ) -> Result<(), ServeError>
     requires kept { (texts : List (List ℕ)) (log : L) → L.kept log texts → N.kept.texts texts }
     requires size { stored.old.size ≡ N.kept.size }
+    requires begun { All (IsBegun N.size) shares.items }
+    requires parts { N.parts ≡ vec_len shares + 1 }
+    ensures { Serves N.size N.kept result }
 {
+    let sessions = shares.len();
     let common = Common::new(alloc, shares)?;
     let desk = Desk::new(alloc)?;
     let doors = open(&rt, alloc, plan.doors, writer)?;
     let house = House {
         rt,
         alloc,
-        hub,
+        hub: &hub,
         published,
         desk: Some(&desk),
         shares: &common.shares,
@@ -308,10 +278,7 @@ fn serve_stored<
     };
     serve_and_keep(&house, &desk, stored);
     leave(&rt, &doors);
-    if desk.is_failed() {
-        return Err(ServeError::Kept);
-    }
-    common.ended()
+    common.end(hub, sessions, desk.is_failed())
 }
 
 /// Serves sessions on the hub `N`, whose changes a log keeps.
@@ -349,14 +316,13 @@ fn serve_kept_on<
     requires progress { P.IsAlwaysCallable progress }
     requires kept { (texts : List (List ℕ)) (log : L) → L.kept log texts → N.kept.texts texts }
     requires size { N.kept.size ≡ N.size }
+    ensures { IfOk result (λ served. Serves N.size N.kept served.ended) }
 {
     let published = Published::<N>::new(plan.terms.size, versions, programs);
     let Ok((hub, mut shares)) = Hub::new(&rt, alloc, start, &published, sessions) else {
         return Err(NotServed::OutOfMemory(log));
     };
-    let Some(share) = shares.last_mut() else {
-        unreachable!()
-    };
+    let share = &mut shares[0];
     let mut stored = match restore(&rt, alloc, &hub, share, log, progress) {
         Ok(stored) => stored,
         Err(not) => return Err(NotServed::NotRestored(not)),
@@ -364,7 +330,7 @@ fn serve_kept_on<
     let ended = serve_stored(
         rt,
         alloc,
-        &hub,
+        hub,
         &published,
         shares,
         &mut stored,
@@ -401,6 +367,8 @@ pub fn serve_kept<
 ) -> Result<Served<L>, NotServed<L>>
     requires log { (texts : List (List ℕ)) × L.kept log texts }
     requires progress { P.IsAlwaysCallable progress }
+    ensures { IfOk result (λ served. Serves plan.now.terms.now.size (some_log plan.now.terms.now.size L.kept)
+        served.ended) }
 {
     let Ok(versions) = boxcar::Vec::new(alloc) else {
         return Err(NotServed::OutOfMemory(log));

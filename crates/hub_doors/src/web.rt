@@ -6,14 +6,14 @@ use crate::file::answer_file;
 use crate::house::House;
 use crate::journal::Surroundings;
 use crate::link::{Link, Patience, Traffic};
+use crate::session_share::SessionShare;
 use crate::stream::{Peer, Stream};
 use crate::tally::{Tallied, Tally};
 use call_history::knowledge::HistoryNaming;
 use change_keeping::clerk::Clerk;
 use change_keeping::keeping::Keeping;
-use core_history::share::Share;
 use hub_requests::serving::WebDoor;
-use hub_sessions::conversation::{SessionFault, session};
+use hub_sessions::conversation::SessionFault;
 use lending_pool::Lent;
 use std::alloc::Global;
 use std::cell::Cell;
@@ -52,7 +52,7 @@ fn session_over<
     J: Surroundings + Send + Sync,
 >(
     house: &House<'_, '_, '_, '_, N, R, J>,
-    share: &mut Share<N>,
+    share: &mut SessionShare<N>,
     link: Link<'_>,
     begun: Vec<u8>,
     tally: &Tally,
@@ -63,13 +63,12 @@ fn session_over<
     let ending = Cell::new(Ending::Open);
     let reader = MessageReader::new(house.alloc, link, begun, &ending, house.most_waits());
     let mut writer = Tallied::new(MessageWriter::new(house.alloc, link), tally);
-    let ended = session(
+    let ended = share.session(
         &house.rt,
         house.alloc,
         house.hub,
         house.published,
         &mut clerk,
-        share,
         reader,
         &mut writer,
         house.terms.workers.count(),
@@ -94,7 +93,7 @@ fn serve_session<
 >(
     house: &House<'h, '_, '_, '_, N, R, J>,
     peer: Peer,
-    lent: Lent<'h, Share<N>, R>,
+    lent: Lent<'h, SessionShare<N>, R>,
     stream: &Stream,
     begun: Vec<u8>,
 ) {

@@ -29,7 +29,7 @@ impl From<ServeError> for CommandError {
             ServeError::Output(error) => CommandError::Fault(Fault::Output(error)),
             ServeError::Connection(fault) => CommandError::Fault(Fault::Connection(fault)),
             ServeError::Kept => CommandError::Fault(Fault::Store),
-            ServeError::OutOfMemory => CommandError::Memory,
+            ServeError::OutOfMemory | ServeError::Unreturned => CommandError::Memory,
         }
     }
 }

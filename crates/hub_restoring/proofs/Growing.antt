@@ -1,20 +1,16 @@
 -- Changes that a hub accepts, one after another.
-use Rattle.std.proofs.Common.{◌≡◌, ℕ, ◌+◌, List, [], ◌∷◌, ◌++◌, Ok, length, refl, sym, subst, ◌∙◌, arith}
-use Rattle.std.specs.Prelude.{suc}
+use Rattle.std.proofs.Common.{◌≡◌, List, [], ◌∷◌, ◌++◌, Ok, length, refl, subst, arith}
 use Rattle.change_ops.specs.Changes.{Change}
 use Rattle.change_ops.specs.declared.size.Size.{Size}
-use Rattle.ingest_workers.specs.Holdings.{InOneHolding, Ingests}
+use Rattle.core_history.specs.Shares.{accepted_count}
+use Rattle.core_history.specs.Hubs.{Seen}
+use Rattle.ingest_workers.specs.Holdings.{Ingests}
 use Rattle.hub_restoring.specs.Restoring.{AreIngested}
 
 -- one more behind others
-pub ingested_more : (size : Size) (count : ℕ) (changes : List Change) (change : Change) (before after : ℕ) → AreIngested size count changes → before ≡ count + length changes → after ≡ before + 1
-    → InOneHolding size (λ old new. Ingests old change (Ok after) new) → AreIngested size count (changes ++ change ∷ [])
-ingested_more size count [] change before after are behind next is =
-    let same : after ≡ count + 1 = omega (arith, behind, next) in
-    (subst (λ (n : ℕ). InOneHolding size (λ old new. Ingests old change (Ok n) new)) same is, tt)
-ingested_more size count (first ∷ changes) change before after are behind next is =
-    let more : before ≡ (count + 1) + length changes = omega (arith, behind) in
-    (are.0, ingested_more size (count + 1) changes change before after are.1 more next is)
+pub ingested_more : (size : Size) (v : Seen) (changes : List Change) (change : Change) (u w : Seen) → AreIngested size v changes u → Ingests size u change (Ok (accepted_count w)) w → AreIngested size v (changes ++ change ∷ []) w
+ingested_more size v [] change u w are is = (w, subst (λ (z : Seen). Ingests size z change (Ok (accepted_count w)) w) are is, refl)
+ingested_more size v (first ∷ changes) change u w are is = (are.0, are.1, ingested_more size are.0 changes change u w are.2 is)
 
 pub nothing_left : {X : Type 0} (l : List X) → length l ≡ 0 → l ≡ []
 nothing_left [] none = refl

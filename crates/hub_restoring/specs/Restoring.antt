@@ -1,12 +1,14 @@
 -- A hub that starts again from what a log keeps.
-use Rattle.std.specs.Prelude.{ℕ, ◌+◌, List, [], ◌∷◌, Ok, ⊤}
+use Rattle.std.specs.Prelude.{◌≡◌, List, [], ◌∷◌, Ok}
 use Rattle.change_ops.specs.Changes.{Change}
 use Rattle.change_ops.specs.declared.size.Size.{Size}
-use Rattle.ingest_workers.specs.Holdings.{InOneHolding, Ingests}
+use Rattle.core_history.specs.Shares.{accepted_count}
+use Rattle.core_history.specs.Hubs.{Seen}
+use Rattle.ingest_workers.specs.Holdings.{Ingests}
 
--- these are the changes of a hub of this size behind so many: each was accepted in a holding of the lock, with the next
--- number
-abbrev pub AreIngested : Size → ℕ → List Change → Type 0
-AreIngested size count [] = ⊤
-AreIngested size count (change ∷ changes) =
-    InOneHolding size (λ old new. Ingests old change (Ok (count + 1)) new) × AreIngested size (count + 1) changes
+-- these changes were accepted, one after another, each by one call of the share, under the number of all changes that
+-- the share has had accepted
+abbrev pub AreIngested : Size → Seen → List Change → Seen → Type 0
+AreIngested size v [] w = w ≡ v
+AreIngested size v (change ∷ changes) w =
+    (u : Seen) × Ingests size v change (Ok (accepted_count u)) u × AreIngested size u changes w

@@ -1,10 +1,10 @@
 //! The changes that a log keeps, accepted again when a hub starts.
-ghost use Rattle.std.specs.Prelude.{◌≡◌, ◌+◌, ℕ, List, Ok, length, map, IfOk, IfErr, OnOk};
+ghost use Rattle.std.specs.Prelude.{◌≡◌, ℕ, List, Ok, map, IfOk, IfErr, OnOk};
 ghost use Rattle.change_ops.specs.Spelling.{change_text};
 ghost use Rattle.change_history.specs.Accepted.{AreAccepted};
 ghost use Rattle.stored_history.specs.Texts.{IsNotOpened};
 ghost use Rattle.core_history.specs.Shares.{accepted_count};
-ghost use Rattle.ingest_workers.specs.Holdings.{InOneHolding, Ingests};
+ghost use Rattle.ingest_workers.specs.Holdings.{Ingests};
 ghost use Rattle.hub_restoring.specs.Restoring.{AreIngested};
 
 use call_history::knowledge::HistoryNaming;
@@ -35,8 +35,7 @@ fn restore_one<N: Naming + HistoryNaming + Ledger, R: Wait + Copy>(
     share: &mut Share<N>,
     change: Change,
 ) -> Result<(), AllocError>
-    ensures ok { OnOk result (InOneHolding N.size (λ old new. Ingests old change (Ok (accepted_count share.new)) new)) }
-    ensures share { OnOk result (accepted_count share.new ≡ accepted_count share.old + 1) }
+    ensures { OnOk result (Ingests N.size share.old change (Ok (accepted_count share.new)) share.new) }
 {
     match ingest_change(rt, hub, share, change) {
         Ok(number) if number == share.count() => Ok(()),
@@ -53,8 +52,7 @@ fn restore_all<N: Naming + HistoryNaming + Ledger, R: Wait + Copy, P: FnMut(usiz
     progress: P,
 ) -> Result<(), AllocError>
     requires progress { P.IsAlwaysCallable progress }
-    ensures ok { OnOk result (AreIngested N.size (accepted_count share.old) changes.items) }
-    ensures share { OnOk result (accepted_count share.new ≡ accepted_count share.old + length changes.items) }
+    ensures { OnOk result (AreIngested N.size share.old changes.items share.new) }
 {
     let mut progress = progress;
     let all = changes.len();
@@ -84,11 +82,9 @@ pub fn restore<
 ) -> Result<StoredHistory<L>, NotRestored<L>>
     requires log { (texts : List (List ℕ)) × L.kept log texts }
     requires progress { P.IsAlwaysCallable progress }
-    ensures restored { IfOk result (λ stored. AreIngested N.size (accepted_count share.old) stored.changes
+    ensures restored { IfOk result (λ stored. AreIngested N.size share.old stored.changes share.new
         × AreAccepted N.size stored.changes × L.kept stored.log (map change_text stored.changes)) }
     ensures size { IfOk result (λ stored. stored.size ≡ N.size) }
-    ensures share { IfOk result (λ stored. accepted_count share.new
-        ≡ accepted_count share.old + length stored.changes) }
     ensures same { (texts : List (List ℕ)) → L.kept log texts → IfOk result (λ stored. L.kept stored.log texts) }
     ensures err { IfErr result (λ left. IsNotOpened N.size L.kept left.log left.error) }
 {

@@ -1,4 +1,6 @@
 pub mod Admitting
 pub mod Conversing
 pub mod Keeping
+pub mod Making
+pub mod Owning
 pub mod Replayed

@@ -1,12 +1,14 @@
-ghost use Rattle.std.specs.Prelude.{◌≡◌, ◌≤◌, ◌↔◌, ◌++◌, [], IfOk, IfErr, OnOk, OnErr, string_bytes};
+ghost use Rattle.std.specs.Prelude.{◌≡◌, ◌≤◌, ◌↔◌, ◌++◌, ℕ, [], IfOk, IfErr, OnOk, OnErr, string_bytes};
 ghost use Rattle.std.specs.Io.KnownBytes.{Appends};
 ghost use Rattle.refusals.specs.declared.reason.Reason.TheVariants as why;
 ghost use Rattle.session_lines.specs.declared.fault.ReadFault.TheVariants as read_fault;
 ghost use Rattle.session_lines.specs.declared.reply.Reply.TheVariants as told;
-ghost use Rattle.core_history.specs.Shares.{accepted_count};
+ghost use Rattle.session_lines.specs.declared.request.SessionRequest.TheVariants as asked;
+ghost use Rattle.session_subscribers.specs.Holding.{AreOwnSubscribers, PullsShort};
 ghost use Rattle.session_reads.specs.Found.{found_text};
-ghost use Rattle.hub_sessions.specs.Sessions.{session_state, begins, Answers, AreApart, FallsShort, found_in, read_in};
-ghost use Rattle.hub_sessions.specs.Sessions.{TakesTurn, BreaksTurn, Ends, IsUnwritten, reply_line};
+ghost use Rattle.hub_sessions.specs.Sessions.{session_state, begins, Answers, AreApart, found_in, read_in};
+ghost use Rattle.hub_sessions.specs.Sessions.{TakesTurn, BreaksTurn, Ends, IsSession, ClosesAll, IsUnwritten};
+ghost use Rattle.hub_sessions.specs.Sessions.{reply_line};
 ghost use Rattle.hub_sessions.specs.declared.conversation.TurnFault.TheVariants as turn_fault;
 
 use crate::submitting::submit;
@@ -121,7 +123,7 @@ fn write_reply<W: Write>(
 }
 
 /// Does what is asked, appends the lines of items to an empty string, and answers what was found and the line after
-/// that or those.
+/// that or those. Each subscriber that is held was added by the session itself.
 fn answer<
     's,
     N: Naming + HistoryNaming + Ledger + Send + Sync,
@@ -136,7 +138,8 @@ fn answer<
     request: SessionRequest,
     out: &mut String,
 ) -> Result<Answer<'s>, AllocError>
-    requires { string_bytes out.old ≡ [] }
+    requires empty { string_bytes out.old ≡ [] }
+    requires own { AreOwnSubscribers share.old held.old.items }
     ensures answers { IfOk result (λ answer. Answers request
         (session_state N.size K.kept (K.stores keeper.old) share.old held.old.items left.old hub.now.options)
         (string_bytes out.old)
@@ -144,11 +147,8 @@ fn answer<
         answer.reply
         (session_state N.size K.kept (K.stores keeper.new) share.new held.new.items left.new hub.now.options)) }
     ensures apart { IfOk result (λ answer. AreApart request (found_text answer.found) (string_bytes out.new)) }
-    ensures short { OnErr result (FallsShort
-        (session_state N.size K.kept (K.stores keeper.old) share.old held.old.items left.old hub.now.options)
-        (string_bytes out.new)
-        (session_state N.size K.kept (K.stores keeper.new) share.new held.new.items left.new hub.now.options)) }
-    ensures share { accepted_count share.old ≤ accepted_count share.new }
+    ensures short { OnErr result ((id : ℕ) × (count : ℕ) × (request ≡ asked.Pull id count) × (left.new ≡ left.old)
+        × PullsShort N.size share.old share.new id count held.old.items held.new.items [] (string_bytes out.new)) }
     ensures same { K.stores keeper.new ≡ K.stores keeper.old }
 {
     match request {
@@ -160,15 +160,18 @@ fn answer<
             capacity,
             program,
             first,
-        } => Ok(Answer::line(hub.subscribe(held, left, profile, capacity, &program, first))),
+        } => Ok(Answer::line(hub.subscribe(share, held, left, profile, capacity, &program, first))),
         SessionRequest::Pull { subscriber, count } => {
-            let reply = hub.pull(held, subscriber, count, out)?;
+            let reply = hub.pull(share, held, subscriber, count, out)?;
             Ok(Answer::line(reply))
         }
-        SessionRequest::Close { subscriber } => Ok(Answer::line(hub.close(held, subscriber))),
+        SessionRequest::Close { subscriber } => Ok(Answer::line(hub.close(
+            share, held, subscriber,
+        ))),
         SessionRequest::Read(query) => Ok(read(
             &hub.rt,
             hub.hub,
+            share,
             hub.published,
             hub.options.reads,
             hub.options.hub,
@@ -202,6 +205,7 @@ fn take_turn<
     lines: &mut LineReader<I>,
     out: &mut String,
 ) -> Result<Turn<'s>, TurnFault>
+    requires own { AreOwnSubscribers share.old held.old.items }
     ensures ok { IfOk result (λ turn. TakesTurn turn
         (session_state N.size K.kept (K.stores keeper.old) share.old held.old.items left.old hub.now.options)
         lines.old.left (found_in turn ++ string_bytes out.new)
@@ -209,9 +213,9 @@ fn take_turn<
         lines.new.left) }
     ensures err { IfErr result (λ fault. BreaksTurn fault
         (session_state N.size K.kept (K.stores keeper.old) share.old held.old.items left.old hub.now.options)
-        (string_bytes out.new)
-        (session_state N.size K.kept (K.stores keeper.new) share.new held.new.items left.new hub.now.options)) }
-    ensures share { accepted_count share.old ≤ accepted_count share.new }
+        lines.old.left (string_bytes out.new)
+        (session_state N.size K.kept (K.stores keeper.new) share.new held.new.items left.new hub.now.options)
+        lines.new.left) }
     ensures same { K.stores keeper.new ≡ K.stores keeper.old }
 {
     empty_reply(out);
@@ -250,18 +254,19 @@ fn converse<
     out: &mut String,
     writer: &mut O,
 ) -> Result<(), SessionFault>
+    requires own { AreOwnSubscribers share.old held.old.items }
     ensures ends { Ends result
         (session_state N.size K.kept (K.stores keeper.old) share.old held.old.items left.old hub.now.options)
-        lines.old.left
-        (O.contents writer.old) (accepted_count share.new) (O.contents writer.new) }
-    ensures share { accepted_count share.old ≤ accepted_count share.new }
+        lines.old.left (O.contents writer.old)
+        (session_state N.size K.kept (K.stores keeper.new) share.new held.new.items left.new hub.now.options)
+        (O.contents writer.new) }
     ensures same { K.stores keeper.new ≡ K.stores keeper.old }
 {
     for _ in hub.rt.forever() {
         let turn = take_turn(hub, keeper, share, held, left, lines, out);
         write_reply(writer, &turn, out.as_str())?;
         match turn {
-            Ok(Turn::More(_)) => hub.help_others(),
+            Ok(Turn::More(_)) => hub.help_others(share),
             Ok(Turn::Last) => return Ok(()),
             Err(TurnFault::Read(error)) => return Err(SessionFault::Read(error)),
             Err(TurnFault::Memory) => return write_no_memory(writer),
@@ -286,11 +291,12 @@ fn begin<
     reader: I,
     writer: &mut O,
 ) -> Result<(), SessionFault>
+    requires own { AreOwnSubscribers share.old held.old.items }
     ensures ends { Ends result
         (session_state N.size K.kept (K.stores keeper.old) share.old held.old.items left.old hub.now.options)
-        (I.remaining reader)
-        (O.contents writer.old) (accepted_count share.new) (O.contents writer.new) }
-    ensures share { accepted_count share.old ≤ accepted_count share.new }
+        (I.remaining reader) (O.contents writer.old)
+        (session_state N.size K.kept (K.stores keeper.new) share.new held.new.items left.new hub.now.options)
+        (O.contents writer.new) }
     ensures same { K.stores keeper.new ≡ K.stores keeper.old }
 {
     let Ok(mut lines) = LineReader::new(hub.alloc, reader) else {
@@ -300,6 +306,20 @@ fn begin<
         return write_no_memory(writer);
     };
     converse(hub, keeper, share, held, left, &mut lines, &mut out, writer)
+}
+
+/// Closes all subscribers that a session held.
+fn close_all<N: Naming + HistoryNaming + Ledger, R: Wait + Copy>(
+    rt: &R,
+    hub: &Hub<'_, N, R>,
+    share: &mut Share<N>,
+    held: Vec<Held<N, R>>,
+)
+    ensures { ClosesAll N.size share.old share.new held.items }
+{
+    for one in held {
+        let _ = hub.close(rt, share, one.id);
+    }
 }
 
 /// Runs one session on a hub, by its own share and within its options, over any reader and writer: each request is
@@ -324,9 +344,8 @@ pub fn session<
     options: SessionOptions,
 ) -> Result<(), SessionFault>
     requires workers { (1 ≤ workers) × (workers ≤ 16) }
-    ensures ends { Ends result (begins N.size K.kept (K.stores keeper.old) (accepted_count share.old) options)
-        (I.remaining reader) (O.contents writer.old) (accepted_count share.new) (O.contents writer.new) }
-    ensures share { accepted_count share.old ≤ accepted_count share.new }
+    ensures session { IsSession result (begins N.size K.kept (K.stores keeper.old) share.old options)
+        (I.remaining reader) (O.contents writer.old) share.new (O.contents writer.new) }
     ensures same { K.stores keeper.new ≡ K.stores keeper.old }
 {
     let _counted = hub.begin_session();
@@ -350,8 +369,6 @@ pub fn session<
         reader,
         writer,
     );
-    for one in held {
-        let _ = hub.close(rt, one.id);
-    }
+    close_all(rt, hub, share, held);
     ended
 }

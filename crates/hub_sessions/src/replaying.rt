@@ -14,6 +14,7 @@ use core_history::start::Start;
 use hub_requests::limits::SessionOptions;
 use hub_restoring::restoring::{NotRestored, restore};
 use ingest_workers::hub::Hub;
+use ingest_workers::ingest::settle;
 use std::alloc::{AllocError, Global};
 use std::io::{Read, Write};
 use std::marker::Brand;
@@ -66,21 +67,21 @@ fn replay_on<
 {
     let published = Published::<N>::new(size, versions, programs);
     let (hub, mut shares) = Hub::new(rt, alloc, start, &published, 1)?;
-    let Some(mut share) = shares.pop() else {
-        unreachable!()
-    };
-    match session(
+    let share = &mut shares[0];
+    let ended = session(
         rt,
         alloc,
         &hub,
         &published,
         &mut NoStore,
-        &mut share,
+        share,
         reader,
         writer,
         workers,
         options,
-    ) {
+    );
+    let _count = settle(hub, shares);
+    match ended {
         Ok(()) => Ok(()),
         Err(fault) => Err(ReplayError::Session(fault)),
     }
@@ -162,10 +163,8 @@ fn replay_kept_on<
     let Ok((hub, mut shares)) = Hub::new(rt, alloc, start, &published, 1) else {
         return Err(NotReplayed::OutOfMemory(log));
     };
-    let Some(mut share) = shares.pop() else {
-        unreachable!()
-    };
-    let stored = match restore(rt, alloc, &hub, &mut share, log, progress) {
+    let share = &mut shares[0];
+    let stored = match restore(rt, alloc, &hub, share, log, progress) {
         Ok(stored) => stored,
         Err(not) => return Err(NotReplayed::NotRestored(not)),
     };
@@ -176,12 +175,13 @@ fn replay_kept_on<
         &hub,
         &published,
         &mut keeper,
-        &mut share,
+        share,
         reader,
         writer,
         workers,
         options,
     );
+    let _count = settle(hub, shares);
     Ok(Replayed {
         is_failed: keeper.is_failed(),
         log: keeper.into_log(),

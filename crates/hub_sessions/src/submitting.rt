@@ -1,15 +1,16 @@
 //! The changes that a session submits.
-ghost use Rattle.std.specs.Prelude.{◌≡◌, ◌⊎◌, ◌+◌, ◌≤◌, None, Some, Ok, IfOk, IfErr, OnErr, length};
+ghost use Rattle.std.specs.Prelude.{◌≡◌, ◌≤◌, None, Some, Ok, IfOk, IfErr, OnOk, OnErr, length};
 ghost use Rattle.change_ops.specs.declared.size.Size.{Size};
 ghost use Rattle.change_ops.specs.Spelling.{change_text};
 ghost use Rattle.core_history.specs.Shares.{accepted_count};
-ghost use Rattle.ingest_workers.specs.Holdings.{InOneHolding, Ingests};
+ghost use Rattle.core_history.specs.Hubs.{Seen};
+ghost use Rattle.ingest_workers.specs.Holdings.{Ingests};
 ghost use Rattle.hub_requests.specs.Limits.{takes_change, after_change};
 ghost use Rattle.hub_requests.specs.declared.limits.SessionLimits.{SessionLimits as Limits};
 ghost use Rattle.refusals.specs.declared.reason.Reason.TheVariants as reason;
 ghost use Rattle.change_keeping.specs.Kept.{IsKeptAs};
 ghost use Rattle.hub_sessions.specs.Submitting.{IsInReach, IsAdmitted, IsNotAdmitted, IsNotAccepted, Submits};
-ghost use Rattle.hub_sessions.specs.Submitting.{IsKeptIf, IsCountAfter};
+ghost use Rattle.hub_sessions.specs.Submitting.{IsKeptIf, IsMisshown};
 
 use call_history::knowledge::HistoryNaming;
 use change_counters::first_jump;
@@ -52,13 +53,15 @@ fn counted_bytes(alloc: Global, left: SessionLimits, change: &Change) -> Result<
 /// later one.
 fn check_jump<N: Naming + HistoryNaming + Ledger, R: Wait + Copy>(
     hub: &SessionHub<'_, '_, N, R>,
+    share: &mut Share<N>,
     jump: u64,
     change: &Change,
 ) -> Result<(), Reason>
-    ensures ok { IfOk result (λ _. IsInReach N.size (Some jump) change.now) }
-    ensures err { IfErr result (λ why. (left : Limits) → IsNotAdmitted N.size (Some jump) change.now left why) }
+    ensures ok { OnOk result (IsInReach N.size share.old share.new (Some jump) change.now) }
+    ensures err { IfErr result (λ why. (left : Limits)
+        → IsNotAdmitted N.size share.old share.new (Some jump) change.now left why) }
 {
-    let greatest = hub.hub.greatest_counter(&hub.rt);
+    let greatest = hub.hub.greatest_counter(&hub.rt, share);
     match first_jump(change, greatest, jump) {
         None => Ok(()),
         Some(line) => Err(Reason::Unread(ChangeError::Limit(line))),
@@ -68,32 +71,35 @@ fn check_jump<N: Naming + HistoryNaming + Ledger, R: Wait + Copy>(
 /// Refuses a change with a counter that is further above all accepted ones than the session may go.
 fn check_counters<N: Naming + HistoryNaming + Ledger, R: Wait + Copy>(
     hub: &SessionHub<'_, '_, N, R>,
+    share: &mut Share<N>,
     change: &Change,
 ) -> Result<(), Reason>
-    ensures ok { IfOk result (λ _. IsInReach N.size hub.now.options.counter_jump change.now) }
+    ensures ok { OnOk result (IsInReach N.size share.old share.new hub.now.options.counter_jump change.now) }
     ensures err { IfErr result (λ why. (left : Limits)
-        → IsNotAdmitted N.size hub.now.options.counter_jump change.now left why) }
+        → IsNotAdmitted N.size share.old share.new hub.now.options.counter_jump change.now left why) }
 {
     match hub.options.counter_jump {
         None => Ok(()),
-        Some(jump) => check_jump(hub, jump, change),
+        Some(jump) => check_jump(hub, share, jump, change),
     }
 }
 
 /// Whether the session may submit a change: how many bytes of it are to be counted, or why it may not.
 fn admit<N: Naming + HistoryNaming + Ledger, R: Wait + Copy>(
     hub: &SessionHub<'_, '_, N, R>,
+    share: &mut Share<N>,
     left: SessionLimits,
     change: &Change,
 ) -> Result<u64, Reason>
-    ensures admitted { IfOk result (λ _. IsAdmitted N.size hub.now.options.counter_jump change.now left) }
+    ensures admitted { OnOk result (IsAdmitted N.size share.old share.new hub.now.options.counter_jump change.now
+        left) }
     ensures takes { IfOk result (λ bytes. takes_change left bytes
         ≡ takes_change left (length (change_text change.now))) }
     ensures after { IfOk result (λ bytes. after_change left bytes
         ≡ after_change left (length (change_text change.now))) }
-    ensures err { IfErr result (IsNotAdmitted N.size hub.now.options.counter_jump change.now left) }
+    ensures err { IfErr result (IsNotAdmitted N.size share.old share.new hub.now.options.counter_jump change.now left) }
 {
-    check_counters(hub, change)?;
+    check_counters(hub, share, change)?;
     let Ok(bytes) = counted_bytes(hub.alloc, left, change) else {
         return Err(Reason::OutOfMemory);
     };
@@ -108,8 +114,8 @@ fn admit<N: Naming + HistoryNaming + Ledger, R: Wait + Copy>(
 #[tactic(auto, using(crate::proofs::Keeping::refused_by))]
 fn keep<K: Keeper>(keeper: &mut K, change: &Change) -> Result<Option<u64>, Reason>
     ensures ok { IfOk result (IsKeptAs K.kept (K.stores keeper.old) change.now) }
-    ensures err { IfErr result (λ why. (size : Size)
-        → IsNotAccepted size K.kept (K.stores keeper.old) change.now why) }
+    ensures err { IfErr result (λ why. (size : Size) (v : Seen)
+        → IsNotAccepted size v v K.kept (K.stores keeper.old) change.now why) }
     ensures same { K.stores keeper.new ≡ K.stores keeper.old }
 {
     match keeper.keep(change) {
@@ -127,13 +133,9 @@ fn show_kept<N: Naming + HistoryNaming + Ledger, R: Wait + Copy>(
     change: Change,
     kept: u64,
 ) -> Result<u64, Reason>
-    ensures ok { IfOk result (λ number. (number ≡ kept)
-        × (accepted_count share.new ≡ accepted_count share.old + 1) × (accepted_count share.new ≤ number)
-        × InOneHolding N.size (λ old new. Ingests old change (Ok number) new)) }
-    ensures err { IfErr result (λ why. (why ≡ reason.StoreFailed)
-        × ((accepted_count share.new ≡ accepted_count share.old)
-        ⊎ (accepted_count share.new ≡ accepted_count share.old + 1))) }
-    ensures share { accepted_count share.old ≤ accepted_count share.new }
+    ensures ok { IfOk result (λ number. (number ≡ kept) × (accepted_count share.new ≤ number)
+        × Ingests N.size share.old change (Ok number) share.new) }
+    ensures err { IfErr result (λ why. (why ≡ reason.StoreFailed) × IsMisshown N.size share.old share.new change) }
 {
     match ingest_change(&hub.rt, hub.hub, share, change) {
         Ok(number) if number == kept => Ok(number),
@@ -151,13 +153,10 @@ fn show<N: Naming + HistoryNaming + Ledger, R: Wait + Copy, K: Keeper>(
     kept: Option<u64>,
 ) -> Result<u64, Reason>
     requires { IsKeptAs K.kept (K.stores keeper.old) change kept }
-    ensures ok { IfOk result (λ number. (accepted_count share.new ≡ accepted_count share.old + 1)
-        × (accepted_count share.new ≤ number)
-        × InOneHolding N.size (λ old new. Ingests old change (Ok number) new)
+    ensures ok { IfOk result (λ number. (accepted_count share.new ≤ number)
+        × Ingests N.size share.old change (Ok number) share.new
         × IsKeptIf K.kept (K.stores keeper.old) number change) }
-    ensures err { IfErr result (λ why. IsCountAfter (accepted_count share.old) why (accepted_count share.new)
-        × IsNotAccepted N.size K.kept (K.stores keeper.old) change why) }
-    ensures share { accepted_count share.old ≤ accepted_count share.new }
+    ensures err { IfErr result (IsNotAccepted N.size share.old share.new K.kept (K.stores keeper.old) change) }
     ensures same { K.stores keeper.new ≡ K.stores keeper.old }
 {
     match kept {
@@ -182,12 +181,11 @@ pub(crate) fn submit<N: Naming + HistoryNaming + Ledger, R: Wait + Copy, K: Keep
     left: &mut SessionLimits,
     change: Change,
 ) -> Reply
-    ensures submits { Submits N.size K.kept (K.stores keeper.old) hub.now.options.counter_jump change
-        (accepted_count share.old) left.old result (accepted_count share.new) left.new }
-    ensures share { accepted_count share.old ≤ accepted_count share.new }
+    ensures submits { Submits N.size share.old share.new K.kept (K.stores keeper.old) hub.now.options.counter_jump
+        change left.old result left.new }
     ensures same { K.stores keeper.new ≡ K.stores keeper.old }
 {
-    let bytes = match admit(hub, *left, &change) {
+    let bytes = match admit(hub, share, *left, &change) {
         Ok(bytes) => bytes,
         Err(why) => return Reply::Refused(why),
     };

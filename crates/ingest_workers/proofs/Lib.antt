@@ -1,6 +1,9 @@
 pub mod Numbers
 pub mod Texts
 pub mod Counters
+pub mod Calls
 pub mod House
 pub mod Begins
+pub mod Filling
 pub mod Settling
+pub mod Sending

@@ -1,2 +1,4 @@
+pub mod Calls
 pub mod Holdings
 pub mod Texts
+pub mod Sending

@@ -8,10 +8,8 @@ use Rattle.change_ops.specs.declared.refusal.ChangeError.{ChangeError}
 use Rattle.change_ops.specs.declared.refusal.ChangeError.TheVariants.{BadLine, OutOfMemory}
 use Rattle.ingest_workers.specs.declared.ingest.HubError.{HubError}
 use Rattle.ingest_workers.specs.declared.ingest.HubError.TheVariants as fault
-use Rattle.call_history.specs.Calls.{Holds}
-use Rattle.core_history.specs.Runs.{CoreEntry}
-use Rattle.subscriber_queues.specs.Queue.{QueueSink}
-use Rattle.ingest_workers.specs.Holdings.{InOneHolding, Ingests, IngestsBy}
+use Rattle.core_history.specs.Hubs.{Seen}
+use Rattle.ingest_workers.specs.Holdings.{Ingests}
 
 abbrev pub IsOneChange : List ℕ → Change → Type 0
 IsOneChange text change = Spells text change []
@@ -26,20 +24,12 @@ HasMore text e =
 abbrev pub IsNotOne : List ℕ → ChangeError → Type 0
 IsNotOne text e = (e ≡ OutOfMemory) ⊎ IsRefused text e ⊎ HasMore text e
 
--- the text's change was submitted in one holding of the lock, and its version's number answered; or the text isn't one
--- change's; or the change was refused there
-abbrev pub IngestsText : Size → List ℕ → Result ℕ HubError → Type 0
-IngestsText size text (Ok number) =
-    (change : Change) × IsOneChange text change × InOneHolding size (λ old new. Ingests old change (Ok number) new)
-IngestsText size text (Err (fault.Change e)) = IsNotOne text e
-IngestsText size text (Err (fault.Submit e)) =
-    (change : Change) × IsOneChange text change × InOneHolding size (λ old new. Ingests old change (Err e) new)
-
--- the same, where the submission is a call of the share; a text that isn't one change's is none
-abbrev pub IngestsTextBy : Size → Holds (CoreEntry QueueSink) → List ℕ → Result ℕ HubError → Holds (CoreEntry QueueSink)
+-- the text's change was submitted, as a call of the share, and its version's number answered; or the text isn't one
+-- change's, which is no call; or the change was refused
+abbrev pub IngestsText : Size → Seen → List ℕ → Result ℕ HubError → Seen
     → Type 0
-IngestsTextBy size v text (Ok number) w =
-    (change : Change) × IsOneChange text change × IngestsBy size v change (Ok number) w
-IngestsTextBy size v text (Err (fault.Change e)) w = (w ≡ v) × IsNotOne text e
-IngestsTextBy size v text (Err (fault.Submit e)) w =
-    (change : Change) × IsOneChange text change × IngestsBy size v change (Err e) w
+IngestsText size v text (Ok number) w =
+    (change : Change) × IsOneChange text change × Ingests size v change (Ok number) w
+IngestsText size v text (Err (fault.Change e)) w = (w ≡ v) × IsNotOne text e
+IngestsText size v text (Err (fault.Submit e)) w =
+    (change : Change) × IsOneChange text change × Ingests size v change (Err e) w

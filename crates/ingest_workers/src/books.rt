@@ -1,4 +1,4 @@
-ghost use Rattle.std.specs.Prelude.{◌≡◌, ◌+◌, ◌<◌, ◌≤◌, ◌↔◌, [], Some, Err, length, map, take, drop, slice_get};
+ghost use Rattle.std.specs.Prelude.{◌≡◌, ◌+◌, ◌<◌, ◌≤◌, ◌↔◌, [], ◌∷◌, Some, Err, length, map, take, drop, slice_get};
 ghost use Rattle.std.specs.Prelude.{IsTrue, IfOk, OnOk, OnErr, MatchOption, sum};
 ghost use Rattle.change_ops.specs.Sizes.{most_changes};
 ghost use Rattle.change_ops.specs.Spelling.{change_text};
@@ -12,11 +12,13 @@ ghost use Rattle.change_history.specs.Accepted.{AreAccepted, operations_of};
 ghost use Rattle.hub_core.specs.Machine.{HasNoPlace, Submits, Subscribes, TakesJob, Misses, Commits, Pumps, Reissues};
 ghost use Rattle.hub_core.specs.Machine.{Closes};
 ghost use Rattle.hub_core.specs.Counting.{AreCounts, AreWithinLimits};
-ghost use Rattle.subscriber_queues.specs.Queue.{QueueSink as QueueSinkValue, was_sent, IsFull, closed_end};
+ghost use Rattle.subscriber_queues.specs.Queue.{QueueSink as QueueSinkValue, was_sent, IsFull, closed_end, unsent};
 ghost use Rattle.hub_core.specs.declared.run.Reply.TheVariants as reply;
 ghost use Rattle.core_history.specs.Shares.{accepted_count, Counts as CountsChanges};
 ghost use Rattle.core_history.specs.declared.entry.Call.TheVariants as call;
-ghost use Rattle.ingest_workers.specs.Holdings.{IsStateOf, AreConsistent, IsCall, Settles};
+ghost use Rattle.ingest_workers.specs.Calls.{IsStateOf, IsCall, IsSight};
+ghost use Rattle.ingest_workers.specs.Holdings.{Settles};
+ghost use Rattle.ingest_workers.specs.Sending.{IsOwnSubscriber, Sends};
 
 use crate::text::{next_text, some_texts};
 use call_history::knowledge::HistoryNaming;
@@ -35,11 +37,11 @@ use std::alloc::{AllocError, Global};
 use std::marker::Model;
 use std::sync::Wait;
 use std::sync::ledger::Ledger;
-use subscriber_queues::ends::QueueSink;
+use subscriber_queues::ends::{QueueSink, Subscription};
 use version_history::published::{Naming, ProgramToken, VersionToken};
 
-/// What lies under a hub's lock: its core with the history that led to it, the share whose calls are all that no
-/// caller's share makes, the texts of the accepted changes, for whoever reads them, and the greatest of their counters.
+/// What lies under a hub's lock: its core with the history that led to it, the share whose one call is the start of the
+/// history, the texts of the accepted changes, for whoever reads them, and the greatest of their counters.
 /// Each call is one event of the core, from a consistent state to another; contracts see the core and the history.
 #[derive(Drop)]
 pub struct Books<'p, N: Naming + HistoryNaming + Ledger, R: Wait + Copy> {
@@ -52,7 +54,7 @@ pub struct Books<'p, N: Naming + HistoryNaming + Ledger, R: Wait + Copy> {
 }
 
 impl<'p, N: Naming + HistoryNaming + Ledger, R: Wait + Copy> Model for Books<'p, N, R> {
-    ghost use Rattle.std.specs.Prelude.{◌≡◌, length, map};
+    ghost use Rattle.std.specs.Prelude.{◌≡◌, [], ◌∷◌, map};
     ghost use Rattle.change_ops.specs.Spelling.{change_text};
     ghost use Rattle.change_counters.specs.Counters.{greatest_counter};
     ghost use Rattle.change_history.specs.Accepted.{operations_of};
@@ -66,7 +68,7 @@ impl<'p, N: Naming + HistoryNaming + Ledger, R: Wait + Copy> Model for Books<'p,
     ghost view = { λ b. b.recorded };
 
     ghost invariant = { λ b. (b.board.table.shared.table_id ≡ N.table)
-        × (b.house.parts ≡ 1) × CountsChanges 0 b.house
+        × (b.house.parts ≡ 1) × (b.house.own ≡ 0 ∷ []) × CountsChanges 0 b.house
         × IsConsistent was_sent IsFull b.recorded.core
         × (b.texts.items ≡ map change_text b.recorded.core.changes)
         × (b.greatest ≡ greatest_counter (operations_of b.recorded.core.changes)) × (b.recorded.core.size ≡ N.size) };
@@ -82,7 +84,7 @@ impl<'p, N: Naming + HistoryNaming + Ledger, R: Wait + Copy> Books<'p, N, R> {
     ) -> Books<'p, N, R>
         requires none { recorded.core.changes ≡ [] }
         requires here { board.table.shared.table_id ≡ N.table }
-        requires house { (house.parts ≡ 1) × CountsChanges 0 house }
+        requires house { (house.parts ≡ 1) × (house.own ≡ 0 ∷ []) × CountsChanges 0 house }
         ensures { result ≡ recorded.entry }
     {
         recorded.core().stays_consistent();
@@ -109,7 +111,6 @@ impl<'p, N: Naming + HistoryNaming + Ledger, R: Wait + Copy> Books<'p, N, R> {
         ensures ok { OnOk result (accepted_count share.new ≡ accepted_count share.old + 1) }
         ensures err { OnErr result (accepted_count share.new ≡ accepted_count share.old) }
         ensures within { OnOk result (accepted_count share.new ≤ length self.new.core.changes) }
-        ensures consistent { AreConsistent N.size self.old.core self.new.core }
     {
         let core = self.recorded.core();
         let is_full = core.count() >= core.size().changes();
@@ -126,6 +127,14 @@ impl<'p, N: Naming + HistoryNaming + Ledger, R: Wait + Copy> Books<'p, N, R> {
         self.texts.push_reserved(text);
         self.greatest = greatest;
         Ok(token)
+    }
+
+    /// Shows a share the history so far, which has led to the core's state.
+    pub fn look(&mut self, share: &mut Share<N>)
+        ensures same { self.new ≡ self.old }
+        ensures sight { IsSight N.size share.old self.old.core share.new }
+    {
+        share.look(&mut self.recorded, &self.board);
     }
 
     /// Whether as many subscribers were added, closed ones counted, or are open, as the size allows.
@@ -147,18 +156,20 @@ impl<'p, N: Naming + HistoryNaming + Ledger, R: Wait + Copy> Books<'p, N, R> {
     /// Adds a subscriber, from the latest version or an earlier one on.
     pub fn subscribe_from(
         &mut self,
+        share: &mut Share<N>,
         program: ProgramToken<N>,
         sink: QueueSink<N, R>,
         first: u64,
     ) -> Result<usize, SubscribeError>
         requires none { sink.sent ≡ [] }
         requires suits { Suits sink.promise N.size program.value first }
+        ensures call { IsCall N.size share.old (call.SubscribeFrom program sink first) (reply.Subscribed result)
+            share.new }
         ensures event { Subscribes self.old.core first program sink result self.new.core }
-        ensures consistent { AreConsistent N.size self.old.core self.new.core }
     {
-        let id = self
-            .house
-            .subscribe_from(&mut self.recorded, &self.board, program, sink, first);
+        // Tells the proof that the history has led to the core's state.
+        let _ = self.recorded.core();
+        let id = share.subscribe_from(&mut self.recorded, &self.board, program, sink, first);
         self.recorded.core().stays_consistent();
         id
     }
@@ -166,27 +177,30 @@ impl<'p, N: Naming + HistoryNaming + Ledger, R: Wait + Copy> Books<'p, N, R> {
     /// Adds a subscriber, from the latest version on.
     pub fn subscribe(
         &mut self,
+        share: &mut Share<N>,
         program: ProgramToken<N>,
         sink: QueueSink<N, R>,
     ) -> Result<usize, SubscribeError>
         requires none { sink.sent ≡ [] }
         requires suits { Suits sink.promise N.size program.value (length self.old.core.changes) }
+        ensures call { IsCall N.size share.old (call.Subscribe program sink) (reply.Subscribed result) share.new }
         ensures event { Subscribes self.old.core (length self.old.core.changes) program sink result self.new.core }
-        ensures consistent { AreConsistent N.size self.old.core self.new.core }
     {
-        let id = self
-            .house
-            .subscribe(&mut self.recorded, &self.board, program, sink);
+        // Tells the proof that the history has led to the core's state.
+        let _ = self.recorded.core();
+        let id = share.subscribe(&mut self.recorded, &self.board, program, sink);
         self.recorded.core().stays_consistent();
         id
     }
 
     /// Hands out a version that a subscriber's program is to be run on; None only where there is none.
-    pub fn take_job(&mut self) -> Option<Job<N>>
+    pub fn take_job(&mut self, share: &mut Share<N>) -> Option<Job<N>>
+        ensures call { IsCall N.size share.old call.TakeJob (reply.Handed result) share.new }
         ensures event { TakesJob self.old.core result self.new.core }
-        ensures consistent { AreConsistent N.size self.old.core self.new.core }
     {
-        let job = self.house.take_job(&mut self.recorded, &self.board);
+        // Tells the proof that the history has led to the core's state.
+        let _ = self.recorded.core();
+        let job = share.take_job(&mut self.recorded, &self.board);
         self.recorded.core().stays_consistent();
         job
     }
@@ -201,42 +215,68 @@ impl<'p, N: Naming + HistoryNaming + Ledger, R: Wait + Copy> Books<'p, N, R> {
     }
 
     /// Holds a batch, if its subscriber waits for it.
-    pub fn commit(&mut self, batch: Batch<N>) -> Result<(), CommitError>
+    pub fn commit(&mut self, share: &mut Share<N>, batch: Batch<N>) -> Result<(), CommitError>
+        ensures call { IsCall N.size share.old (call.Commit batch) (reply.Committed result) share.new }
         ensures commits { Commits self.old.core batch result self.new.core }
         ensures takes_no_memory { ¬ (result ≡ Err CommitError.OutOfMemory) }
-        ensures consistent { AreConsistent N.size self.old.core self.new.core }
     {
-        let held = self.house.commit(&mut self.recorded, &self.board, batch);
+        // Tells the proof that the history has led to the core's state.
+        let _ = self.recorded.core();
+        let held = share.commit(&mut self.recorded, &self.board, batch);
         self.recorded.core().stays_consistent();
         held
     }
 
     /// Sends what can be sent to a subscriber. It answers how many items.
-    pub fn pump(&mut self, id: usize) -> Result<usize, NoSubscriber>
-        ensures event { Pumps was_sent IsFull self.old.core id result self.new.core }
-        ensures consistent { AreConsistent N.size self.old.core self.new.core }
+    pub fn pump(&mut self, share: &mut Share<N>, id: usize) -> Result<usize, NoSubscriber>
+        ensures call { IsCall N.size share.old (call.Pump id) (reply.Pumped result) share.new }
+        ensures event { Pumps was_sent IsFull unsent self.old.core id result self.new.core }
     {
-        let sent = self.house.pump(&mut self.recorded, &self.board, id);
+        // Tells the proof that the history has led to the core's state.
+        let _ = self.recorded.core();
+        let sent = share.pump(&mut self.recorded, &self.board, id);
         self.recorded.core().stays_consistent();
         sent
     }
 
-    /// What a subscriber doesn't hold may be handed out again.
-    pub fn reissue(&mut self, id: usize) -> Result<(), NoSubscriber>
-        ensures event { Reissues self.old.core id result self.new.core }
-        ensures consistent { AreConsistent N.size self.old.core self.new.core }
+    /// Sends what can be sent to a subscriber that the share added, and has its end meet the hub's. It answers the
+    /// first version that wasn't sent whole; None where the subscriber is closed.
+    pub fn send(
+        &mut self,
+        share: &mut Share<N>,
+        id: usize,
+        end: &mut Subscription<N, R>,
+    ) -> Option<u64>
+        requires { IsOwnSubscriber share.old id end.old }
+        ensures { Sends N.size share.old id end.old result end.new share.new }
     {
-        let found = self.house.reissue(&mut self.recorded, &self.board, id);
+        // Tells the proof that the history has led to the core's state.
+        let _ = self.recorded.core();
+        let _ = share.pump(&mut self.recorded, &self.board, id);
+        self.recorded.core().stays_consistent();
+        self.recorded.meet(id, end)
+    }
+
+    /// What a subscriber doesn't hold may be handed out again.
+    pub fn reissue(&mut self, share: &mut Share<N>, id: usize) -> Result<(), NoSubscriber>
+        ensures call { IsCall N.size share.old (call.Reissue id) (reply.Reissued result) share.new }
+        ensures event { Reissues self.old.core id result self.new.core }
+    {
+        // Tells the proof that the history has led to the core's state.
+        let _ = self.recorded.core();
+        let found = share.reissue(&mut self.recorded, &self.board, id);
         self.recorded.core().stays_consistent();
         found
     }
 
     /// Closes a subscriber for good, with its queue's end, and drops the batches that it holds.
-    pub fn close(&mut self, id: usize) -> Result<(), NoSubscriber>
+    pub fn close(&mut self, share: &mut Share<N>, id: usize) -> Result<(), NoSubscriber>
+        ensures call { IsCall N.size share.old (call.Close id) (reply.Closed result) share.new }
         ensures event { Closes closed_end self.old.core id result self.new.core }
-        ensures consistent { AreConsistent N.size self.old.core self.new.core }
     {
-        let found = self.house.close(&mut self.recorded, &self.board, id);
+        // Tells the proof that the history has led to the core's state.
+        let _ = self.recorded.core();
+        let found = share.close(&mut self.recorded, &self.board, id);
         self.recorded.core().stays_consistent();
         found
     }

@@ -5,10 +5,14 @@ ghost use Rattle.char_sequence.specs.Newest.{IsLastCounter};
 ghost use Rattle.change_counters.specs.Counters.{greatest_counter};
 ghost use Rattle.feeds.specs.Promise.{Suits};
 ghost use Rattle.change_history.specs.Accepted.{operations_of};
-ghost use Rattle.hub_core.specs.Machine.{HasNoPlace, Subscribes, TakesJob, Misses, Commits, Pumps, Reissues, Closes};
+ghost use Rattle.hub_core.specs.Machine.{HasNoPlace, Misses};
 ghost use Rattle.hub_core.specs.Counting.{AreCounts, AreWithinLimits};
-ghost use Rattle.subscriber_queues.specs.Queue.{was_sent, IsFull, closed_end};
-ghost use Rattle.ingest_workers.specs.Holdings.{InOneHolding, IsIdle};
+ghost use Rattle.hub_core.specs.declared.run.Reply.TheVariants as reply;
+ghost use Rattle.core_history.specs.declared.entry.Call.TheVariants as call;
+ghost use Rattle.core_history.specs.Hubs.{IsHubLegal};
+ghost use Rattle.ingest_workers.specs.Calls.{IsCall, IsSight, IsLook};
+ghost use Rattle.ingest_workers.specs.Holdings.{IsIdle};
+ghost use Rattle.ingest_workers.specs.Sending.{IsOwnSubscriber, Sends};
 
 use crate::books::Books;
 use crate::kept::Kept;
@@ -29,11 +33,11 @@ use hub_core::hub::Core;
 use std::alloc::{AllocError, Global};
 use std::sync::ledger::Ledger;
 use std::sync::{Mutex, MutexGuard, Wait};
-use subscriber_queues::ends::QueueSink;
+use subscriber_queues::ends::{QueueSink, Subscription};
 use version_history::published::{Naming, ProgramToken, Published, VersionToken};
 
-/// A hub that threads share. Each call holds its lock once, for one call of the books, and calls have it in the order
-/// in which they came.
+/// A hub that threads share. Each call is one of the caller's share: it holds the lock once, for one call of the books,
+/// and calls have it in the order in which they came.
 #[derive(Drop)]
 pub struct Hub<'p, N: Naming + HistoryNaming + Ledger, R: Wait + Copy> {
     pub(crate) published: Published<'p, N>,
@@ -58,6 +62,16 @@ impl<N: Naming + HistoryNaming + Ledger, R: Wait + Copy> Drop for Holding<'_, '_
     }
 }
 
+impl<'p, N: Naming + HistoryNaming + Ledger, R: Wait + Copy> Holding<'_, 'p, N, R> {
+    /// Shows a share the history so far, and gives the books that it has led to.
+    fn look(&mut self, share: &mut Share<N>) -> &Books<'p, N, R>
+        ensures { IsSight N.size share.old result.now.core share.new }
+    {
+        self.books.look(share);
+        &*self.books
+    }
+}
+
 /// Cuts so many parts off a share, for which there is room among these.
 fn cut_all<N: Naming + HistoryNaming + Ledger>(
     share: &mut Share<N>,
@@ -67,10 +81,11 @@ fn cut_all<N: Naming + HistoryNaming + Ledger>(
 )
     requires here { board.now.table.shared.table_id ≡ N.table }
     requires parts { share.old.parts ≡ count + 1 }
+    requires legal { IsHubLegal N.size share.old.seen }
     requires room { vec_len given.old + count ≤ vec_capacity given.old }
     ensures left { share.new ≡ record { seen = share.old.seen; own = share.old.own; parts = 1 } }
     ensures count { vec_len given.new ≡ vec_len given.old + count }
-    ensures idle { All IsIdle given.old.items → All IsIdle given.new.items }
+    ensures idle { All (IsIdle N.size) given.old.items → All (IsIdle N.size) given.new.items }
 {
     for _i in 0..count {
         given.push_reserved(share.cut(board));
@@ -90,7 +105,7 @@ impl<'p, N: Naming + HistoryNaming + Ledger, R: Wait + Copy> Hub<'p, N, R> {
         requires name { (start.name ≡ N.name) × (start.table ≡ N.table) }
         requires parts { (start.parts ≡ N.parts) × (N.parts ≡ shares + 1) }
         requires range { (1 ≤ shares) × (shares ≤ 256) }
-        ensures { IfOk result (λ made. (vec_len made.1 ≡ shares) × All IsIdle made.1.items) }
+        ensures { IfOk result (λ made. (vec_len made.1 ≡ shares) × All (IsIdle N.size) made.1.items) }
     {
         // All other memory is found before version 0 is published, which stays published.
         let kept = Kept::new(alloc, published.size())?;
@@ -128,41 +143,41 @@ impl<'p, N: Naming + HistoryNaming + Ledger, R: Wait + Copy> Hub<'p, N, R> {
 
     /// Whether as many subscribers were added, closed ones counted, or were open, as the size allows. One that asks
     /// first need not publish a program that no subscriber would have.
-    pub fn is_full(&self, rt: &R) -> bool
-        ensures { InOneHolding N.size (λ old new. (new ≡ old) × (IsTrue result ↔ HasNoPlace old)) }
+    pub fn is_full(&self, rt: &R, share: &mut Share<N>) -> bool
+        ensures { IsLook N.size share.old (λ s. IsTrue result ↔ HasNoPlace s) share.new }
     {
-        self.hold(rt).books.is_full()
+        self.hold(rt).look(share).is_full()
     }
 
     /// Whether no version had this number yet. A version stays, so one that asks first need not publish a program for a
     /// version that isn't there.
-    pub fn lacks_version(&self, rt: &R, number: u64) -> bool
-        ensures { InOneHolding N.size (λ old new. (new ≡ old) × (IsTrue result ↔ (length old.changes < number))) }
+    pub fn lacks_version(&self, rt: &R, share: &mut Share<N>, number: u64) -> bool
+        ensures { IsLook N.size share.old (λ s. IsTrue result ↔ (length s.changes < number)) share.new }
     {
-        self.hold(rt).books.lacks_version(number)
+        self.hold(rt).look(share).lacks_version(number)
     }
 
     /// The number of the latest version.
-    pub fn latest(&self, rt: &R) -> u64
-        ensures { InOneHolding N.size (λ old new. (new ≡ old) × (result ≡ length old.changes)) }
+    pub fn latest(&self, rt: &R, share: &mut Share<N>) -> u64
+        ensures { IsLook N.size share.old (λ s. result ≡ length s.changes) share.new }
     {
-        self.hold(rt).books.latest()
+        self.hold(rt).look(share).latest()
     }
 
     /// The token of the version with this number; None where no version had it yet.
-    pub fn version(&self, rt: &R, number: u64) -> Option<VersionToken<N>>
-        ensures { InOneHolding N.size (λ old new. (new ≡ old) × (result ≡ slice_get old.versions number)) }
+    pub fn version(&self, rt: &R, share: &mut Share<N>, number: u64) -> Option<VersionToken<N>>
+        ensures { IsLook N.size share.old (λ s. result ≡ slice_get s.versions number) share.new }
     {
-        self.hold(rt).books.version(number)
+        self.hold(rt).look(share).version(number)
     }
 
     /// The token of the latest version, and how much there was of the hub.
-    pub fn counts(&self, rt: &R) -> (VersionToken<N>, Counts)
-        ensures counts { InOneHolding N.size (λ old new. (new ≡ old)
-            × (slice_get old.versions (length old.changes) ≡ Some result.0) × AreCounts old result.1) }
+    pub fn counts(&self, rt: &R, share: &mut Share<N>) -> (VersionToken<N>, Counts)
+        ensures counts { IsLook N.size share.old (λ s. (slice_get s.versions (length s.changes) ≡ Some result.0)
+            × AreCounts s result.1) share.new }
         ensures few { AreWithinLimits N.size result.1 }
     {
-        self.hold(rt).books.counts()
+        self.hold(rt).look(share).counts()
     }
 
     /// How many sessions began and didn't end.
@@ -180,103 +195,122 @@ impl<'p, N: Naming + HistoryNaming + Ledger, R: Wait + Copy> Hub<'p, N, R> {
     pub fn texts_behind(
         &self,
         rt: &R,
+        share: &mut Share<N>,
         from: u64,
         most: usize,
     ) -> Result<Option<Vec<ChangeText>>, AllocError>
-        ensures { IfOk result (λ found. InOneHolding N.size (λ old new. (new ≡ old)
-            × MatchOption found (length old.changes < from) (λ texts. (from ≤ length old.changes)
-            × (texts.items ≡ map change_text (take most (drop from old.changes)))))) }
+        ensures { IsLook N.size share.old (λ s. IfOk result (λ found. MatchOption found (length s.changes < from)
+            (λ texts. (from ≤ length s.changes) × (texts.items ≡ map change_text (take most (drop from s.changes))))))
+            share.new }
     {
-        self.hold(rt).books.texts_behind(from, most)
+        self.hold(rt).look(share).texts_behind(from, most)
     }
 
     /// The greatest counter of a peer's accepted operations, 0 where it has none.
-    pub fn last_counter(&self, rt: &R, node: u16) -> u64
-        ensures { InOneHolding N.size (λ old new. (new ≡ old) × IsLastCounter (operations_of old.changes) node result) }
+    pub fn last_counter(&self, rt: &R, share: &mut Share<N>, node: u16) -> u64
+        ensures { IsLook N.size share.old (λ s. IsLastCounter (operations_of s.changes) node result) share.new }
     {
-        self.hold(rt).books.last_counter(node)
+        self.hold(rt).look(share).last_counter(node)
     }
 
     /// The greatest counter of all accepted operations, 0 where there were none. Later it may be greater, never less.
-    pub fn greatest_counter(&self, rt: &R) -> u64
-        ensures { InOneHolding N.size (λ old new. (new ≡ old)
-            × (result ≡ greatest_counter (operations_of old.changes))) }
+    pub fn greatest_counter(&self, rt: &R, share: &mut Share<N>) -> u64
+        ensures { IsLook N.size share.old (λ s. result ≡ greatest_counter (operations_of s.changes)) share.new }
     {
-        self.hold(rt).books.greatest_counter()
+        self.hold(rt).look(share).greatest_counter()
     }
 
     /// Adds a subscriber, from the latest version or an earlier one on.
     pub fn subscribe_from(
         &self,
         rt: &R,
+        share: &mut Share<N>,
         program: ProgramToken<N>,
         sink: QueueSink<N, R>,
         first: u64,
     ) -> Result<usize, SubscribeError>
         requires none { sink.sent ≡ [] }
         requires suits { Suits sink.promise N.size program.value first }
-        ensures { InOneHolding N.size (λ old new. Subscribes old first program sink result new) }
+        ensures { IsCall N.size share.old (call.SubscribeFrom program sink first) (reply.Subscribed result) share.new }
     {
-        self.hold(rt).books.subscribe_from(program, sink, first)
+        self.hold(rt)
+            .books
+            .subscribe_from(share, program, sink, first)
     }
 
     /// Adds a subscriber, from the latest version on.
     pub fn subscribe(
         &self,
         rt: &R,
+        share: &mut Share<N>,
         program: ProgramToken<N>,
         sink: QueueSink<N, R>,
     ) -> Result<usize, SubscribeError>
         requires none { sink.sent ≡ [] }
         requires suits { (first : ℕ) → Suits sink.promise N.size program.value first }
-        ensures { InOneHolding N.size (λ old new. Subscribes old (length old.changes) program sink result new) }
+        ensures { IsCall N.size share.old (call.Subscribe program sink) (reply.Subscribed result) share.new }
     {
-        self.hold(rt).books.subscribe(program, sink)
+        self.hold(rt).books.subscribe(share, program, sink)
     }
 
     /// Hands out a version that a subscriber's program is to be run on; None only where there was none.
-    pub fn take_job(&self, rt: &R) -> Option<Job<N>>
-        ensures { InOneHolding N.size (λ old new. TakesJob old result new) }
+    pub fn take_job(&self, rt: &R, share: &mut Share<N>) -> Option<Job<N>>
+        ensures { IsCall N.size share.old call.TakeJob (reply.Handed result) share.new }
     {
-        self.hold(rt).books.take_job()
+        self.hold(rt).books.take_job(share)
     }
 
     /// The job of the first version that an open subscriber waits for, whoever it was handed out to; None only where it
     /// waited for none. Nothing is handed out.
-    pub fn missing_job(&self, rt: &R, id: usize) -> Option<Job<N>>
-        ensures { InOneHolding N.size (λ old new. (new ≡ old) × Misses old id result) }
+    pub fn missing_job(&self, rt: &R, share: &mut Share<N>, id: usize) -> Option<Job<N>>
+        ensures { IsLook N.size share.old (λ s. Misses s id result) share.new }
     {
-        self.hold(rt).books.missing_job(id)
+        self.hold(rt).look(share).missing_job(id)
     }
 
     /// Holds a batch, if its subscriber waits for it.
-    pub fn commit(&self, rt: &R, batch: Batch<N>) -> Result<(), CommitError>
-        ensures commits { InOneHolding N.size (λ old new. Commits old batch result new) }
+    pub fn commit(&self, rt: &R, share: &mut Share<N>, batch: Batch<N>) -> Result<(), CommitError>
+        ensures commits { IsCall N.size share.old (call.Commit batch) (reply.Committed result) share.new }
         ensures takes_no_memory { ¬ (result ≡ Err CommitError.OutOfMemory) }
     {
-        self.hold(rt).books.commit(batch)
+        self.hold(rt).books.commit(share, batch)
     }
 
     /// Sends what can be sent to a subscriber. It answers how many items.
-    pub fn pump(&self, rt: &R, id: usize) -> Result<usize, NoSubscriber>
-        ensures { InOneHolding N.size (λ old new. Pumps was_sent IsFull old id result new) }
+    pub fn pump(&self, rt: &R, share: &mut Share<N>, id: usize) -> Result<usize, NoSubscriber>
+        ensures { IsCall N.size share.old (call.Pump id) (reply.Pumped result) share.new }
     {
-        self.hold(rt).books.pump(id)
+        self.hold(rt).books.pump(share, id)
+    }
+
+    /// Sends what can be sent to a subscriber that the share added, and has its end meet the hub's, in one holding. It
+    /// answers the first version that wasn't sent whole; None where the subscriber is closed.
+    pub fn send(
+        &self,
+        rt: &R,
+        share: &mut Share<N>,
+        id: usize,
+        end: &mut Subscription<N, R>,
+    ) -> Option<u64>
+        requires { IsOwnSubscriber share.old id end.old }
+        ensures { Sends N.size share.old id end.old result end.new share.new }
+    {
+        self.hold(rt).books.send(share, id, end)
     }
 
     /// What a subscriber doesn't hold may be handed out again.
-    pub fn reissue(&self, rt: &R, id: usize) -> Result<(), NoSubscriber>
-        ensures { InOneHolding N.size (λ old new. Reissues old id result new) }
+    pub fn reissue(&self, rt: &R, share: &mut Share<N>, id: usize) -> Result<(), NoSubscriber>
+        ensures { IsCall N.size share.old (call.Reissue id) (reply.Reissued result) share.new }
     {
-        self.hold(rt).books.reissue(id)
+        self.hold(rt).books.reissue(share, id)
     }
 
     /// Closes a subscriber for good, with its queue's end, and drops the batches that it holds and what is kept of its
     /// verdicts.
-    pub fn close(&self, rt: &R, id: usize) -> Result<(), NoSubscriber>
-        ensures { InOneHolding N.size (λ old new. Closes closed_end old id result new) }
+    pub fn close(&self, rt: &R, share: &mut Share<N>, id: usize) -> Result<(), NoSubscriber>
+        ensures { IsCall N.size share.old (call.Close id) (reply.Closed result) share.new }
     {
-        let closed = self.hold(rt).books.close(id);
+        let closed = self.hold(rt).books.close(share, id);
         self.kept.close(rt, id);
         closed
     }

@@ -3,8 +3,8 @@ ghost use Rattle.change_ops.specs.Sizes.{most_changes};
 ghost use Rattle.core_history.specs.Runs.{Recorded};
 ghost use Rattle.core_history.specs.Shares.{accepted_count};
 ghost use Rattle.subscriber_queues.specs.Queue.{QueueSink};
-ghost use Rattle.ingest_workers.specs.Holdings.{InOneHolding, Ingests, IngestsBy, Settles};
-ghost use Rattle.ingest_workers.specs.Texts.{IsOneChange, IsNotOne, IngestsText, IngestsTextBy};
+ghost use Rattle.ingest_workers.specs.Holdings.{Ingests, Settles};
+ghost use Rattle.ingest_workers.specs.Texts.{IsOneChange, IsNotOne, IngestsText};
 ghost use Rattle.ingest_workers.specs.declared.ingest.HubError.TheVariants as hub_error;
 
 use crate::hub::Hub;
@@ -65,8 +65,7 @@ pub fn ingest_change<N: Naming + HistoryNaming + Ledger, R: Wait + Copy>(
     share: &mut Share<N>,
     change: Change,
 ) -> Result<u64, SubmitError>
-    ensures call { IngestsBy N.size share.old change result share.new }
-    ensures event { InOneHolding N.size (λ old new. Ingests old change result new) }
+    ensures call { Ingests N.size share.old change result share.new }
     ensures ok { OnOk result (accepted_count share.new ≡ accepted_count share.old + 1) }
     ensures err { OnErr result (accepted_count share.new ≡ accepted_count share.old) }
     ensures numbered { IfOk result (λ number. (accepted_count share.new ≤ number) × (number ≤ most_changes N.size)) }
@@ -84,8 +83,7 @@ pub fn ingest<N: Naming + HistoryNaming + Ledger, R: Wait + Copy>(
     share: &mut Share<N>,
     text: &str,
 ) -> Result<u64, HubError>
-    ensures call { IngestsTextBy N.size share.old text.now result share.new }
-    ensures text { IngestsText N.size text.now result }
+    ensures call { IngestsText N.size share.old text.now result share.new }
     ensures ok { OnOk result (accepted_count share.new ≡ accepted_count share.old + 1) }
     ensures err { OnErr result (accepted_count share.new ≡ accepted_count share.old) }
     ensures numbered { IfOk result (λ number. (accepted_count share.new ≤ number) × (number ≤ most_changes N.size)) }

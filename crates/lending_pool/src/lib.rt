@@ -1,14 +1,25 @@
 //! A fixed set of values, each of which one thread has at a time.
 #![tactic(auto)]
 
-ghost use Rattle.std.specs.Prelude.{◌≡◌, None, Some, IfOk, vec_len};
+ghost use Rattle.std.specs.Prelude.{◌≡◌, ◌+◌, IfOk, MatchOption, vec_len};
+ghost use Rattle.lending_pool.specs.declared.Standing.TheVariants as standing;
 
 use std::alloc::{AllocError, Global};
 use std::marker::Model;
 use std::sync::{Mutex, Wait};
 
-/// Where a value stands while nobody has it.
-type Place<T> = Mutex<Option<T>>;
+/// What stands in a place.
+#[derive(Drop)]
+enum Standing<T: Drop> {
+    /// A value that anybody may have.
+    Free(T),
+    /// A value that nobody may have any more.
+    UsedUp(T),
+    /// Nothing: its value is lent.
+    Lent,
+}
+
+type Place<T> = Mutex<Standing<T>>;
 
 /// Values, each of them lent or in its place. Contracts see how many places there are.
 #[derive(Drop)]
@@ -31,19 +42,39 @@ pub struct Lent<'p, T: Drop, R: Wait + Copy> {
     rt: R,
 }
 
-/// Takes what stands in a place.
-fn take<T>(place: &mut Option<T>) -> Option<T>
-    ensures taken { result ≡ place.old }
-    ensures left { place.new ≡ None }
+/// Takes a value that is free out of its place.
+fn take<T: Drop>(place: &mut Standing<T>) -> Option<T>
+    ensures { MatchOption result (place.new ≡ place.old)
+        (λ value. (place.old ≡ standing.Free value) × (place.new ≡ standing.Lent)) }
 {
-    place.take()
+    match std::mem::replace(place, Standing::Lent) {
+        Standing::Free(value) => Some(value),
+        other => {
+            *place = other;
+            None
+        }
+    }
 }
 
 /// Puts a value into its place.
-fn put<T: Drop>(place: &mut Option<T>, value: T)
-    ensures { place.new ≡ Some value }
+fn put<T: Drop>(place: &mut Standing<T>, standing: Standing<T>)
+    ensures { place.new ≡ standing }
 {
-    *place = Some(value);
+    *place = standing;
+}
+
+impl<T: Drop> Standing<T> {
+    fn is_free(&self) -> bool {
+        matches!(self, Standing::Free(_))
+    }
+
+    /// The value, unless it is lent.
+    fn into_value(self) -> Option<T> {
+        match self {
+            Standing::Free(value) | Standing::UsedUp(value) => Some(value),
+            Standing::Lent => None,
+        }
+    }
 }
 
 impl<T: Drop> Pool<T> {
@@ -53,7 +84,7 @@ impl<T: Drop> Pool<T> {
     {
         let mut places = Vec::with_capacity(alloc, values.len())?;
         for value in values {
-            places.push(Mutex::new(Some(value)))?;
+            places.push(Mutex::new(Standing::Free(value)))?;
         }
         Ok(Pool { places })
     }
@@ -72,29 +103,31 @@ impl<T: Drop> Pool<T> {
         None
     }
 
+    /// Takes a place away, with its value unless that is lent still; None where there is no place any more.
+    pub fn pop(&mut self) -> Option<Option<T>>
+        ensures { MatchOption result ((self.old ≡ 0) × (self.new ≡ 0)) (λ _. self.old ≡ self.new + 1) }
+    {
+        let place = self.places.pop()?;
+        Some(place.into_inner().into_value())
+    }
+
     /// Whether nobody can have a value now.
     pub fn is_empty<R: Wait>(&self, rt: &R) -> bool {
-        self.places.iter().all(|place| place.lock(rt).is_none())
+        !self.places.iter().any(|place| place.lock(rt).is_free())
     }
 }
 
 impl<T: Drop, R: Wait + Copy> Lent<'_, T, R> {
-    /// The value, which is never put back.
-    pub fn keep(self) -> T
-        ensures { result ≡ self.entry.value }
-    {
-        let Lent {
-            value,
-            place: _,
-            rt: _,
-        } = self;
-        value
+    /// Puts the value back for good: nobody can have it any more.
+    pub fn use_up(self) {
+        let Lent { value, place, rt } = self;
+        put(&mut place.lock(&rt), Standing::UsedUp(value));
     }
 }
 
 impl<T: Drop, R: Wait + Copy> Drop for Lent<'_, T, R> {
     fn drop(self) {
         let Lent { value, place, rt } = self;
-        put(&mut place.lock(&rt), value);
+        put(&mut place.lock(&rt), Standing::Free(value));
     }
 }

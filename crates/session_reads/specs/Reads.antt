@@ -11,9 +11,8 @@ use Rattle.span_flatten.specs.Version.{Version}
 use Rattle.span_lines.specs.SpanLines.{some_lines}
 use Rattle.version_history.specs.Tokens.{Token}
 use Rattle.change_history.specs.Accepted.{operations_of}
-use Rattle.hub_core.specs.Machine.{Core}
-use Rattle.subscriber_queues.specs.Queue.{QueueSink}
-use Rattle.ingest_workers.specs.Holdings.{InOneHolding}
+use Rattle.core_history.specs.Hubs.{Seen}
+use Rattle.ingest_workers.specs.Calls.{IsLook, Makes}
 use Rattle.hub_requests.specs.declared.identity.HubId.{HubId}
 use Rattle.refusals.specs.declared.reason.Reason.TheVariants as reason
 use Rattle.session_lines.specs.declared.query.Query.{Query}
@@ -22,40 +21,37 @@ use Rattle.session_lines.specs.declared.reply.Reply.{Reply}
 use Rattle.session_lines.specs.declared.reply.Reply.TheVariants as reply
 use Rattle.session_reads.specs.Counting.{IsLeft, AreStats}
 
--- in one holding of the lock, which changed nothing, this was so of the hub, which is of this size
-abbrev pub WasSo : Size → (Core QueueSink → Type 0) → Type 0
-WasSo size fact = InOneHolding size (λ old new. (new ≡ old) × fact old)
-
 -- `most` spans of a version, from one of them on, and how many it has; or no version had the number
-abbrev pub Shows : Size → ℕ → ℕ → ℕ → List ℕ → Reply → Type 0
-Shows size number first most text (reply.Spans count) =
-    (token : Token Version) × WasSo size (λ s. slice_get s.versions number ≡ Some token)
+abbrev pub Shows : Size → Seen → Seen → ℕ → ℕ → ℕ → List ℕ → Reply → Type 0
+Shows size v w number first most text (reply.Spans count) =
+    (token : Token Version) × IsLook size v (λ s. slice_get s.versions number ≡ Some token) w
     × (text ≡ some_lines first most token.value) × (count ≡ length token.value.rows)
-Shows size number first most text (reply.Refused reason.NoVersion) =
-    WasSo size (λ s. slice_get s.versions number ≡ None) × (text ≡ [])
-Shows size number first most text _ = ⊥
+Shows size v w number first most text (reply.Refused reason.NoVersion) =
+    IsLook size v (λ s. slice_get s.versions number ≡ None) w × (text ≡ [])
+Shows size v w number first most text _ = ⊥
 
 -- the texts of changes, one behind the other, and how many they are
 abbrev pub AreTexts : List Change → List ℕ → ℕ → Type 0
 AreTexts changes text count = (text ≡ flat_map change_text changes) × (count ≡ length changes)
 
 -- the accepted changes behind a version, `most` or as many as there were; or no version had the number
-abbrev pub Lists : Size → ℕ → ℕ → List ℕ → Reply → Type 0
-Lists size from most text (reply.Changes count) =
-    WasSo size (λ s. (from ≤ length s.changes) × AreTexts (take most (drop from s.changes)) text count)
-Lists size from most text (reply.Refused reason.NoVersion) = WasSo size (λ s. length s.changes < from) × (text ≡ [])
-Lists size from most text _ = ⊥
+abbrev pub Lists : Size → Seen → Seen → ℕ → ℕ → List ℕ → Reply → Type 0
+Lists size v w from most text (reply.Changes count) =
+    IsLook size v (λ s. (from ≤ length s.changes) × AreTexts (take most (drop from s.changes)) text count) w
+Lists size v w from most text (reply.Refused reason.NoVersion) =
+    IsLook size v (λ s. length s.changes < from) w × (text ≡ [])
+Lists size v w from most text _ = ⊥
 
 -- the numbers of peers
 abbrev pub IsPeer : ℕ → Type 0
 IsPeer node = (1 ≤ node) × (node ≤ 65535)
 
 -- the greatest counter of a peer's accepted operations; or the number is none of a peer
-abbrev pub Counts : Size → ℕ → Reply → Type 0
-Counts size node (reply.Newest counter) =
-    IsPeer node × WasSo size (λ s. IsLastCounter (operations_of s.changes) node counter)
-Counts size node (reply.Refused (reason.Unread (change.Limit line))) = (¬ (IsPeer node)) × (line ≡ 1)
-Counts size node _ = ⊥
+abbrev pub Counts : Size → Seen → Seen → ℕ → Reply → Type 0
+Counts size v w node (reply.Newest counter) =
+    IsPeer node × IsLook size v (λ s. IsLastCounter (operations_of s.changes) node counter) w
+Counts size v w node (reply.Refused (reason.Unread (change.Limit line))) = (¬ (IsPeer node)) × (line ≡ 1) × (w ≡ v)
+Counts size v w node _ = ⊥
 
 -- which hub it is, where it has an id; one that has none has no such line
 abbrev pub Names : Option HubId → Reply → Type 0
@@ -63,21 +59,23 @@ Names (Some id) (reply.Hub told) = told ≡ id
 Names None (reply.Refused reason.BadCommand) = Unit {0}
 Names _ _ = ⊥
 
--- what is printed to a query of a hub of this size with this id, and the reply behind it
-abbrev pub Tells : Size → Option HubId → Query → List ℕ → Reply → Type 0
-Tells size id Latest text (reply.Latest number) = WasSo size (λ s. number ≡ length s.changes) × (text ≡ [])
-Tells size id Latest text _ = ⊥
-Tells size id Left text (reply.Left left) = WasSo size (λ s. IsLeft size s left) × (text ≡ [])
-Tells size id Left text _ = ⊥
-Tells size id Hub text answer = Names id answer × (text ≡ [])
-Tells size id Stats text (reply.Stats stats) = WasSo size (λ s. AreStats size s stats) × (text ≡ [])
-Tells size id Stats text _ = ⊥
-Tells size id (Show number first most) text answer = Shows size number first most text answer
-Tells size id (Changes from most) text answer = Lists size from most text answer
-Tells size id (Newest node) text answer = Counts size node answer × (text ≡ [])
+-- what is printed to a query of a hub of this size with this id, and the reply behind it: read off the one state in
+-- which the history ended when the share looked
+abbrev pub Tells : Size → Seen → Seen → Option HubId → Query → List ℕ → Reply → Type 0
+Tells size v w id Latest text (reply.Latest number) = IsLook size v (λ s. number ≡ length s.changes) w × (text ≡ [])
+Tells size v w id Latest text _ = ⊥
+Tells size v w id Left text (reply.Left left) = IsLook size v (λ s. IsLeft size s left) w × (text ≡ [])
+Tells size v w id Left text _ = ⊥
+Tells size v w id Hub text answer = Names id answer × (text ≡ []) × (w ≡ v)
+Tells size v w id Stats text (reply.Stats stats) = IsLook size v (λ s. AreStats size s stats) w × (text ≡ [])
+Tells size v w id Stats text _ = ⊥
+Tells size v w id (Show number first most) text answer = Shows size v w number first most text answer
+Tells size v w id (Changes from most) text answer = Lists size v w from most text answer
+Tells size v w id (Newest node) text answer = Counts size v w node answer × (text ≡ [])
 
--- the same, or that no memory was found, and then nothing is printed but that; a hub that isn't read has no such line
-abbrev pub Reads : Size → Bool → Option HubId → Query → List ℕ → Reply → Type 0
-Reads size true id query text (reply.Refused reason.OutOfMemory) = text ≡ []
-Reads size true id query text answer = Tells size id query text answer
-Reads size false id query text answer = (answer ≡ reply.Refused reason.BadCommand) × (text ≡ [])
+-- the same, or that no memory was found, and then nothing is printed but that; a hub that isn't read has no such line.
+-- No call is made
+abbrev pub Reads : Size → Seen → Seen → Bool → Option HubId → Query → List ℕ → Reply → Type 0
+Reads size v w true id query text (reply.Refused reason.OutOfMemory) = (text ≡ []) × Makes size v [] w
+Reads size v w true id query text answer = Tells size v w id query text answer
+Reads size v w false id query text answer = (answer ≡ reply.Refused reason.BadCommand) × (text ≡ []) × (w ≡ v)

@@ -3,10 +3,11 @@ ghost use Rattle.std.specs.Prelude.{◌≡◌, ◌<◌, ◌≤◌};
 ghost use Rattle.change_ops.specs.Sizes.{most_changes, most_characters, most_marks, most_subscribers, most_open};
 ghost use Rattle.hub_core.specs.Counting.{AreWithinLimits};
 ghost use Rattle.session_reads.specs.Counting.{used_of, used_by, left_of, IsLeft, AreStats, stats_of};
-ghost use Rattle.session_reads.specs.Reads.{WasSo};
+ghost use Rattle.ingest_workers.specs.Calls.{IsLook};
 
 use call_history::knowledge::HistoryNaming;
 use change_ops::size::Size;
+use core_history::share::Share;
 use hub_core::counts::Counts;
 use ingest_workers::hub::Hub;
 use session_lines::stats::{PerLimit, Stats};
@@ -78,10 +79,11 @@ fn stats_of(size: Size, counts: Counts, version: &BlockVersion, sessions: u64) -
 pub(crate) fn left<N: Naming + HistoryNaming + Ledger, R: Wait + Copy>(
     rt: &R,
     hub: &Hub<'_, N, R>,
+    share: &mut Share<N>,
 ) -> PerLimit
-    ensures { WasSo N.size (λ s. IsLeft N.size s result) }
+    ensures { IsLook N.size share.old (λ s. IsLeft N.size s result) share.new }
 {
-    let (_, counts) = hub.counts(rt);
+    let (_, counts) = hub.counts(rt, share);
     left_of(hub.size(), counts)
 }
 
@@ -89,11 +91,12 @@ pub(crate) fn left<N: Naming + HistoryNaming + Ledger, R: Wait + Copy>(
 pub(crate) fn stats<N: Naming + HistoryNaming + Ledger, R: Wait + Copy>(
     rt: &R,
     hub: &Hub<'_, N, R>,
+    share: &mut Share<N>,
     published: &Published<'_, N>,
 ) -> Stats
-    ensures { WasSo N.size (λ s. AreStats N.size s result) }
+    ensures { IsLook N.size share.old (λ s. AreStats N.size s result) share.new }
 {
-    let (latest, counts) = hub.counts(rt);
+    let (latest, counts) = hub.counts(rt, share);
     stats_of(
         hub.size(),
         counts,

@@ -1,4 +1,5 @@
-ghost use Rattle.std.specs.Prelude.{◌≡◌, Some, IfOk, MatchResult};
+ghost use Rattle.std.specs.Prelude.{◌≡◌, [], IfOk, OnErr};
+ghost use Rattle.ingest_workers.specs.Calls.{Makes};
 ghost use Rattle.session_reads.specs.Found.{found_text};
 ghost use Rattle.session_reads.specs.Reads.{Shows, Lists, Counts, Names, Tells, Reads};
 ghost use Rattle.session_lines.specs.declared.query.Query.TheVariants as query;
@@ -7,6 +8,7 @@ use crate::counting::{left, stats};
 use crate::found::{Answer, Found};
 use call_history::knowledge::HistoryNaming;
 use change_ops::refusal::ChangeError;
+use core_history::share::Share;
 use hub_requests::identity::HubId;
 use ingest_workers::hub::Hub;
 use refusals::reason::Reason;
@@ -22,14 +24,15 @@ use version_history::published::{Naming, Published};
 fn show<'a, N: Naming + HistoryNaming + Ledger, R: Wait + Copy>(
     rt: &R,
     hub: &Hub<'_, N, R>,
+    share: &mut Share<N>,
     published: &'a Published<'_, N>,
     number: u64,
     first: u64,
     most: u64,
 ) -> Answer<'a>
-    ensures { Shows N.size number first most (found_text result.found) result.reply }
+    ensures { Shows N.size share.old share.new number first most (found_text result.found) result.reply }
 {
-    let Some(token) = hub.version(rt, number) else {
+    let Some(token) = hub.version(rt, share, number) else {
         return Answer::line(Reply::Refused(Reason::NoVersion));
     };
     let version = published.look(&token);
@@ -48,12 +51,15 @@ fn show<'a, N: Naming + HistoryNaming + Ledger, R: Wait + Copy>(
 fn list<'a, N: Naming + HistoryNaming + Ledger, R: Wait + Copy>(
     rt: &R,
     hub: &Hub<'_, N, R>,
+    share: &mut Share<N>,
     from: u64,
     most: u64,
 ) -> Result<Answer<'a>, AllocError>
-    ensures { IfOk result (λ answer. Lists N.size from most (found_text answer.found) answer.reply) }
+    ensures short { OnErr result (Makes N.size share.old [] share.new) }
+    ensures ok { IfOk result (λ answer. Lists N.size share.old share.new from most (found_text answer.found)
+        answer.reply) }
 {
-    let Some(texts) = hub.texts_behind(rt, from, most as usize)? else {
+    let Some(texts) = hub.texts_behind(rt, share, from, most as usize)? else {
         return Ok(Answer::line(Reply::Refused(Reason::NoVersion)));
     };
     let reply = Reply::Changes(texts.len());
@@ -67,14 +73,15 @@ fn list<'a, N: Naming + HistoryNaming + Ledger, R: Wait + Copy>(
 fn count<N: Naming + HistoryNaming + Ledger, R: Wait + Copy>(
     rt: &R,
     hub: &Hub<'_, N, R>,
+    share: &mut Share<N>,
     node: u64,
 ) -> Reply
-    ensures { Counts N.size node result }
+    ensures { Counts N.size share.old share.new node result }
 {
     if node < 1 || node > 65535 {
         return Reply::Refused(Reason::Unread(ChangeError::Limit(1)));
     }
-    Reply::Newest(hub.last_counter(rt, node as u16))
+    Reply::Newest(hub.last_counter(rt, share, node as u16))
 }
 
 /// Which hub it is, where it has an id.
@@ -91,43 +98,48 @@ fn name(id: Option<HubId>) -> Reply
 fn told<'a, N: Naming + HistoryNaming + Ledger, R: Wait + Copy>(
     rt: &R,
     hub: &Hub<'_, N, R>,
+    share: &mut Share<N>,
     published: &'a Published<'_, N>,
     id: Option<HubId>,
     query: Query,
 ) -> Result<Answer<'a>, AllocError>
-    ensures { IfOk result (λ answer. Tells N.size id query (found_text answer.found) answer.reply) }
+    ensures short { OnErr result (Makes N.size share.old [] share.new) }
+    ensures ok { IfOk result (λ answer. Tells N.size share.old share.new id query (found_text answer.found)
+        answer.reply) }
 {
     match query {
-        Query::Latest => Ok(Answer::line(Reply::Latest(hub.latest(rt)))),
-        Query::Left => Ok(Answer::line(Reply::Left(left(rt, hub)))),
+        Query::Latest => Ok(Answer::line(Reply::Latest(hub.latest(rt, share)))),
+        Query::Left => Ok(Answer::line(Reply::Left(left(rt, hub, share)))),
         Query::Hub => Ok(Answer::line(name(id))),
-        Query::Stats => Ok(Answer::line(Reply::Stats(stats(rt, hub, published)))),
+        Query::Stats => Ok(Answer::line(Reply::Stats(stats(rt, hub, share, published)))),
         Query::Show {
             version,
             first,
             count,
-        } => Ok(show(rt, hub, published, version, first, count)),
-        Query::Changes { from, count } => list(rt, hub, from, count),
-        Query::Newest { node } => Ok(Answer::line(count(rt, hub, node))),
+        } => Ok(show(rt, hub, share, published, version, first, count)),
+        Query::Changes { from, count } => list(rt, hub, share, from, count),
+        Query::Newest { node } => Ok(Answer::line(count(rt, hub, share, node))),
     }
 }
 
-/// Reads of a hub with this id: what is found, and the reply behind it. A hub that isn't read refuses. Reading changes
-/// nothing, and copies nothing of the text: no memory is taken but for a list of up to 64 texts.
+/// Reads of a hub with this id, by looks of this share: what is found, and the reply behind it. A hub that isn't read
+/// refuses. Reading changes nothing, and copies nothing of the text: no memory is taken but for a list of up to 64
+/// texts.
 pub fn read<'a, N: Naming + HistoryNaming + Ledger, R: Wait + Copy>(
     rt: &R,
     hub: &Hub<'_, N, R>,
+    share: &mut Share<N>,
     published: &'a Published<'_, N>,
     reads: bool,
     id: Option<HubId>,
     query: Query,
 ) -> Answer<'a>
-    ensures { Reads N.size reads id query (found_text result.found) result.reply }
+    ensures { Reads N.size share.old share.new reads id query (found_text result.found) result.reply }
 {
     if !reads {
         return Answer::line(Reply::Refused(Reason::BadCommand));
     }
-    match told(rt, hub, published, id, query) {
+    match told(rt, hub, share, published, id, query) {
         Ok(answer) => answer,
         Err(_) => Answer::line(Reply::Refused(Reason::OutOfMemory)),
     }

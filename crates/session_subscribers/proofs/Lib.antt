@@ -1,2 +1,5 @@
 pub mod Takings
 pub mod Holdings
+pub mod PullCalls
+pub mod Refusals
+pub mod Meetings

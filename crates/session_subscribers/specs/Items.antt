@@ -18,10 +18,11 @@ item_reply (finding.End version spans) = reply.End version spans
 abbrev pub item_line : Item → List ℕ
 item_line item = reply_text (item_reply item.what) ++ 10 ∷ []
 
--- `count` items were taken of a queue after those that were taken before, and their lines appended in the same order
+-- `count` items were taken of a queue after those that were taken before, and their lines appended in the same order;
+-- what is known to have been sent may be another
 pub record Takes (count : ℕ) (end end' : Subscription) (out out' : List ℕ) : Type 0 where
   pub items : List Item
-  pub next : end' ≡ record end { taken = end.taken ++ items }
+  pub next : end' ≡ record end { taken = end.taken ++ items; shown = end'.shown }
   pub printed : out' ≡ out ++ flat_map item_line items
   pub many : length items ≡ count
 
@@ -31,7 +32,7 @@ pub record Takes (count : ℕ) (end end' : Subscription) (out out' : List ℕ) :
 pub record TakesShort (most : ℕ) (end end' : Subscription) (out out' : List ℕ) : Type 0 where
   pub shown : List Item
   pub unshown : List Item
-  pub next : end' ≡ record end { taken = end.taken ++ (shown ++ unshown) }
+  pub next : end' ≡ record end { taken = end.taken ++ (shown ++ unshown); shown = end'.shown }
   pub printed : out' ≡ out ++ flat_map item_line shown
   pub few : length shown + length unshown ≤ most
   pub last : length unshown ≤ 1

@@ -1,10 +1,14 @@
-ghost use Rattle.std.specs.Prelude.{◌≡◌, ◌<◌, ◌≤◌, ◌⊎◌, ◌↔◌, IfOk, OnErr, IsTrue, string_bytes};
+ghost use Rattle.std.specs.Prelude.{◌≡◌, ◌<◌, ◌≤◌, ◌⊎◌, ◌↔◌, ⊤, IfOk, OnErr, IsTrue, MatchOption, string_bytes};
 ghost use Rattle.change_ops.specs.Sizes.{most_changes};
-ghost use Rattle.session_subscribers.specs.Holding.{Pulls, PullsAny, PullsShort};
+ghost use Rattle.subscriber_queues.specs.Queue.{Begins};
+ghost use Rattle.ingest_workers.specs.Sending.{IsOwnSubscriber};
+ghost use Rattle.session_subscribers.specs.Holding.{AreOwnSubscribers, Pulls, PullsAny, PullsShort, MakesPullCalls};
+ghost use Rattle.session_subscribers.specs.Holding.{HelpsOthers};
 ghost use Rattle.session_subscribers.specs.Items.{item_reply, Takes, TakesShort};
 
 use crate::session_hub::{Held, SessionHub, index_of};
 use call_history::knowledge::HistoryNaming;
+use core_history::share::Share;
 use feeds::item::Finding;
 use filter_workers::work::{catch_up, help};
 use refusals::reason::Reason;
@@ -46,6 +50,8 @@ fn take_waiting<N: Naming, R: Wait + Copy>(
 ) -> Result<usize, AllocError>
     ensures ok { IfOk result (λ taken. (taken ≤ most)
         × Takes taken items.old items.new (string_bytes out.old) (string_bytes out.new)) }
+    ensures all { IfOk result (λ taken. taken < most → Begins items.new.shown items.new.taken) }
+    ensures shown { items.new.shown ≡ items.old.shown }
     ensures err { OnErr result (TakesShort most items.old items.new (string_bytes out.old) (string_bytes out.new)) }
 {
     for taken in 0..most {
@@ -57,42 +63,31 @@ fn take_waiting<N: Naming, R: Wait + Copy>(
     Ok(most)
 }
 
+/// Whether a subscriber was sent all versions up to this one, or is closed, by the first one that it wasn't sent whole.
+fn is_beyond(cursor: Option<u64>, last: u64) -> bool
+    ensures { IsTrue result ↔ MatchOption cursor ⊤ (λ first. last < first) }
+{
+    match cursor {
+        None => true,
+        Some(first) => last < first,
+    }
+}
+
 impl<
     N: Naming + HistoryNaming + Ledger + Send + Sync,
     R: Threads + Wait + Copy + Send + Sync,
 > SessionHub<'_, '_, N, R> {
-    /// Has items sent and takes them, until `most` are taken or none is left. It answers how many.
-    fn drain(
-        &self,
-        id: usize,
-        items: &mut Subscription<N, R>,
-        most: usize,
-        out: &mut String,
-    ) -> Result<usize, AllocError>
-        ensures ok { IfOk result (λ taken. (taken ≤ most)
-            × Takes taken items.old items.new (string_bytes out.old) (string_bytes out.new)) }
-        ensures err { OnErr result (TakesShort most items.old items.new (string_bytes out.old) (string_bytes out.new)) }
-    {
-        let mut taken = 0;
-        for _round in 0..most {
-            let _ = self.hub.pump(&self.rt, id);
-            let more = take_waiting(items, most - taken, out)?;
-            taken += more;
-            if more == 0 {
-                break;
-            }
-        }
-        Ok(taken)
-    }
-
     /// Computes the first batch that this subscriber waits for, whoever else computes it, if its version is one of
-    /// those up to this one. It answers whether the subscriber waited for one.
-    fn compute_own(&self, id: usize, last: u64) -> Result<bool, AllocError> {
+    /// those up to this one.
+    fn compute_own(&self, share: &mut Share<N>, id: usize, last: u64) -> Result<(), AllocError>
+        ensures { MakesPullCalls N.size share.old share.new id }
+    {
         let waited = catch_up(
             &self.rt,
             self.alloc,
             self.hub,
             self.published,
+            share,
             id,
             last,
             self.workers,
@@ -100,19 +95,22 @@ impl<
         if waited {
             self.owes_help.set(true);
         }
-        Ok(waited)
+        Ok(())
     }
 
     /// Where a pull computed something since the last call, computes one short batch for whichever subscriber is due,
     /// those of other sessions too. To be called once the pull was answered. Where no memory is found, what a
     /// subscriber is owed is handed out again.
-    pub fn help_others(&self) {
+    pub fn help_others(&self, share: &mut Share<N>)
+        ensures { HelpsOthers N.size share.old share.new }
+    {
         if self.owes_help.replace(false) {
             let _ = help(
                 &self.rt,
                 self.alloc,
                 self.hub,
                 self.published,
+                share,
                 STEPS_FOR_OTHERS,
             );
         }
@@ -133,57 +131,69 @@ impl<
         }
     }
 
-    /// Computes and takes items of the versions up to the one that is the latest now, until `count` are taken or none
-    /// is due.
+    /// Computes and takes items of the versions up to the one that is the latest now, until `count` are taken or all
+    /// that are due.
     ///
-    /// In a round where the subscriber waited for a batch, at least one item is taken. Where it waited for none and no
-    /// item came, all items of those versions were taken. What is published meanwhile is left to the next pull.
+    /// A round in which the subscriber waited for a batch takes at least one item. Where none is left the hub tells how
+    /// far the subscriber was sent. What is published meanwhile is left to the next pull.
     fn pull_from(
         &self,
+        share: &mut Share<N>,
         id: usize,
         items: &mut Subscription<N, R>,
         count: usize,
         out: &mut String,
     ) -> Result<Reply, AllocError>
-        ensures ok { IfOk result (Pulls N.size self.now.options.reads count items.old items.new (string_bytes out.old)
-            (string_bytes out.new)) }
+        requires { IsOwnSubscriber share.old id items.old }
+        ensures ok { IfOk result (Pulls N.size share.old share.new self.now.options.reads id count items.old items.new
+            (string_bytes out.old) (string_bytes out.new)) }
         ensures err { OnErr result (TakesShort count items.old items.new (string_bytes out.old)
             (string_bytes out.new)) }
+        ensures calls { MakesPullCalls N.size share.old share.new id }
     {
-        let latest = self.hub.latest(&self.rt);
+        let latest = self.hub.latest(&self.rt, share);
         let mut taken = 0;
-        for _round in 0..count {
-            let computed = self.compute_own(id, latest);
-            let more = self.drain(id, items, count - taken, out)?;
+        for _round in self.rt.forever() {
+            if taken == count {
+                break;
+            }
+            let computed = self.compute_own(share, id, latest);
+            let cursor = self.hub.send(&self.rt, share, id, items);
+            let more = take_waiting(items, count - taken, out)?;
             taken += more;
-            let Ok(waited) = computed else {
+            let Ok(()) = computed else {
                 return Ok(Reply::Refused(Reason::OutOfMemory));
             };
-            if taken == count || (more == 0 && !waited) {
+            if more == 0 && is_beyond(cursor, latest) {
                 break;
             }
         }
         Ok(self.items_reply(count, taken, latest))
     }
 
-    /// Takes items of a subscriber of the session, appends their lines, and answers what is printed after them.
+    /// Takes items of a subscriber of the session, appends their lines, and answers what is printed after them. Each
+    /// that it holds was added by itself.
     pub fn pull(
         &self,
+        share: &mut Share<N>,
         held: &mut Vec<Held<N, R>>,
         id: usize,
         count: usize,
         out: &mut String,
     ) -> Result<Reply, AllocError>
-        ensures ok { IfOk result (PullsAny N.size self.now.options.reads id count held.old.items held.new.items
+        requires own { AreOwnSubscribers share.old held.old.items }
+        ensures ok { IfOk result (PullsAny N.size share.old share.new self.now.options.reads id count held.old.items
+            held.new.items (string_bytes out.old) (string_bytes out.new)) }
+        ensures err { OnErr result (PullsShort N.size share.old share.new id count held.old.items held.new.items
             (string_bytes out.old) (string_bytes out.new)) }
-        ensures err { OnErr result (PullsShort id count held.old.items held.new.items (string_bytes out.old)
-            (string_bytes out.new)) }
     {
         let Some(index) = index_of(held.as_slice(), id) else {
             return Ok(Reply::Refused(Reason::NoSubscriber));
         };
         let one = &mut held[index];
-        let reply = self.pull_from(one.id, &mut one.items, count, out);
+        let reply = self.pull_from(share, id, &mut one.items, count, out);
+        // Once more, so that what was taken is known to have been sent.
+        let _ = self.hub.send(&self.rt, share, id, &mut one.items);
         one.items.stays_orderly();
         reply
     }

@@ -1,16 +1,18 @@
-ghost use Rattle.std.specs.Prelude.{◌≡◌, ℕ, true, List, Option, Some, [], Ok, IfOk, IfErr};
+ghost use Rattle.std.specs.Prelude.{◌≡◌, ℕ, true, List, Option, Some, [], Ok, IfOk, IfErr, OnOk};
 ghost use Rattle.change_ops.specs.declared.size.Size.{Size as TheSize};
 ghost use Rattle.bpf_words.specs.Words.{IsProgram, program_of};
 ghost use Rattle.span_context.specs.declared.profile.Profile.{Profile as TheProfile};
 ghost use Rattle.semantics.specs.Safe.{SafeIn};
-ghost use Rattle.hub_core.specs.Machine.{Subscribes};
-ghost use Rattle.ingest_workers.specs.Holdings.{InOneHolding};
+ghost use Rattle.hub_core.specs.declared.run.Reply.TheVariants as told;
+ghost use Rattle.core_history.specs.Hubs.{Seen};
+ghost use Rattle.ingest_workers.specs.Calls.{Makes, IsCall, subscribing};
 ghost use Rattle.verifier.specs.Decides.{IsAllowed};
-ghost use Rattle.session_subscribers.specs.Holding.{AreSafe, first_of, IsNotSubscribed, Adds, Closes};
+ghost use Rattle.session_subscribers.specs.Holding.{AreSafe, IsNotSubscribed, Adds, Closes};
 
 use crate::session_hub::{Held, SessionHub, index_of};
 use bpf_words::words::Words;
 use call_history::knowledge::HistoryNaming;
+use core_history::share::Share;
 use hub_core::error::SubscribeError;
 use hub_requests::limits::SessionLimits;
 use refusals::reason::Reason;
@@ -41,8 +43,8 @@ fn ends<N: Naming, R: Wait + Copy>(
           taken = [];
           shown = [];
         }) }
-    ensures err { IfErr result (λ why. (profile : TheProfile) (bytes : List ℕ) (from : Option ℕ)
-        → AreSafe profile bytes → IsNotSubscribed N.size profile capacity bytes from why) }
+    ensures err { IfErr result (λ why. (v : Seen) (w : Seen) (profile : TheProfile) (bytes : List ℕ) (from : Option ℕ)
+        → AreSafe profile bytes → Makes N.size v [] w → IsNotSubscribed N.size v w profile capacity bytes from why) }
 {
     match queue_for(rt, alloc, capacity, program, first) {
         Ok(ends) => Ok(ends),
@@ -55,8 +57,8 @@ fn ends<N: Naming, R: Wait + Copy>(
 fn accepted(alloc: Global, profile: Profile, bytes: &[u8]) -> Result<Verified, Reason>
     ensures ok { IfOk result (λ program. IsProgram bytes.now × (program ≡ program_of bytes.now)
         × SafeIn profile program × IsAllowed profile (program_of bytes.now)) }
-    ensures err { IfErr result (λ why. (size : TheSize) (capacity : ℕ) (first : Option ℕ)
-        → IsNotSubscribed size profile capacity bytes.now first why) }
+    ensures err { IfErr result (λ why. (size : TheSize) (v : Seen) (capacity : ℕ) (first : Option ℕ)
+        → IsNotSubscribed size v v profile capacity bytes.now first why) }
 {
     let words = match Words::new(bytes) {
         Ok(words) => words,
@@ -81,17 +83,19 @@ impl<N: Naming + HistoryNaming + Ledger, R: Wait + Copy> SessionHub<'_, '_, N, R
     }
 
     /// Refuses what the hub would refuse whatever the program is.
-    fn check(&self, first: Option<u64>) -> Result<(), Reason>
-        ensures { IfErr result (λ why. (profile : TheProfile) (capacity : ℕ) (bytes : List ℕ) → AreSafe profile bytes
-            → IsNotSubscribed N.size profile capacity bytes first why) }
+    fn check(&self, share: &mut Share<N>, first: Option<u64>) -> Result<(), Reason>
+        ensures ok { OnOk result (Makes N.size share.old [] share.new) }
+        ensures err { IfErr result (λ why. (profile : TheProfile) (capacity : ℕ) (bytes : List ℕ)
+            → AreSafe profile bytes
+            → IsNotSubscribed N.size share.old share.new profile capacity bytes first why) }
     {
-        if self.hub.is_full(&self.rt) {
+        if self.hub.is_full(&self.rt, share) {
             return Err(Reason::SubscribersFull);
         }
         let Some(number) = first else {
             return Ok(());
         };
-        if self.hub.lacks_version(&self.rt, number) {
+        if self.hub.lacks_version(&self.rt, share, number) {
             return Err(Reason::NoVersion);
         }
         Ok(())
@@ -100,35 +104,40 @@ impl<N: Naming + HistoryNaming + Ledger, R: Wait + Copy> SessionHub<'_, '_, N, R
     /// Subscribes at the hub, from the version that is named or the latest one on.
     fn subscribed(
         &self,
+        share: &mut Share<N>,
         token: ProgramToken<N>,
         sink: QueueSink<N, R>,
         first: Option<u64>,
     ) -> Result<usize, SubscribeError>
         requires none { sink.sent ≡ [] }
         requires promise { sink.promise ≡ Some (record { size = N.size; program = token.value; first = first }) }
-        ensures { InOneHolding N.size (λ old new. Subscribes old (first_of first old) token sink result new) }
+        ensures { IsCall N.size share.old (subscribing first token sink) (told.Subscribed result) share.new }
     {
         match first {
-            None => self.hub.subscribe(&self.rt, token, sink),
-            Some(number) => self.hub.subscribe_from(&self.rt, token, sink, number),
+            None => self.hub.subscribe(&self.rt, share, token, sink),
+            Some(number) => self
+                .hub
+                .subscribe_from(&self.rt, share, token, sink, number),
         }
     }
 
     /// The id under which the hub has the subscriber, or why it has none.
     fn id_at_hub(
         &self,
+        share: &mut Share<N>,
         token: ProgramToken<N>,
         sink: QueueSink<N, R>,
         first: Option<u64>,
     ) -> Result<usize, Reason>
         requires none { sink.sent ≡ [] }
         requires promise { sink.promise ≡ Some (record { size = N.size; program = token.value; first = first }) }
-        ensures ok { IfOk result (λ id. InOneHolding N.size
-            (λ old new. Subscribes old (first_of first old) token sink (Ok id) new)) }
-        ensures err { IfErr result (λ why. (profile : TheProfile) (capacity : ℕ) (bytes : List ℕ)
-            → AreSafe profile bytes → IsNotSubscribed N.size profile capacity bytes first why) }
+        ensures ok { IfOk result (λ id. IsCall N.size share.old (subscribing first token sink) (told.Subscribed (Ok id))
+            share.new) }
+        ensures err { IfErr result (λ why. (v : Seen) (profile : TheProfile) (capacity : ℕ) (bytes : List ℕ)
+            → Makes N.size v [] share.old → AreSafe profile bytes → token.value ≡ program_of bytes
+            → IsNotSubscribed N.size v share.new profile capacity bytes first why) }
     {
-        match self.subscribed(token, sink, first) {
+        match self.subscribed(share, token, sink, first) {
             Ok(id) => Ok(id),
             Err(SubscribeError::SubscribersFull) => Err(Reason::SubscribersFull),
             Err(SubscribeError::NoVersion) => Err(Reason::NoVersion),
@@ -143,6 +152,7 @@ impl<N: Naming + HistoryNaming + Ledger, R: Wait + Copy> SessionHub<'_, '_, N, R
     /// program that no subscriber has.
     fn add(
         &self,
+        share: &mut Share<N>,
         held: &mut Vec<Held<N, R>>,
         left: &mut SessionLimits,
         profile: Profile,
@@ -150,22 +160,22 @@ impl<N: Naming + HistoryNaming + Ledger, R: Wait + Copy> SessionHub<'_, '_, N, R
         bytes: &[u8],
         first: Option<u64>,
     ) -> Result<usize, Reason>
-        ensures ok { IfOk result (λ id. Adds N.size profile capacity bytes.now first left.old held.old.items
-            (Reply.Subscribed id) left.new held.new.items) }
-        ensures err { IfErr result (λ why. Adds N.size profile capacity bytes.now first left.old held.old.items
-            (Reply.Refused why) left.new held.new.items) }
+        ensures ok { IfOk result (λ id. Adds N.size share.old share.new profile capacity bytes.now first left.old
+            held.old.items (Reply.Subscribed id) left.new held.new.items) }
+        ensures err { IfErr result (λ why. Adds N.size share.old share.new profile capacity bytes.now first left.old
+            held.old.items (Reply.Refused why) left.new held.new.items) }
     {
         let program = accepted(self.alloc, profile, bytes)?;
         if !left.takes_subscriber() {
             return Err(Reason::SubscribersFull);
         }
-        self.check(first)?;
+        self.check(share, first)?;
         if held.reserve(1).is_err() {
             return Err(Reason::OutOfMemory);
         }
         let (sink, items) = ends(self.rt, self.alloc, capacity, &program, first)?;
         let token = self.publish(program)?;
-        let id = self.id_at_hub(token, sink, first)?;
+        let id = self.id_at_hub(share, token, sink, first)?;
         held.push_reserved(Held { id, items });
         left.spend_subscriber();
         Ok(id)
@@ -175,6 +185,7 @@ impl<N: Naming + HistoryNaming + Ledger, R: Wait + Copy> SessionHub<'_, '_, N, R
     /// for it, and its first version, the latest where none is named.
     pub fn subscribe(
         &self,
+        share: &mut Share<N>,
         held: &mut Vec<Held<N, R>>,
         left: &mut SessionLimits,
         profile: Profile,
@@ -182,24 +193,25 @@ impl<N: Naming + HistoryNaming + Ledger, R: Wait + Copy> SessionHub<'_, '_, N, R
         bytes: &[u8],
         first: Option<u64>,
     ) -> Reply
-        ensures { Adds N.size profile capacity bytes.now first left.old held.old.items result left.new held.new.items }
+        ensures { Adds N.size share.old share.new profile capacity bytes.now first left.old held.old.items result
+            left.new held.new.items }
     {
-        match self.add(held, left, profile, capacity, bytes, first) {
+        match self.add(share, held, left, profile, capacity, bytes, first) {
             Ok(id) => Reply::Subscribed(id),
             Err(reason) => Reply::Refused(reason),
         }
     }
 
     /// Closes a subscriber of the session.
-    pub fn close(&self, held: &mut Vec<Held<N, R>>, id: usize) -> Reply
-        ensures { Closes N.size held.old.items id result held.new.items }
+    pub fn close(&self, share: &mut Share<N>, held: &mut Vec<Held<N, R>>, id: usize) -> Reply
+        ensures { Closes N.size share.old share.new held.old.items id result held.new.items }
     {
         let Some(index) = index_of(held.as_slice(), id) else {
             return Reply::Refused(Reason::NoSubscriber);
         };
         let _one = held.remove(index);
         // Refused where the hub has it as closed, which it then is.
-        let _ = self.hub.close(&self.rt, id);
+        let _ = self.hub.close(&self.rt, share, id);
         Reply::Closed(id)
     }
 }

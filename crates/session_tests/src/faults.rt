@@ -95,7 +95,7 @@ fn tried_on<
         1,
         SessionOptions::unlimited(false),
     );
-    let closed = hub.pump(rt, 0).is_err();
+    let closed = hub.pump(rt, &mut one, 0).is_err();
     let mut next = Vec::new(alloc);
     let other = "change 3 1\ni 9@3 - 61\n";
     let _ = session(

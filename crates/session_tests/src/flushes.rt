@@ -87,6 +87,7 @@ fn two_subscribed<
     assert!(rt; ended.is_ok());
     assert_eq!(rt; writer.bytes.as_slice(), TWO_SUBSCRIBERS_REPLIES.as_bytes());
     assert_eq!(rt; writer.flushed.as_slice(), ENDS.as_slice());
-    assert!(rt; hub.pump(rt, 0).is_err() && hub.pump(rt, 1).is_err());
+    assert!(rt; hub.pump(rt, &mut shares[0], 0).is_err());
+    assert!(rt; hub.pump(rt, &mut shares[0], 1).is_err());
     Ok(())
 }

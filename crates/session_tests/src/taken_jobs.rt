@@ -28,6 +28,7 @@ use version_history::published::{Naming, Published};
 struct JobTaker<'a, 'h, 'p, N: Naming + HistoryNaming + Ledger, R: Wait + Copy> {
     rt: R,
     hub: &'h Hub<'p, N, R>,
+    share: Share<N>,
     rest: &'a [u8],
     jobs: u32,
 }
@@ -35,7 +36,7 @@ struct JobTaker<'a, 'h, 'p, N: Naming + HistoryNaming + Ledger, R: Wait + Copy> 
 impl<N: Naming + HistoryNaming + Ledger, R: Wait + Copy> JobTaker<'_, '_, '_, N, R> {
     fn take_jobs(&mut self) {
         for _ in 0..100u32 {
-            if self.hub.take_job(&self.rt).is_none() {
+            if self.hub.take_job(&self.rt, &mut self.share).is_none() {
                 break;
             }
             self.jobs = self.jobs.saturating_add(1);
@@ -67,7 +68,7 @@ impl<N: Naming + HistoryNaming + Ledger, R: Wait + Copy> io::Read for JobTaker<'
 fn a_pull_answers_what_is_due_though_others_took_its_jobs(rt: HostRuntime) -> Result<(), Fail> {
     let versions = boxcar::Vec::new(rt.alloc())?;
     let programs = boxcar::Vec::new(rt.alloc())?;
-    let start = Start::new(rt.alloc(), 2)?;
+    let start = Start::new(rt.alloc(), 3)?;
     taken::<Brand, _>(rt, rt.alloc(), start, &versions, &programs)
 }
 
@@ -82,18 +83,29 @@ fn taken<
     programs: &boxcar::Vec<Verified>,
 ) -> Result<(), Fail>
     requires named { (Small ≡ N.size) × (versions.now ≡ N.versions) × (programs.now ≡ N.programs) }
-    requires start { (start.name ≡ N.name) × (start.table ≡ N.table) × (start.parts ≡ N.parts) × (N.parts ≡ 2) }
+    requires start { (start.name ≡ N.name) × (start.table ≡ N.table) × (start.parts ≡ N.parts) × (N.parts ≡ 3) }
 {
     let published = Published::<N>::new(Size::Small, versions, programs);
-    let (hub, mut shares) = Hub::new(&rt, alloc, start, &published, 1)?;
+    let (hub, mut shares) = Hub::new(&rt, alloc, start, &published, 2)?;
+    let Some(takers) = shares.pop() else {
+        return Err(Fail::from("shares"));
+    };
     let mut out = Vec::new(alloc);
-    let jobs = with_jobs_taken(&rt, alloc, &hub, &published, &mut shares[0], &mut out);
+    let jobs = with_jobs_taken(
+        &rt,
+        alloc,
+        &hub,
+        &published,
+        &mut shares[0],
+        takers,
+        &mut out,
+    );
     assert_eq!(rt; out.as_slice(), TEN_VERSIONS_REPLIES.as_bytes());
     assert!(rt; jobs > 8);
     Ok(())
 }
 
-/// Runs the session, and answers how many jobs were taken from it.
+/// Runs the session by one share, and answers how many jobs were taken from it by another.
 fn with_jobs_taken<
     'p,
     N: Naming + HistoryNaming + Ledger + Send + Sync,
@@ -104,11 +116,13 @@ fn with_jobs_taken<
     hub: &Hub<'p, N, R>,
     published: &Published<'p, N>,
     share: &mut Share<N>,
+    takers: Share<N>,
     out: &mut Vec<u8>,
 ) -> u32 {
     let mut reader = JobTaker {
         rt: *rt,
         hub,
+        share: takers,
         rest: TEN_VERSIONS.as_bytes(),
         jobs: 0,
     };

@@ -1,5 +1,5 @@
 -- What a clause sees of the ends of a subscriber's queue.
-use Rattle.std.specs.Prelude.{◌≡◌, ℕ, ◌≤◌, ◌⊎◌, Bool, false, Option, List, ◌++◌, length}
+use Rattle.std.specs.Prelude.{◌≡◌, ℕ, ◌≤◌, ◌⊎◌, Bool, false, cond, Option, List, [], ◌++◌, length}
 use Rattle.atomic_table.specs.Seated.{TableId}
 use Rattle.feeds.specs.Batches.{Item}
 use Rattle.feeds.specs.Promise.{Promise}
@@ -45,6 +45,10 @@ IsFull end = (end.sends ≡ false) ⊎ (end.capacity ≤ length end.sent)
 abbrev pub closed_end : QueueSink → QueueSink
 closed_end end = record end { sends = false }
 
+-- the end but for what was sent
+abbrev pub unsent : QueueSink → QueueSink
+unsent end = record end { sent = [] }
+
 -- the first list is a beginning of the second
 abbrev pub Begins : List Item → List Item → Type 0
 Begins items all = (rest : List Item) × (all ≡ items ++ rest)
@@ -56,3 +60,11 @@ AreBeginnings items others = (all : List Item) × Begins items all × Begins oth
 -- what was sent is what was taken and then what waits, no more than may
 abbrev pub AreEnds : QueueSink → Subscription → Type 0
 AreEnds sink end = (waiting : List Item) × (sink.sent ≡ end.taken ++ waiting) × (length waiting ≤ sink.capacity)
+
+-- what the subscriber's end knows to have been sent once it met the hub's: all, or what it knew where that is closed
+abbrev pub shown_of : QueueSink → Subscription → List Item
+shown_of sink end = cond sink.sends sink.sent end.shown
+
+-- the two ends met: what was taken and what waits are what was sent, and the subscriber's end knows it
+abbrev pub Meets : QueueSink → Subscription → Subscription → Type 0
+Meets sink end met = AreEnds sink end × (met ≡ record end { shown = shown_of sink end })

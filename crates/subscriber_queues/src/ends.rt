@@ -4,7 +4,7 @@ ghost use Rattle.std.specs.Prelude.{IfSome, IfNone, MatchOption};
 ghost use Rattle.crossbeam_queue.specs.Passes.{view as view_of};
 ghost use Rattle.feeds.specs.Orderly.{IsOrderly};
 ghost use Rattle.feeds.specs.Promise.{IsPromised};
-ghost use Rattle.subscriber_queues.specs.Queue.{IsCapacity, Begins, AreBeginnings, AreEnds};
+ghost use Rattle.subscriber_queues.specs.Queue.{IsCapacity, Begins, AreBeginnings, AreEnds, Meets};
 
 use crate::rule::{Ends, Knows, Line, Room, Sends, Shows, Takes, Whole};
 use crossbeam_queue::Pass;
@@ -13,6 +13,7 @@ use feeds::sink::Sink;
 use refusal_titles::{BAD_CAPACITY, OUT_OF_MEMORY};
 use std::alloc::{AllocError, Global};
 use std::marker::{Brand, Model};
+use std::mem;
 use std::sync::{Arc, Wait};
 use thiserror::Error;
 use verifier::verify::Verified;
@@ -135,8 +136,10 @@ impl<N: Naming> Shown<N> {
 }
 
 impl<N: Naming, R: Wait + Copy> Sink<Item<N>> for QueueSink<N, R> {
-    ghost use Rattle.std.specs.Prelude.{◌≡◌, ◌++◌, ◌∷◌, [], IfErr, OnOk};
-    ghost use Rattle.subscriber_queues.specs.Queue.{IsFull, closed_end};
+    ghost use Rattle.std.specs.Prelude.{◌≡◌, ◌++◌, ◌∷◌, [], IfErr, OnOk, true};
+    ghost use Rattle.subscriber_queues.specs.Queue.{IsFull, closed_end, unsent, Meets};
+
+    type End = Subscription<N, R>;
 
     ghost sent = { λ s. s.sent };
 
@@ -145,6 +148,12 @@ impl<N: Naming, R: Wait + Copy> Sink<Item<N>> for QueueSink<N, R> {
     ghost promise = { λ s. s.promise };
 
     ghost closed = { closed_end };
+
+    ghost bare = { unsent };
+
+    ghost fits = { λ end s. end.line ≡ s.line };
+
+    ghost meets = { Meets };
 
     fn push(&mut self, item: Item<N>) -> Result<(), Item<N>>
         requires orderly { IsOrderly (self.old.sent ++ item ∷ []) }
@@ -168,6 +177,18 @@ impl<N: Naming, R: Wait + Copy> Sink<Item<N>> for QueueSink<N, R> {
         ensures value { self.new ≡ closed_end self.old }
     {
         self.line = None;
+    }
+
+    /// [`Subscription::compare`], and the subscriber's end learns what was sent so far, if this one isn't closed.
+    fn meet(&mut self, end: &mut Subscription<N, R>)
+        requires fits { end.old.line ≡ self.old.line }
+        ensures same { self.new ≡ self.old }
+        ensures meets { Meets self.old end.old end.new }
+    {
+        end.compare(self);
+        if let Some(shown) = self.shown() {
+            end.learn(shown);
+        }
     }
 }
 
@@ -220,17 +241,18 @@ impl<N: Naming, R: Wait + Copy> Subscription<N, R> {
 
     /// The law of the two ends of one queue, the hub's closed or not: what was taken of it is a beginning of what was
     /// sent, and no more waits than may.
-    pub fn compare(self, sink: &mut QueueSink<N, R>) -> Subscription<N, R>
-        requires { self.line ≡ sink.old.line }
+    pub fn compare(&mut self, sink: &mut QueueSink<N, R>)
+        requires { self.old.line ≡ sink.old.line }
         ensures sink { sink.new ≡ sink.old }
-        ensures end { result ≡ self }
-        ensures ends { AreEnds sink.old self }
+        ensures end { self.new ≡ self.old }
+        ensures ends { AreEnds sink.old self.old }
     {
-        let Subscription { rt, line, pass } = self;
-        line.absorb::<Whole>(&mut sink.pass, pass);
-        line.learn_as::<Whole>(&mut sink.pass);
-        let pass = line.another::<Whole>(&mut sink.pass);
-        Subscription { rt, line, pass }
+        // The two passes become one, which knows both ends, and are parted again. For so long the end has a spare one.
+        let spare = self.line.another::<Shows>(&mut sink.pass);
+        let pass = mem::replace(&mut self.pass, spare);
+        self.line.absorb::<Whole>(&mut sink.pass, pass);
+        self.line.learn_as::<Whole>(&mut sink.pass);
+        self.pass = self.line.another::<Whole>(&mut sink.pass);
     }
 }
 

@@ -1,9 +1,7 @@
 -- The parts of a hub's history that the shares of a case have.
 use Rattle.std.specs.Prelude.{ℕ, List, sum, map}
-use Rattle.call_history.specs.Calls.{Holds}
-use Rattle.core_history.specs.Runs.{CoreEntry}
-use Rattle.subscriber_queues.specs.Queue.{QueueSink}
+use Rattle.core_history.specs.Hubs.{Seen}
 
 -- how many they have in all
-abbrev pub all_parts : List (Holds (CoreEntry QueueSink)) → ℕ
+abbrev pub all_parts : List Seen → ℕ
 all_parts shares = sum (map (λ share. share.parts) shares)

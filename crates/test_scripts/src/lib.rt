@@ -7,11 +7,12 @@
 //! |---|---|
 //! | `core NAME` | a core with sinks that keep what they are sent, to which all events are handed at once |
 //! | `hub NAME` | a hub with queues, by its calls |
-//! | `hub NAME N` | the same, of which N shares are cut, 1 to 256 |
+//! | `hub NAME N` | the same, with N shares that ingest, 1 to 239 |
 //! | `threads NAME N` | a hub with two shares, by which two threads ingest N changes each; there is no further line |
 //!
 //! Each further line is an event, and is answered by a line with its first word. Programs, subscribers, jobs, shares
-//! and queues are named by their indexes, from 0. A core takes the events down to `program`.
+//! and queues are named by their indexes, from 0. A core takes the events down to `program`. Each call of a hub is the
+//! first share's, where nothing else is said; workers have shares of their own.
 //!
 //! | event | what it asks for | what it answers |
 //! |---|---|---|
@@ -61,6 +62,7 @@ mod hub_case;
 mod machine;
 mod programs;
 mod script;
+mod spare;
 mod tricks;
 mod two_threads;
 

@@ -1,22 +1,24 @@
-ghost use Rattle.std.specs.Prelude.{◌≡◌};
+ghost use Rattle.std.specs.Prelude.{◌≡◌, ◌≤◌, length, map};
+ghost use Rattle.test_scripts.specs.Parts.{all_parts};
 
 use crate::answer::{Answer, Fault};
 use crate::findings::findings_of;
 use crate::programs::{published_program, push};
 use crate::script::{change_text, number, parted};
+use crate::spare::Spare;
 use crate::tricks::{Trick, Tricks};
 use call_history::knowledge::HistoryNaming;
 use core_history::share::Share;
 use feeds::batch::Batch;
 use feeds::item::{Finding, Job};
 use filter_workers::filter::filter;
-use filter_workers::work::{catch_up, work};
+use filter_workers::work::{Worker, catch_up, work};
 use ingest_workers::hub::Hub;
 use ingest_workers::ingest::{HubError, ingest};
 use std::alloc::{AllocError, Global};
-use std::sync::Wait;
 use std::sync::atomic::{AtomicU64, Ordering};
 use std::sync::ledger::Ledger;
+use std::sync::{Mutex, Wait};
 use std::thread::Threads;
 use subscriber_queues::ends::{Subscription, queue};
 use version_history::published::{Naming, ProgramToken, Published};
@@ -28,6 +30,8 @@ pub struct Machine<'a, 'b, 'p, 'q, N: Naming + HistoryNaming + Ledger, R: Wait +
     pub alloc: Global,
     pub hub: &'a Hub<'p, N, R>,
     pub published: &'b Published<'q, N>,
+    /// By which tricks call the hub while all workers do.
+    pub spare: &'b Mutex<Spare<N>>,
     /// Text for a coming event.
     pub kept: String,
     pub programs: Vec<ProgramToken<N>>,
@@ -40,15 +44,19 @@ pub struct Machine<'a, 'b, 'p, 'q, N: Naming + HistoryNaming + Ledger, R: Wait +
 }
 
 /// Subscribes a program with a new queue.
+#[tactic(auto, using(crate::proofs::Parts::call_keeps))]
 fn subscribed<N: Naming + HistoryNaming + Ledger, R: Wait + Copy>(
     rt: &R,
     alloc: Global,
     hub: &Hub<'_, N, R>,
+    share: &mut Share<N>,
     program: ProgramToken<N>,
     capacity: usize,
-) -> Result<(usize, Subscription<N, R>), Fault> {
+) -> Result<(usize, Subscription<N, R>), Fault>
+    ensures { share.new.parts ≡ share.old.parts }
+{
     let (sink, subscription) = queue(*rt, alloc, capacity)?;
-    let id = hub.subscribe(rt, program, sink)?;
+    let id = hub.subscribe(rt, share, program, sink)?;
     Ok((id, subscription))
 }
 
@@ -112,6 +120,7 @@ impl<'a, 'b, 'p, 'q, N: Naming + HistoryNaming + Ledger, R: Wait + Copy> Machine
             alloc: _,
             hub: _,
             published: _,
+            spare: _,
             kept: _,
             programs: _,
             jobs: _,
@@ -140,7 +149,9 @@ impl<'a, 'b, 'p, 'q, N: Naming + HistoryNaming + Ledger, R: Wait + Copy> Machine
         Ok(Answer::Number(number))
     }
 
-    pub fn subscribe(&mut self, rest: &str) -> Result<Answer, Fault> {
+    pub fn subscribe(&mut self, share: &mut Share<N>, rest: &str) -> Result<Answer, Fault>
+        ensures { share.new.parts ≡ share.old.parts }
+    {
         let (capacity, index) = parted(rest);
         let program = self
             .programs
@@ -151,6 +162,7 @@ impl<'a, 'b, 'p, 'q, N: Naming + HistoryNaming + Ledger, R: Wait + Copy> Machine
             &self.rt,
             self.alloc,
             self.hub,
+            share,
             program,
             number(capacity),
         )?;
@@ -158,8 +170,11 @@ impl<'a, 'b, 'p, 'q, N: Naming + HistoryNaming + Ledger, R: Wait + Copy> Machine
         Ok(Answer::Number(id as u64))
     }
 
-    pub fn take_job(&mut self) -> Result<Answer, Fault> {
-        let job = self.hub.take_job(&self.rt).ok_or(Fault::Nothing)?;
+    #[tactic(auto, using(crate::proofs::Parts::call_keeps))]
+    pub fn take_job(&mut self, share: &mut Share<N>) -> Result<Answer, Fault>
+        ensures { share.new.parts ≡ share.old.parts }
+    {
+        let job = self.hub.take_job(&self.rt, share).ok_or(Fault::Nothing)?;
         let answer = Answer::Job(job.subscriber, job.number);
         push(&mut self.jobs, job)?;
         Ok(answer)
@@ -187,35 +202,50 @@ impl<'a, 'b, 'p, 'q, N: Naming + HistoryNaming + Ledger, R: Wait + Copy> Machine
     }
 
     /// Commits the batch that was computed last.
-    fn commit_kept(&mut self) -> Result<Answer, Fault> {
+    #[tactic(auto, using(crate::proofs::Parts::call_keeps))]
+    fn commit_kept(&mut self, share: &mut Share<N>) -> Result<Answer, Fault>
+        ensures { share.new.parts ≡ share.old.parts }
+    {
         let batch = self.batches.pop().ok_or(Fault::Nothing)?;
-        self.hub.commit(&self.rt, batch)?;
+        self.hub.commit(&self.rt, share, batch)?;
         Ok(Answer::Done)
     }
 
     /// Commits the batch that was computed last, or that of the job at an index.
-    pub fn commit(&mut self, rest: &str) -> Result<Answer, Fault> {
+    #[tactic(auto, using(crate::proofs::Parts::call_keeps))]
+    pub fn commit(&mut self, share: &mut Share<N>, rest: &str) -> Result<Answer, Fault>
+        ensures { share.new.parts ≡ share.old.parts }
+    {
         if rest.is_empty() {
-            return self.commit_kept();
+            return self.commit_kept(share);
         }
         let job = self.jobs.get(number(rest)).ok_or(Fault::Nothing)?;
         let batch = Batch::compute(self.alloc, self.published, job)?;
-        self.hub.commit(&self.rt, batch)?;
+        self.hub.commit(&self.rt, share, batch)?;
         Ok(Answer::Done)
     }
 
-    pub fn pump(&self, id: usize) -> Result<Answer, Fault> {
-        let count = self.hub.pump(&self.rt, id)?;
+    #[tactic(auto, using(crate::proofs::Parts::call_keeps))]
+    pub fn pump(&self, share: &mut Share<N>, id: usize) -> Result<Answer, Fault>
+        ensures { share.new.parts ≡ share.old.parts }
+    {
+        let count = self.hub.pump(&self.rt, share, id)?;
         Ok(Answer::Number(count as u64))
     }
 
-    pub fn reissue(&self, id: usize) -> Result<Answer, Fault> {
-        self.hub.reissue(&self.rt, id)?;
+    #[tactic(auto, using(crate::proofs::Parts::call_keeps))]
+    pub fn reissue(&self, share: &mut Share<N>, id: usize) -> Result<Answer, Fault>
+        ensures { share.new.parts ≡ share.old.parts }
+    {
+        self.hub.reissue(&self.rt, share, id)?;
         Ok(Answer::Done)
     }
 
-    pub fn close(&self, id: usize) -> Result<Answer, Fault> {
-        self.hub.close(&self.rt, id)?;
+    #[tactic(auto, using(crate::proofs::Parts::call_keeps))]
+    pub fn close(&self, share: &mut Share<N>, id: usize) -> Result<Answer, Fault>
+        ensures { share.new.parts ≡ share.old.parts }
+    {
+        self.hub.close(&self.rt, share, id)?;
         Ok(Answer::Done)
     }
 
@@ -242,15 +272,27 @@ impl<'a, 'b, 'p, 'q, N: Naming + HistoryNaming + Ledger, R: Threads + Wait + Cop
     }
 
     /// Catches a subscriber up to the version of a number, or to the latest one where none is named.
-    pub fn catch_up(&self, rest: &str) -> Result<Answer, Fault> {
+    #[tactic(auto, using(crate::proofs::Parts::catch_up_keeps, crate::proofs::Parts::look_keeps))]
+    pub fn catch_up(&self, share: &mut Share<N>, rest: &str) -> Result<Answer, Fault>
+        ensures { share.new.parts ≡ share.old.parts }
+    {
         let (id, last) = parted(rest);
         let id = number(id);
         let last = if last.is_empty() {
-            self.hub.latest(&self.rt)
+            self.hub.latest(&self.rt, share)
         } else {
             number(last) as u64
         };
-        let waited = catch_up(&self.rt, self.alloc, self.hub, self.published, id, last, 1)?;
+        let waited = catch_up(
+            &self.rt,
+            self.alloc,
+            self.hub,
+            self.published,
+            share,
+            id,
+            last,
+            1,
+        )?;
         Ok(Answer::Number(u64::from(waited)))
     }
 }
@@ -263,16 +305,24 @@ impl<
     N: Naming + HistoryNaming + Ledger + Send + Sync,
     R: Threads + Wait + Copy + Send + Sync,
 > Machine<'a, 'b, 'p, 'q, N, R> {
-    /// Has workers take turns, with a trick on the jobs of one version.
-    pub fn work(&self, workers: usize, turns: u32, trick: Trick, at: u64) -> Result<Answer, Fault> {
-        if workers < 1 || 16 < workers {
-            return Err(Fault::NoEvent);
-        }
+    /// Has these workers take turns, with a trick on the jobs of one version.
+    #[tactic(auto, using(crate::proofs::Parts::work_keeps))]
+    pub fn work(
+        &self,
+        workers: &mut [Worker<N>],
+        turns: u32,
+        trick: Trick,
+        at: u64,
+    ) -> Result<Answer, Fault>
+        requires { (1 ≤ length workers.old) × (length workers.old ≤ 16) }
+        ensures { all_parts (map (λ w. w.share) workers.new) ≡ all_parts (map (λ w. w.share) workers.old) }
+    {
         let gate = Tricks {
             rt: self.rt,
             alloc: self.alloc,
             hub: self.hub,
             published: self.published,
+            spare: self.spare,
             trick,
             at,
             second_is_done: AtomicU64::new(0),

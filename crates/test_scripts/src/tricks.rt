@@ -1,12 +1,13 @@
+use crate::spare::Spare;
 use call_history::knowledge::HistoryNaming;
 use feeds::batch::Batch;
 use feeds::item::Job;
 use filter_workers::gate::Gate;
 use ingest_workers::hub::Hub;
 use std::alloc::Global;
-use std::sync::Wait;
 use std::sync::atomic::{AtomicU64, Ordering};
 use std::sync::ledger::Ledger;
+use std::sync::{Mutex, Wait};
 use std::thread::yield_now;
 use version_history::published::{Naming, Published};
 
@@ -29,6 +30,7 @@ pub struct Tricks<'a, 'b, 'p, 'q, N: Naming + HistoryNaming + Ledger, R: Wait + 
     pub alloc: Global,
     pub hub: &'a Hub<'p, N, R>,
     pub published: &'b Published<'q, N>,
+    pub spare: &'b Mutex<Spare<N>>,
     pub trick: Trick,
     pub at: u64,
     pub second_is_done: AtomicU64,
@@ -55,17 +57,21 @@ impl<'a, 'b, 'p, 'q, N: Naming + HistoryNaming + Ledger, R: Wait + Copy> Tricks<
 
     fn commit(&self, job: &Job<N>) {
         if let Ok(batch) = Batch::compute(self.alloc, self.published, job) {
-            let _ = self.hub.commit(&self.rt, batch);
+            self.spare.lock(&self.rt).commit(&self.rt, self.hub, batch);
         }
+    }
+
+    fn close(&self, job: &Job<N>) {
+        self.spare
+            .lock(&self.rt)
+            .close(&self.rt, self.hub, job.subscriber);
     }
 
     fn play(&self, job: &Job<N>) {
         match self.trick {
             Trick::Nothing => {}
             Trick::SecondFirst => self.wait_for_second(),
-            Trick::Close => {
-                let _ = self.hub.close(&self.rt, job.subscriber);
-            }
+            Trick::Close => self.close(job),
             Trick::Commit => self.commit(job),
         }
     }

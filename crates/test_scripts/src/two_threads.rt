@@ -69,7 +69,7 @@ fn ingest_many<N: Naming + HistoryNaming + Ledger, R: Wait + Copy>(
 
 /// Two of these shares.
 fn two_of<N: Naming + HistoryNaming + Ledger>(shares: Vec<Share<N>>) -> Option<(Share<N>, Share<N>)>
-    requires { All IsIdle shares.items }
+    requires { All (IsIdle N.size) shares.items }
     ensures { IfSome result (λ two. (two.0.parts ≡ 1) × (two.1.parts ≡ 1)) }
 {
     let mut shares = shares;

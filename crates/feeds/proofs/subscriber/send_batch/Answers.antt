@@ -25,5 +25,6 @@ sending-preserved g c =
       low = omega arith;
       high = omega arith;
       kept = c.in-Ok.ensures.kept ∙ c.sending.invariant.kept;
+      bare = c.in-Ok.ensures.bare ∙ c.sending.invariant.bare;
       sent = sent_next _ _ _ _ _ _ _ c.in-Ok.ensures.ok c.sending.invariant.sent c.sending.invariant.low below (read_again c.items-items.result.now c.sending.at _ _ c.again.ensures c.index-items-at.is);
     }

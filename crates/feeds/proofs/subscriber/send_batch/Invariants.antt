@@ -6,6 +6,7 @@ invariant-sending g l = record {
   low : l.from ≤ l.at;
   high : l.at ≤ length l.items;
   kept : g.S.Sink.promise l.sink ≡ g.S.Sink.promise l.initial.sink;
+  bare : g.S.Sink.bare l.sink ≡ g.S.Sink.bare l.initial.sink;
   sent : g.S.Sink.sent l.sink ≡ g.S.Sink.sent l.initial.sink ++ take (l.at - l.from) (drop l.from l.items);
 }
 

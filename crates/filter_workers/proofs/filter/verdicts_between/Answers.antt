@@ -1,6 +1,6 @@
-use Rattle.std.proofs.Common.{◌≡◌, ℕ, ◌-◌, ◌∙◌, length, map, ap, arith}
+use Rattle.std.proofs.Common.{ℕ, ◌∙◌, length, map, ap}
 use Rattle.std.specs.Option.{option_map_or}
-use Rattle.std.specs.List.{range_with_len, slice_range}
+use Rattle.std.specs.List.{slice_range}
 use Rattle.std.proofs.lemmas.Slice.Zip.{AllZip-map}
 use Rattle.rayon.specs.Numbers.{nat_range}
 use Rattle.rayon.proofs.ListFacts.{IfOk-then}

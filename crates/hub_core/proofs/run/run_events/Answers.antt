@@ -14,7 +14,7 @@ loop-event-init g c =
     let gives = c.into_iter-event-iterator.ensures.into_iter_gives in
     let room = on_ok c.reserve.result (vec_len c.reserve.new.self + c.len-2.result ≤ vec_capacity c.reserve.new.self) c.if-is_err.ensures.value c.reserve.ensures.ok in
     record {
-      ran = ran_none g.S.Sink.sent g.S.Sink.full g.S.Sink.closed c.reserve.new.self.items c.in_ok-jobs.jobs.items c.args.core.now c.in_ok-jobs.ensures.items;
+      ran = ran_none g.S.Sink.sent g.S.Sink.full g.S.Sink.closed g.S.Sink.bare c.reserve.new.self.items c.in_ok-jobs.jobs.items c.args.core.now c.in_ok-jobs.ensures.items;
       rest = refl;
       count = omega (arith, gives.1, ap length gives.0);
       fresh = subst (λ (l : List (Event (Token Program) g.row.S.Denot)). All (IsFreshEvent g.S.Sink.sent g.S.Sink.promise g.N.Naming.size) l) (sym gives.0) c.requires;
@@ -35,7 +35,7 @@ loop-event-preserved g c =
     let gone = c.in-Some.ensures.steps.1 in
     let short = ap length steps in
     record {
-      ran = ran_more g.S.Sink.sent g.S.Sink.full g.S.Sink.closed c.reserve.new.self.items c.loop-event.replies.items c.push_reserved.new.self.items c.loop-event.jobs.items c.run_event-reply.new.jobs.items
+      ran = ran_more g.S.Sink.sent g.S.Sink.full g.S.Sink.closed g.S.Sink.bare c.reserve.new.self.items c.loop-event.replies.items c.push_reserved.new.self.items c.loop-event.jobs.items c.run_event-reply.new.jobs.items
           c.args.core.now c.loop-event.core c.run_event-reply.new.core c.loop-event.yielded c.in-Some.event c.run_event-reply.result
           c.loop-event.invariant.ran c.run_event-reply.ensures.happens c.run_event-reply.ensures.jobs c.push_reserved.ensures.items;
       rest = append_assoc c.loop-event.yielded (c.in-Some.event ∷ []) (into_iter_items c.next.new.self) ∙ ap (λ l. c.loop-event.yielded ++ l) (sym steps) ∙ c.loop-event.invariant.rest;
@@ -54,7 +54,7 @@ returns g c =
     let all : c.loop-event.yielded ≡ c.args.events.items =
     sym (append-nil c.loop-event.yielded) ∙ ap (λ l. c.loop-event.yielded ++ l) (sym empty) ∙ c.loop-event.invariant.rest ∙ gives.0 in
     record {
-      ok = ran_all g.S.Sink.sent g.S.Sink.full g.S.Sink.closed c.args.replies.now.items c.reserve.new.self.items c.loop-event.replies.items c.loop-event.jobs.items c.args.core.now c.loop-event.core c.loop-event.yielded c.args.events.items
+      ok = ran_all g.S.Sink.sent g.S.Sink.full g.S.Sink.closed g.S.Sink.bare c.args.replies.now.items c.reserve.new.self.items c.loop-event.replies.items c.loop-event.jobs.items c.args.core.now c.loop-event.core c.loop-event.yielded c.args.events.items
           c.loop-event.invariant.ran c.reserve.ensures.items all;
       err = tt;
     }

@@ -7,7 +7,7 @@ use Rattle.hub_core.proofs.run.run_events.Given as goal
 
 abbrev pub invariant-loop-event : goal.invariant-loop-event
 invariant-loop-event g l = record {
-  ran : Ran g.S.Sink.sent g.S.Sink.full g.S.Sink.closed l.initial.replies.items l.replies.items l.jobs.items l.initial.core l.yielded l.core;
+  ran : Ran g.S.Sink.sent g.S.Sink.full g.S.Sink.closed g.S.Sink.bare l.initial.replies.items l.replies.items l.jobs.items l.initial.core l.yielded l.core;
   rest : l.yielded ++ into_iter_items l.event-iterator ≡ into_iter_items l.initial.event-iterator;
   count : into_iter_len l.event-iterator ≡ length (into_iter_items l.event-iterator);
   fresh : All (IsFreshEvent g.S.Sink.sent g.S.Sink.promise g.N.Naming.size) (into_iter_items l.event-iterator);

@@ -1,8 +1,6 @@
-use Rattle.std.proofs.Common.{◌≡◌, ◌+◌, ◌∷◌, [], ◌++◌, List, length, refl, sym, ap, subst, ◌∙◌, append_assoc, append-nil, arith, of_calls}
+use Rattle.std.proofs.Common.{◌≡◌, ◌∷◌, [], ◌++◌, List, length, sym, ap, subst, ◌∙◌, append_assoc, append-nil, arith, of_calls}
 use Rattle.std.specs.Vec.Iter.{into_iter_items}
-use Rattle.std.proofs.lemmas.List.{length_push}
 use Rattle.change_ops.specs.Changes.{Change}
-use Rattle.core_history.specs.Shares.{accepted_count}
 use Rattle.hub_restoring.specs.Restoring.{AreIngested}
 use Rattle.hub_restoring.proofs.Growing.{ingested_more, nothing_left}
 use Rattle.hub_restoring.proofs.restoring.restore_all.Goals as goal
@@ -12,11 +10,9 @@ loop-change-preserved g c =
     let steps : into_iter_items c.loop-change.change-iterator ≡ c.in-Some.change ∷ into_iter_items c.next.new.self = c.in-Some.ensures.steps.0 in
     let gone = c.in-Some.ensures.steps.1 in
     let short = ap length steps in
-    let longer = length_push c.loop-change.yielded c.in-Some.change in
     record {
       callable = search of_calls;
-      ingested = ingested_more g.N.Naming.size (accepted_count c.args.share.now) c.loop-change.yielded c.in-Some.change (accepted_count c.loop-change.share) (accepted_count c.restore_one.new.share) c.loop-change.invariant.ingested c.loop-change.invariant.counted c.in_ok-restore_one.ensures.share c.in_ok-restore_one.ensures.ok;
-      counted = omega (arith, c.loop-change.invariant.counted, c.in_ok-restore_one.ensures.share, longer);
+      ingested = ingested_more g.N.Naming.size c.args.share.now c.loop-change.yielded c.in-Some.change c.loop-change.share c.restore_one.new.share c.loop-change.invariant.ingested c.in_ok-restore_one.ensures;
       rest = append_assoc c.loop-change.yielded (c.in-Some.change ∷ []) (into_iter_items c.next.new.self) ∙ ap (λ l. c.loop-change.yielded ++ l) (sym steps) ∙ c.loop-change.invariant.rest;
       count = omega (arith, gone, short, c.loop-change.invariant.count);
     }
@@ -28,7 +24,4 @@ returns g c =
     let empty : into_iter_items c.loop-change.change-iterator ≡ [] = nothing_left (into_iter_items c.loop-change.change-iterator) (sym c.loop-change.invariant.count ∙ none.0) in
     let all : c.loop-change.yielded ≡ c.args.changes.items =
     sym (append-nil c.loop-change.yielded) ∙ ap (λ l. c.loop-change.yielded ++ l) (sym empty) ∙ c.loop-change.invariant.rest ∙ gives.0 in
-    record {
-      ok = subst (λ (cs : List Change). AreIngested g.N.Naming.size (accepted_count c.args.share.now) cs) all c.loop-change.invariant.ingested;
-      share = c.loop-change.invariant.counted ∙ ap (λ (cs : List Change). accepted_count c.args.share.now + length cs) all;
-    }
+    subst (λ (cs : List Change). AreIngested g.N.Naming.size c.args.share.now cs c.loop-change.share) all c.loop-change.invariant.ingested

@@ -10,5 +10,5 @@ invariant-loop-i g l = record {
   parts : l.share.parts + l._i ≡ l.count + 1;
   given : vec_len l.given ≡ vec_len l.fn.given + l._i;
   room : vec_len l.fn.given + l.count ≤ vec_capacity l.given;
-  idle : All IsIdle l.fn.given.items → All IsIdle l.given.items;
+  idle : All (IsIdle g.N.Naming.size) l.fn.given.items → All (IsIdle g.N.Naming.size) l.given.items;
 }

@@ -2,7 +2,7 @@ use Rattle.std.proofs.Common.{sym, ap, ◌∙◌}
 use Rattle.std.proofs.lemmas.Result.{err_from_is_err_and}
 use Rattle.span_flatten.specs.Version.{Version}
 use Rattle.core_history.specs.Shares.{accepted_count}
-use Rattle.ingest_workers.proofs.Numbers.{ingested, numbered}
+use Rattle.ingest_workers.proofs.Numbers.{numbered}
 use Rattle.ingest_workers.proofs.ingest.ingest_change.Goals as goal
 
 pub returns-in_err-token-clause-call : goal.returns-in_err-token-clause-call
@@ -13,13 +13,7 @@ pub returns-clause-call : goal.returns-clause-call
 returns-clause-call g c =
     (c.in_ok-token.token, sym (c.number.ensures ∙ ap (λ (v : Version). v.number) c.look.ensures), c.in_ok-token.ensures.call)
 
-pub returns-clause-event : goal.returns-clause-event
-returns-clause-event g c =
-    let old = c.deref_mut.result.now.core in
-    let new = c.submit.new.self.core in
-    (old, new, ingested old new c.args.change c.in_ok-token.token c.number.result c.in_ok-token.ensures.event (c.number.ensures ∙ ap (λ (v : Version). v.number) c.look.ensures), c.in_ok-token.ensures.consistent)
-
 pub returns-clause-numbered : goal.returns-clause-numbered
 returns-clause-numbered g c =
-    numbered g.N.Naming.size c.deref_mut.result.now.core c.submit.new.self.core c.args.change c.in_ok-token.token c.number.result (accepted_count c.submit.new.share) c.in_ok-token.ensures.event
-    (c.number.ensures ∙ ap (λ (v : Version). v.number) c.look.ensures) c.in_ok-token.ensures.consistent c.in_ok-token.ensures.within
+    numbered g.N.Naming.size c.deref_mut.result.now.core c.submit.new.self.core _ _ c.args.change c.in_ok-token.token c.number.result (accepted_count c.submit.new.share) c.in_ok-token.ensures.event
+    (c.number.ensures ∙ ap (λ (v : Version). v.number) c.look.ensures) c.in_ok-token.ensures.call c.in_ok-token.ensures.within

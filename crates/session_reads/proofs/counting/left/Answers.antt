@@ -7,4 +7,4 @@ pub returns : goal.returns
 returns g c =
     let found = c.counts.ensures.counts in
     let left = subst (λ (size : Size). c.left_of.result ≡ left_of size c.counts.result.1) c.size.ensures c.left_of.ensures in
-    (found.0, found.1, (found.2.0, (c.counts.result.1, found.2.2, left)), found.3)
+    (found.0, found.1, (c.counts.result.1, found.2.1, left))

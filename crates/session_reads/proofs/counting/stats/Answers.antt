@@ -12,15 +12,11 @@ returns g c =
     let stats = subst (λ (size : Size). c.stats_of.result ≡ stats_of size counts c.look.result.now c.session_count.result) c.size.ensures c.stats_of.ensures in (
       found.0,
       found.1,
-      (
-        found.2.0,
-        record {
-          counts = counts;
-          counted = found.2.2;
-          latest = latest;
-          newest = found.2.1;
-          told = told g.N.Naming.size c.stats_of.result counts c.look.result.now latest.value c.session_count.result stats c.look.ensures;
-        },
-      ),
-      found.3,
+      record {
+        counts = counts;
+        counted = found.2.1;
+        latest = latest;
+        newest = found.2.0;
+        told = told g.N.Naming.size c.stats_of.result counts c.look.result.now latest.value c.session_count.result stats c.look.ensures;
+      },
     )

@@ -1,10 +1,10 @@
 use Rattle.hub_core.specs.declared.run.Reply.TheVariants as reply
-use Rattle.subscriber_queues.specs.Queue.{was_sent, IsFull, closed_end}
+use Rattle.subscriber_queues.specs.Queue.{was_sent, IsFull, closed_end, unsent}
 use Rattle.core_history.specs.declared.entry.Call.TheVariants as call
 use Rattle.core_history.proofs.Recording.{led_as}
 use Rattle.core_history.proofs.recorded_core.RecordedCore.commit_as.Goals as goal
 
 pub record-requires-clause-led : goal.record-requires-clause-led
 record-requires-clause-led g c =
-    led_as g.N.Naming.size was_sent IsFull closed_end _ _ (call.Commit c.args.batch) g.A.Asked.call (reply.Committed c.commit-committed.result) _
+    led_as g.N.Naming.size was_sent IsFull closed_end unsent _ _ (call.Commit c.args.batch) g.A.Asked.call (reply.Committed c.commit-committed.result) _
     c.requires.call c.self.invariant c.commit-committed.ensures.commits

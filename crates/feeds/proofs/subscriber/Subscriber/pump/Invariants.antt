@@ -5,7 +5,7 @@ use Rattle.feeds.proofs.subscriber.Subscriber.pump.Given as goal
 abbrev pub invariant-pumping : goal.invariant-pumping
 invariant-pumping g l = record {
   fed : IsFed g.S.Sink.sent g.S.Sink.full l.versions l.self;
-  moved : Moved g.S.Sink.sent g.S.Sink.full l.initial.self l.pushed l.self;
+  moved : Moved g.S.Sink.sent g.S.Sink.full g.S.Sink.bare l.initial.self l.pushed l.self;
   few : l.pushed ≤ (l.self.cursor - l.initial.self.cursor) * 131073;
 }
 

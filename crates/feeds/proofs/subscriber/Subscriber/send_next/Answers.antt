@@ -7,7 +7,7 @@ use Rattle.feeds.proofs.Feeds.{may_send, count_fits, sent_part, sent_whole, move
 use Rattle.feeds.proofs.subscriber.Subscriber.send_next.Goals as goal
 
 pub returns-in_default-clause-moved : goal.returns-in_default-clause-moved
-returns-in_default-clause-moved g c = moved_none _ _ _
+returns-in_default-clause-moved g c = moved_none _ _ g.S.Sink.bare _
 
 pub send_batch-reached-requires-clause-from : goal.send_batch-reached-requires-clause-from
 send_batch-reached-requires-clause-from g c =
@@ -27,24 +27,24 @@ send_batch-reached-requires-clause-promised g c =
 
 pub returns-then-reached-items-clause-fed : goal.returns-then-reached-items-clause-fed
 returns-then-reached-items-clause-fed g c =
-    (sent_part g.S.Sink.sent g.S.Sink.full c.args.versions.now c.args.self.now _ c.in-Some.batch.now c.send_batch-reached.result c.send_batch-reached.new.sink c.self.view_is c.requires.fed
+    (sent_part g.S.Sink.sent g.S.Sink.full g.S.Sink.bare c.args.versions.now c.args.self.now _ c.in-Some.batch.now c.send_batch-reached.result c.send_batch-reached.new.sink c.self.view_is c.requires.fed
     (subst (λ (h : HeldBatches). slice_get h 0 ≡ Some (Some c.in-Some.batch.now)) c.as_slice.ensures.value c.in-Some.ensures) c.send_batch-reached.ensures.reached
-    (subst (λ (l : List Item). c.send_batch-reached.result < length l) c.items.ensures.items c.if-reached-items.true) c.send_batch-reached.ensures.sent).0
+    (subst (λ (l : List Item). c.send_batch-reached.result < length l) c.items.ensures.items c.if-reached-items.true) c.send_batch-reached.ensures.sent c.send_batch-reached.ensures.bare).0
 
 pub returns-then-reached-items-clause-moved : goal.returns-then-reached-items-clause-moved
 returns-then-reached-items-clause-moved g c =
-    (sent_part g.S.Sink.sent g.S.Sink.full c.args.versions.now c.args.self.now _ c.in-Some.batch.now c.send_batch-reached.result c.send_batch-reached.new.sink c.self.view_is c.requires.fed
+    (sent_part g.S.Sink.sent g.S.Sink.full g.S.Sink.bare c.args.versions.now c.args.self.now _ c.in-Some.batch.now c.send_batch-reached.result c.send_batch-reached.new.sink c.self.view_is c.requires.fed
     (subst (λ (h : HeldBatches). slice_get h 0 ≡ Some (Some c.in-Some.batch.now)) c.as_slice.ensures.value c.in-Some.ensures) c.send_batch-reached.ensures.reached
-    (subst (λ (l : List Item). c.send_batch-reached.result < length l) c.items.ensures.items c.if-reached-items.true) c.send_batch-reached.ensures.sent).1
+    (subst (λ (l : List Item). c.send_batch-reached.result < length l) c.items.ensures.items c.if-reached-items.true) c.send_batch-reached.ensures.sent c.send_batch-reached.ensures.bare).1
 
 pub returns-clause-fed : goal.returns-clause-fed
 returns-clause-fed g c =
-    (sent_whole g.S.Sink.sent g.S.Sink.full c.args.versions.now c.args.self.now _ c.in-Some.batch.now c.send_batch-reached.result c.rotate_left.new.self.items c.send_batch-reached.new.sink c.self.view_is c.requires.fed
+    (sent_whole g.S.Sink.sent g.S.Sink.full g.S.Sink.bare c.args.versions.now c.args.self.now _ c.in-Some.batch.now c.send_batch-reached.result c.rotate_left.new.self.items c.send_batch-reached.new.sink c.self.view_is c.requires.fed
     (subst (λ (h : HeldBatches). slice_get h 0 ≡ Some (Some c.in-Some.batch.now)) c.as_slice.ensures.value c.in-Some.ensures) c.send_batch-reached.ensures.reached
-    (subst (λ (l : List Item). length l ≤ c.send_batch-reached.result) c.items.ensures.items c.if-reached-items.false) c.rotate_left.ensures.items c.send_batch-reached.ensures.sent).0
+    (subst (λ (l : List Item). length l ≤ c.send_batch-reached.result) c.items.ensures.items c.if-reached-items.false) c.rotate_left.ensures.items c.send_batch-reached.ensures.sent c.send_batch-reached.ensures.bare).0
 
 pub returns-clause-moved : goal.returns-clause-moved
 returns-clause-moved g c =
-    (sent_whole g.S.Sink.sent g.S.Sink.full c.args.versions.now c.args.self.now _ c.in-Some.batch.now c.send_batch-reached.result c.rotate_left.new.self.items c.send_batch-reached.new.sink c.self.view_is c.requires.fed
+    (sent_whole g.S.Sink.sent g.S.Sink.full g.S.Sink.bare c.args.versions.now c.args.self.now _ c.in-Some.batch.now c.send_batch-reached.result c.rotate_left.new.self.items c.send_batch-reached.new.sink c.self.view_is c.requires.fed
     (subst (λ (h : HeldBatches). slice_get h 0 ≡ Some (Some c.in-Some.batch.now)) c.as_slice.ensures.value c.in-Some.ensures) c.send_batch-reached.ensures.reached
-    (subst (λ (l : List Item). length l ≤ c.send_batch-reached.result) c.items.ensures.items c.if-reached-items.false) c.rotate_left.ensures.items c.send_batch-reached.ensures.sent).1
+    (subst (λ (l : List Item). length l ≤ c.send_batch-reached.result) c.items.ensures.items c.if-reached-items.false) c.rotate_left.ensures.items c.send_batch-reached.ensures.sent c.send_batch-reached.ensures.bare).1

@@ -31,6 +31,6 @@ invariant_of-self g c =
 pub returns : goal.returns
 returns g c =
     let within : c.args.id < length c.self.inside.subscribers.items = omega arith in
-    pumped g.S.Sink.sent g.S.Sink.full c.args.self.now _ c.args.id c.pump.result c.index.result.now c.index_mut-sub.result.now c.pump.new.self c.self.view_is within
+    pumped g.S.Sink.sent g.S.Sink.full g.S.Sink.bare c.args.self.now _ c.args.id c.pump.result c.index.result.now c.index_mut-sub.result.now c.pump.new.self c.self.view_is within
     c.index.ensures (sym c.is_closed.ensures ∙ c.if-is_closed.false) c.index_mut-sub.ensures.value c.pump.ensures.moved c.pump.ensures.stop
     (subst (λ (ts : List (Token Version)). IsFed g.S.Sink.sent g.S.Sink.full ts c.pump.new.self) c.as_slice.ensures.value c.pump.ensures.fed)

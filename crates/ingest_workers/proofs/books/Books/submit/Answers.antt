@@ -14,7 +14,7 @@ invariant_of-self g c = kept_same _ g.N.Naming.size _ _ _ _ _ _ c.refuse_submit.
 
 pub returns-then-is_full-clause-call : goal.returns-then-is_full-clause-call
 returns-then-is_full-clause-call g c =
-    made_refused g.N.Naming.size _ _ _ _ _ _ c.core-core.ensures.run c.refuse_submit.ensures.records c.self.invariant.3 c.self.invariant.6
+    made_refused g.N.Naming.size _ _ _ _ _ _ c.core-core.ensures.run c.refuse_submit.ensures.records c.self.invariant.4 c.self.invariant.7
 
 pub invariant_of-self-in_default : goal.invariant_of-self-in_default
 invariant_of-self-in_default g c =
@@ -22,7 +22,7 @@ invariant_of-self-in_default g c =
 
 pub returns-in_default-clause-call : goal.returns-in_default-clause-call
 returns-in_default-clause-call g c =
-    made_refused g.N.Naming.size _ _ _ _ _ _ c.core-core.ensures.run c.refuse_submit-in_default.ensures.records c.self.invariant.3 c.self.invariant.6
+    made_refused g.N.Naming.size _ _ _ _ _ _ c.core-core.ensures.run c.refuse_submit-in_default.ensures.records c.self.invariant.4 c.self.invariant.7
 
 pub invariant_of-self-in_err-token : goal.invariant_of-self-in_err-token
 invariant_of-self-in_err-token g c =
@@ -31,7 +31,7 @@ invariant_of-self-in_err-token g c =
 pub returns-in_err-token-clause-call : goal.returns-in_err-token-clause-call
 returns-in_err-token-clause-call g c =
     let p = err_from_is_err_and c.from_residual.result c.from_residual.ensures.1 in
-    rw (p.1, p.2) (made_refused g.N.Naming.size _ _ _ _ _ _ c.core-core.ensures.run c.in_err-token.ensures.records c.self.invariant.3 c.self.invariant.6)
+    rw (p.1, p.2) (made_refused g.N.Naming.size _ _ _ _ _ _ c.core-core.ensures.run c.in_err-token.ensures.records c.self.invariant.4 c.self.invariant.7)
 
 pub invariant_of-self-2 : goal.invariant_of-self-2
 invariant_of-self-2 g c =
@@ -41,18 +41,19 @@ invariant_of-self-2 g c =
       c.self.invariant.0,
       c.self.invariant.1,
       c.self.invariant.2,
+      c.self.invariant.3,
       subst (IsConsistent was_sent IsFull) c.core.ensures.core c.stays_consistent.ensures.consistent,
       c.push_reserved.ensures.items
-          ∙ ap (λ l. l ++ c.in-Ok.text ∷ []) (c.in-Ok.ensures.same ∙ c.self.invariant.4)
+          ∙ ap (λ l. l ++ c.in-Ok.text ∷ []) (c.in-Ok.ensures.same ∙ c.self.invariant.5)
           ∙ ap (λ text. map change_text old ++ text ∷ []) c.in-Ok.ensures.text
           ∙ sym (map-append change_text old (c.args.change ∷ []))
           ∙ ap (λ l. map change_text l) (sym added),
-      greatest_of_more old new c.args.change c.self.inside.greatest _ added c.self.invariant.5 c.greatest_with-greatest.ensures,
+      greatest_of_more old new c.args.change c.self.inside.greatest _ added c.self.invariant.6 c.greatest_with-greatest.ensures,
       ap (λ (s : Core QueueSink). s.size) (sym c.core.ensures.core) ∙ c.stays_consistent.ensures.size,
     )
 
 pub returns-clause-call : goal.returns-clause-call
 returns-clause-call g c =
-    made g.N.Naming.size _ _ _ _ _ _ c.core-core.ensures.run c.in_ok-token.ensures.records c.self.invariant.3 c.self.invariant.6
+    made g.N.Naming.size _ _ _ _ _ _ c.core-core.ensures.run c.in_ok-token.ensures.records c.self.invariant.4 c.self.invariant.7
     (subst (IsConsistent was_sent IsFull) c.core.ensures.core c.stays_consistent.ensures.consistent)
     (ap (λ (s : Core QueueSink). s.size) (sym c.core.ensures.core) ∙ c.stays_consistent.ensures.size)

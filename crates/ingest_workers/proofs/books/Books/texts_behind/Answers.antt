@@ -12,5 +12,5 @@ returns-clause-texts g c =
     let told = subst (λ (s : Core QueueSink). IsTrue c.lacks_version.result ↔ (length s.changes < c.args.from)) c.core.ensures.core c.lacks_version.ensures in
     subst (λ (s : Recorded QueueSink). (c.args.from ≤ length s.core.changes) × (c.in_ok-texts.texts.items ≡ map change_text (take c.args.most (drop c.args.from s.core.changes)))) c.self.view_is (
       not_lacking c.lacks_version.result c.self.inside.recorded.core.changes c.args.from told c.if-lacks_version.false,
-      some_spelled c.self.inside.recorded.core.changes c.self.inside.texts.items c.as_slice.result.now c.in_ok-texts.texts.items c.args.from c.args.most c.self.invariant.4 c.as_slice.ensures.value c.in_ok-texts.ensures,
+      some_spelled c.self.inside.recorded.core.changes c.self.inside.texts.items c.as_slice.result.now c.in_ok-texts.texts.items c.args.from c.args.most c.self.invariant.5 c.as_slice.ensures.value c.in_ok-texts.ensures,
     )
