@@ -28,8 +28,9 @@ pub(crate) fn refused_text(number: usize, error: SubmitError) -> OpenError
 /// Why changes were not accepted.
 #[derive(Clone, Copy)]
 pub enum AcceptError {
-    /// The log failed, in this call or an earlier one: nothing is accepted any more.
+    /// The log failed, in this call or an earlier one, or there was no memory to read it again: nothing is accepted any
+    /// more.
     LogFailed,
-    /// No memory was found, and nothing changed.
+    /// No memory was found, and nothing was accepted.
     OutOfMemory,
 }

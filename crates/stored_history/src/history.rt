@@ -63,11 +63,67 @@ fn append_some<L: ChangeLog>(log: &mut L, texts: &[ChangeText]) -> Result<(), Lo
     ensures kept { (before : List (List ℕ)) → L.kept log.old before
         → OnOk result (L.kept log.new (before ++ texts.now)) }
     ensures none { texts.now ≡ [] → log.new ≡ log.old }
+    ensures memory { (before : List (List ℕ)) → L.kept log.old before
+        → result ≡ Err LogError.OutOfMemory → L.kept log.new before }
 {
     if texts.is_empty() {
         return Ok(());
     }
     log.append(texts)
+}
+
+/// Reads the history again whose so many changes a log keeps. The one that has more is let go first, so that its
+/// memory is there.
+fn take_back<L: ChangeLog>(
+    alloc: Global,
+    count: usize,
+    history: &mut History,
+    log: &mut L,
+) -> Result<(), OpenError>
+    requires { (texts : List (List ℕ)) × L.kept log.old texts }
+    ensures size { history.new.size ≡ history.old.size }
+    ensures count { OnOk result (length history.new.changes ≡ count) }
+    ensures kept { OnOk result (L.kept log.new (map change_text history.new.changes)) }
+    ensures same { (before : List (List ℕ)) → L.kept log.old before → OnOk result (L.kept log.new before) }
+{
+    let size = history.size();
+    *history = History::new(alloc, size);
+    let reading = read_again(alloc, size, log)?;
+    if reading.history.len() != count {
+        return Err(OpenError::LogFailed);
+    }
+    *history = reading.history;
+    Ok(())
+}
+
+/// Keeps the texts of what a history accepted behind so many changes. Where there is no memory for it, the history has
+/// those changes again, unless there is none for that either.
+fn keep<L: ChangeLog>(
+    alloc: Global,
+    count: usize,
+    history: &mut History,
+    log: &mut L,
+    texts: &[ChangeText],
+) -> Result<(), AcceptError>
+    requires { (before : List (List ℕ)) × L.kept log.old before }
+    ensures size { history.new.size ≡ history.old.size }
+    ensures kept { (before : List (List ℕ)) → L.kept log.old before
+        → OnOk result (L.kept log.new (before ++ texts.now)) }
+    ensures ok { OnOk result (history.new ≡ history.old) }
+    ensures none { texts.now ≡ [] → OnOk result (log.new ≡ log.old) }
+    ensures memory { (before : List (List ℕ)) → L.kept log.old before
+        → result ≡ Err AcceptError.OutOfMemory
+        → L.kept log.new before × L.kept log.new (map change_text history.new.changes)
+        × (length history.new.changes ≡ count) }
+{
+    match append_some(log, texts) {
+        Ok(()) => Ok(()),
+        Err(LogError::Failed) => Err(AcceptError::LogFailed),
+        Err(LogError::OutOfMemory) => match take_back(alloc, count, history, log) {
+            Ok(()) => Err(AcceptError::OutOfMemory),
+            Err(_) => Err(AcceptError::LogFailed),
+        },
+    }
 }
 
 impl<L: ChangeLog> StoredHistory<L> {
@@ -103,30 +159,41 @@ impl<L: ChangeLog> StoredHistory<L> {
     }
 
     /// Accepts or refuses each change after those before it, and keeps the accepted ones before it answers: all of them
-    /// by one call of the log, and none if there are none. Where the log fails it isn't known what it keeps: nothing is
-    /// answered, now or later.
+    /// by one call of the log, and none if there are none. Where the log finds no memory for them, they are taken back:
+    /// its changes are read again. Where it fails, or that does, it isn't known what it keeps: nothing is answered, now
+    /// or later.
     pub fn accept(&mut self, changes: Vec<Change>) -> Result<Vec<Answer>, AcceptError>
         ensures answered { IfOk result (λ answers.
             AreAnswered self.old.size self.old.changes changes.items answers.items self.new.changes) }
         ensures size { self.new.size ≡ self.old.size }
         ensures kept { OnOk result (L.kept self.new.log (map change_text self.new.changes)) }
         ensures works { OnOk result (self.new.is_failed ≡ false) }
-        ensures untouched { self.new.changes ≡ self.old.changes → self.new.log ≡ self.old.log }
-        ensures err { IfErr result (λ error. IsLeft self.old error self.new) }
+        ensures untouched { OnOk result (self.new.changes ≡ self.old.changes → self.new.log ≡ self.old.log) }
+        ensures err { IfErr result (λ error. IsLeft L.kept self.old error self.new) }
         ensures failed { self.old.is_failed ≡ true
             → (result ≡ Err AcceptError.LogFailed) × (self.new ≡ self.old) }
     {
         if self.is_failed {
             return Err(AcceptError::LogFailed);
         }
+        let count = self.history.len();
         let Ok(group) = accept_all(self.alloc, &mut self.history, changes) else {
             return Err(AcceptError::OutOfMemory);
         };
-        if append_some(&mut self.log, &group.texts).is_err() {
-            self.is_failed = true;
-            return Err(AcceptError::LogFailed);
+        match keep(
+            self.alloc,
+            count,
+            &mut self.history,
+            &mut self.log,
+            &group.texts,
+        ) {
+            Ok(()) => Ok(group.answers),
+            Err(AcceptError::OutOfMemory) => Err(AcceptError::OutOfMemory),
+            Err(AcceptError::LogFailed) => {
+                self.is_failed = true;
+                Err(AcceptError::LogFailed)
+            }
         }
-        Ok(group.answers)
     }
 
     /// How much it may hold, which stays as it was when the log was opened.
