@@ -16,6 +16,7 @@ It prints `port <p>` and serves until it is ended. docs/OPERATING.md has what ea
 import argparse
 import asyncio
 import contextlib
+import fcntl
 import os
 import pathlib
 import re
@@ -28,12 +29,16 @@ import time
 from document import Document
 from hub_process import HubEnded
 from lines import ReplyEnd, SUBSCRIBES, next_request, session_reader
-from stream import Primaries
+from stream import FAILURES, Primaries, what_may_be_lost
 
 NAME = re.compile(rb"document ([a-z0-9_-]{1,64})\n")
 PIECE = 1 << 16
 # How long a client's last bytes are read once its session has ended.
 REST_SECONDS = 5
+# Seconds between two tries to ask a server of Redis for its settings.
+LOSSES_PAUSE = 2
+# The status of a gateway whose folder has one already.
+FOLDER_IN_USE = 3
 # Changes of one session that wait for their replies; the session is read on once there are fewer.
 MOST_WAITING = 64
 BAD_COMMAND, FULL, TOO_MANY = b"no 60 BadCommand\n", b"no 50 HistoryFull\n", b"no 69 TooManySessions\n"
@@ -56,29 +61,49 @@ class Session:
 
     async def run(self):
         try:
-            request = await self.next()
-            is_named = request and request.text.startswith(b"document ")
-            name = NAME.fullmatch(request.text) if is_named else None
-            if is_named and not name:
-                # The session ends, lest a client go on in a document that it doesn't mean.
-                self.writer.write(BAD_COMMAND)
-                return
-            self.document = await self.gateway.document(name[1].decode() if name else self.options.document)
-            if not self.document:
-                self.writer.write(TOO_MANY)
-                return
-            self.document.sessions.add(self)
-            if name:
-                self.writer.write(b"ok " + request.text)
-                request = await self.next()
-            while request:
+            request = await self.begin(await self.next())
+            while request and not request.is_foreign:
                 await self.answer(request)
                 request = await self.next() if request.is_whole else None
             await self.settle()
+            if request:
+                await self.refuse_foreign()
         except (SessionEnded, HubEnded, OSError, asyncio.IncompleteReadError):
             pass
         finally:
             self.end()
+
+    async def begin(self, request):
+        """Opens the document by the session's first request, and gives the first one that is to be answered; None at the end."""
+        if request and request.is_foreign:
+            return request
+        is_named = request and request.text.startswith(b"document ")
+        name = NAME.fullmatch(request.text) if is_named else None
+        if is_named and not name:
+            # The session ends, lest a client go on in a document that it doesn't mean.
+            self.writer.write(BAD_COMMAND)
+            return None
+        self.document = await self.gateway.document(name[1].decode() if name else self.options.document)
+        if not self.document:
+            self.writer.write(TOO_MANY)
+            return None
+        self.document.sessions.add(self)
+        if name:
+            self.writer.write(b"ok " + request.text)
+            request = await self.next()
+        return request
+
+    async def refuse_foreign(self):
+        """Ends a session with what isn't one, as a page's POST. What follows is taken for nothing, but read for some time: else
+        the client could miss the answer."""
+        self.writer.write(BAD_COMMAND)
+        self.writer.write_eof()
+        with contextlib.suppress(asyncio.TimeoutError):
+            await asyncio.wait_for(self.pass_over_rest(), REST_SECONDS)
+
+    async def pass_over_rest(self):
+        while await self.reader.read(PIECE):
+            pass
 
     async def next(self):
         try:
@@ -256,6 +281,21 @@ class Gateway:
                     await asyncio.wait([self.ending[name]])
                     del self.ending[name]
 
+    async def tell_losses(self, url):
+        """Says once, as soon as a server of Redis is reached, what it may lose."""
+        while True:
+            try:
+                if told := await what_may_be_lost(url):
+                    print(f"gateway {self.options.name}: {re.sub('//.*@', '//', url)}: {told}; {self.kept()}", file=sys.stderr, flush=True)
+                return
+            except FAILURES:
+                await asyncio.sleep(LOSSES_PAUSE)
+
+    def kept(self):
+        if self.options.memory:
+            return "hubs here keep no store, so answered changes may be lost with it"
+        return "answered changes are in the stores, and gateways append them again where no others came in between"
+
     async def run(self):
         host, _, port = self.options.listen.rpartition(":")
         server = await asyncio.start_server(self.serve, host.strip("[]"), int(port), **session_reader())
@@ -263,10 +303,11 @@ class Gateway:
         stopped = asyncio.Event()
         for number in (signal.SIGTERM, signal.SIGINT):
             asyncio.get_running_loop().add_signal_handler(number, stopped.set)
-        ending = asyncio.create_task(self.end_unused())
+        beside = [asyncio.create_task(each) for each in (self.end_unused(), *map(self.tell_losses, self.options.redis))]
         await stopped.wait()
         server.close()
-        ending.cancel()
+        for task in beside:
+            task.cancel()
         for document in self.documents.values():
             await document.end()
 
@@ -300,7 +341,7 @@ def parsed():
     parser.add_argument("--counter-jump", default="", help="as of the hub; the first gateway of a document decides")
     parser.add_argument("--per-session", type=limits, default={}, help="as of the hub")
     parser.add_argument("--workers", help="as of the hub")
-    parser.add_argument("--fill", action="store_true", help="make an empty stream of what this gateway's store has")
+    parser.add_argument("--fill", action="store_true", help="append what this gateway's store has to a stream without changes")
     parser.add_argument("--memory", action="store_true", help="hubs without a store: the stream alone keeps the changes")
     parser.add_argument("--door", choices=["unix", "port"], default="unix", help="how the hub is reached")
     parser.add_argument("--journal", type=argparse.FileType("a"), help="a file for a line of each entry: document, place, reply")
@@ -314,7 +355,19 @@ def parsed():
     # Hubs are started in the folder, and reached from there: a socket file's path must be short.
     options.hub = [os.path.abspath(options.hub) if os.sep in options.hub else options.hub]
     os.chdir(options.folder)
+    options.lock = lock(options.folder)
     return options
+
+
+def lock(folder):
+    """The folder is this process's own, up to its end: two gateways would take each other's hubs and records away."""
+    file = os.open("lock", os.O_RDWR | os.O_CREAT | os.O_CLOEXEC, 0o600)
+    try:
+        fcntl.flock(file, fcntl.LOCK_EX | fcntl.LOCK_NB)
+    except BlockingIOError:
+        print(f"gateway: {folder}: another gateway runs over this folder", file=sys.stderr)
+        sys.exit(FOLDER_IN_USE)
+    return file
 
 
 if __name__ == "__main__":

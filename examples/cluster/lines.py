@@ -10,14 +10,17 @@ LINE_LIMIT = 70_000
 LONGEST_RIGHT_LINE = 2048
 HEADER = re.compile(rb"change2? ([1-9][0-9]{0,4}) ([1-9][0-9]{0,2})\n")
 SUBSCRIBES = re.compile(rb"sub[23]? ")
+# What begins a message of HTTP, as a browser sends it for any page, or of TLS. No session has such a line.
+HTTP, TLS = re.compile(rb" HTTP/1\.[01]\r?\n$"), b"\x16\x03"
 
 
 class Request(NamedTuple):
     """A request's bytes. A change is for the stream. What isn't whole is the last of its session: it goes to the hub as it
-    is, with all that follows, and the hub answers what it answers."""
+    is, with all that follows, and the hub answers what it answers. What is foreign isn't of a session, nor is what follows."""
     text: bytes
     is_change: bool = False
     is_whole: bool = True
+    is_foreign: bool = False
 
 
 def followers(header):
@@ -32,25 +35,51 @@ def session_reader():
     return dict(limit=LINE_LIMIT - 1)
 
 
-async def next_request(reader):
-    """The next request of a client; None at the end.
+def is_change(text):
+    """Whether a text is one change by its lines. One with a line that is too long, or with a byte that isn't ASCII, isn't for
+    the stream: any hub refuses it."""
+    lines = text.split(b"\n")
+    return (text.isascii() and text.endswith(b"\n") and 1 < len(lines) - 1 == 1 + followers(lines[0] + b"\n")
+            and all(len(line) < LONGEST_RIGHT_LINE for line in lines))
 
-    A change that can't be accepted since a line is too long for it, or isn't ASCII, isn't for the stream: any hub refuses it."""
-    lines = []
-    due = 1
+
+class LineTooLong(Exception):
+    """A line is too long; the exception has what was read of it."""
+
+
+async def first_line(reader):
+    """A request's first line, or what TLS begins with: no line feed need ever follow that."""
+    line = b""
     try:
-        while len(lines) < due:
+        while len(line) < len(TLS) and TLS.startswith(line):
+            line += await reader.readexactly(1)
+        if line != TLS and not line.endswith(b"\n"):
+            line += await reader.readuntil(b"\n")
+    except asyncio.IncompleteReadError as cut:
+        raise asyncio.IncompleteReadError(line + cut.partial, None) from None
+    except asyncio.LimitOverrunError:
+        raise LineTooLong(line) from None
+    if len(line) > LINE_LIMIT:
+        raise LineTooLong(line)
+    return line
+
+
+async def next_request(reader):
+    """The next request of a client; None at the end."""
+    lines = []
+    try:
+        lines.append(await first_line(reader))
+        for _ in range(followers(lines[0])):
             lines.append(await reader.readuntil(b"\n"))
-            if len(lines) == 1:
-                due += followers(lines[0])
     except asyncio.IncompleteReadError as cut:
         text = b"".join(lines) + cut.partial
         return Request(text, is_whole=False) if text else None
+    except LineTooLong as long:
+        return Request(*long.args, is_whole=False)
     except asyncio.LimitOverrunError:
         return Request(b"".join(lines), is_whole=False)
     text = b"".join(lines)
-    can_be_right = text.isascii() and all(len(line) <= LONGEST_RIGHT_LINE for line in lines)
-    return Request(text, is_change=due > 1 and can_be_right)
+    return Request(text, is_change=is_change(text), is_foreign=lines[0] == TLS or HTTP.search(lines[0]) is not None)
 
 
 class ReplyEnd:
