@@ -3,15 +3,18 @@
 
 import { EditorState, TextSelection } from "prosemirror-state";
 import { EditorView } from "prosemirror-view";
-import { Cannot, Hub, LIMITS, checkMark, sessionsOf } from "../js/hub.js";
+import { Cannot, Hub, checkMark, many, noun, sessionsOf } from "../js/hub.js";
 import { colorOf, hubPlugin, schema } from "../js/prosemirror-hub.js";
+import { Unsent, countOf, textOfRecord } from "../js/unsent.js";
 
 const the = name => document.getElementById(name);
 const COMMAND_BUTTONS = document.querySelectorAll("button[data-command]");
 const COLOR_BUTTONS = document.querySelectorAll("button[data-color]");
+const TIME = { dateStyle: "medium", timeStyle: "short" };
 const FILTERS = 6, ITEMS = 8, FEW_CHARACTERS = 2000, FEW_CHANGES = 200, TOLD = 8000;
 const asked = Number(new URLSearchParams(location.search).get("node"));
 const hub = new Hub(sessionsOf(location), { node: asked >= 1 && asked <= 65535 ? asked : null });
+const unsent = new Unsent(hub);
 let items = [];
 
 // Commands: each answers whether it applies.
@@ -155,16 +158,82 @@ function tell(words) {
 function showState() {
   const words = { connecting: hub.why || "connecting", connected: hub.waiting ? "sending" : "connected" };
   const troubles = { offline: `${hub.why} Type on: your changes are sent once it can be.`, stopped: hub.why };
-  const room = LIMITS.characters - hub.replica.characters.size, changes = LIMITS.changes - hub.replica.version;
+  const { room } = hub, characters = Math.min(room.characters, room.bytes);
+  const changes = Math.max(room.changes - hub.changesFor(0), 0);
   document.body.dataset.state = hub.state;
   the("state").textContent = words[hub.state] ?? hub.state;
   the("node").textContent = hub.node === null ? "" : `node ${hub.node}, version ${hub.replica.version}`;
   the("node").style.color = hub.node === null ? "" : colorOf(hub.node);
   the("trouble").textContent = troubles[hub.state] ?? "";
-  const isLittle = room < FEW_CHARACTERS || changes < FEW_CHANGES;
-  the("room").textContent = isLittle ? `Room for ${room} characters and ${changes} changes.` : "";
+  const isLittle = hub.isEditable && (characters < FEW_CHARACTERS || changes < FEW_CHANGES);
+  the("room").textContent = isLittle ? `Room for ${many(characters)} characters and ${many(changes)} changes.` : "";
   showSelection();
 }
+
+// The question before what is removed can't be put back.
+
+let question = null;
+
+function askPerson(event) {
+  event.preventDefault();
+  question = event.detail;
+  the("asked").textContent = question.title;
+  the("why").textContent = question.why;
+  the("waive").checked = false;
+  if (!the("question").open) the("question").showModal();
+}
+
+function answer(isAccepted) {
+  const asked = question;
+  question = null;
+  if (isAccepted && the("waive").checked) hub.waived = asked.removed;
+  the("question").close();
+  view.focus();
+  if (isAccepted) attempt(asked.accept);
+  showState();
+}
+
+hub.addEventListener("question", askPerson);
+the("keep").addEventListener("click", () => answer(false));
+the("remove").addEventListener("click", () => answer(true));
+the("question").addEventListener("cancel", event => { event.preventDefault(); answer(false); });
+
+// What was typed and isn't in the hub's text.
+
+async function copyText(text, dom) {
+  try {
+    await navigator.clipboard.writeText(text);
+    return true;
+  } catch {
+    // Pages that aren't of https or of this machine have no such clipboard.
+    getSelection().selectAllChildren(dom);
+    return document.execCommand("copy");
+  }
+}
+
+function button(text, act) {
+  const dom = Object.assign(document.createElement("button"), { type: "button", textContent: text });
+  dom.addEventListener("click", () => act().catch(why => tell(why.message)));
+  return dom;
+}
+
+function elementOfRecord(record) {
+  const [dom, words, shown] = ["div", "p", "pre"].map(tag => document.createElement(tag));
+  const text = textOfRecord(record), when = new Date(record.time).toLocaleString([], TIME);
+  words.textContent = `What you typed and the hub doesn't have, ${noun(countOf(record), "character")}, ${when}:`;
+  shown.textContent = text;
+  const copy = button("Copy", async () => {
+    if (!await copyText(text, shown)) throw new Cannot("This page may not copy: select the text and press Ctrl-C.");
+    await unsent.forget(record);
+    copy.textContent = "Copied";
+  });
+  words.append(copy, button("Discard", () => unsent.discard(record)));
+  dom.append(words, shown);
+  return dom;
+}
+
+unsent.addEventListener("records", () => the("unsent").replaceChildren(...unsent.records.map(elementOfRecord)));
+unsent.addEventListener("failed", ({ detail }) => tell(`This browser doesn't keep what isn't sent: ${detail}`));
 
 // The form for a link, and filters.
 
@@ -241,7 +310,8 @@ hub.addEventListener("items", ({ detail: { filter, items: whole } }) => {
 });
 hub.addEventListener("notice", ({ detail }) => tell(detail));
 for (const type of ["state", "version", "text", "edited"]) hub.addEventListener(type, showState);
-addEventListener("beforeunload", event => { if (hub.waiting) event.preventDefault(); });
-Object.assign(globalThis, { hub, hubView: view });
+addEventListener("beforeunload", event => { if (hub.waiting && !unsent.isOver) event.preventDefault(); });
+Object.assign(globalThis, { hub, hubView: view, unsent });
+// Until then the text can't be edited, and so it can't have the focus.
+hub.addEventListener("version", () => { if (document.activeElement === document.body) view.focus(); }, { once: true });
 showState();
-view.focus();

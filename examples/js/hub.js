@@ -3,23 +3,35 @@
 
 import { Cannot, Change, Edit, NONE, OPERATIONS, Replica, countOf, sizeOf } from "./replica.js";
 
-export { Cannot, Replica, checkMark, escaped, formatOf, textOf } from "./replica.js";
+export { Cannot, Replica, bytesOf, checkMark, escaped, formatOf, textOf } from "./replica.js";
 
-export const LIMITS = { characters: 32768, marks: 4096, changes: 4096 };
+// The visible text of a hub of any size has at most so many bytes.
+const VISIBLE_BYTES = 131072;
 const NODES = 65535, TRIES = 50, AT_ONCE = 64, PULLS = 16, ITEMS = 64;
 const AWAY = "The hub can't be reached.";
-const BATCH = 300, POLL = 200, PATIENCE = 10000, PAUSE = 500, LONGEST_PAUSE = 20000;
+const BATCH = 300, POLL = 200, PATIENCE = 10000, PAUSE = 500, LONGEST_PAUSE = 20000, SETTLED = 5000;
 
+const FULL = "This document is full: it takes no more changes.";
 const WORDS = {
   42: "The hub takes no change whose counter is this far above all others.",
   45: "The hub is out of memory; the change is tried again.",
   46: "The hub refuses the ids that this page gives its changes.",
   47: "The hub doesn't have a character that the change names.",
-  48: "The text is full: it has had 32,768 characters, removed ones counted.",
-  49: "The text has had all of its 4,096 marks; it can still be typed.",
-  50: "The hub takes no more changes: it has had 4,096, or as many as one session may send.",
+  48: "The text is full.",
+  49: "The text takes no more marks; it can still be typed.",
+  50: FULL,
   51: "The hub takes no more filters.",
 };
+// What the same refusals mean where the hub has room: it is this session that has had its share.
+const SHARES = {
+  50: "This page's share of changes is used up: reload the page to go on.",
+  51: "This page's share of filters is used up: reload the page to add more.",
+};
+
+/** A number of things, for a person. */
+export function many(count) { return count.toLocaleString("en"); }
+
+export function noun(count, one) { return `${many(count)} ${one}${count === 1 ? "" : "s"}`; }
 
 /** A reply `no <number> <Name> ..`. */
 export class Refused extends Error {
@@ -58,8 +70,8 @@ class Session {
     this.why = "";                // why it isn't open
   }
 
-  /** Sends the lines of a request. Answers the reply's lines but the last one, and that one's last word, also as a
-   * number. */
+  /** Sends the lines of a request. Answers the reply's lines but the last one, and that one's words behind the second
+   * one, the last of them also as a number. */
   ask(...lines) {
     return new Promise((resolve, reject) => {
       if (!this.isOpen) return reject(new Lost(this.why));
@@ -76,10 +88,10 @@ class Session {
     this.heard = "";
     if (/^no (61|69) /.test(last)) return this.close("The hub has no session for this page.");
     if (/^no 66 /.test(last)) return this.close("The hub can't keep changes at the moment.");
-    const { resolve, reject, late } = this.asked.shift(), word = last.split(" ").at(-1);
+    const { resolve, reject, late } = this.asked.shift(), words = last.split(" ").slice(2), word = words.at(-1);
     clearTimeout(late);
     if (last.startsWith("no ")) reject(new Refused(last));
-    else resolve({ lines, word, number: Number(word) });
+    else resolve({ lines, words, word, number: Number(word) });
   }
 
   end(why = AWAY) {
@@ -91,7 +103,10 @@ class Session {
     }
   }
 
-  close(why = AWAY) {
+  /** Ends the session; the hub may hear some lines before. */
+  close(why = AWAY, lines = NONE) {
+    const { socket } = this, isHeard = this.isOpen && socket.readyState === socket.OPEN;
+    if (isHeard && lines.length) socket.send(lines.join("\n") + "\n");
     this.end(why);
     this.socket.close();
   }
@@ -128,16 +143,38 @@ class Filter {
   }
 }
 
+// What can be put back.
+
+/** How an edit, an undo and a redo are told to the person, and what would put back what they remove. */
+const EDIT = { act: "Remove", back: "Undo" }, UNDO = { act: "Undo, and remove", back: "Redo" };
+const REDO = { act: "Redo, and remove", back: "Undo" };
+
+/** How many characters, in how many changes, are put back where a list of edits is taken back; from the last edit of it
+ * on that can't be, none. */
+function owed(edits) {
+  const sum = { characters: 0, changes: 0 };
+  for (const { removed, isGivenUp } of edits.toReversed()) {
+    if (isGivenUp) break;
+    sum.characters += removed.length;
+    sum.changes += Math.ceil(removed.length / OPERATIONS);
+  }
+  return sum;
+}
+
 // The hub.
 
 /** A hub's text, as a person sees and edits it. Events: `edited`; `text` where it changed otherwise than by `edit`,
  * with whether that was this page's undo; `version` where more is accepted; `state`, of the connection, with why;
- * `notice` with words for the person; `items` of a filter, of whole versions; `hits` where other characters are hit. */
+ * `notice` with words for the person; `question`, whether to remove what can't be put back, with its title, why, how
+ * many characters that are, and `accept` (a listener that asks calls `preventDefault`; else nothing is removed);
+ * `items` of a filter, of whole versions; `hits` where other characters are hit. */
 export class Hub extends EventTarget {
   constructor(url, { node = null } = {}) {
     super();
     Object.assign(this, { url, node, session: null, state: "connecting", why: "" });
     this.replica = new Replica();
+    this.limits = { characters: 0, marks: 0, changes: 0, bytes: VISIBLE_BYTES };
+    this.waived = 0;              // so many characters are removed without a question
     this.filters = [];
     this.id = null;               // the hub's, which a hub with a store keeps when it is started again
     this.begun = null;            // the version at which the page began
@@ -151,6 +188,7 @@ export class Hub extends EventTarget {
     this.isDue = false;
     this.timer = null;
     this.wake = () => {};
+    globalThis.addEventListener?.("pagehide", () => this.leave());
     this.run();
   }
 
@@ -158,6 +196,29 @@ export class Hub extends EventTarget {
 
   /** How many operations of this page aren't known to be accepted. */
   get waiting() { return sizeOf(this.groups.flat()) + sizeOf(this.flight?.operations ?? NONE); }
+
+  /** This page's operations that aren't taken yet. */
+  get pending() {
+    return [...this.accepted, this.flight].flatMap(change => change?.operations ?? NONE).concat(this.groups.flat());
+  }
+
+  /** What was typed here and isn't known to be accepted: its pieces, as they stand in the text, each of runs of
+   * characters whose ids follow one another. */
+  get unsent() {
+    const { replica } = this, pieces = [];
+    const typed = this.pending.flatMap(({ characters = NONE }) => characters).filter(one => one.isVisible);
+    const places = new Map(typed.map(one => [one, replica.indexOf(one)]));
+    let end = -1;
+    for (const [one, place] of [...places].sort(([, first], [, second]) => first - second)) {
+      if (end < 0 || replica.order.slice(end, place).some(between => between.isVisible)) pieces.push([]);
+      const runs = pieces.at(-1), last = runs.at(-1), { node, counter, text } = one;
+      if (last?.node === node && last.end === counter) last.text += text;
+      else runs.push({ node, counter, text });
+      runs.at(-1).end = counter + 1;
+      end = place + 1;
+    }
+    return pieces;
+  }
 
   get isEditable() { return this.state === "connected" || this.state === "offline"; }
 
@@ -169,14 +230,68 @@ export class Hub extends EventTarget {
 
   // Edits.
 
-  /** Why so many characters and marks can't be added, by so many operations; in words, null where they can. */
-  lacks({ characters = 0, marks = 0, operations = Math.max(characters + marks, 1) }) {
-    const { replica } = this, changes = Math.ceil((this.waiting + operations) / OPERATIONS) + this.accepted.length;
+  /** How much more the hub takes, as far as it is known here, of what isn't sent too; but of changes, without it. */
+  get room() {
+    const { limits, replica } = this, room = (limit, used) => Math.max(limit - used, 0);
+    return {
+      characters: room(limits.characters, replica.characters.size), bytes: room(limits.bytes, replica.bytes),
+      marks: room(limits.marks, replica.marks.length),
+      changes: room(limits.changes, replica.version + this.accepted.length),
+    };
+  }
+
+  /** Why so many characters, bytes of visible text and marks can't be added, by so many operations; in words, null
+   * where they can. */
+  lacks({ characters = 0, bytes = 0, marks = 0, operations = Math.max(characters + marks, 1) }) {
     if (this.state === "stopped") return this.why;
     if (!this.isEditable) return "The hub hasn't been reached yet.";
-    if (characters > LIMITS.characters - replica.characters.size) return WORDS[48];
-    if (marks > LIMITS.marks - replica.marks.length) return WORDS[49];
-    return changes > LIMITS.changes - replica.version ? WORDS[50] : null;
+    const { room } = this, more = (count, one) => count ? noun(count, `more ${one}`) : `no more ${one}s`;
+    if (characters > room.characters)
+      return `The text is full: it takes ${more(room.characters, "character")}; removed ones count too.`;
+    if (bytes > room.bytes)
+      return `The text is full: it takes ${more(room.bytes, "byte")} until something is removed.`;
+    if (marks > room.marks) return WORDS[49];
+    const changes = this.changesFor(operations);
+    if (changes <= room.changes) return null;
+    return room.changes ? `This takes ${many(changes)} changes, and the document takes ${many(room.changes)} more.` : FULL;
+  }
+
+  /** How many changes this page has to send with so many operations more. */
+  changesFor(operations) { return Math.ceil((this.waiting + operations) / OPERATIONS); }
+
+  /** What to ask the person before so many characters are removed, where they couldn't be put back with all that `list`
+   * would put back; null where they could, or where the person doesn't want to be asked. */
+  stake({ characters = 0, removed, operations }, { act, back } = EDIT, list = this.done) {
+    if (removed <= this.waived) return null;
+    const { room } = this, before = owed(list), all = before.characters + removed, left = room.characters - characters;
+    const changes = before.changes + Math.ceil(removed / OPERATIONS), rest = room.changes - this.changesFor(operations);
+    if (all <= left && changes <= rest) return null;
+    const them = before.characters ? "all that you removed" : removed === 1 ? "it" : "them";
+    const why = all > left ?
+      `room for ${noun(all, "character")}, and there is room for ${many(Math.max(left, 0))}: removed ones count too` :
+      `${noun(changes, "change")}, and the document takes ${many(Math.max(rest, 0))} more`;
+    return {
+      removed, title: `${act} ${noun(removed, "character")}?`,
+      why: `${back} couldn't put ${them} back: that takes ${why}.`,
+    };
+  }
+
+  /** Asks the person. Where nobody does, nothing is removed. */
+  ask(question) {
+    const event = new CustomEvent("question", { detail: question, cancelable: true });
+    if (this.dispatchEvent(event)) throw new Cannot(question.why);
+  }
+
+  /** Notes which edits of a list can't be taken back any more, since the room is less than they need. */
+  giveUp(list) {
+    const { room } = this;
+    room.changes -= this.changesFor(0);
+    for (const edit of list.toReversed()) {
+      room.characters -= edit.removed.length;
+      room.changes -= Math.ceil(edit.removed.length / OPERATIONS);
+      if (room.characters < 0 || room.changes < 0) edit.isGivenUp = true;
+      if (edit.isGivenUp) return;
+    }
   }
 
   /** Makes an edit: `act` says what is inserted, removed and marked. */
@@ -186,8 +301,9 @@ export class Hub extends EventTarget {
     this.undone = [];
     const before = this.done.at(-1);
     if (!edit.goesOn(before)) { this.done.push(edit); return; }
-    before.inserted.push(...edit.inserted);
-    before.removed.push(...edit.removed);
+    // A call takes fewer arguments than a text has characters: so no `push`.
+    before.inserted = before.inserted.concat(edit.inserted);
+    before.removed = before.removed.concat(edit.removed);
     before.time = edit.time;
   }
 
@@ -205,16 +321,21 @@ export class Hub extends EventTarget {
     return edit;
   }
 
-  undo() { return this.step(this.done, this.undone); }
+  undo() { return this.step(this.done, this.undone, UNDO); }
 
-  redo() { return this.step(this.undone, this.done); }
+  redo() { return this.step(this.undone, this.done, REDO); }
 
-  /** Takes back the last edit of one list, and puts what takes that back on the other one. */
-  step(from, to) {
+  /** Takes back the last edit of one list, and puts what takes that back on the other one. More than `most` characters
+   * aren't removed without a question where they couldn't be put back. */
+  step(from, to, words, most = 0) {
     while (from.length) {
-      const edit = from.at(-1), { inserted, removed, marks } = edit, operations = inserted.length + removed.length + 1;
-      const lacks = this.lacks({ characters: removed.length, marks: marks.length, operations });
-      if (lacks) throw new Cannot(lacks);
+      const edit = from.at(-1), needs = edit.needs(), { characters } = needs;
+      const lacks = this.lacks(needs), question = this.stake(needs, words, to);
+      if (lacks) throw new Cannot(characters ? `${noun(characters, "character")} can't be put back. ${lacks}` : lacks);
+      if (question && question.removed > most) {
+        this.ask({ ...question, accept: () => this.acceptStep(from, to, words, question.removed) });
+        return true;
+      }
       from.pop();
       const back = this.make(made => made.takeBack(edit));
       back.time = -Infinity;
@@ -224,6 +345,16 @@ export class Hub extends EventTarget {
       return true;
     }
     return false;
+  }
+
+  acceptStep(from, to, words, most) {
+    try {
+      this.step(from, to, words, most);
+      this.giveUp(to);
+    } catch (why) {
+      if (!(why instanceof Cannot)) throw why;
+      this.tell("notice", why.message);
+    }
   }
 
   /** Sends what waits now, not when its time has come. */
@@ -241,20 +372,28 @@ export class Hub extends EventTarget {
       let lost = AWAY;
       try {
         await this.open();
-        pause = PAUSE / 2;
+        const begun = performance.now();
         while (this.session.isOpen) {
           await this.round();
           await this.rest(POLL);
+          // Each session subscribes its filters anew, so sessions that end soon are begun ever more slowly.
+          if (performance.now() - begun > SETTLED) pause = PAUSE / 2;
         }
       } catch (why) {
         if (why instanceof Lost) lost = why.message;
         else this.stopAt(why);
       }
-      this.session?.close();
+      this.leave();
       if (this.state === "stopped") return;
       this.become(this.state === "connecting" ? "connecting" : "offline", lost);
       await this.rest(pause * (0.75 + Math.random() / 2), false);
     }
+  }
+
+  /** Ends the session, and before that its filters, which have a place at the hub until it hears of their end. */
+  leave() {
+    const open = this.filters.filter(({ number }) => number !== null);
+    this.session?.close(AWAY, open.map(({ number }) => `close ${number}`));
   }
 
   /** Ends the sessions of this page, and says why. */
@@ -290,8 +429,11 @@ export class Hub extends EventTarget {
       this.flight = null;
     }
     await this.follow();
+    await this.readSize();
+    await this.readLeft();
     this.begun ??= this.replica.version;
-    for (const filter of this.filters) if (this.filters.includes(filter)) await this.resume(filter);
+    for (const filter of this.filters)
+      if (this.filters.includes(filter) && !filter.isOver) await this.resume(filter);
     this.isDue = true;
     this.become("connected");
     this.tell("version");
@@ -304,6 +446,34 @@ export class Hub extends EventTarget {
     this.id = await this.idOfHub();
     if (await this.hasLast() && (before === null || this.id === before)) return;
     throw new Stopped("The hub was started anew and has another text: copy what you need, and load the page again.");
+  }
+
+  /** Takes the hub's limits, where it tells them. */
+  async readSize() {
+    const { words } = await this.session.ask("stats");
+    words.forEach((name, at) => {
+      const [, limit] = /^(changes|characters|marks|bytes)-limit$/.exec(name) ?? NONE;
+      if (limit) this.limits[limit] = Number(words[at + 1]);
+    });
+  }
+
+  /** Asks how much more the hub takes, and finds its limits by that: none greater than it is, and just as great where
+   * nobody else has written meanwhile. */
+  async readLeft() {
+    const { words } = await this.session.ask("left"), [changes, characters, marks, subscribers] = words.map(Number);
+    const { limits, pending, replica } = this, pendingMarks = pending.filter(({ mark }) => mark).length;
+    const typed = sizeOf(pending.filter(one => one.characters));
+    limits.changes = Math.max(limits.changes, replica.version + changes);
+    limits.characters = Math.max(limits.characters, replica.characters.size - typed + characters);
+    limits.marks = Math.max(limits.marks, replica.marks.length - pendingMarks + marks);
+    return { changes, subscribers };
+  }
+
+  /** What a refusal means. */
+  async reason({ number, message }) {
+    if (!SHARES[number]) return WORDS[number] ?? `The hub answered ${message}.`;
+    const { changes, subscribers } = await this.readLeft(), left = number === 50 ? changes : subscribers;
+    return (left ? SHARES : WORDS)[number];
   }
 
   /** The hub's id, null where it tells none. */
@@ -343,6 +513,7 @@ export class Hub extends EventTarget {
     }
     this.isDue = false;
     const isNew = await this.follow();
+    if (isNew) await this.readLeft();
     let isHit = false;
     for (const filter of this.filters) if (await this.pull(filter)) isHit = true;
     if (isNew) this.tell("version");
@@ -370,10 +541,9 @@ export class Hub extends EventTarget {
     let room = OPERATIONS;
     while (groups.length && (room === OPERATIONS || sizeOf(groups[0]) <= room)) {
       const [group] = groups;
-      while (group.length && countOf(group[0]) <= room) {
-        room -= countOf(group[0]);
-        operations.push(group.shift());
-      }
+      let count = 0;
+      for (; count < group.length && countOf(group[count]) <= room; count += 1) room -= countOf(group[count]);
+      operations.push(...group.splice(0, count));
       if (group.length) break;
       groups.shift();
     }
@@ -398,8 +568,7 @@ export class Hub extends EventTarget {
       this.again(() => { this.groups = this.groups.map(group => group.filter(({ mark }) => !mark)); });
       this.tell("notice", WORDS[49]);
     } else {
-      const words = WORDS[why.number] ?? `The hub answered ${why.message}.`;
-      throw new Stopped(`${words} What you did last stands in this window alone: copy what you need.`);
+      throw new Stopped(`${await this.reason(why)} What you did last isn't in the hub's text.`);
     }
   }
 
@@ -471,7 +640,12 @@ export class Hub extends EventTarget {
     if (!/^[0-9a-fA-F]{1,65536}$/.test(program)) throw new Cannot("a filter is a program in hexadecimal");
     if (this.state !== "connected") throw new Cannot("without the hub no filter can be subscribed");
     const filter = new Filter(name, program);
-    await this.resume(filter);
+    try {
+      await this.resume(filter);
+    } catch (why) {
+      if (why.number !== 51) throw why;
+      throw new Cannot(await this.reason(why));
+    }
     this.filters.push(filter);
     this.wake();
     return filter;
@@ -486,7 +660,7 @@ export class Hub extends EventTarget {
     } catch (why) {
       if (!(why instanceof Refused) || done === null) throw why;
       filter.number = null;
-      this.tell("notice", `${filter.name}: ${WORDS[why.number] ?? why.message}`);
+      this.tell("notice", `${filter.name}: ${await this.reason(why)}`);
     }
   }
 

@@ -6,7 +6,7 @@ import { Fragment, Mark, Schema, Slice } from "prosemirror-model";
 import { Plugin, PluginKey, TextSelection } from "prosemirror-state";
 import { AddMarkStep, RemoveMarkStep, ReplaceStep } from "prosemirror-transform";
 import { Decoration, DecorationSet } from "prosemirror-view";
-import { Cannot, formatOf } from "./hub.js";
+import { Cannot, bytesOf, formatOf } from "./hub.js";
 
 const LINK = /^[!-~]{1,1024}$/, COLOR = /^[0-9a-f]{6}$/, COMMENT = /^[1-9][0-9]{0,9}$/;
 const COMPOSED = 60, QUIET = 5000, HERE = 60000;
@@ -113,6 +113,14 @@ function itemsBetween(doc, from, to) {
   return items;
 }
 
+/** What differs between two documents: from where on, up to where in the one and in the other; null if nothing does. */
+function difference(before, after) {
+  const from = before.content.findDiffStart(after.content);
+  if (from === null) return null;
+  const end = before.content.findDiffEnd(after.content), to = Math.max(end.a, from, from + end.a - end.b);
+  return { from, to, end: to + after.content.size - before.content.size };
+}
+
 /** Characters as a slice that goes between any two places of a text. */
 function sliceOf(characters) {
   const lines = [[]];
@@ -136,6 +144,7 @@ const key = new PluginKey("hub");
 class Binding {
   constructor(hub, view) {
     Object.assign(this, { hub, view, handled: new WeakSet(), isTaking: false, isGone: false, composed: 0 });
+    this.asked = null;            // what was done in the view and is only done once the person says so
     this.show([], []);
     this.heard = {
       text: ({ detail }) => this.refresh(detail.isOwn),
@@ -167,7 +176,34 @@ class Binding {
   }
 
   dispatch(transaction, more = {}) {
+    const { asked } = this, { mapping } = transaction;
+    if (asked) Object.assign(asked, { from: mapping.map(asked.from, 1), to: mapping.map(asked.to, -1) });
     this.view.dispatch(transaction.setMeta(key, { isHub: true, ...more }).setMeta("addToHistory", false));
+  }
+
+  // What can't be put back.
+
+  /** Asks the person whether to do what a transaction does, which isn't done yet. */
+  ask(transaction, question) {
+    const { from, to, end } = difference(transaction.before, transaction.doc) ?? {};
+    if (from === undefined || this.isGone) return;
+    const asked = { from, to, slice: transaction.doc.slice(from, end), by: transaction.getMeta("uiEvent") };
+    this.asked = asked;
+    try {
+      this.hub.ask({ ...question, accept: () => { if (this.asked === asked) this.accept(asked, question.removed); } });
+    } catch (why) {
+      this.asked = null;
+      this.hub.tell("notice", why.message);
+    }
+  }
+
+  /** Does it, where the text stands now; where more than was said would be removed it is asked again. */
+  accept({ from, to, slice, by }, removed) {
+    this.asked = null;
+    const { tr } = this.view.state;
+    tr.replace(from, Math.max(from, to), slice).setMeta("uiEvent", by).setMeta(key, { accepted: removed });
+    this.view.dispatch(tr.scrollIntoView());
+    this.hub.giveUp(this.hub.done);
   }
 
   /** Notes what the document has now. Before `start`, a position, there are `index` characters. */
@@ -196,6 +232,7 @@ class Binding {
     const waiting = key.getState(this.view.state).edits.filter(({ transaction }) => !this.handled.has(transaction));
     if (waiting.length === 0) return;
     for (const { transaction } of waiting) this.handled.add(transaction);
+    this.asked = null;
     this.isTaking = true;
     try {
       this.hub.edit(edit => this.takeAll(edit, waiting));
@@ -242,10 +279,8 @@ class Binding {
   /** What several transactions changed, as one edit. */
   takeComposed(edit, waiting) {
     const before = waiting[0].transaction.before, after = waiting.at(-1).transaction.doc;
-    const from = before.content.findDiffStart(after.content);
-    if (from === null) return;
-    const end = before.content.findDiffEnd(after.content), to = Math.max(end.a, from, from + end.a - end.b);
-    this.replace(edit, before, after, from, to, waiting.some(one => one.isExplicit));
+    const found = difference(before, after);
+    if (found) this.replace(edit, before, after, found.from, found.to, waiting.some(one => one.isExplicit));
   }
 
   /** Where a range of one document was replaced in the next one: removes and inserts what differs. */
@@ -273,8 +308,9 @@ class Binding {
     const typed = text ? edit.insert(this.before(first), text, wanted) : [];
     const shown = items.map(({ text, isBreak }, at) => seen(typed[at].text) === text && (text === "\n") === isBreak ?
       typed[at] : wrong(isBreak ? text : text.replace("\n", " ")));
-    this.shown.splice(first, end - first, ...shown);
-    this.looks.splice(first, end - first, ...items.map(({ format }) => format));
+    const replaced = (list, others) => list.slice(0, first).concat(others, list.slice(end));
+    this.shown = replaced(this.shown, shown);
+    this.looks = replaced(this.looks, items.map(({ format }) => format));
     if (!isExplicit) for (const one of shown) this.inherits.add(one);
     const [from, to] = this.window, grown = items.length - (end - first);
     this.window = [Math.min(from, first), Math.max(to + (to > first ? grown : 0), first + items.length)];
@@ -361,8 +397,9 @@ class Binding {
     let at = 1, next = 0;
     const change = (to, characters) => {
       if (regions.at(-1)?.to !== at) regions.push({ from: at, to: at, characters: [] });
-      regions.at(-1).to = to;
-      regions.at(-1).characters.push(...characters);
+      const region = regions.at(-1);
+      region.to = to;
+      for (const one of characters) region.characters.push(one);
     };
     this.kept = [];
     this.shown.forEach((one, index) => {
@@ -479,17 +516,39 @@ function peerElement(node) {
 
 // The plugin.
 
-/** What a transaction adds at most, in characters and marks, and how many operations it takes. */
-function additions(transaction) {
-  let characters = 0, marks = 0, operations = 1;
-  for (const step of transaction.steps) {
-    if (step instanceof AddMarkStep || step instanceof RemoveMarkStep) marks = 1;
+/** The characters of a document between two positions, and a line feed that begins or ends there. */
+function itemsAround(doc, from, to) {
+  const isBetween = at => doc.resolve(at).depth === 0;
+  const first = isBetween(from) ? Math.max(from - 1, 1) : from;
+  return itemsBetween(doc, first, isBetween(to) ? Math.min(to + 1, doc.content.size - 1) : to);
+}
+
+/** How many characters stand alike at the beginning of both lists, and then at the end. */
+function countAlike(some, others) {
+  const isAlike = (one, other) => ["text", "format", "isBreak"].every(name => one[name] === other[name]);
+  const most = Math.min(some.length, others.length);
+  let head = 0, tail = 0;
+  while (head < most && isAlike(some[head], others[head])) head += 1;
+  while (tail < most - head && isAlike(some.at(-1 - tail), others.at(-1 - tail))) tail += 1;
+  return head + tail;
+}
+
+/** What a transaction removes and adds, in characters, bytes and marks, and how many operations that takes. */
+function changesOf({ steps, docs, doc }) {
+  const sum = { characters: 0, removed: 0, bytes: 0, marks: 0, operations: 1 };
+  const bytes = items => items.reduce((sum, { text }) => sum + bytesOf(text), 0);
+  steps.forEach((step, at) => {
+    const before = docs[at], after = docs[at + 1] ?? doc;
+    if (step instanceof AddMarkStep || step instanceof RemoveMarkStep) sum.marks = 1;
     step.getMap().forEach((start, end, from, to) => {
-      characters += to - from;
-      operations += to - from + end - start;
+      const removed = itemsAround(before, start, end), added = itemsAround(after, from, to);
+      const alike = countAlike(removed, added);
+      sum.removed += removed.length - alike;
+      sum.characters += added.length - alike;
+      sum.bytes += bytes(added) - bytes(removed);
     });
-  }
-  return { characters, marks, operations };
+  });
+  return { ...sum, operations: Math.max(sum.removed + sum.characters + sum.marks, 1) };
 }
 
 /** Whether a transaction, on a state, says itself which marks its text has: by those chosen at the caret, or as a text
@@ -542,10 +601,13 @@ export function hubPlugin(hub) {
     key,
     state: stateOf(() => binding),
     filterTransaction(transaction) {
-      if (!transaction.docChanged || transaction.getMeta(key)?.isHub) return true;
-      const lacks = hub.lacks(additions(transaction));
+      const said = transaction.getMeta(key);
+      if (!transaction.docChanged || said?.isHub) return true;
+      const changes = changesOf(transaction), lacks = hub.lacks(changes), question = hub.stake(changes);
       if (lacks) hub.tell("notice", lacks);
-      return lacks === null;
+      else if (!question || question.removed <= (said?.accepted ?? 0)) return true;
+      else queueMicrotask(() => binding.ask(transaction, question));
+      return false;
     },
     view(view) {
       binding = new Binding(hub, view);

@@ -29,6 +29,7 @@ export class Character {
     this.near = 0;                // about where it stands
     this.seat = this.start = 0;   // where a view noted it: among its characters, and in its document
     this.size = text === "\n" ? 2 : text.length;   // how many positions of a ProseMirror document it takes
+    this.bytes = bytesOf(text);
     this.again = null;            // by which it was brought back
   }
 
@@ -38,6 +39,12 @@ export class Character {
 
   /** The format that it has, or would have if it weren't removed. */
   get format() { return this.cover.format; }
+}
+
+/** How many bytes a character has in UTF-8. */
+export function bytesOf(character) {
+  const code = character.codePointAt(0) ?? 0;
+  return code < 0x80 ? character.length : code < 0x800 ? 2 : code < 0x10000 ? 3 : 4;
 }
 
 /** Below zero where an id is the lesser one. */
@@ -128,11 +135,17 @@ export class Replica {
     this.newest = new Map();
     this.places = new Map();      // of each node, behind which character it changed something last, in which version
     this.version = 0;
-    this.keptVisible = null;
+    this.forget();
   }
 
   /** The visible characters in their order. */
   get visible() { return this.keptVisible ??= this.order.filter(character => character.isVisible); }
+
+  /** How many bytes they have. */
+  get bytes() { return this.keptBytes ??= this.visible.reduce((sum, { bytes }) => sum + bytes, 0); }
+
+  /** Other characters are visible now. */
+  forget() { Object.assign(this, { keptVisible: null, keptBytes: null }); }
 
   get text() { return this.visible.map(character => character.text).join(""); }
 
@@ -163,7 +176,7 @@ export class Replica {
       else this.takeMark(counter, node, words[0], kind === "m" ? words[1] : null, words.slice(-2));
     }
     this.version += 1;
-    this.keptVisible = null;
+    this.forget();
   }
 
   takeRun(counter, node, parent, codes) {
@@ -207,7 +220,7 @@ export class Replica {
       this.characters.set(character.word, character);
     });
     this.order.splice(place, 0, ...run);
-    this.keptVisible = null;
+    this.forget();
   }
 
   /** The last one of a character and all that descend from it. */
@@ -344,7 +357,7 @@ export class Replica {
     operation.node = node;
     removed.isRemovedHere = true;
     this.newest.set(node, operation.counter);
-    this.keptVisible = null;
+    this.forget();
     return true;
   }
 
@@ -366,7 +379,7 @@ export class Replica {
     else if (removed) removed.isRemovedHere = false;
     else this.dropMark(mark);
     this.newest.set(node, (characters?.[0] ?? mark ?? { counter }).counter - 1);
-    this.keptVisible = null;
+    this.forget();
   }
 
   detachRun(characters) {
@@ -442,7 +455,7 @@ export function checkMark(key, value) {
 /** An edit in the making: the operations that go to the hub together, and what takes them back. */
 export class Edit {
   constructor(replica, node) {
-    Object.assign(this, { replica, node, operations: [], inserted: [], removed: [], marks: [] });
+    Object.assign(this, { replica, node, operations: [], inserted: [], removed: [], marks: [], isGivenUp: false });
     this.time = performance.now();
   }
 
@@ -469,7 +482,7 @@ export class Edit {
       this.do({ characters: part, left });
       left = part.at(-1);
     }
-    this.inserted.push(...characters);
+    this.inserted = this.inserted.concat(characters);
     if (format && characters.length) this.give(characters, format);
     return characters;
   }
@@ -503,12 +516,24 @@ export class Edit {
     return mark;
   }
 
+  /** What it removed and nobody else did, where that isn't put back. */
+  get gone() { return this.removed.map(latest).filter(one => one.isIn && !one.isVisible && !one.isRemovedByOther); }
+
+  /** What it takes to take it back. */
+  needs() {
+    const { gone, marks } = this, removed = this.inserted.map(latest).filter(one => one.isVisible);
+    const sum = characters => characters.reduce((bytes, one) => bytes + one.bytes, 0);
+    return {
+      characters: gone.length, removed: removed.length, bytes: sum(gone) - sum(removed), marks: marks.length,
+      operations: Math.max(gone.length + removed.length + marks.length, 1),
+    };
+  }
+
   /** Takes back what another edit did, as far as nobody else did so or did something newer. */
   takeBack(edit) {
     this.remove(edit.inserted.map(latest));
     for (const mark of edit.marks.toReversed()) this.takeBackMark(mark);
-    const gone = edit.removed.map(latest).filter(one => one.isIn && !one.isVisible && !one.isRemovedByOther);
-    for (const group of this.groups(gone))
+    for (const group of this.groups(edit.gone))
       this.insertAt(group[0], textOf(group), group[0].format).forEach((copy, at) => { group[at].again = copy; });
   }
 
@@ -552,7 +577,8 @@ export class Edit {
 
   /** Whether this is one with an edit just before it, as keys typed in a row are. */
   goesOn(before) {
-    if (!before || this.marks.length || before.marks.length || this.time - before.time > JOINED) return false;
+    if (!before || before.isGivenUp || this.time - before.time > JOINED) return false;
+    if (this.marks.length || before.marks.length) return false;
     const isTyped = one => one.inserted.length > 0 && one.removed.length === 0;
     if (isTyped(this)) return isTyped(before) && this.operations[0].left === before.inserted.at(-1);
     return this.inserted.length === 0 && before.inserted.length === 0;

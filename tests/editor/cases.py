@@ -22,7 +22,7 @@ def spans(here):
 def clear(here, text):
     """Another text in place of the one that is there."""
     editor = here.editors[0]
-    editor.do("select(0, 1e9); await key('Backspace'); await paste(arguments[0])", text)
+    editor.do("select(0, 1e9); await key('Backspace'); accept(); await paste(arguments[0])", text)
     here.compare()
     editor.run("hub.done = []; hub.undone = []")
 
@@ -409,11 +409,11 @@ def try_full_marks(here):
     assert "strong" in editor.lines()[0]
     add_marks(here, 1)
     editor.do("mend()")
-    until(lambda: "4,096 marks" in editor.says("notice"), lambda: f"{editor} {editor.says('notice')}")
+    until(lambda: "no more marks" in editor.says("notice"), lambda: f"{editor} {editor.says('notice')}")
     assert spans(here) == ["plain abcd"], spans(here)
     editor.run("document.getElementById('notice').textContent = ''")
     editor.do("find('abc'); press('[data-command=em]')")
-    assert "4,096 marks" in editor.says("notice") and spans(here) == ["plain abcd"], editor.says("notice")
+    assert "no more marks" in editor.says("notice") and spans(here) == ["plain abcd"], editor.says("notice")
 
 
 def try_full_characters(here):
@@ -435,12 +435,16 @@ def try_full_characters(here):
     until(lambda: editor.run("return hub.waiting") == 0, lambda: str(editor))
     other.do("mend()")
     until(lambda: "The text is full" in other.says("trouble"), lambda: f"{other} {other.says('trouble')}")
-    assert "copy what you need" in other.says("trouble") and other.text().endswith("abcxyz!v"), other.text()[-9:]
+    assert "isn't in the hub's text" in other.says("trouble") and other.text().endswith("abcxyz!v"), other.text()[-9:]
+    assert other.run("return document.querySelector('#unsent pre').textContent") == "!", "what wasn't sent isn't shown"
+    other.run("document.querySelector('#unsent button:last-of-type').click()")
     here.editors = [editor]
     here.compare()
     assert editor.text().endswith("abcxyzv")
     editor.do("find('xyzv', 0)")
     editor.keys(KEYBOARD, BACK)
+    until(lambda: editor.run("return document.getElementById('question').open"), "a character that can't be put back is removed unasked")
+    editor.click("#remove")
     here.compare()
     assert editor.text().endswith("abxyzv")
 
@@ -451,9 +455,8 @@ def try_greatest(hub, editor):
         add_characters(here, CHARACTERS, "1f600")
         here.compare()
         assert editor.run("return new TextEncoder().encode(hub.replica.text).length") == 131072
-        editor.do("select(1e9)")
-        editor.keys(KEYBOARD, BACK)
-        editor.do("select(20001); await key('Backspace')")
+        for at in ("1e9", "20001"):
+            editor.do(f"select({at}); await key('Backspace'); accept()")
         here.compare()
         assert editor.run("return new TextEncoder().encode(hub.replica.text).length") == 131064
 
@@ -473,6 +476,7 @@ def try_full_changes(here):
     other.do("mend()")
     until(lambda: "no more changes" in other.says("trouble"), lambda: f"{other} {other.says('trouble')}")
     assert sorted(other.text()) == ["a", "c"], other.text()
+    other.run("document.querySelector('#unsent button:last-of-type').click()")
     here.editors = [editor]
     assert spans(here) == ["plain a"], spans(here)
 

@@ -9,10 +9,21 @@ from browser import Browser, number_in, until
 
 ROOT = pathlib.Path(__file__).resolve().parent.parent.parent
 sys.path.insert(0, str(ROOT / "examples" / "clients"))
-from peer import Peer, Session  # noqa: E402
+import peer  # noqa: E402
+from peer import Peer  # noqa: E402
 
 IN_PAGE = (ROOT / "tests" / "editor" / "in_page.js").read_text(encoding="utf-8")
 EDITOR, PEER = ROOT / "examples" / "editor", 9
+
+
+class Session(peer.Session):
+    """A session that looks."""
+
+    def counts(self, *names):
+        """Some counts of `stats`."""
+        self.socket.sendall(b"stats\n")
+        words = self.line().split(" ")
+        return [int(words[words.index(name) + 1]) for name in names]
 
 
 class Editor(Browser):
@@ -30,7 +41,7 @@ class Editor(Browser):
 
     def do(self, script, *arguments):
         """Runs a script that uses what in_page.js has."""
-        return self.run("const {select, find, knowsCaret, type, key, paste, drop, copy, press, link, round, unlike, cut, mend, watch, times, "
+        return self.run("const {accept, select, find, knowsCaret, type, key, paste, drop, copy, press, link, round, unlike, cut, deafen, mend, watch, times, "
                         f"pause}} = trial; return (async () => {{ {script} }})()", *arguments)
 
     def lines(self):

@@ -91,6 +91,11 @@ window.trial = (() => {
     else press("#unlink");
   }
 
+  /** Answers the page's question, if there is one, by removing. */
+  function accept() {
+    if (document.getElementById("question").open) press("#remove");
+  }
+
   /** A random edit. */
   async function edit(next) {
     const pick = list => list[Math.floor(next() * list.length)], most = view.state.doc.content.size;
@@ -136,6 +141,13 @@ window.trial = (() => {
     hub.session.socket.close();
   }
 
+  /** The page sends a change, but never hears that it was accepted. */
+  function deafen() {
+    const { session } = hub;
+    window.WebSocket = NoSocket;
+    session.hear = text => { if (!text.startsWith("ok version")) Object.getPrototypeOf(session).hear.call(session, text); };
+  }
+
   function mend() { window.WebSocket = WebSocket; }
 
   const words = ({ type: { name }, attrs }) => name === "comment" ? `comment:${attrs.number}` :
@@ -167,5 +179,6 @@ window.trial = (() => {
     }), true);
   }
 
-  return { select, find, knowsCaret, type, key, paste, drop, copy, press, link, round, unlike, cut, mend, watch, times, pause };
+  return { accept, select, find, knowsCaret, type, key, paste, drop, copy, press, link, round, unlike, cut, deafen, mend, watch, times,
+    pause };
 })();

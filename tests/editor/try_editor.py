@@ -4,10 +4,11 @@ try_editor.py [HUB] [--only PART].. [--rounds N] [--operations N] [--seed N] [--
 
 HUB is the executable, by default $HUB or `hub`; it serves the editor itself. It takes Chromium and its driver (Debian: chromium,
 chromium-driver), and a built examples/editor. The parts: `cases`, each thing by itself: marks at their ends, undo, composition, paste, drag,
-limits, a hub that is gone; `store`, a hub that keeps its changes and is ended and started again; `rounds`, in which three editors and a
-peer of peer.py edit one text at random, one of the editors cut off for a while, after each of which all four show the hub's text; and
-`speed`, the time from a key to the screen in a full text, which is printed. Nothing passes or fails by a time: what doesn't come is waited
-for, and told."""
+a hub that is full or gone; `limits`, those of both sizes, what undo can't put back, and a session's share; `kept`, what isn't sent, over
+another hub, a reload and a closed tab; `node`, the client outside a browser; `store`, a hub that keeps its changes and is ended and started
+again; `rounds`, in which three editors and a peer of peer.py edit one text at random, one of the editors cut off for a while, after each
+of which all four show the hub's text; and `speed`, the time from a key to the screen in a full text, which is printed. Nothing passes or
+fails by a time: what doesn't come is waited for, and told."""
 import argparse
 import os
 import pathlib
@@ -16,11 +17,14 @@ import time
 from concurrent.futures import ThreadPoolExecutor
 
 import cases
+import kept
+import limits
+import outside
 from browser import number_in, program
 from editors import Editor, place
 
 ROUNDS_A_HUB = 5
-PARTS = ["cases", "store", "rounds", "speed"]
+PARTS = ["cases", "limits", "kept", "node", "store", "rounds", "speed"]
 KEYS = ["strong", "em", "code", "comment:7", "link", "color"]
 
 
@@ -102,6 +106,12 @@ def main():
         try:
             if "cases" in parts:
                 cases.try_all(arguments.hub, editors, arguments.pictures)
+            if "limits" in parts:
+                limits.try_all(arguments.hub, editors[0], str(cases.FILTERS / "question.hex"), arguments.pictures)
+            if "kept" in parts:
+                kept.try_all(arguments.hub, editors[0], arguments.pictures)
+            if "node" in parts:
+                outside.try_node(arguments.hub)
             if "store" in parts:
                 cases.try_kept(arguments.hub, editors)
             if "rounds" in parts:
