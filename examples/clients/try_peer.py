@@ -37,7 +37,7 @@ class Hub:
         """The hub ends once all its sessions are closed."""
         if failed:
             self.process.terminate()
-        assert self.process.wait(timeout=60) == 0 or failed
+        assert self.process.wait(timeout=600) == 0 or failed
 
 
 def shown(session, version, at_once):
@@ -208,7 +208,7 @@ def try_watching():
         for number in range(1, 4097):
             session.ask("change 1 1", f"i {number}@1 - 61")
         command = [sys.executable, clients / "watch.py", str(hub.port), clients.parent / "filters" / "question.hex", "--from", "4094"]
-        done = subprocess.run(command, stdout=subprocess.PIPE, stderr=subprocess.PIPE, check=True, timeout=60)
+        done = subprocess.run(command, stdout=subprocess.PIPE, stderr=subprocess.PIPE, check=True, timeout=600)
         assert done.stdout == b"ok sub 0\nend 4094 1\nend 4095 1\nend 4096 1\n", done.stdout
         assert done.stderr == b"the hub is full, so that no item comes any more\n", done.stderr
         session.close()

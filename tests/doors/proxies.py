@@ -114,7 +114,7 @@ def connecting(folder, port, user, origin=None):
     """A handshake over wss."""
     return websockets.connect(f"wss://{HOST}:{port}/session", host="127.0.0.1", port=port, server_hostname=HOST, ssl=trusted(folder),
                               extra_headers=log_in(user), origin=origin, ping_interval=None, open_timeout=None,
-                              close_timeout=None)
+                              close_timeout=1e9)
 
 
 async def edit(folder, port, user, origin, *requests):

@@ -101,7 +101,7 @@ async def closed_messages(port, messages):
     """Sends messages, closes, and returns the messages that came."""
     url, replies = f"ws://127.0.0.1:{port}/session", []
     client = await websockets.connect(url, max_size=None, max_queue=None, ping_interval=None, open_timeout=None,
-                                      close_timeout=None)
+                                      close_timeout=1e9)
     with contextlib.suppress(websockets.ConnectionClosed):
         for message in messages:
             await client.send(message)

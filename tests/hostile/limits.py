@@ -24,6 +24,14 @@ def refused(session, why, *request):
     return False
 
 
+def pulled(session, subscriber):
+    """How many items a pull gives; peers pull nothing, so `ask` knows no items."""
+    session.socket.sendall(f"pull {subscriber} 8\n".encode())
+    while not (line := session.line()).startswith(("ok ", "no ")):
+        assert line.startswith(("hit ", "end ")), line
+    return int(line.removeprefix("ok items "))
+
+
 def try_counter():
     """The greatest counter is refused first and between the changes of two peers, who then have it at their choice no more than before."""
     with Hub(3, "--read", "--counter-jump", "1000") as hub:
@@ -67,8 +75,8 @@ def try_share():
         peer.insert(0, "here")
         other = Session(hub.port)
         other.ask(f"sub 8 {PROGRAM}")
-        assert other.ask(f"pull {SUBSCRIBERS // 16} 8")[1] == 2
-        assert greedy.ask("pull 0 8")[1] == 4, "what a session has it keeps"
+        assert pulled(other, SUBSCRIBERS // 16) == 2
+        assert pulled(greedy, 0) == 4, "what a session has it keeps"
         for one in (greedy, peer, other):
             one.close()
 
