@@ -110,13 +110,14 @@ def options_of(executable, command):
 
 
 def completion(executable):
-    """A completion: commands, their options, and files where a value is a file, a folder or a path."""
+    """A completion: commands, their options, and files where a value or an argument is a file, a folder or a path."""
     commands = commands_of(executable)
     options = {name: options_of(executable, name) for name in commands}
     cases = "\n".join(f'        {name}) options="{" ".join(sorted(options[name]))}" ;;' for name in commands)
     paths = sorted({option for known in options.values() for option, value in known.items()
                     if value in ("FILE", "PATH")})
     folders = sorted({option for known in options.values() for option, value in known.items() if value == "FOLDER"})
+    takers = [name for name in commands if "<FROM>" in help_of(executable, name)]
     valued = sorted({option for known in options.values() for option, value in known.items()
                      if value not in (None, "FILE", "PATH", "FOLDER", "WHAT")})
     return f"""# Completion of hub for bash, made from its help.
@@ -135,6 +136,9 @@ _hub() {{
     case ${{COMP_WORDS[1]}} in
 {cases}
         help) options="{" ".join(commands)}" ;;
+    esac
+    case ${{COMP_WORDS[1]}} in
+        {"|".join(takers)}) [[ $word == -* ]] || {{ COMPREPLY=($(compgen -f -- "$word")); return; }} ;;
     esac
     COMPREPLY=($(compgen -W "$options" -- "$word"))
 }}

@@ -16,6 +16,10 @@ from concurrent.futures import ThreadPoolExecutor, wait
 
 TEXT, BINARY, CLOSE, PING, PONG = 1, 2, 8, 9, 10
 KEY = "dGhlIHNhbXBsZSBub25jZQ=="
+# The most bytes of a message: a change's header, and 256 lines of a mark with a link of 1,024 bytes at the greatest ids.
+GREATEST = "281474976710655@65535"
+LONGEST_MARK = f"m {GREATEST} link {'x' * 1024} <{GREATEST} >{GREATEST}\n"
+MESSAGE = len("change2 65535 256\n") + 256 * len(LONGEST_MARK)
 PROGRAM = "b7000000010000009500000000000000"
 UNKNOWN = "no 52 NoSubscriber"
 FULL = "no 69 TooManySessions"
@@ -224,20 +228,29 @@ def read_head(lines):
 class Server:
     """A server that listens at all its doors, or at those that are named."""
 
-    def __init__(self, hub, *words, doors=("port", "web", "unix"), umask=0o022, descriptors=None):
+    def __init__(self, hub, *words, doors=("port", "web", "unix"), umask=0o022, descriptors=None, user=None, threads=None, errors=None):
         def limit():
             os.umask(umask)
             if descriptors:
                 resource.setrlimit(resource.RLIMIT_NOFILE, (descriptors, descriptors))
+            if threads:
+                resource.setrlimit(resource.RLIMIT_NPROC, (threads, threads))
+            if user is not None:
+                os.setgroups([])
+                os.setgid(user)
+                os.setuid(user)
 
         self.folder = pathlib.Path(tempfile.mkdtemp())
         self.folder.chmod(0o755)
+        if user is not None:
+            os.chown(self.folder, user, user)
+            hub = shutil.copy(hub, self.folder / "hub")
         self.path = self.folder / "hub.sock"
         places = {"port": "0", "web": "0", "unix": str(self.path)}
         named = [word for door in doors for word in (f"--{door}", places[door])]
         self.errors = open(self.folder / "errors", "w+b")
-        self.process = subprocess.Popen([str(hub), "serve", *named, *map(str, words)], stdout=subprocess.PIPE, stderr=self.errors,
-                                        preexec_fn=limit)
+        self.process = subprocess.Popen([str(hub), "serve", *named, *map(str, words)], stdout=subprocess.PIPE,
+                                        stderr=self.errors if errors is None else errors, preexec_fn=limit)
         self.port = self.web = None
         for door in doors:
             said = self.process.stdout.readline().decode()

@@ -6,11 +6,11 @@ import struct
 import time
 from concurrent.futures import ThreadPoolExecutor
 
-from doors import (BINARY, CLOSE, FULL, PING, PONG, PROGRAM, TEXT, UNKNOWN, Ended, Stream, Web, closing, connected, expect, frame, head,
-                   others, read_head, served, server)
+from doors import (BINARY, CLOSE, FULL, LONGEST_MARK, MESSAGE, PING, PONG, PROGRAM, TEXT, UNKNOWN, Ended, Stream, Web, closing, connected,
+                   expect, frame, head, others, read_head, served, server)
 
 READ = ["--read"]
-LINE, MESSAGE = 70_000, 1 << 22
+LINE = 70_000
 KEY_LINE, VERSION_LINE = "Sec-WebSocket-Key", "Sec-WebSocket-Version"
 
 
@@ -60,6 +60,10 @@ def try_handshakes(hub):
             expect(answer_to(here.web, sent)[0], status, what)
             rest.ask(1)
         expect(here.process.poll(), None)
+        status, fields, body = answer_to(here.web, b"POST / HTTP/1.1\r\nHost: a\r\n\r\n")
+        expect((status, fields.get("allow"), body), (405, "GET, HEAD", b"405 Method Not Allowed"), "what is allowed")
+        status, fields, body = answer_to(here.web, b"HEAD /session HTTP/1.1\r\nHost: a\r\n\r\n")
+        expect((status, int(fields["content-length"]), body), (400, len("400 Bad Request"), b""), "HEAD of a session")
     return f"{len(rows)} heads of requests"
 
 
@@ -149,8 +153,8 @@ def try_frames(hub):
         "a close with a wrong code": (1002, [closing(5)]),
         "a close of one byte": (1002, [frame(CLOSE, b"x")]),
         "2^63 bytes announced": (1009, [struct.pack("!BBQ4s", 0x81, 0xFF, (1 << 63) - 1, b"mask")]),
-        "a message of 4 MiB and 1 byte announced": (1009, [struct.pack("!BBQ4s", 0x81, 0xFF, MESSAGE + 1, b"mask")]),
-        "fragments of more than 4 MiB": (1009, [frame(TEXT, b"x" * (1 << 20), last=False)] + [frame(0, b"x" * (1 << 20), last=False)] * 4),
+        "a byte more than a message may have announced": (1009, [struct.pack("!BBQ4s", 0x81, 0xFF, MESSAGE + 1, b"mask")]),
+        "fragments of more than a message may have": (1009, [frame(TEXT, b"x" * (1 << 16), last=False)] + [frame(0, b"x" * (1 << 16), last=False)] * 4),
         "a binary message": (1003, [frame(BINARY, b"close 0\n")]),
         "a binary message, empty": (1003, [frame(BINARY, b"")]),
         "a close": (1000, [closing(1000)]),
@@ -221,15 +225,18 @@ def try_limits(hub):
         client = Web(here.web)
         client.send(frame(TEXT, longest))
         for _ in range(MESSAGE // LINE + 1):
-            expect(client.message(), "no 60 BadCommand\n", "a line of a message of 4 MiB")
+            expect(client.message(), "no 60 BadCommand\n", "a line of a long message")
         half = MESSAGE // 2
         client.send(frame(TEXT, longest[:half], last=False), frame(0, longest[half:]))
         for _ in range(MESSAGE // LINE + 1):
-            expect(client.message(), "no 60 BadCommand\n", "a line of a message of 4 MiB in fragments")
+            expect(client.message(), "no 60 BadCommand\n", "a line of a long message in fragments")
+        change = "change2 65535 256\n" + 256 * LONGEST_MARK
+        client.send(frame(TEXT, change.encode()))
+        expect(client.reply(), ["no 46 StaleCounter line 2"], "the longest change there is, whose marks name themselves")
         expect(client.ask("close 0"), UNKNOWN)
         with contextlib.suppress(ConnectionError):
             client.send(frame(TEXT, longest + b"z"))
-        expect(client.ending(), 1009, "a message of 4 MiB and a byte")
+        expect(client.ending(), 1009, "a message of a byte more")
         rest.ask(1)
     return "lines and messages as long as they may be, and longer"
 

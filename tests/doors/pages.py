@@ -7,6 +7,7 @@ import socket
 import sys
 import tempfile
 import threading
+import time
 
 from doors import TEXT, UNKNOWN, Web, connected, expect, frame, head, others, read_head, server
 
@@ -76,8 +77,12 @@ def try_files(hub):
             status, _, body = get(here.web, path)
             is_told = any(word in body for word in (b"secret", b"root:", b"text of"))
             expect((status in (400, 404), is_told), (True, False), f"{path:.80} is {status}")
-        for method in ("POST", "PUT", "DELETE", "HEAD", "OPTIONS", "get", "X"):
-            expect(get(here.web, "/index.html", method)[0], 405, method)
+        for method in ("POST", "PUT", "DELETE", "OPTIONS", "get", "X"):
+            status, fields, _ = get(here.web, "/index.html", method)
+            expect((status, fields.get("allow")), (405, "GET, HEAD"), method)
+        for path in ("/", "/a.js", "/empty.txt", "/nothing", "/../secret", "/large.bin"):
+            status, fields, _ = get(here.web, path)
+            expect(get(here.web, path, "HEAD"), (status, fields, b""), f"HEAD of {path}")
         rest.ask()
     with server(hub, doors=["web"]) as here:
         for path in ("/", "/index.html", "/etc/passwd"):
@@ -85,6 +90,79 @@ def try_files(hub):
         # Behind all these a session begins as before.
         expect(Web(here.web).ask("close 0"), UNKNOWN)
     return f"{len(paths)} paths of files, {len(outside)} that are none"
+
+
+def try_tags(hub):
+    """A file that the client has already isn't sent again, until it changes; and no page of another site may show one."""
+    with tempfile.TemporaryDirectory() as name:
+        folder = make_folder(pathlib.Path(name))
+        with server(hub, "--files", folder) as here:
+            tags = set()
+            for path in ("/a.js", "/index.html", "/large.bin"):
+                status, fields, body = get(here.web, path)
+                tag = fields["etag"]
+                tags.add(tag)
+                expect((status, fields["x-frame-options"], fields["content-security-policy"]), (200, "DENY", "frame-ancestors 'none'"), path)
+                for known in (tag, f"W/{tag}", "*", f'"other", {tag}', f'{tag},"other"', f'W/"a" ,W/{tag} , "b"'):
+                    for method in ("GET", "HEAD"):
+                        status, fields, left = get(here.web, path, method, If_None_Match=known)
+                        expect((status, fields["etag"], left), (304, tag, b""), f"{path} where the client has {known}")
+                for known in ('""', '"other"', tag[1:-1], tag[:-1], f'"{tag[2:]}', "", 'W/"*"', '"*"'):
+                    status, _, again = get(here.web, path, If_None_Match=known)
+                    expect((status, again == body), (200, True), f"{path} where the client has {known}")
+            expect(len(tags), 3, "tags of three files")
+            expect(get(here.web, "/nothing", If_None_Match="*")[0], 404)
+            _, fields, _ = get(here.web, "/a.js")
+            for change in (lambda: (folder / "a.js").write_text("another text of one length"),
+                           lambda: (folder / "a.js").write_text("another text of 1 length!!"),
+                           lambda: ((folder / "new").write_text("another text of 2 length!!"), (folder / "new").rename(folder / "a.js"))):
+                # A file system tells changes apart that are a few milliseconds from each other.
+                time.sleep(0.05)
+                change()
+                before = fields["etag"]
+                status, fields, body = get(here.web, "/a.js", If_None_Match=before)
+                expect((status, body, fields["etag"] == before), (200, (folder / "a.js").read_bytes(), False), "a file that was changed")
+    return "tags of files"
+
+
+def resident(process):
+    """How many KiB a process has in memory."""
+    status = pathlib.Path(f"/proc/{process.pid}/status").read_text()
+    return int(next(line.split()[1] for line in status.splitlines() if line.startswith("VmRSS:")))
+
+
+def try_long_file(hub):
+    """A long file is sent without being in memory whole; and one that is cut off meanwhile ends its connection too early to be taken for
+    whole."""
+    with tempfile.TemporaryDirectory() as name:
+        folder = make_folder(pathlib.Path(name))
+        with open(folder / "long.bin", "wb") as made:
+            made.truncate(1 << 30)
+        with server(hub, "--files", folder) as here:
+            get(here.web, "/a.js")
+            before = resident(here.process)
+            clients = [connected(here.web) for _ in range(32)]
+            for client in clients:
+                client.sendall(b"GET /long.bin HTTP/1.1\r\nHost: a\r\n\r\n")
+            answers = [client.makefile("rb") for client in clients]
+            for answer in answers:
+                status, fields = read_head(answer)
+                expect((status, int(fields["content-length"])), (200, 1 << 30))
+                expect(answer.read(1 << 20), bytes(1 << 20))
+            grown = resident(here.process) - before
+            if grown > 16_384:
+                raise AssertionError(f"32 clients that take a file of 1 GiB take {grown} KiB")
+            (folder / "long.bin").write_bytes(b"short")
+            left = 0
+            with contextlib.suppress(ConnectionError):
+                while piece := answers[0].read(1 << 20):
+                    left += len(piece)
+            if left >= (1 << 30) - (1 << 20):
+                raise AssertionError("a file that was cut off was sent whole")
+            for client in clients:
+                client.close()
+            expect(get(here.web, "/long.bin")[::2], (200, b"short"))
+    return f"a long file to 32 clients, {grown} KiB more"
 
 
 def here_of(name):
@@ -183,4 +261,4 @@ def try_another_site(hub):
     return "another site's page in a browser"
 
 
-PARTS = [try_files, try_slow_reader, try_origins, try_another_site]
+PARTS = [try_files, try_tags, try_long_file, try_slow_reader, try_origins, try_another_site]

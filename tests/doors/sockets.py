@@ -1,4 +1,5 @@
 """The socket file of `--unix`, `--host`, and `--log`."""
+import datetime
 import os
 import pathlib
 import re
@@ -204,12 +205,18 @@ def secrets():
             (["changes 0 64"], "ok changes 2")]
 
 
+def stamp_of(line):
+    """The time at a line's begin, in the form of RFC 3339 and of UTC."""
+    return datetime.datetime.strptime(line.partition(" ")[0], "%Y-%m-%dT%H:%M:%SZ").replace(tzinfo=datetime.timezone.utc)
+
+
 def try_log(hub):
-    """`--log` has a line at each session's begin and end, with the door and the peer's address, and nothing of what was said; without
-    it there is none."""
+    """`--log` has a line at each session's begin and end, with the time, the door, the peer's address and the version, and nothing of
+    what was said; without it there is none."""
     codes = " ".join(f"{ord(character):x}" for character in SECRET)
     for words in (["--log"], []):
         for door in ("port", "web", "unix"):
+            before = datetime.datetime.now(datetime.timezone.utc)
             with server(hub, "--read", "--sessions", 1, *words, doors=[door]) as here:
                 client, = here.clients()
                 address = "local" if door == "unix" else "{}:{}".format(*client.connection.getsockname()[:2])
@@ -231,10 +238,13 @@ def try_log(hub):
                         raise AssertionError(f"the log tells {word}: {said!r}")
                 lines = said.splitlines()
                 expect(len(lines), 2, f"lines of a log {said!r}")
-                begun, over = (re.sub("[0-9]+ bytes", "n bytes", line) for line in lines)
+                for line in lines:
+                    if not before.replace(microsecond=0) <= stamp_of(line) <= datetime.datetime.now(datetime.timezone.utc):
+                        raise AssertionError(f"the time of {line!r} isn't the clock's")
+                begun, over = (re.sub("[0-9]+ bytes", "n bytes", line.partition(" ")[2]) for line in lines)
                 counts = [int(count) for count in re.findall("([0-9]+) bytes", lines[1])]
-                expect(begun, f"hub: session 1 begins: {door} {address}")
-                expect(over, f"hub: session 1 ends: {door} {address}, 7 requests, 2 refused, n bytes in, n bytes out")
+                expect(begun, f"hub: session 1 begins: {door} {address}, version 0")
+                expect(over, f"hub: session 1 ends: {door} {address}, version 2, 7 requests, 2 refused, n bytes in, n bytes out")
                 expect(counts, [client.sent, client.received], f"bytes in and out of {door}")
     return "the log of sessions"
 

@@ -8,10 +8,9 @@ import socket
 import threading
 
 import websockets
-from doors import TEXT, Ended, Stream, Web, expect, frame, replies_in, server
+from doors import MESSAGE, TEXT, Ended, Stream, Web, expect, frame, replies_in, server
 
 CASES = pathlib.Path(__file__).resolve().parent.parent.parent / "crates" / "test_cases"
-MESSAGE = 1 << 22
 
 
 def input_of(lines):

@@ -510,21 +510,31 @@ class Session:
         return [most - count for most, count in zip(self.places, (len(self.subscribers), len(self.listening())))]
 
     def left(self):
-        used = self.text.changes, len(self.text.codes), len(self.text.marks)
-        left = [limit - count for limit, count in zip(self.text.limits, used)] + [min(self.places_left())]
-        return ["ok left " + " ".join(map(str, left))]
+        """A character takes at least one byte."""
+        text = self.text
+        changes, characters, marks = [limit - count for limit, count in zip(text.limits, (text.changes, len(text.codes), len(text.marks)))]
+        return ["ok left " + " ".join(map(str, (changes, min(characters, BYTES - text.bytes), marks, min(self.places_left()))))]
 
     def stats(self):
         """A subscriber's queue must have had room for all that was due when it was last pulled, so that it was sent what it was given."""
         text, listening = self.text, self.listening()
-        used = text.changes, len(text.codes), len(text.marks)
         visible = "".join(chr(code) for at, code in text.codes.items() if at not in text.removed)
         told = [("versions", text.changes), ("characters", len(visible)), ("removed", len(text.removed)), ("marks", len(text.marks)), ("subscribers", len(listening)),
                 ("subscribed", len(self.subscribers)), ("sessions", 1), ("bytes", len(visible.encode())),
                 ("lag", max((text.changes + 1 - version for version, _, _ in listening), default=0))]
-        told += [(name + "-used", count * 1000 // limit) for name, count, limit in zip(("changes", "characters", "marks"), used, text.limits)]
-        told.append(("subscribers-used", max((most - left) * 1000 // most for most, left in zip(self.places, self.places_left()))))
+        ever, at_once = self.places
+        limits = dict(zip(("changes", "characters", "marks"), text.limits), bytes=BYTES, subscribers=ever, open=at_once)
+        used = {"changes": text.changes, "characters": len(text.codes), "marks": len(text.marks), "bytes": len(visible.encode()),
+                "subscribers": len(self.subscribers), "open": len(listening)}
+        parts = {name: count * 1000 // limits[name] for name, count in used.items()}
+        told += [("changes-used", parts["changes"]), ("characters-used", max(parts["characters"], parts["bytes"])),
+                 ("marks-used", parts["marks"]), ("subscribers-used", max(parts["subscribers"], parts["open"]))]
+        told += [(name + "-limit", limits[name]) for name in ("changes", "characters", "bytes", "marks", "subscribers", "open")]
         return ["ok stats " + " ".join(f"{name} {count}" for name, count in told)]
+
+    def is_foreign(self, line):
+        """Whether it is the line of an HTTP request, with or without a CR, or the beginning of a handshake of TLS."""
+        return re.search(rb" HTTP/1\.[01]\r?\Z", line) is not None or line[:2] == b"\x16\x03"
 
     def answer(self, line, ended):
         if line.split(b" ")[0] in (b"change", b"change2"):
@@ -548,6 +558,9 @@ class Session:
             try:
                 following = self.line()
                 if following is None:
+                    return self.out
+                if self.is_foreign(following[0]):
+                    self.out.append("no " + refusal(60))
                     return self.out
                 self.out += self.answer(*following)
             except Refused as why:

@@ -134,6 +134,12 @@ def ops_in(text):
             yield kind, id_in(own), *words[:-2], anchor_in(words[-2]), anchor_in(words[-1])
 
 
+def said_in(errors):
+    """What a program said on standard error, but for what it tells of a long start."""
+    errors.seek(0)
+    return "".join(line for line in errors.read().decode().splitlines(True) if not PROGRESS.fullmatch(line))
+
+
 class Server:
     """A process `hub serve --store FILE --read`. Its port is None where it ended before it printed one."""
 
@@ -160,10 +166,8 @@ class Server:
         status = self.process.wait()
         with self.process.stdout as output:
             printed_last = output.read().decode()
-        self.errors.seek(0)
         with self.errors as errors:
-            said = "".join(line for line in errors.read().decode().splitlines(True) if not PROGRESS.fullmatch(line))
-        return status, printed_last, said
+            return status, printed_last, said_in(errors)
 
 
 @contextlib.contextmanager
@@ -221,18 +225,18 @@ def printed_by_tool(store, hub):
     return spans.stdout.decode().split("\n")[:-1]
 
 
-def replayed(hub, store, *requests):
+def replayed(hub, store, *requests, options=(), errors=subprocess.DEVNULL):
     """The status of `hub replay` over a store, and what it printed."""
-    words = [hub, "replay", "--store", str(store), "--read"]
+    words = [hub, "replay", "--store", str(store), "--read", *options]
     given = "".join(request + "\n" for request in requests).encode()
-    done = subprocess.run(words, input=given, stdout=subprocess.PIPE, stderr=subprocess.DEVNULL, check=False)
+    done = subprocess.run(words, input=given, stdout=subprocess.PIPE, stderr=errors, check=False)
     return done.returncode, done.stdout.decode().split("\n")[:-1]
 
 
-def replayed_changes(hub, store, most):
+def replayed_changes(hub, store, most, **given):
     """What `hub replay` finds in a store: the texts of its changes, or None and the line that refuses it."""
     requests = [f"changes {start} {AT_ONCE}" for start in range(0, most + 1, AT_ONCE)]
-    status, lines = replayed(hub, store, *requests)
+    status, lines = replayed(hub, store, *requests, **given)
     if status != 0:
         expect(lines, f"status {status} without a line")
         return None, lines[0], status

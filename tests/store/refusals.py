@@ -8,6 +8,7 @@ import subprocess
 import tempfile
 
 from hubs import Client, Server, copied, expect, kept, log_of, replayed_changes, same, serving
+from summed import new_with_room, write_sums
 
 DAMAGED, BUSY = "refused 65 StoreDamaged", "refused 67 StoreBusy"
 FIRST = "change 1 2\ni 1@1 - 61\ni 2@1 1@1 62\n"
@@ -93,8 +94,10 @@ def read_and_written(hub, folder):
     is_refused(hub, store, DAMAGED)
 
 
-def built(path, statements, texts=()):
-    """A database that sqlite3 makes, with rows of changes."""
+def built(path, statements, texts=(), has_sums=True):
+    """A database that sqlite3 makes, with rows of changes, and with sums on its pages or without."""
+    if has_sums:
+        new_with_room(path)
     with contextlib.closing(sqlite3.connect(path)) as database:
         database.execute("pragma journal_mode = wal")
         for statement in statements:
@@ -102,6 +105,8 @@ def built(path, statements, texts=()):
         for row in texts:
             database.execute("insert into change (number, text) values (?, ?)", row)
         database.commit()
+    if has_sums:
+        write_sums(path)
 
 
 def tables_of(hub, folder):
@@ -130,6 +135,7 @@ def other_tables(tables, row):
     yield "two rows of hub", [*good, rows_of(row)]
     yield "another format", [*tables, rows_of((row[0] + 1, *row[1:]))]
     yield "another size", [*tables, rows_of((row[0], "large", *row[2:]))]
+    yield "a size that no hub has", [*tables, rows_of((row[0], "Small", *row[2:]))]
     yield "no identity", [*tables, rows_of((*row[:2], "", *row[3:]))]
     yield "an identity of other digits", [*tables, rows_of((*row[:2], row[2][:-1] + "G", *row[3:]))]
     yield "columns that aren't strict", [table.replace(" STRICT", "") for table in tables] + [rows_of(row)]
@@ -148,6 +154,33 @@ def wrong_changes():
     yield 1, "two changes in one row", [(1, FIRST + SECOND)]
 
 
+def its_size(hub, folder):
+    """A store says its hub's size. A large hub takes one that says small, as all did once, and a small hub none that says large."""
+    store = folder / "large.hub"
+    for size, words, found in (("large", ["--size", "large"], "large"), ("small", [], "small")):
+        store = folder / f"{size}.hub"
+        with serving(hub, store, *words) as server:
+            client = Client(server.port)
+            same(client.ask(FIRST[:-1]), ["ok version 1"], "a change")
+            client.close()
+        with tempfile.TemporaryDirectory() as to, contextlib.closing(sqlite3.connect(copied(store, to))) as database:
+            same(database.execute("select size from hub").fetchall(), [(found,)], "the size in the store")
+        with serving(hub, store, "--size", "large") as server:
+            client = Client(server.port)
+            same(client.changes(), [FIRST], f"what a large hub finds in a store that says {found}")
+            client.close()
+    is_refused(hub, folder / "large.hub", DAMAGED)
+    same(replayed_changes(hub, folder / "small.hub", 1)[0], [FIRST], "what a small hub finds in a small store that a large one had")
+
+
+def good_ones(hub, store, tables, row):
+    """Stores that sqlite3 builds with sums are taken, so that what is refused is refused for what is said."""
+    built(store, [*tables, rows_of(row)], [(1, FIRST), (2, SECOND)])
+    same(replayed_changes(hub, store, 2)[0], [FIRST, SECOND], "the changes of a store that sqlite3 built")
+    store.unlink()
+    log_of(store).unlink(missing_ok=True)
+
+
 def parts(hub, folder, times, rng):
     del times, rng
     folder = pathlib.Path(tempfile.mkdtemp(dir=folder))
@@ -156,9 +189,11 @@ def parts(hub, folder, times, rng):
     its_mode(hub, folder / "mode")
     read_and_written(hub, folder)
     its_name(hub, folder)
-    yield "a store in use, or read or written by sqlite3; the mode of its files; its hub's identity"
+    its_size(hub, folder)
+    yield "a store in use, or read or written by sqlite3; the mode of its files; its hub's identity and size"
     tables, row = tables_of(hub, folder)
     store = folder / "other.hub"
+    good_ones(hub, store, tables, row)
     count = 0
     for what, statements in other_tables(tables, row):
         built(store, statements)

@@ -1,4 +1,5 @@
-"""Files of which a bit was flipped, or that were cut: refused, or a beginning of the changes where the log was damaged."""
+"""Files of which a bit was flipped, or that were cut: refused, or, where only the end of the log was harmed, a beginning of the changes. A
+log that has lost more than its last commit is refused, and opened without what is lost where that is accepted."""
 
 import collections
 import pathlib
@@ -6,7 +7,8 @@ import shutil
 import tempfile
 
 from document import Document
-from hubs import expect, kept, log_of, ops_in, replayed_changes, serving
+from hubs import expect, kept, log_of, ops_in, replayed_changes, said_in, same, serving
+from wal import Log
 from writers import Author, Ledger, writer
 
 IN_FILE, IN_LOG = 300, 150
@@ -66,11 +68,16 @@ class Damage:
             copy.write_bytes(self.file if in_log else data)
             log_of(copy).write_bytes(data if in_log else self.log)
             before = copy.read_bytes()
+            lost = Log(data).lost() if in_log else 0
             texts, refusal, status = replayed_changes(hub, copy, len(self.texts))
             if texts is None:
                 self.refused(refusal, status, before == copy.read_bytes())
                 self.found[f"{what}: refused"] += 1
+                expect(not in_log or lost, f"{what}: refused, and no commit but the last is lost")
+                if lost:
+                    self.accept(hub, copy, what, lost)
                 return
+            expect(not lost, f"{what}: {lost} commits are lost without a word")
             expect(texts == self.texts[: len(texts)], f"{what}: another text")
             if texts == self.texts:
                 self.found[f"{what}: all changes"] += 1
@@ -80,6 +87,19 @@ class Damage:
                 self.found[f"{what}: an earlier state"] += 1
                 self.fewest = min(self.fewest, len(texts))
             expect(kept(copy) == texts, f"{what}: sqlite3 finds other changes")
+
+    def accept(self, hub, copy, what, lost):
+        """Opens a copy whose log has lost so many commits, and says so; the next start has nothing to say."""
+        with tempfile.TemporaryFile() as told:
+            texts, refusal, _ = replayed_changes(hub, copy, len(self.texts), options=["--accept-loss"], errors=told)
+            said = said_in(told)
+        expect(texts is not None, f"{what}: {refusal!r} although the loss is accepted")
+        same(said, f"hub: {log_of(copy)} was damaged: at least {lost} commits are lost\n", f"{what}: what is said")
+        expect(IN_FILE <= len(texts) < len(self.texts), f"{what}: {len(texts)} changes")
+        same(texts, self.texts[: len(texts)], f"{what}: the changes before the damage")
+        same(replayed_changes(hub, copy, len(texts))[0], texts, f"{what}: the changes at the next start")
+        same(kept(copy), texts, f"{what}: what sqlite3 finds then")
+        self.fewest = min(self.fewest, len(texts))
 
     @staticmethod
     def refused(line, status, is_untouched):
@@ -105,4 +125,42 @@ def parts(hub, folder, times, rng):
         data = (damage.log if in_log else damage.file)[:length]
         damage.judge(hub, f"{'the log' if in_log else 'the file'} cut to {length} bytes", in_log, data)
     yield damage.told()
+    yield from by_hand(hub, damage)
     shutil.rmtree(store.parent)
+
+
+def changed(data, at, *values):
+    """A log some of whose bytes are others."""
+    data = bytearray(data)
+    for place, value in enumerate(values, at):
+        expect(data[place] != value, f"byte {place} is {value} already")
+        data[place] = value
+    return bytes(data)
+
+
+def by_hand(hub, damage):
+    """The header, a frame's parts, a block of zeros, and the tail, each damaged in turn."""
+    damage.found.clear()
+    whole, log = damage.log, Log(damage.log)
+    read, behind = log.found()
+    expect((behind, log.lost()) == (0, 0) and read > 20, f"a log of {read} commits, {behind} of them behind a wrong frame")
+    at = 32 + 3 * (24 + 4096)
+    cases = {"the magic number": changed(whole, 0, whole[0] ^ 1), "the size of pages": changed(whole, 10, whole[10] ^ 0x20),
+             "a salt of the header": changed(whole, 17, whole[17] ^ 1), "the header's sum": changed(whole, 31, whole[31] ^ 1),
+             "the first block": bytes(4096) + whole[4096:], "a frame's page number": changed(whole, at + 3, whole[at + 3] ^ 1),
+             "a frame's first salt byte": changed(whole, at + 8, whole[at + 8] ^ 0xFF),
+             "a frame's sum": changed(whole, at + 16, whole[at + 16] ^ 1), "a page": changed(whole, at + 24 + 99, whole[at + 24 + 99] ^ 1),
+             "a block in the midst": whole[:8192] + bytes(4096) + whole[12288:]}
+    for what, data in cases.items():
+        expect(Log(data).lost() > 1, f"{what}: nothing is lost")
+        damage.judge(hub, what, True, data)
+    yield f"logs of {read} commits, damaged by hand: {damage.told()}"
+    damage.found.clear()
+    frames = Log(whole)
+    salts = whole[16:24]
+    used = next(index for index in range(frames.count()) if frames.frame(index)[8:16] != salts)
+    last = 32 + (used - 1) * (24 + 4096)
+    for what, data in {"the last page": changed(whole, last + 24, whole[last + 24] ^ 1), "the last frame's sum": changed(whole, last + 23, whole[last + 23] ^ 1),
+                       "the last frame": whole[:last] + bytes(24 + 4096) + whole[last + 24 + 4096 :]}.items():
+        damage.judge(hub, what, True, data)
+    yield f"and only at their ends: {damage.told()}"

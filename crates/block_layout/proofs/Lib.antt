@@ -1,4 +1,10 @@
 pub mod Same
 pub mod Readings
 pub mod Walks
+pub mod Ranks
+pub mod Leading
+pub mod Rounds
 pub mod Unchanged
+pub mod Rooms
+pub mod Filling
+pub mod Spreading

@@ -1,8 +1,7 @@
 -- What a walk over slots shows of where runs may come.
-use Rattle.std.proofs.Common.{◌≡◌, ℕ, zero, suc, ◌+◌, ◌-◌, ◌<◌, ◌≤◌, List, length, slice_index, ⊎_elim, sym, subst, arith}
-use Rattle.std.proofs.lemmas.Bool.{cases_eq}
+use Rattle.std.proofs.Common.{◌≡◌, ℕ, zero, suc, ◌+◌, ◌-◌, ◌<◌, ◌≤◌, List, length, slice_index, subst, arith}
 use Rattle.semantics.specs.Step.{Program}
-use Rattle.block_layout.specs.Loops.{Goes, Reaches, at_once, by_way, IsWalk, IsLoop}
+use Rattle.block_layout.specs.Loops.{Reaches, at_once, by_way, IsWalk, IsLoop}
 
 reaches_on : (program : Program) (path : List ℕ) → IsWalk program path → (from count : ℕ) → from + count < length path → Reaches program (slice_index path from) (slice_index path (from + count))
 reaches_on program path walk from zero within =
@@ -34,14 +33,3 @@ loop_found program path begin index walk first low within back same = record {
       (reaches program path walk (index + 1) (length path - 1) (omega arith) (omega arith))
       (subst (λ (slot : ℕ). Reaches program slot (slice_index path index)) same (reaches program path walk begin index low (omega arith)));
 }
-
--- a walk, a step longer
-pub walk_more : (program : Program) (path : List ℕ) (end : ℕ) → 0 < end → ((index : ℕ) → index + 1 < end → Goes program (slice_index path index) (slice_index path (index + 1))) → Goes program (slice_index path (end - 1)) (slice_index path end) → (index : ℕ) → index + 1 < end + 1 → Goes program (slice_index path index) (slice_index path (index + 1))
-walk_more program path end some each last index within =
-    ⊎_elim
-    (λ (same : index + 1 ≡ end).
-    let before : end - 1 ≡ index = omega arith in
-    subst (λ (k : ℕ). Goes program (slice_index path k) (slice_index path (index + 1))) before
-    (subst (λ (k : ℕ). Goes program (slice_index path (end - 1)) (slice_index path k)) (sym same) last))
-    (λ (apart : index + 1 ≡ end → ⊥). each index (omega arith))
-    (cases_eq (index + 1) end)

@@ -36,3 +36,7 @@ pub record IsLoop (program : Program) (slot : ℕ) : Type 0 where
 pub record IsWalk (program : Program) (path : List ℕ) : Type 0 where
   pub each : (index : ℕ) → index + 1 < length path
       → Goes program (slice_index path index) (slice_index path (index + 1))
+
+-- no run may go round
+abbrev pub HasNoLoop : Program → Type 0
+HasNoLoop program = (slot : ℕ) → IsLoop program slot → ⊥

@@ -5,6 +5,7 @@ mod check;
 mod layout;
 mod loops;
 pub mod refusal;
+mod spread;
 pub mod straighten;
 mod structure;
 mod walk;

@@ -1,74 +1,186 @@
-//! Whether a walk over slots shows a loop.
-ghost use Rattle.std.specs.Prelude.{◌≡◌, ◌+◌, ◌<◌, ◌≤◌, length, slice_index, IsTrue, IfSome};
+//! Whether a run may go round, and where.
+ghost use Rattle.std.specs.Prelude.{◌≡◌, ◌+◌, ◌<◌, ◌≤◌, ◌↔◌, ◌^◌, ℕ, length, slice_index, IsTrue, IfOk, MatchOption};
 ghost use Rattle.bpf_words.specs.Words.{program_of};
-ghost use Rattle.block_layout.specs.Loops.{Goes, IsWalk, IsLoop};
+ghost use Rattle.bpf_words.specs.Flow.{slots_of};
+ghost use Rattle.block_layout.specs.Loops.{FallsTo, JumpsTo, Goes, IsLoop};
+ghost use Rattle.block_layout.specs.Ranks.{AreRanks, AreRanked, HasNone, LeadsOn, AreOpenFrom, IsRound};
+ghost use Rattle.block_layout.specs.Structure.{IsConnected};
 
 use crate::ways::{falls, target};
+use bpf_words::instruction::Insn;
 use bpf_words::words::Words;
+use std::alloc::{AllocError, Global};
 
-/// Whether a run may go from one slot to the other in a step.
-fn goes(words: &Words<'_>, from: usize, to: usize) -> bool
-    ensures { IsTrue result → Goes (program_of words.now) from to }
+/// A walk over slots from the first one, and the index at which it was before where it ends.
+#[derive(Drop)]
+struct Round {
+    path: Vec<usize>,
+    begin: usize,
+}
+
+fn is_open(ranks: &[usize], slot: usize) -> bool
+    ensures { IsTrue result ↔ HasNone ranks.now slot }
+{
+    slot < ranks.len() && ranks[slot] == 0
+}
+
+/// The slot after an instruction, if a run may go on there and it has no rank.
+fn open_behind(ranks: &[usize], slot: usize, insn: &Insn) -> Option<usize>
+    requires small { slot < 2 ^ 32 }
+    requires sound { FallsTo slot insn.now (slot + slots_of insn.now)
+        → slot + slots_of insn.now < length ranks.now }
+    ensures { MatchOption result (AreRanked ranks.now (FallsTo slot insn.now))
+        (λ to. FallsTo slot insn.now to × HasNone ranks.now to) }
+{
+    let to = slot + insn.slots();
+    if falls(insn) && is_open(ranks, to) {
+        Some(to)
+    } else {
+        None
+    }
+}
+
+/// The slot to which an instruction jumps, if it does and that has no rank.
+fn open_target(ranks: &[usize], slot: usize, insn: &Insn) -> Option<usize>
+    requires small { slot < 2 ^ 32 }
+    requires sound { (to : ℕ) → JumpsTo slot insn.now to → to < length ranks.now }
+    ensures { MatchOption result (AreRanked ranks.now (JumpsTo slot insn.now))
+        (λ to. JumpsTo slot insn.now to × HasNone ranks.now to) }
+{
+    let distance = insn.distance()?;
+    let to = target(slot, distance)?;
+    if is_open(ranks, to) { Some(to) } else { None }
+}
+
+/// Where a run may go from a slot to one without a rank, if there is such a slot.
+fn open_way(words: &Words<'_>, ranks: &[usize], slot: usize) -> Option<usize>
+    requires slot { slot < length (program_of words.now) }
+    requires long { length ranks.now ≡ length (program_of words.now) }
+    requires connected { IsConnected (program_of words.now) }
+    ensures { MatchOption result (AreRanked ranks.now (Goes (program_of words.now) slot))
+        (λ to. Goes (program_of words.now) slot to × HasNone ranks.now to) }
 {
     let count = words.len();
-    if from >= count {
-        return false;
-    }
-    let Some(insn) = words.insn(from) else {
-        return false;
+    prove!(slot < count && count <= 4096);
+    let Some(insn) = words.insn(slot) else {
+        return None;
     };
-    if falls(&insn) && to == from + insn.slots() {
-        return true;
-    }
-    match insn.distance() {
-        Some(distance) => target(from, distance) == Some(to),
-        None => false,
+    match open_behind(ranks, slot, &insn) {
+        Some(to) => Some(to),
+        None => open_target(ranks, slot, &insn),
     }
 }
 
-/// Whether a run may go from each slot of a path to the next one.
-fn is_walk(words: &Words<'_>, path: &[usize]) -> bool
-    ensures { IsTrue result → IsWalk (program_of words.now) path.now }
+/// Gives a slot a rank, the next one, if it has none and leads to none without. It answers how many have one then.
+fn rank_one(words: &Words<'_>, ranks: &mut [usize], ranked: usize, slot: usize) -> usize
+    requires connected { IsConnected (program_of words.now) }
+    requires ranks { AreRanks (program_of words.now) ranks.old ranked }
+    requires slot { slot < length (program_of words.now) }
+    ensures ranks { AreRanks (program_of words.now) ranks.new result }
+    ensures more { ranked ≤ result }
+    ensures same { result ≡ ranked → ranks.new ≡ ranks.old }
+    ensures open { result ≡ ranked → LeadsOn (program_of words.now) ranks.new slot }
 {
-    for index in 1..path.len() {
-        if !goes(words, path[index - 1], path[index]) {
-            return false;
+    let count = words.len();
+    prove!(slot < count && count <= 4096);
+    if ranks[slot] > 0 {
+        return ranked;
+    }
+    match open_way(words, ranks, slot) {
+        Some(_) => ranked,
+        None => {
+            ranks[slot] = ranked + 1;
+            ranked + 1
         }
     }
-    true
 }
 
-/// The first slot from `begin` on that the path leaves for none behind it.
-fn first_low(path: &[usize], begin: usize) -> Option<usize>
-    requires { begin < length path.now }
-    ensures { IfSome result (λ index. (begin ≤ index) × (index + 1 < length path.now)
-        × (slice_index path.now (index + 1) ≤ slice_index path.now index)) }
+/// The same for all slots, from the last to the first.
+fn rank_more(words: &Words<'_>, ranks: &mut [usize], count: usize) -> usize
+    requires connected { IsConnected (program_of words.now) }
+    requires ranks { AreRanks (program_of words.now) ranks.old count }
+    ensures ranks { AreRanks (program_of words.now) ranks.new result }
+    ensures more { count ≤ result }
+    ensures all { result ≡ count → AreOpenFrom (program_of words.now) ranks.new 0 }
 {
+    let mut ranked = count;
+    let mut slot = words.len();
+    'slots: while slot > 0 {
+        slot -= 1;
+        ranked = rank_one(words, ranks, ranked, slot);
+    }
+    ranked
+}
+
+/// Gives ranks until each slot without one leads to one without.
+pub(crate) fn rank_all(alloc: Global, words: &Words<'_>) -> Result<Vec<usize>, AllocError>
+    requires connected { IsConnected (program_of words.now) }
+    ensures ranks { IfOk result (λ ranks. (count : ℕ) × AreRanks (program_of words.now) ranks.items count) }
+    ensures all { IfOk result (λ ranks. AreOpenFrom (program_of words.now) ranks.items 0) }
+{
+    let mut ranks = vec![in alloc; 0; words.len()]?;
+    let mut count = 0;
+    'ranks: loop {
+        let ranked = rank_more(words, &mut ranks, count);
+        if ranked == count {
+            return Ok(ranks);
+        }
+        count = ranked;
+    }
+}
+
+/// Goes from the first slot over slots without a rank until it comes round.
+fn walk_round(alloc: Global, words: &Words<'_>, ranks: &[usize]) -> Result<Round, AllocError>
+    requires connected { IsConnected (program_of words.now) }
+    requires long { length ranks.now ≡ length (program_of words.now) }
+    requires open { AreOpenFrom (program_of words.now) ranks.now 0 }
+    requires first { slice_index ranks.now 0 ≡ 0 }
+    ensures { IfOk result (λ round. IsRound (program_of words.now) round.path.items round.begin) }
+{
+    let mut path = vec![in alloc; 0; 1]?;
+    // How long the path was when it came to a slot.
+    let mut lengths = vec![in alloc; 0; words.len()]?;
+    let mut slot = 0;
+    'slots: while lengths[slot] == 0 {
+        lengths[slot] = path.len();
+        let Some(to) = open_way(words, ranks, slot) else {
+            unreachable!();
+        };
+        path.push(to)?;
+        slot = to;
+    }
+    Ok(Round {
+        begin: lengths[slot] - 1,
+        path,
+    })
+}
+
+/// The slot of a jump back on the way round.
+fn jump_back(words: &Words<'_>, path: &[usize], begin: usize) -> usize
+    requires { IsRound (program_of words.now) path.now begin }
+    ensures { IsLoop (program_of words.now) result }
+{
+    let _ = words;
     for index in begin + 1..path.len() {
         if path[index] <= path[index - 1] {
-            return Some(index - 1);
+            return path[index - 1];
         }
     }
-    None
+    unreachable!()
 }
 
-/// The first index at which a path was at a slot.
-fn index_of(path: &[usize], slot: usize) -> Option<usize>
-    ensures { IfSome result (λ index. (index < length path.now) × (slice_index path.now index ≡ slot)) }
+/// The slot of a jump back that a run may come to again, where the first slot is without a rank.
+pub(crate) fn find_loop(
+    alloc: Global,
+    words: &Words<'_>,
+    ranks: &[usize],
+) -> Result<usize, AllocError>
+    requires connected { IsConnected (program_of words.now) }
+    requires long { length ranks.now ≡ length (program_of words.now) }
+    requires open { AreOpenFrom (program_of words.now) ranks.now 0 }
+    requires first { slice_index ranks.now 0 ≡ 0 }
+    ensures { IfOk result (λ slot. IsLoop (program_of words.now) slot) }
 {
-    path.iter().position(|other| *other == slot)
-}
-
-/// The slot of a jump back on the loop that a path from the first slot ends with, if it ends with a slot that it was at
-/// before.
-pub(crate) fn closing_jump(words: &Words<'_>, path: &[usize]) -> Option<usize>
-    ensures { IfSome result (λ slot. IsLoop (program_of words.now) slot) }
-{
-    if path.is_empty() || path[0] != 0 || !is_walk(words, path) {
-        return None;
-    }
-    let last = path[path.len() - 1];
-    let begin = index_of(path, last)?;
-    let index = first_low(path, begin)?;
-    Some(path[index])
+    let round = walk_round(alloc, words, ranks)?;
+    Ok(jump_back(words, &round.path, round.begin))
 }

@@ -21,8 +21,9 @@ pub enum StraightenError {
     Misplaced { slot: usize, fault: WayFault },
     /// A run may go round: the slot of a jump back on the way.
     Loop { slot: usize },
-    /// Without a jump back the program has more than 4,096 slots: its first jump back.
-    NoLayout { slot: usize },
+    /// No run may go round, but the instructions, each with a jump behind it, take more than 4,095 slots, and no layout
+    /// of at most 4,096 slots is found.
+    NoLayout,
     OutOfMemory,
 }
 

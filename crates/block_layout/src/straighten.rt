@@ -1,16 +1,17 @@
-ghost use Rattle.std.specs.Prelude.{◌≡◌, IsTrue, IfOk, IfErr};
+ghost use Rattle.std.specs.Prelude.{◌≡◌, ◌<◌, ℕ, slice_index, IsTrue, IfOk, IfErr};
 ghost use Rattle.bpf_words.specs.Words.{IsProgram, program_of};
 ghost use Rattle.block_layout.specs.Meaning.{MeansSame, IsForward};
-ghost use Rattle.block_layout.specs.Structure.{IsConnected, FirstBack};
-ghost use Rattle.block_layout.specs.Loops.{IsLoop};
+ghost use Rattle.block_layout.specs.Ranks.{AreRanks};
+ghost use Rattle.block_layout.specs.Structure.{IsConnected};
 ghost use Rattle.block_layout.specs.Refused.{IsRefused};
 
 use crate::check::{Places, means_same};
 use crate::layout::{Layout, lay_out};
-use crate::loops::closing_jump;
+use crate::loops::{find_loop, rank_all};
 use crate::refusal::StraightenError;
+use crate::spread::{fits, rooms, spread};
 use crate::structure::{check, first_back};
-use crate::walk::{Walked, visit_all};
+use crate::walk::visit_all;
 use bpf_words::words::Words;
 use std::alloc::Global;
 
@@ -30,41 +31,57 @@ fn is_right(words: &Words<'_>, layout: &Layout) -> bool
     }
 }
 
-/// Why no layout is found, where a path of slots comes round to its last one.
-fn refusal(words: &Words<'_>, path: &[usize], first: usize) -> StraightenError
+/// A layout of a program in which no run goes round, close to the old one if that is right, else spread by its ranks.
+fn without_loop(
+    alloc: Global,
+    words: &Words<'_>,
+    ranks: &[usize],
+) -> Result<Vec<u8>, StraightenError>
     requires connected { IsConnected (program_of words.now) }
-    requires first { FirstBack (program_of words.now) first }
-    ensures { IsRefused (program_of words.now) result }
-{
-    match closing_jump(words, path) {
-        Some(slot) => StraightenError::Loop { slot },
-        None => StraightenError::NoLayout { slot: first },
-    }
-}
-
-/// A layout of a program with a jump back, or why there is none.
-fn laid_out(alloc: Global, words: &Words<'_>, first: usize) -> Result<Vec<u8>, StraightenError>
-    requires connected { IsConnected (program_of words.now) }
-    requires first { FirstBack (program_of words.now) first }
+    requires back { ¬ (IsForward (program_of words.now)) }
+    requires ranks { (count : ℕ) × AreRanks (program_of words.now) ranks.now count }
+    requires first { 0 < slice_index ranks.now 0 }
     ensures program { IfOk result (λ new. IsProgram new.items) }
     ensures same { IfOk result (λ new. MeansSame (program_of words.now) (program_of new.items)) }
     ensures forward { IfOk result (λ new. IsForward (program_of new.items)) }
     ensures refused { IfErr result (IsRefused (program_of words.now)) }
 {
-    let order = match visit_all(alloc, words)? {
-        Walked::Order(order) => order,
-        Walked::Round(path) => return Err(refusal(words, &path, first)),
-    };
+    let order = visit_all(alloc, words)?;
     let layout = lay_out(alloc, words, &order)?;
     if is_right(words, &layout) {
-        Ok(layout.bytes)
-    } else {
-        Err(StraightenError::NoLayout { slot: first })
+        return Ok(layout.bytes);
     }
+    let count = words.len();
+    prove!(count <= 4096);
+    let rooms = rooms(alloc, words)?;
+    if fits(ranks, &rooms) {
+        let bytes = spread(alloc, words, ranks, &rooms)?;
+        return Ok(bytes);
+    }
+    Err(StraightenError::NoLayout)
+}
+
+/// A layout of a program with a jump back, or why there is none.
+fn laid_out(alloc: Global, words: &Words<'_>) -> Result<Vec<u8>, StraightenError>
+    requires connected { IsConnected (program_of words.now) }
+    requires back { ¬ (IsForward (program_of words.now)) }
+    ensures program { IfOk result (λ new. IsProgram new.items) }
+    ensures same { IfOk result (λ new. MeansSame (program_of words.now) (program_of new.items)) }
+    ensures forward { IfOk result (λ new. IsForward (program_of new.items)) }
+    ensures refused { IfErr result (IsRefused (program_of words.now)) }
+{
+    let ranks = rank_all(alloc, words)?;
+    let count = words.len();
+    prove!(count > 0);
+    if ranks[0] == 0 {
+        let slot = find_loop(alloc, words, &ranks)?;
+        return Err(StraightenError::Loop { slot });
+    }
+    without_loop(alloc, words, &ranks)
 }
 
 /// The bytes of a program of the same meaning in which no jump leads back; of one without a jump back, its own. What no
-/// run comes to is left out.
+/// run comes to may be left out.
 #[tactic(auto, using(crate::proofs::Unchanged::unchanged))]
 pub fn straighten(alloc: Global, words: &Words<'_>) -> Result<Vec<u8>, StraightenError>
     ensures program { IfOk result (λ new. IsProgram new.items) }
@@ -81,7 +98,7 @@ pub fn straighten(alloc: Global, words: &Words<'_>) -> Result<Vec<u8>, Straighte
         });
     }
     match first_back(words) {
-        Some(first) => laid_out(alloc, words, first),
+        Some(_) => laid_out(alloc, words),
         None => Ok(words.copy(alloc)?),
     }
 }

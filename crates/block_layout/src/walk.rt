@@ -16,15 +16,6 @@ enum Mark {
     Left,
 }
 
-/// What a walk ends with.
-#[derive(Drop)]
-pub(crate) enum Walked {
-    /// The slots that a run may come to, each behind all that it leads to.
-    Order(Vec<usize>),
-    /// A path of slots, the last of which stands in it before.
-    Round(Vec<usize>),
-}
-
 #[derive(Drop)]
 struct Walk {
     marks: Vec<Mark>,
@@ -51,20 +42,13 @@ impl Walk {
         }
     }
 
-    /// Goes on to a slot, unless it was left. Whether it stands on the path already.
-    fn enter(&mut self, slot: usize) -> Result<bool, AllocError> {
-        match self.mark(slot) {
-            Mark::New => {
-                self.set_mark(slot, Mark::Entered);
-                self.path.push(slot)?;
-                Ok(false)
-            }
-            Mark::Left => Ok(false),
-            _ => {
-                self.path.push(slot)?;
-                Ok(true)
-            }
+    /// Goes on to a slot, unless it was there.
+    fn enter(&mut self, slot: usize) -> Result<(), AllocError> {
+        if let Mark::New = self.mark(slot) {
+            self.set_mark(slot, Mark::Entered);
+            self.path.push(slot)?;
         }
+        Ok(())
     }
 
     fn leave(&mut self, slot: usize) -> Result<(), AllocError> {
@@ -74,8 +58,8 @@ impl Walk {
         Ok(())
     }
 
-    /// The next thing to do at the path's last slot. Whether a slot stands on the path twice.
-    fn step(&mut self, slot: usize, insn: &Insn) -> Result<bool, AllocError>
+    /// The next thing to do at the path's last slot.
+    fn step(&mut self, slot: usize, insn: &Insn) -> Result<(), AllocError>
         requires { slot < 2 ^ 32 }
     {
         match self.mark(slot) {
@@ -83,23 +67,21 @@ impl Walk {
                 self.set_mark(slot, Mark::Jumped);
                 match insn.distance().and_then(|distance| target(slot, distance)) {
                     Some(to) => self.enter(to),
-                    None => Ok(false),
+                    None => Ok(()),
                 }
             }
             Mark::Jumped if falls(insn) => {
                 self.set_mark(slot, Mark::Fallen);
                 self.enter(slot + insn.slots())
             }
-            _ => {
-                self.leave(slot)?;
-                Ok(false)
-            }
+            _ => self.leave(slot),
         }
     }
 }
 
-/// Walks over a program from its first slot on.
-pub(crate) fn visit_all(alloc: Global, words: &Words<'_>) -> Result<Walked, AllocError> {
+/// Walks over a program in which no run goes round, from its first slot on: the slots that a run may come to, each
+/// behind all that it leads to.
+pub(crate) fn visit_all(alloc: Global, words: &Words<'_>) -> Result<Vec<usize>, AllocError> {
     let count = words.len();
     let mut walk = Walk::new(alloc, count)?;
     walk.enter(0)?;
@@ -112,10 +94,8 @@ pub(crate) fn visit_all(alloc: Global, words: &Words<'_>) -> Result<Walked, Allo
             break;
         }
         if let Some(insn) = words.insn(slot) {
-            if walk.step(slot, &insn)? {
-                return Ok(Walked::Round(walk.path));
-            }
+            walk.step(slot, &insn)?;
         }
     }
-    Ok(Walked::Order(walk.order))
+    Ok(walk.order)
 }

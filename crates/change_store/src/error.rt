@@ -1,6 +1,8 @@
 use change_log::log::LogError;
 use sqlite::{Error, ErrorCode};
+use sqlite_std_file::OpenError;
 use std::alloc::AllocError;
+use std::io;
 
 /// What is wrong with a file that is opened as a store.
 #[derive(Clone, Copy)]
@@ -19,6 +21,27 @@ pub enum Damage {
     MissingNumber(u32),
     /// A number isn't within 32 bits, or a text isn't UTF-8.
     Value,
+    /// Its pages have no sums: sqlite3 writes such files, and no hub.
+    NoSums,
+    /// A frame of its log is wrong, and so many commits behind it are right.
+    Log(usize),
+    /// Its log is another file's: the two have other ids, or other changes under the same numbers.
+    ForeignLog,
+}
+
+/// Why a file was not opened, read, written or closed.
+#[derive(Clone, Copy)]
+pub enum Failure {
+    /// The system refused it.
+    System(io::Error),
+    /// A journal stands beside it, which sqlite3 left.
+    Journal,
+    /// What SQLite says.
+    Database(ErrorCode),
+    /// The file or its log was removed, moved or replaced while it was open.
+    Moved,
+    /// There are more changes than numbers, or a statement was refused that never is.
+    Unexpected,
 }
 
 /// Why a store was not opened, or not closed.
@@ -28,8 +51,8 @@ pub enum StoreError {
     StoreDamaged(Damage),
     /// Another process has the file open.
     StoreBusy,
-    /// A read, a write or a sync failed.
-    StoreFailed,
+    /// A read, a write or a sync failed, or the file isn't where it was.
+    StoreFailed(Failure),
     /// No memory was found.
     OutOfMemory,
 }
@@ -45,7 +68,29 @@ impl From<Error> for StoreError {
             Error::InvalidColumnType(..)
             | Error::IntegralValueOutOfRange(_)
             | Error::Utf8Error(_) => { StoreError::StoreDamaged(Damage::Value) }
-            _ => StoreError::StoreFailed,
+            Error::SqliteFailure(code) => StoreError::StoreFailed(Failure::Database(code)),
+            _ => StoreError::StoreFailed(Failure::Unexpected),
+        }
+    }
+}
+
+impl From<io::Error> for StoreError {
+    fn from(error: io::Error) -> StoreError {
+        if error.kind() == io::ErrorKind::OutOfMemory {
+            StoreError::OutOfMemory
+        } else {
+            StoreError::StoreFailed(Failure::System(error))
+        }
+    }
+}
+
+impl From<OpenError> for StoreError {
+    fn from(error: OpenError) -> StoreError {
+        match error {
+            OpenError::Io(error) => StoreError::from(error),
+            OpenError::OutOfMemory => StoreError::OutOfMemory,
+            OpenError::Busy => StoreError::StoreBusy,
+            OpenError::HotJournal => StoreError::StoreFailed(Failure::Journal),
         }
     }
 }

@@ -3,6 +3,8 @@
 
 pub mod error;
 mod file;
+pub mod look;
+mod place;
 mod rows;
 mod schema;
 pub mod store;

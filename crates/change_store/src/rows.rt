@@ -6,7 +6,7 @@ ghost use Rattle.sqlite.specs.Held.{state};
 ghost use Rattle.change_store.specs.Store.{change, hub, schema_of, row_of, numbered, IsStore, AreKept};
 ghost use Rattle.change_store.specs.Inserted.{Inserts, InsertsAll, Leaves};
 
-use crate::error::{Damage, StoreError};
+use crate::error::{Damage, Failure, StoreError};
 use change_log::text::ChangeText;
 use sqlite::{Alter, Connection, Error, ErrorCode, Row, Transaction, params};
 use std::alloc::Global;
@@ -98,7 +98,9 @@ fn texts_of(alloc: Global, rows: &[Row]) -> Result<Vec<ChangeText>, StoreError>
     let mut texts = Vec::with_capacity(alloc, rows.len())?;
     let mut number: u32 = 0;
     for row in rows {
-        number = number.checked_add(1).ok_or(StoreError::StoreFailed)?;
+        number = number
+            .checked_add(1)
+            .ok_or(StoreError::StoreFailed(Failure::Unexpected))?;
         texts.push_reserved(text_of(row, number)?);
     }
     Ok(texts)

@@ -93,11 +93,12 @@ fn is_id(text: &str) -> bool {
             .all(|byte| matches!(byte, b'0'..=b'9' | b'a'..=b'f'))
 }
 
-/// Whether the row of `hub` says this: its id.
+/// Whether the row of `hub` says this format, and this size or the other one: its id.
 pub(crate) fn check_hub<S: Alter>(
     conn: &mut Connection<S>,
     format: u32,
     size: &str,
+    other_size: Option<&str>,
 ) -> Result<String, StoreError>
     requires { conn.old.in_transaction ≡ false }
     ensures settled { conn.new.in_transaction ≡ false }
@@ -117,7 +118,7 @@ pub(crate) fn check_hub<S: Alter>(
         return Err(StoreError::StoreDamaged(Damage::Format));
     }
     let found: String = row.get(1)?;
-    if found.as_str() != size {
+    if found.as_str() != size && other_size != Some(found.as_str()) {
         return Err(StoreError::StoreDamaged(Damage::Size));
     }
     let id: String = row.get(2)?;

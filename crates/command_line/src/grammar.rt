@@ -14,6 +14,17 @@ Example:
     $ printf 'mov r0, 1\\nexit\\n' | hub asm | hub check
     accepted 2";
 
+const AFTER_ADOPT: &str =
+    "The exit status is 0 if the store is made; 1 if FROM is refused, with 65 or 67, or there
+is no memory, with 45; 2 if the command line is wrong; 3 if TO is there already, or a
+read or a write fails.
+
+Example:
+
+    $ sqlite3 old.hub .dump | sqlite3 plain.hub
+    $ hub adopt plain.hub new.hub
+    adopted 2";
+
 const AFTER_ASM: &str =
     "The exit status is 0 if the program is printed; 1 if the text is refused, with 30 to
 36 or 62, or there is no memory, with 45; 2 if the command line is wrong; 3 if a
@@ -100,6 +111,9 @@ With --read also:
     show <version> <first> <k>       span <index> <format> <text>, ..; ok spans <n>
     changes <from> <k>               the changes; ok changes <m>
     newest <node>                    ok newest <counter>
+    left                             ok left <changes> <characters> <marks> <subscribers>
+    hub                              ok hub <id>
+    stats                            ok stats <name> <number> ..
 
 The exit status is 0 if the session has ended, whatever it was refused; 1 if there is
 no memory, with 45, or the file of --store is refused, with 65 or 67; 2 if the command
@@ -127,6 +141,9 @@ With --read also:
     show <version> <first> <k>       span <index> <format> <text>, ..; ok spans <n>
     changes <from> <k>               the changes; ok changes <m>
     newest <node>                    ok newest <counter>
+    left                             ok left <changes> <characters> <marks> <subscribers>
+    hub                              ok hub <id>
+    stats                            ok stats <name> <number> ..
 
 The exit status is 1 if there is no memory, with 45, or the file of --store is refused,
 with 65 or 67; 2 if the command line is wrong; 3 if a door can't be had, or the file of
@@ -174,6 +191,28 @@ static FIELDS: [(&str, &str, &str); 5] = [
     ("index", "0", "The span's index, from 0"),
     ("count", "1", "The number of spans of the version"),
 ];
+
+fn adopt<'a>(alloc: Global) -> Result<Command<'a>, AllocError> {
+    let from = Arg::new(alloc, "FROM")
+        .required(true)
+        .help("The file that is read");
+    let to = Arg::new(alloc, "TO")
+        .required(true)
+        .help("The file that is made");
+    Command::new(alloc, "adopt")
+        .about("Makes a store of a file that has the tables of one")
+        .long_about(
+            "Makes the store TO of a file FROM that has the tables of one, with or without sums on
+its pages. `serve` and `replay` refuse a file without sums, which no hub writes:
+sqlite3 does. All its changes are accepted again, in order, and TO has them and the
+same id. TO must not exist; FROM stays as it was. Standard input isn't read. Printed
+is `adopted <changes>`.",
+        )
+        .after_help(AFTER_ADOPT)
+        .arg(from)?
+        .arg(to)?
+        .arg(size(alloc))
+}
 
 fn run<'a>(alloc: Global) -> Result<Command<'a>, AllocError> {
     let program = Arg::new(alloc, "HEX").required(true).help(
@@ -368,7 +407,9 @@ fn read<'a>(alloc: Global) -> Arg<'a> {
     Arg::new(alloc, "read")
         .long("read")
         .action(ArgAction::SetTrue)
-        .help("Also answers the lines latest, show, changes and newest, which read of the text")
+        .help(
+            "Also answers latest, show, changes, newest, left, hub and stats, which read of the text",
+        )
 }
 
 /// By how much a change's counters may be above all accepted ones.
@@ -403,6 +444,7 @@ refused is answered `no <number> <Name>`, and the session goes on.",
         .after_help(AFTER_REPLAY)
         .arg(size(alloc))?
         .arg(store(alloc))?
+        .arg(accept_loss(alloc)?)?
         .arg(workers(alloc))?
         .arg(read(alloc))?
         .arg(counter_jump(alloc))?
@@ -456,6 +498,18 @@ fn store<'a>(alloc: Global) -> Arg<'a> {
         .help(
             "Keeps each accepted change in this SQLite file before it is answered, and begins with those that it has",
         )
+}
+
+/// Whether a store is opened whose log is damaged.
+fn accept_loss<'a>(alloc: Global) -> Result<Arg<'a>, AllocError> {
+    let accept_loss = Arg::new(alloc, "accept-loss")
+        .long("accept-loss")
+        .action(ArgAction::SetTrue)
+        .requires_arg("store")?
+        .help(
+            "Opens the file of --store although its log is damaged, without the changes behind the damage",
+        );
+    Ok(accept_loss)
 }
 
 /// A port of one kind.
@@ -545,6 +599,7 @@ keeps its changes.",
     with_web(alloc, with_doors(alloc, serve)?)?
         .arg(size(alloc))?
         .arg(store(alloc))?
+        .arg(accept_loss(alloc)?)?
         .arg(sessions(alloc))?
         .arg(at_once(alloc)?)?
         .arg(idle(alloc))?
@@ -562,12 +617,13 @@ pub fn hub<'a>(alloc: Global) -> Result<Command<'a>, AllocError> {
         .about("A hub for one shared rich text, with verdicts of BPF programs on its spans")
         .long_about(
             "A hub for one shared rich text, with verdicts of BPF programs on its spans. Each
-command but `serve` reads standard input, in the form that its own help tells (as
-`hub spans --help`), and prints on standard output.",
+command but `adopt` and `serve` reads standard input, in the form that its own help
+tells (as `hub spans --help`), and prints on standard output.",
         )
         .after_help(STATUSES)
         .subcommand_required(true)
         .arg_required_else_help(true)
+        .subcommand(adopt(alloc)?)?
         .subcommand(asm(alloc))?
         .subcommand(check(alloc)?)?
         .subcommand(dis(alloc))?

@@ -4,7 +4,7 @@ use change_ops::size::Size;
 use clap::error::ErrorKind;
 use clap::{ArgMatches, Error};
 use hub_requests::limits::{SessionLimits, SessionOptions};
-use hub_requests::serving::{Doors, Service, Terms, WebDoor};
+use hub_requests::serving::{Doors, Service, StoreFile, Terms, WebDoor};
 use hub_requests::{Command, Detail, Request, Sessions, Shown, SpanOptions, Workers};
 use span_context::profile::Profile;
 use std::alloc::{AllocError, Global};
@@ -281,17 +281,38 @@ fn terms(alloc: Global, matches: &ArgMatches<'_>) -> Result<Terms, Unread> {
     })
 }
 
+/// The file that keeps changes, if there is to be one.
+fn store(alloc: Global, matches: &ArgMatches<'_>) -> Result<Option<StoreFile>, AllocError> {
+    match text(alloc, matches, "store")? {
+        Some(path) => Ok(Some(StoreFile {
+            path,
+            accepts_loss: matches.get_flag("accept-loss"),
+        })),
+        None => Ok(None),
+    }
+}
+
+/// What the words of `adopt` ask for.
+fn adopting(alloc: Global, matches: &ArgMatches<'_>) -> Result<Request, AllocError> {
+    Ok(Request::Adopt {
+        size: size(matches),
+        from: String::from_str(alloc, matches.get_str("FROM").unwrap_or(""))?,
+        to: String::from_str(alloc, matches.get_str("TO").unwrap_or(""))?,
+    })
+}
+
 /// What the options of `serve` ask for.
 fn serving(alloc: Global, matches: &ArgMatches<'_>) -> Result<Request, Unread> {
     Ok(Request::Serve {
         terms: terms(alloc, matches)?,
         doors: doors(alloc, matches)?,
-        store: text(alloc, matches, "store")?,
+        store: store(alloc, matches)?,
     })
 }
 
 fn request_of(alloc: Global, matches: &ArgMatches<'_>) -> Result<Request, Unread> {
     let request = match matches.subcommand() {
+        Some(("adopt", adopt)) => Some(adopting(alloc, adopt)?),
         Some(("asm", _)) => Some(Request::Perform(Command::Asm)),
         Some(("check", check)) => Some(Request::Perform(Command::Check {
             detail: detail(check),
@@ -303,7 +324,7 @@ fn request_of(alloc: Global, matches: &ArgMatches<'_>) -> Result<Request, Unread
             size: size(replay),
             workers: workers(replay),
             options: session_options(alloc, replay)?,
-            store: text(alloc, replay, "store")?,
+            store: store(alloc, replay)?,
         }),
         Some(("run", run)) => Some(Request::Perform(Command::Run {
             shown: shown(run),

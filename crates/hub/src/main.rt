@@ -1,8 +1,10 @@
 //! The program: its command, on the words that it was called with and the standard streams.
 #![tactic(auto)]
 
+mod handover;
 mod system;
 
+use crate::handover::start_writer;
 use crate::system::HostSystem;
 use hub_program::fault::Fault;
 use hub_program::{command, complain};
@@ -16,23 +18,38 @@ fn words(rt: &HostRuntime) -> io::Result<Vec<String>> {
     Ok(words?)
 }
 
+/// Whether the words ask for a server.
+fn is_server(words: &[String]) -> bool {
+    match words.get(1) {
+        Some(word) => word.as_str() == "serve",
+        None => false,
+    }
+}
+
 fn main(rt: HostRuntime) -> ExitCode {
     let mut reader = rt.reader();
     let mut writer = io::writer(&rt);
     let stderr = rt.stderr();
     let mut errors = io::writer(&stderr);
-    let system = HostSystem { rt: &rt };
     let status = match words(&rt) {
-        Ok(words) => command(
-            &rt,
-            rt.alloc(),
-            &system,
-            &system,
-            &words,
-            &mut reader,
-            &mut writer,
-            &mut errors,
-        ),
+        Ok(words) => {
+            let handover = if is_server(&words) {
+                start_writer(rt, rt.alloc(), rt.stderr())
+            } else {
+                None
+            };
+            let system = HostSystem { rt: &rt, handover };
+            command(
+                &rt,
+                rt.alloc(),
+                &system,
+                &system,
+                &words,
+                &mut reader,
+                &mut writer,
+                &mut errors,
+            )
+        }
         Err(error) if error.kind() == io::ErrorKind::OutOfMemory => {
             match rt.println("refused 45 OutOfMemory") {
                 Ok(()) => 1,

@@ -3,7 +3,7 @@ ghost use Rattle.hub_commands.specs.Answers.{IsAnswered};
 ghost use Rattle.hub_commands.specs.Digits.{AreDigits};
 ghost use Rattle.hub_commands.specs.Hexadecimal.{without_blanks};
 ghost use Rattle.hub_commands.specs.Hints.{digits_hint};
-ghost use Rattle.hub_commands.specs.Straightened.{structure_fault, verdict_of, IsStraightReply, IsStraightenReply};
+ghost use Rattle.hub_commands.specs.Straightened.{structure_fault, reason_of, IsStraightReply, IsStraightenReply};
 
 use crate::answer::Answer;
 use crate::digits::Digits;
@@ -14,6 +14,7 @@ use crate::hexadecimal::slot_lines;
 use crate::output::write_answer;
 use block_layout::refusal::{StraightenError, WayFault};
 use block_layout::straighten::straighten as straightened;
+use bpf_words::refusal::WordError;
 use bpf_words::words::Words;
 use refusals::reason::Reason;
 use std::alloc::{AllocError, Global};
@@ -30,22 +31,21 @@ fn structure_fault(fault: WayFault) -> StructureFault
     }
 }
 
-/// Why a program isn't straightened, in the words of `check`.
-fn verdict_of(error: StraightenError) -> VerifyError
-    ensures { result ≡ verdict_of error }
+/// Why a program isn't straightened: a fault of its structure, as `check` names it, or its length without jumps back.
+fn reason_of(error: StraightenError) -> Reason
+    ensures { result ≡ reason_of error }
 {
     match error {
-        StraightenError::Misplaced { slot, fault } => VerifyError::Structure {
+        StraightenError::Misplaced { slot, fault } => Reason::Unverified(VerifyError::Structure {
             slot,
             fault: structure_fault(fault),
-        },
-        StraightenError::Loop { slot } | StraightenError::NoLayout { slot } => {
-            VerifyError::Structure {
-                slot,
-                fault: StructureFault::BackwardJump,
-            }
-        }
-        StraightenError::OutOfMemory => VerifyError::OutOfMemory,
+        }),
+        StraightenError::Loop { slot } => Reason::Unverified(VerifyError::Structure {
+            slot,
+            fault: StructureFault::BackwardJump,
+        }),
+        StraightenError::NoLayout => Reason::Words(WordError::TooLong),
+        StraightenError::OutOfMemory => Reason::Unverified(VerifyError::OutOfMemory),
     }
 }
 
@@ -55,7 +55,7 @@ fn straight_answer(alloc: Global, words: &Words<'_>) -> Result<Answer, AllocErro
 {
     match straightened(alloc, words) {
         Ok(bytes) => Ok(Answer::done(slot_lines(alloc, &bytes)?)),
-        Err(error) => Answer::refused(alloc, &Reason::Unverified(verdict_of(error))),
+        Err(error) => Answer::refused(alloc, &reason_of(error)),
     }
 }
 

@@ -5,12 +5,16 @@ use crate::fault::ConnectionFault;
 use crate::house::House;
 use crate::journal::Surroundings;
 use crate::lines::serve_lines;
+use crate::session_share::SessionShare;
 use crate::stream::{Peer, Stream};
 use crate::web::{refuse_handshake, serve_browser};
 use call_history::knowledge::HistoryNaming;
 use change_keeping::keeping::Keeping;
+use lending_pool::Lent;
 use std::io::ErrorKind;
+use std::rt::Clock;
 use std::sync::Wait;
+use std::sync::atomic::{AtomicU64, Ordering};
 use std::sync::ledger::Ledger;
 use std::thread;
 use std::thread::Threads;
@@ -31,7 +35,7 @@ enum Arrival {
 /// What comes next.
 fn next<
     N: Naming + HistoryNaming + Ledger + Keeping + Send + Sync,
-    R: Threads + Wait + Copy + Send + Sync,
+    R: Threads + Wait + Clock + Copy + Send + Sync,
     J: Surroundings + Send + Sync,
 >(house: &House<'_, '_, '_, '_, N, R, J>, door: &Door) -> Arrival {
     if house.is_closed() {
@@ -50,45 +54,115 @@ fn next<
     }
 }
 
-/// Accepts one connection of lines after another, each of which is a session in a thread of its own, or, where no
-/// thread can be made, in this one.
+/// One of a door's connections, and for which of them no thread could be made: what was to serve that one looks here
+/// first, since it is then called by who accepts connections.
+#[derive(Clone, Copy)]
+struct Turn<'d> {
+    number: u64,
+    threadless: &'d AtomicU64,
+}
+
+impl Turn<'_> {
+    /// No thread could be made for it.
+    fn give_up(self) {
+        self.threadless.store(self.number, Ordering::SeqCst);
+    }
+
+    /// Whether it has none.
+    fn is_given_up(self) -> bool {
+        self.threadless.load(Ordering::SeqCst) == self.number
+    }
+}
+
+/// Serves a connection of lines; without a thread of its own it is turned away, and its share is free again.
+fn serve_or_turn_away<
+    'h,
+    N: Naming + HistoryNaming + Ledger + Keeping + Send + Sync,
+    R: Threads + Wait + Clock + Copy + Send + Sync,
+    J: Surroundings + Send + Sync,
+>(
+    house: &House<'h, '_, '_, '_, N, R, J>,
+    door: &Door,
+    peer: Peer,
+    lent: Lent<'h, SessionShare<N>, R>,
+    stream: Stream,
+    turn: Turn<'_>,
+) {
+    if turn.is_given_up() {
+        drop(lent);
+        turn_away(&stream, &house.state.is_halted);
+    } else {
+        serve_lines(house, door.kind(), peer, lent, stream);
+    }
+}
+
+/// Accepts one connection of lines after another, each of which is a session in a thread of its own.
 fn accept_lines<
     N: Naming + HistoryNaming + Ledger + Keeping + Send + Sync,
-    R: Threads + Wait + Copy + Send + Sync,
+    R: Threads + Wait + Clock + Copy + Send + Sync,
     J: Surroundings + Send + Sync,
 >(house: &House<'_, '_, '_, '_, N, R, J>, door: &Door) {
-    let kind = door.kind();
     // Where sessions are counted no further one will be free, and a client more is told nothing.
     let is_told = !house.uses_up();
+    let threadless = AtomicU64::new(0);
+    let threadless = &threadless;
     thread::scope(thread::scope_env(), &house.rt, move |scope| {
+        let mut number = 0u64;
         for _ in house.rt.forever() {
             let (stream, peer) = match next(house, door) {
                 Arrival::Came(stream, peer) => (stream, peer),
                 Arrival::Missed | Arrival::Nobody => continue,
                 Arrival::Over => return,
             };
-            let Some(lent) = house.take_share() else {
+            let Some(lent) = house.shares.lend(&house.rt) else {
                 if is_told {
                     turn_away(&stream, &house.state.is_halted);
                 }
                 continue;
             };
-            let serving = move || serve_lines(house, kind, peer, lent, stream);
+            number = number.wrapping_add(1);
+            let turn = Turn { number, threadless };
+            let serving = move || serve_or_turn_away(house, door, peer, lent, stream, turn);
             if let Err(refused) = scope.spawn(serving) {
+                turn.give_up();
                 (refused.value)();
             }
         }
     })
 }
 
+/// Serves a browser's connection; without a thread of its own it is refused, and its place is free again.
+fn serve_or_refuse<
+    'h,
+    N: Naming + HistoryNaming + Ledger + Keeping + Send + Sync,
+    R: Threads + Wait + Clock + Copy + Send + Sync,
+    J: Surroundings + Send + Sync,
+>(
+    house: &House<'h, '_, '_, '_, N, R, J>,
+    peer: Peer,
+    place: Lent<'h, (), R>,
+    stream: Stream,
+    turn: Turn<'_>,
+) {
+    if turn.is_given_up() {
+        drop(place);
+        refuse_handshake(&stream, &house.state.is_halted);
+    } else {
+        serve_browser(house, peer, place, stream);
+    }
+}
+
 /// Accepts one browser's connection after another, each of which is served in a thread of its own, where there is a
 /// place for its handshake.
 fn accept_browsers<
     N: Naming + HistoryNaming + Ledger + Keeping + Send + Sync,
-    R: Threads + Wait + Copy + Send + Sync,
+    R: Threads + Wait + Clock + Copy + Send + Sync,
     J: Surroundings + Send + Sync,
 >(house: &House<'_, '_, '_, '_, N, R, J>, door: &Door) {
+    let threadless = AtomicU64::new(0);
+    let threadless = &threadless;
     thread::scope(thread::scope_env(), &house.rt, move |scope| {
+        let mut number = 0u64;
         for _ in house.rt.forever() {
             let (stream, peer) = match next(house, door) {
                 Arrival::Came(stream, peer) => (stream, peer),
@@ -99,8 +173,11 @@ fn accept_browsers<
                 refuse_handshake(&stream, &house.state.is_halted);
                 continue;
             };
-            let serving = move || serve_browser(house, peer, place, stream);
+            number = number.wrapping_add(1);
+            let turn = Turn { number, threadless };
+            let serving = move || serve_or_refuse(house, peer, place, stream, turn);
             if let Err(refused) = scope.spawn(serving) {
+                turn.give_up();
                 (refused.value)();
             }
         }
@@ -110,7 +187,7 @@ fn accept_browsers<
 /// Accepts one connection after another until no session begins any more, and returns when all of them have ended.
 pub(crate) fn accept_all<
     N: Naming + HistoryNaming + Ledger + Keeping + Send + Sync,
-    R: Threads + Wait + Copy + Send + Sync,
+    R: Threads + Wait + Clock + Copy + Send + Sync,
     J: Surroundings + Send + Sync,
 >(house: &House<'_, '_, '_, '_, N, R, J>, door: &Door) {
     if house.may_close()

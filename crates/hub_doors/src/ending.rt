@@ -3,16 +3,19 @@ ghost use Rattle.std.specs.Prelude.{OnOk};
 ghost use Rattle.std.specs.Io.KnownBytes.{Appends};
 ghost use Rattle.hub_doors.specs.TurnedAway.{too_many_sessions};
 
+use crate::deadline::{moment_after, time_until};
 use crate::stream::Stream;
 use std::io;
 use std::io::{Read, Write};
+use std::rt::Clock;
 use std::sync::atomic::{AtomicBool, Ordering};
-use std::time::Duration;
+use std::time::{Duration, Instant};
 
-/// How many seconds each read waits for a client that still sends though its session has ended; all reads together wait
-/// at most
-/// `DRAIN_READS` times that.
-const DRAIN_SECONDS: u64 = 1;
+/// For how many seconds a client is read from that still sends though its session has ended, all reads together.
+const DRAIN_SECONDS: u64 = 5;
+
+/// For how many seconds one of these reads waits.
+const SILENT_SECONDS: u64 = 1;
 
 /// How many times to read from it, 4,096 bytes at most each time.
 const DRAIN_READS: u32 = 4096;
@@ -23,17 +26,22 @@ const LEAVE_READS: u32 = 16;
 /// What a client is told that finds no session free.
 const TOO_MANY_SESSIONS: &str = "no 69 TooManySessions\n";
 
-/// Reads past what a client still sends, at most so many times.
-fn skip(stream: &Stream, reads: u32, is_halted: &AtomicBool) {
+/// Reads past what came from a client; whether more may come.
+fn skip_once(stream: &Stream, is_halted: &AtomicBool) -> bool {
     let mut stream = stream;
     let mut bytes = [0u8; 4096];
-    for _ in 0..reads {
-        if is_halted.load(Ordering::SeqCst) {
+    !is_halted.load(Ordering::SeqCst) && stream.read(&mut bytes).is_ok_and(|count| count > 0)
+}
+
+/// Reads past what a client still sends, until a moment.
+fn skip_until<R: Clock>(rt: &R, stream: &Stream, moment: Instant, is_halted: &AtomicBool) {
+    for _ in 0..DRAIN_READS {
+        let Some(left) = time_until(rt, moment) else {
             return;
-        }
-        match stream.read(&mut bytes) {
-            Ok(0) | Err(_) => return,
-            Ok(_) => {}
+        };
+        let pause = left.min(Duration::from_secs(SILENT_SECONDS));
+        if stream.limit(Some(pause)).is_err() || !skip_once(stream, is_halted) {
+            return;
         }
     }
 }
@@ -41,12 +49,13 @@ fn skip(stream: &Stream, reads: u32, is_halted: &AtomicBool) {
 /// Tells the client that no more replies come, and reads past what it still sends: a connection that is closed with
 /// bytes unread is reset, and the client may then miss replies. What fails here takes nothing from the session, which
 /// has ended.
-pub(crate) fn read_rest(stream: &Stream, is_halted: &AtomicBool) {
-    let pause = Duration::from_secs(DRAIN_SECONDS);
-    if stream.end_writing().is_err() || stream.limit(Some(pause)).is_err() {
+pub(crate) fn read_rest<R: Clock>(rt: &R, stream: &Stream, is_halted: &AtomicBool) {
+    if stream.end_writing().is_err() {
         return;
     }
-    skip(stream, DRAIN_READS, is_halted);
+    if let Some(moment) = moment_after(rt, DRAIN_SECONDS) {
+        skip_until(rt, stream, moment, is_halted);
+    }
 }
 
 /// Writes that no session is free.
@@ -71,7 +80,12 @@ pub(crate) fn turn_away(stream: &Stream, is_halted: &AtomicBool) {
 
 /// Ends a connection that waits for nothing.
 pub(crate) fn leave(stream: &Stream, is_halted: &AtomicBool) {
-    if stream.end_writing().is_ok() {
-        skip(stream, LEAVE_READS, is_halted);
+    if stream.end_writing().is_err() {
+        return;
+    }
+    for _ in 0..LEAVE_READS {
+        if !skip_once(stream, is_halted) {
+            return;
+        }
     }
 }

@@ -15,11 +15,13 @@ use hub_requests::serving::{Service, Terms, WebDoor};
 use ingest_workers::hub::Hub;
 use lending_pool::{Lent, Pool};
 use std::alloc::Global;
+use std::rt::Clock;
 use std::sync::atomic::{AtomicBool, AtomicU64, Ordering};
 use std::sync::ledger::Ledger;
 use std::sync::{OnceLock, Wait};
 use std::thread::{Parker, Threads};
 use std::time::Duration;
+use version_blocks::version::BlockVersion;
 use version_history::published::{Naming, Published};
 
 /// For how many milliseconds no connection is accepted after an accept that failed: where the process has no descriptor
@@ -83,6 +85,7 @@ pub(crate) struct House<
     pub alloc: Global,
     pub hub: &'g Hub<'p, N, R>,
     pub published: &'g Published<'p, N>,
+    pub versions: &'p boxcar::Vec<BlockVersion>,
     pub desk: Option<&'h Desk<N>>,
     /// The sessions that there may still be, or may be at once.
     pub shares: &'h Pool<SessionShare<N>>,
@@ -101,7 +104,7 @@ impl<
     'a,
     'p,
     N: Naming + HistoryNaming + Ledger + Keeping + Send + Sync,
-    R: Threads + Wait + Copy + Send + Sync,
+    R: Threads + Wait + Clock + Copy + Send + Sync,
     J: Surroundings + Send + Sync,
 > House<'h, 'g, 'a, 'p, N, R, J> {
     /// Whether a share is used up by its session.
@@ -221,6 +224,11 @@ impl<
         Some(u32::try_from(times).unwrap_or(u32::MAX))
     }
 
+    /// The number of the latest version, each of which has its place in the list.
+    fn latest(&self) -> u64 {
+        (self.versions.count() as u64).saturating_sub(1)
+    }
+
     /// Notes that a session begins.
     pub(crate) fn begin(&self, kind: DoorKind, peer: Peer) -> Visit {
         let before = self.state.begun.fetch_add(1, Ordering::SeqCst);
@@ -230,7 +238,7 @@ impl<
             peer,
         };
         if self.terms.is_logged
-            && let Ok(line) = visit.begin_line(self.alloc)
+            && let Ok(line) = visit.begin_line(self.alloc, self.latest())
         {
             self.journal.note(&self.rt, line.as_str());
         }
@@ -240,7 +248,7 @@ impl<
     /// Notes that a session has ended.
     pub(crate) fn end(&self, visit: &Visit, tally: &Tally, traffic: &Traffic) {
         if self.terms.is_logged
-            && let Ok(line) = visit.end_line(self.alloc, tally, traffic)
+            && let Ok(line) = visit.end_line(self.alloc, self.latest(), tally, traffic)
         {
             self.journal.note(&self.rt, line.as_str());
         }

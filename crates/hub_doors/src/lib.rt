@@ -3,6 +3,7 @@
 
 mod accepting;
 mod common;
+mod deadline;
 pub mod door;
 mod ending;
 pub mod fault;

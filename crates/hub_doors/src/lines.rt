@@ -15,6 +15,7 @@ use hub_sessions::conversation::SessionFault;
 use lending_pool::Lent;
 use std::io;
 use std::io::ErrorKind;
+use std::rt::Clock;
 use std::sync::Wait;
 use std::sync::ledger::Ledger;
 use std::thread::Threads;
@@ -23,7 +24,7 @@ use version_history::published::Naming;
 /// Runs a session over a connection.
 fn session_over<
     N: Naming + HistoryNaming + Ledger + Keeping + Send + Sync,
-    R: Threads + Wait + Copy + Send + Sync,
+    R: Threads + Wait + Clock + Copy + Send + Sync,
     J: Surroundings + Send + Sync,
 >(
     house: &House<'_, '_, '_, '_, N, R, J>,
@@ -58,7 +59,7 @@ fn session_over<
 pub(crate) fn serve_lines<
     'h,
     N: Naming + HistoryNaming + Ledger + Keeping + Send + Sync,
-    R: Threads + Wait + Copy + Send + Sync,
+    R: Threads + Wait + Clock + Copy + Send + Sync,
     J: Surroundings + Send + Sync,
 >(
     house: &House<'h, '_, '_, '_, N, R, J>,
@@ -75,7 +76,7 @@ pub(crate) fn serve_lines<
     if let Err(fault) = ended {
         house.note_fault(ConnectionFault::Session(fault));
     }
-    read_rest(&stream, &house.state.is_halted);
+    read_rest(&house.rt, &stream, &house.state.is_halted);
     drop(stream);
     house.end(&visit, &tally, &traffic);
     house.give_back(lent);

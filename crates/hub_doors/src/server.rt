@@ -26,6 +26,7 @@ use std::fs::Files;
 use std::io::Write;
 use std::marker::Brand;
 use std::net::{Net, TcpListener, TcpStream};
+use std::rt::Clock;
 use std::sync::Wait;
 use std::sync::ledger::Ledger;
 use std::thread::Threads;
@@ -90,7 +91,7 @@ pub enum NotServed<L: ChangeLog> {
 /// ended.
 fn serve_doors<
     N: Naming + HistoryNaming + Ledger + Keeping + Send + Sync,
-    R: Threads + Wait + Copy + Send + Sync,
+    R: Threads + Wait + Clock + Copy + Send + Sync,
     J: Surroundings + Send + Sync,
 >(house: &House<'_, '_, '_, '_, N, R, J>) {
     thread::scope(thread::scope_env(), &house.rt, move |scope| {
@@ -110,7 +111,7 @@ fn serve_doors<
 /// Serves at the doors in a thread of its own, and keeps in this one what the sessions leave at the desk.
 fn serve_and_keep<
     N: Naming + HistoryNaming + Ledger + Keeping + Send + Sync,
-    R: Threads + Wait + Copy + Send + Sync,
+    R: Threads + Wait + Clock + Copy + Send + Sync,
     J: Surroundings + Send + Sync,
     L: ChangeLog,
 >(house: &House<'_, '_, '_, '_, N, R, J>, desk: &Desk<N>, stored: &mut StoredHistory<L>)
@@ -152,6 +153,7 @@ fn serve_on<
         + Wait
         + Net<Listener = TcpListener, Stream = TcpStream>
         + Files
+        + Clock
         + Copy
         + Send
         + Sync,
@@ -182,6 +184,7 @@ fn serve_on<
         alloc,
         hub: &hub,
         published: &published,
+        versions,
         desk: None,
         shares: &common.shares,
         handshakes: &common.handshakes,
@@ -203,6 +206,7 @@ pub fn serve<
         + Wait
         + Net<Listener = TcpListener, Stream = TcpStream>
         + Files
+        + Clock
         + Copy
         + Send
         + Sync,
@@ -236,6 +240,7 @@ fn serve_stored<
         + Wait
         + Net<Listener = TcpListener, Stream = TcpStream>
         + Files
+        + Clock
         + Copy
         + Send
         + Sync,
@@ -247,6 +252,7 @@ fn serve_stored<
     alloc: Global,
     hub: Hub<'p, N, R>,
     published: &'g Published<'p, N>,
+    versions: &'p boxcar::Vec<BlockVersion>,
     shares: Vec<Share<N>>,
     stored: &mut StoredHistory<L>,
     plan: &Plan<'_, J>,
@@ -267,6 +273,7 @@ fn serve_stored<
         alloc,
         hub: &hub,
         published,
+        versions,
         desk: Some(&desk),
         shares: &common.shares,
         handshakes: &common.handshakes,
@@ -289,6 +296,7 @@ fn serve_kept_on<
         + Wait
         + Net<Listener = TcpListener, Stream = TcpStream>
         + Files
+        + Clock
         + Copy
         + Send
         + Sync,
@@ -332,6 +340,7 @@ fn serve_kept_on<
         alloc,
         hub,
         &published,
+        versions,
         shares,
         &mut stored,
         plan,
@@ -350,6 +359,7 @@ pub fn serve_kept<
         + Wait
         + Net<Listener = TcpListener, Stream = TcpStream>
         + Files
+        + Clock
         + Copy
         + Send
         + Sync,

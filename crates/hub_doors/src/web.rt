@@ -1,4 +1,5 @@
 //! A browser's connection: its request, and the session or the file that it asks for.
+use crate::deadline::{ANSWER_SECONDS, HEAD_SECONDS, Hurried};
 use crate::door::DoorKind;
 use crate::ending::{leave, read_rest, write_too_many};
 use crate::fault::ConnectionFault;
@@ -18,37 +19,25 @@ use lending_pool::Lent;
 use std::alloc::Global;
 use std::cell::Cell;
 use std::io;
-use std::io::{ErrorKind, Write};
+use std::io::ErrorKind;
+use std::rt::Clock;
 use std::sync::Wait;
 use std::sync::atomic::AtomicBool;
 use std::sync::ledger::Ledger;
 use std::thread::Threads;
-use std::time::Duration;
 use tungstenite::CloseCode;
 use version_history::published::Naming;
-use web_door::head::{Asked, Opening, Refusal, read_opening, write_accept, write_answer};
+use web_door::answer::{write_refusal, write_status};
+use web_door::head::{Asked, Opening, read_opening, write_accept};
 use web_door::messages::{Ending, MessageReader, MessageWriter};
-
-/// How many seconds each read of a request's head and each write of an answer may wait.
-const HEAD_SECONDS: u64 = 4;
 
 /// What is said of a connection for whose handshake there is no place.
 const TOO_MANY_HANDSHAKES: &str = "503 Service Unavailable";
 
-/// Answers with a status alone.
-pub(crate) fn write_status<W: Write>(writer: &mut W, status: &str) -> io::Result<()> {
-    write_answer(
-        writer,
-        status,
-        "text/plain; charset=utf-8",
-        status.as_bytes(),
-    )
-}
-
 /// Runs a session over messages.
 fn session_over<
     N: Naming + HistoryNaming + Ledger + Keeping + Send + Sync,
-    R: Threads + Wait + Copy + Send + Sync,
+    R: Threads + Wait + Clock + Copy + Send + Sync,
     J: Surroundings + Send + Sync,
 >(
     house: &House<'_, '_, '_, '_, N, R, J>,
@@ -77,7 +66,7 @@ fn session_over<
     let ending = match ended {
         // What can't be written to isn't closed by a message.
         Err(SessionFault::Write(_)) => Ending::Closed,
-        _ if house.state.is_halted() => Ending::By(CloseCode::Error),
+        _ if house.state.is_halted() => Ending::By(CloseCode::Away),
         _ => ending.get(),
     };
     let _ = writer.output.end(ending);
@@ -88,7 +77,7 @@ fn session_over<
 fn serve_session<
     'h,
     N: Naming + HistoryNaming + Ledger + Keeping + Send + Sync,
-    R: Threads + Wait + Copy + Send + Sync,
+    R: Threads + Wait + Clock + Copy + Send + Sync,
     J: Surroundings + Send + Sync,
 >(
     house: &House<'h, '_, '_, '_, N, R, J>,
@@ -109,7 +98,7 @@ fn serve_session<
     if let Err(fault) = ended {
         house.note_fault(ConnectionFault::Session(fault));
     }
-    read_rest(stream, &house.state.is_halted);
+    read_rest(&house.rt, stream, &house.state.is_halted);
     house.end(&visit, &tally, &traffic);
     house.give_back(lent);
 }
@@ -117,12 +106,13 @@ fn serve_session<
 /// Tells over a WebSocket that no session is free, and closes it.
 fn turn_away<
     N: Naming + HistoryNaming + Ledger + Keeping + Send + Sync,
-    R: Threads + Wait + Copy + Send + Sync,
+    R: Threads + Wait + Clock + Copy + Send + Sync,
     J: Surroundings + Send + Sync,
 >(house: &House<'_, '_, '_, '_, N, R, J>, stream: &Stream) {
-    let mut writer = MessageWriter::new(house.alloc, stream);
+    let hurried = Hurried::new(house.rt, stream, ANSWER_SECONDS);
+    let mut writer = MessageWriter::new(house.alloc, hurried);
     if write_too_many(&mut writer).is_ok() && writer.end(Ending::By(CloseCode::Again)).is_ok() {
-        read_rest(stream, &house.state.is_halted);
+        read_rest(&house.rt, stream, &house.state.is_halted);
     }
 }
 
@@ -130,7 +120,7 @@ fn turn_away<
 fn begin_session<
     'h,
     N: Naming + HistoryNaming + Ledger + Keeping + Send + Sync,
-    R: Threads + Wait + Copy + Send + Sync,
+    R: Threads + Wait + Clock + Copy + Send + Sync,
     J: Surroundings + Send + Sync,
 >(
     house: &House<'h, '_, '_, '_, N, R, J>,
@@ -141,7 +131,7 @@ fn begin_session<
     begun: Vec<u8>,
 ) {
     let lent = house.take_share();
-    let mut writer = stream;
+    let mut writer = Hurried::new(house.rt, stream, ANSWER_SECONDS);
     let accepted = write_accept(house.alloc, &mut writer, accept);
     drop(place);
     match (lent, accepted) {
@@ -158,30 +148,30 @@ fn begin_session<
 /// Reads a request's head; None where nothing is to be answered.
 fn opening_of<
     N: Naming + HistoryNaming + Ledger + Keeping + Send + Sync,
-    R: Threads + Wait + Copy + Send + Sync,
+    R: Threads + Wait + Clock + Copy + Send + Sync,
     J: Surroundings + Send + Sync,
 >(house: &House<'_, '_, '_, '_, N, R, J>, stream: &Stream) -> Option<Opening> {
     let web = house.web?;
-    let mut reader = stream;
+    let mut reader = Hurried::new(house.rt, stream, HEAD_SECONDS);
     read_opening(house.alloc, &mut reader, &web.origins).ok()?
 }
 
 /// Answers a request that asks for no session.
-fn answer_file_or_refusal<J: Surroundings>(
+fn answer_file_or_refusal<J: Surroundings, R: Clock + Copy>(
     around: &J,
     alloc: Global,
     web: Option<&WebDoor>,
     asked: Asked,
-    stream: &Stream,
+    is_head: bool,
+    writer: &mut Hurried<'_, R>,
 ) -> io::Result<()> {
-    let mut writer = stream;
     let folder = match web {
         Some(web) => web.files.as_ref(),
         None => None,
     };
     match asked {
-        Asked::File(path) => answer_file(around, alloc, folder, path.as_str(), &mut writer),
-        Asked::Refused(refusal) => write_status(&mut writer, refusal.status()),
+        Asked::File(request) => answer_file(around, alloc, folder, &request, is_head, writer),
+        Asked::Refused(refusal) => write_refusal(writer, refusal, is_head),
         Asked::Session(_) => Ok(()),
     }
 }
@@ -190,7 +180,7 @@ fn answer_file_or_refusal<J: Surroundings>(
 fn answer_request<
     'h,
     N: Naming + HistoryNaming + Ledger + Keeping + Send + Sync,
-    R: Threads + Wait + Copy + Send + Sync,
+    R: Threads + Wait + Clock + Copy + Send + Sync,
     J: Surroundings + Send + Sync,
 >(
     house: &House<'h, '_, '_, '_, N, R, J>,
@@ -199,12 +189,25 @@ fn answer_request<
     stream: &Stream,
     opening: Opening,
 ) {
-    let Opening { asked, rest } = opening;
+    let Opening {
+        asked,
+        is_head,
+        rest,
+    } = opening;
     if let Asked::Session(accept) = asked {
         return begin_session(house, place, peer, stream, &accept, rest);
     }
-    if answer_file_or_refusal(house.journal, house.alloc, house.web, asked, stream).is_ok() {
-        read_rest(stream, &house.state.is_halted);
+    let mut writer = Hurried::new(house.rt, stream, ANSWER_SECONDS);
+    let answered = answer_file_or_refusal(
+        house.journal,
+        house.alloc,
+        house.web,
+        asked,
+        is_head,
+        &mut writer,
+    );
+    if answered.is_ok() {
+        read_rest(&house.rt, stream, &house.state.is_halted);
     }
 }
 
@@ -212,16 +215,10 @@ fn answer_request<
 pub(crate) fn serve_browser<
     'h,
     N: Naming + HistoryNaming + Ledger + Keeping + Send + Sync,
-    R: Threads + Wait + Copy + Send + Sync,
+    R: Threads + Wait + Clock + Copy + Send + Sync,
     J: Surroundings + Send + Sync,
 >(house: &House<'h, '_, '_, '_, N, R, J>, peer: Peer, place: Lent<'h, (), R>, stream: Stream) {
     stream.send_at_once();
-    if stream
-        .limit(Some(Duration::from_secs(HEAD_SECONDS)))
-        .is_err()
-    {
-        return;
-    }
     if let Some(opening) = opening_of(house, &stream) {
         answer_request(house, place, peer, &stream, opening);
     }
@@ -233,7 +230,7 @@ pub(crate) fn refuse_handshake(stream: &Stream, is_halted: &AtomicBool) {
         return;
     }
     let mut writer = stream;
-    if write_status(&mut writer, TOO_MANY_HANDSHAKES).is_ok() {
+    if write_status(&mut writer, TOO_MANY_HANDSHAKES, false).is_ok() {
         leave(stream, is_halted);
     }
 }

@@ -1,11 +1,12 @@
 //! Standard error, where lines of several threads stand, and files beside it.
+use crate::log_queue::LogQueue;
 use crate::system::Folders;
-use hub_doors::journal::Surroundings;
+use hub_doors::journal::{FoundFile, Surroundings};
 use std::alloc::Global;
 use std::io;
 use std::io::Write;
 use std::rt::Clock;
-use std::sync::{Mutex, Wait};
+use std::sync::{Arc, Mutex, Wait};
 use std::time::{Duration, Instant};
 
 /// A writer of lines, which one thread has at a time, and files.
@@ -25,13 +26,30 @@ impl<'f, 'e, F, E> Errors<'f, 'e, F, E> {
 }
 
 impl<F: Folders + Send + Sync, E: Write + Send> Surroundings for Errors<'_, '_, F, E> {
-    fn note<R: Wait>(&self, rt: &R, line: &str) {
+    fn note<R: Wait + Clock>(&self, rt: &R, line: &str) {
         let mut writer = self.writer.lock(rt);
         let _ = writeln!(writer, "hub: {line}");
     }
 
-    fn file(&self, folder: &str, name: &str) -> io::Result<Option<Vec<u8>>> {
-        self.folders.file(folder, name)
+    fn open(&self, folder: &str, name: &str) -> io::Result<Option<FoundFile>> {
+        self.folders.open(folder, name)
+    }
+}
+
+/// The queue of a server's lines, and files beside it.
+#[derive(Drop)]
+pub(crate) struct ServerLog<'f, F> {
+    pub folders: &'f F,
+    pub queue: Arc<LogQueue, Global>,
+}
+
+impl<F: Folders + Send + Sync> Surroundings for ServerLog<'_, F> {
+    fn note<R: Wait + Clock>(&self, rt: &R, line: &str) {
+        self.queue.push(rt, line);
+    }
+
+    fn open(&self, folder: &str, name: &str) -> io::Result<Option<FoundFile>> {
+        self.folders.open(folder, name)
     }
 }
 

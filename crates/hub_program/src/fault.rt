@@ -18,8 +18,6 @@ pub enum Fault {
     Socket(SocketFault),
     /// A connection can't be accepted, read or written.
     Connection(ConnectionFault),
-    /// The store failed: no change is kept any more.
-    Store,
     /// The system gives no random bytes.
     Random(io::Error),
     /// An argument isn't UTF-8.
@@ -60,7 +58,6 @@ impl Display for Fault {
             Fault::Port { kind, error } => write!(f, "the port of --{kind}: {error}"),
             Fault::Socket(fault) => write_socket(f, fault),
             Fault::Connection(fault) => write_connection(f, fault),
-            Fault::Store => f.pad("the store failed: no change is kept or acknowledged any more"),
             Fault::Random(error) => write!(f, "the system gives no random bytes: {error}"),
             Fault::Argument => f.pad("an argument isn't UTF-8"),
         }

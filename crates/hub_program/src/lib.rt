@@ -1,19 +1,25 @@
 //! The program's command, over any reader and any two writers.
 #![tactic(auto)]
 
+mod adopted;
 mod errors;
 pub mod fault;
+pub mod log_queue;
 mod replayed;
 mod served;
+mod store_told;
 pub mod system;
 
+use crate::adopted::adopted;
 use crate::fault::Fault;
 use crate::replayed::replayed;
 use crate::served::served;
-use crate::system::{Folders, StoreFault, System};
+use crate::store_told::tell_of_store;
+use crate::system::{Folders, StoreDamage, StoreFailure, StoreFault, System};
 use command_line::reading::{Unread, request};
 use hub_commands::failure::Failure;
 use hub_commands::perform::perform;
+use hub_requests::serving::StoreFile;
 use hub_requests::{Command, Request};
 use refusal_titles::{OUT_OF_MEMORY, STORE_BUSY, STORE_DAMAGED};
 use std::alloc::Global;
@@ -31,8 +37,10 @@ use std::thread::Threads;
 enum CommandError {
     /// Something failed that is told on standard error.
     Fault(Fault),
-    /// The store is refused: it holds something else; where that is known, from the change of this number on.
-    Damaged(Option<u32>),
+    /// The store is refused. Why is told on standard error, where there is more to say.
+    Damaged(StoreDamage),
+    /// The store failed, which is told on standard error.
+    StoreFailed(Option<StoreFailure>),
     /// Another process has the store open.
     Busy,
     /// No memory was found.
@@ -42,9 +50,9 @@ enum CommandError {
 impl From<StoreFault> for CommandError {
     fn from(fault: StoreFault) -> CommandError {
         match fault {
-            StoreFault::Damaged(number) => CommandError::Damaged(number),
+            StoreFault::Damaged(damage) => CommandError::Damaged(damage),
             StoreFault::Busy => CommandError::Busy,
-            StoreFault::Failed => CommandError::Fault(Fault::Store),
+            StoreFault::Failed(failure) => CommandError::StoreFailed(Some(failure)),
             StoreFault::OutOfMemory => CommandError::Memory,
         }
     }
@@ -63,11 +71,11 @@ impl From<Failure> for CommandError {
 /// Prints why a command is refused; None where that is told on standard error.
 fn write_refusal<W: Write>(writer: &mut W, error: &CommandError) -> Option<io::Result<()>> {
     Some(match error {
-        CommandError::Fault(_) => return None,
-        CommandError::Damaged(Some(number)) => {
+        CommandError::Fault(_) | CommandError::StoreFailed(_) => return None,
+        CommandError::Damaged(StoreDamage::Change(number)) => {
             writeln!(writer, "refused {STORE_DAMAGED} change {number}")
         }
-        CommandError::Damaged(None) => writeln!(writer, "refused {STORE_DAMAGED}"),
+        CommandError::Damaged(_) => writeln!(writer, "refused {STORE_DAMAGED}"),
         CommandError::Busy => writeln!(writer, "refused {STORE_BUSY}"),
         CommandError::Memory => writeln!(writer, "refused {OUT_OF_MEMORY}"),
     })
@@ -76,8 +84,8 @@ fn write_refusal<W: Write>(writer: &mut W, error: &CommandError) -> Option<io::R
 /// Runs the command that the words name (the program's own name is the first), and answers the exit
 /// status: 0 done, 1 refused or faulted, 2 usage, 3 where a read, a write, a bind or an accept failed. What stands
 /// beside the answer goes to `errors`: usage, hints, and what failed. Only `replay` and `serve` start threads or wait
-/// for them, and only `serve` opens sockets; only these two open a store, by `system`, and `serve` alone files, by
-/// `folders`.
+/// for them, and only `serve` opens sockets; only these two and `adopt` open a store, by `system`, and `serve` alone
+/// files, by `folders`.
 pub fn command<
     H: Threads
         + Wait
@@ -111,6 +119,7 @@ pub fn command<
         (Some(Ok(())), _) => return 1,
         (Some(Err(error)), _) => Fault::Output(error),
         (None, CommandError::Fault(fault)) => fault,
+        (None, CommandError::StoreFailed(_)) => return 3,
         (None, _) => return 1,
     };
     complain(errors, &fault);
@@ -156,13 +165,36 @@ fn answered<
     errors: &mut E,
 ) -> Result<u8, CommandError> {
     match request(alloc, words) {
-        Ok(request) => asked(rt, alloc, system, folders, &request, reader, writer, errors),
+        Ok(request) => {
+            let done = asked(
+                rt,
+                alloc,
+                system,
+                folders,
+                &request,
+                reader,
+                writer,
+                &mut *errors,
+            );
+            if let (Err(error), Some(store)) = (&done, store_of(&request)) {
+                tell_of_store(errors, store.path.as_str(), error);
+            }
+            done
+        }
         Err(Unread::Shown(text)) => shown(writer, text.as_str()),
         Err(Unread::Usage(text)) => {
             let _ = errors.write_all(text.as_bytes());
             Ok(2)
         }
         Err(Unread::Memory) => Err(CommandError::Memory),
+    }
+}
+
+/// The file that is to keep changes, if there is to be one.
+fn store_of(request: &Request) -> Option<&StoreFile> {
+    match request {
+        Request::Replay { store, .. } | Request::Serve { store, .. } => store.as_ref(),
+        Request::Perform(_) | Request::Adopt { .. } => None,
     }
 }
 
@@ -193,6 +225,15 @@ fn asked<
 ) -> Result<u8, CommandError> {
     match request {
         Request::Perform(command) => performed(alloc, command, reader, writer, errors),
+        Request::Adopt { size, from, to } => adopted(
+            alloc,
+            system,
+            *size,
+            from.as_str(),
+            to.as_str(),
+            writer,
+            errors,
+        ),
         Request::Replay {
             size,
             workers,

@@ -4,12 +4,14 @@ ghost use Rattle.std.specs.Prelude.{ℕ, List};
 use crate::CommandError;
 use crate::errors::{Errors, Progress};
 use crate::fault::Fault;
-use crate::system::{InMemory, Opened, System};
+use crate::store_told::tell_of_loss;
+use crate::system::{InMemory, Opened, Opening, StoreDamage, StoreFailure, System};
 use change_log::log::ChangeLog;
 use change_ops::size::Size;
 use hub_doors::journal::Surroundings;
 use hub_requests::Workers;
 use hub_requests::limits::SessionOptions;
+use hub_requests::serving::StoreFile;
 use hub_restoring::restoring::NotRestored;
 use hub_sessions::conversation::SessionFault;
 use hub_sessions::replaying::{NotReplayed, ReplayError, Replayed, replay, replay_kept};
@@ -38,13 +40,15 @@ impl From<ReplayError> for CommandError {
     }
 }
 
-impl From<OpenError> for CommandError {
-    fn from(error: OpenError) -> CommandError {
-        match error {
-            OpenError::LogFailed => CommandError::Fault(Fault::Store),
-            OpenError::Damaged(number) => CommandError::Damaged(u32::try_from(number).ok()),
-            OpenError::OutOfMemory => CommandError::Memory,
-        }
+/// Why a store isn't opened whose changes weren't all accepted again, or whose log failed in this way.
+pub(crate) fn not_opened(error: OpenError, failure: Option<StoreFailure>) -> CommandError {
+    match error {
+        OpenError::LogFailed => CommandError::StoreFailed(failure),
+        OpenError::Damaged(number) => CommandError::Damaged(match u32::try_from(number) {
+            Ok(number) => StoreDamage::Change(number),
+            Err(_) => StoreDamage::Other,
+        }),
+        OpenError::OutOfMemory => CommandError::Memory,
     }
 }
 
@@ -96,7 +100,7 @@ fn replayed_kept<
     size: Size,
     workers: &Workers,
     mut options: SessionOptions,
-    store: &str,
+    store: &StoreFile,
     reader: &mut R,
     writer: &mut W,
     errors: &mut E,
@@ -104,7 +108,11 @@ fn replayed_kept<
     let hub = system
         .hub_id()
         .map_err(|error| CommandError::Fault(Fault::Random(error)))?;
-    let Opened { log, hub } = system.open(store, hub)?;
+    let opening = Opening::Kept {
+        accepts_loss: store.accepts_loss,
+    };
+    let Opened { log, hub, lost } = system.open(store.path.as_str(), size, hub, opening)?;
+    tell_of_loss(errors, store.path.as_str(), lost);
     // A session that is the input asks for no file.
     let none = InMemory { alloc };
     let errors = Errors::new(&none, errors);
@@ -119,17 +127,19 @@ fn replayed_kept<
                 ended,
             },
         ) => {
+            let failure = system.failure(&log);
             let closed = system.close(log);
             if is_failed {
-                return Err(CommandError::Fault(Fault::Store));
+                return Err(CommandError::StoreFailed(failure));
             }
             ended?;
             closed?;
             Ok(0)
         }
         Err(NotReplayed::NotRestored(NotRestored { log, error })) => {
+            let failure = system.failure(&log);
             let _ = system.close(log);
-            Err(CommandError::from(error))
+            Err(not_opened(error, failure))
         }
         Err(NotReplayed::OutOfMemory(log)) => {
             let _ = system.close(log);
@@ -152,23 +162,14 @@ pub(crate) fn replayed<
     size: Size,
     workers: &Workers,
     options: SessionOptions,
-    store: Option<&String>,
+    store: Option<&StoreFile>,
     reader: &mut R,
     writer: &mut W,
     errors: &mut E,
 ) -> Result<u8, CommandError> {
     match store {
-        Some(path) => replayed_kept(
-            rt,
-            alloc,
-            system,
-            size,
-            workers,
-            options,
-            path.as_str(),
-            reader,
-            writer,
-            errors,
+        Some(store) => replayed_kept(
+            rt, alloc, system, size, workers, options, store, reader, writer, errors,
         ),
         None => {
             replay(rt, alloc, size, reader, writer, workers.count(), options)?;

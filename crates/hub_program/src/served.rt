@@ -2,22 +2,26 @@
 ghost use Rattle.std.specs.Prelude.{ℕ, List};
 
 use crate::CommandError;
-use crate::errors::{Errors, Progress};
+use crate::errors::{Progress, ServerLog};
 use crate::fault::Fault;
-use crate::system::{Folders, Opened, System};
+use crate::log_queue::LogQueue;
+use crate::replayed::not_opened;
+use crate::store_told::tell_of_loss;
+use crate::system::{Folders, Opened, Opening, StoreFailure, System};
 use change_log::log::ChangeLog;
+use hub_doors::fault::ConnectionFault;
 use hub_doors::journal::Surroundings;
 use hub_doors::server::{NotServed, Plan, ServeError, Served, serve, serve_kept};
 use hub_doors::socket_file::SocketFault;
 use hub_requests::identity::HubId;
-use hub_requests::serving::{Doors, Terms};
+use hub_requests::serving::{Doors, StoreFile, Terms};
 use hub_restoring::restoring::NotRestored;
-use std::alloc::Global;
+use std::alloc::{AllocError, Global};
 use std::fs::Files;
 use std::io::Write;
 use std::net::{Net, TcpListener, TcpStream};
 use std::rt::Clock;
-use std::sync::Wait;
+use std::sync::{Arc, Wait};
 use std::thread::Threads;
 
 impl From<ServeError> for CommandError {
@@ -28,9 +32,17 @@ impl From<ServeError> for CommandError {
             ServeError::Socket(fault) => CommandError::Fault(Fault::Socket(fault)),
             ServeError::Output(error) => CommandError::Fault(Fault::Output(error)),
             ServeError::Connection(fault) => CommandError::Fault(Fault::Connection(fault)),
-            ServeError::Kept => CommandError::Fault(Fault::Store),
+            ServeError::Kept => CommandError::StoreFailed(None),
             ServeError::OutOfMemory | ServeError::Unreturned => CommandError::Memory,
         }
+    }
+}
+
+/// Why sessions weren't served to their end, whose store may have failed in this way.
+fn not_served(error: ServeError, failure: Option<StoreFailure>) -> CommandError {
+    match error {
+        ServeError::Kept => CommandError::StoreFailed(failure),
+        error => CommandError::from(error),
     }
 }
 
@@ -92,44 +104,100 @@ fn served_kept<
         + Send
         + Sync,
     Y: System,
-    F: Folders + Send + Sync,
+    J: Surroundings + Send + Sync,
     W: Write,
-    E: Write + Send,
+    E: Write,
 >(
     rt: &H,
     alloc: Global,
     system: &Y,
-    folders: &F,
+    journal: &J,
     hub: HubId,
     doors: &Doors,
     terms: &Terms,
-    store: &str,
+    store: &StoreFile,
     writer: &mut W,
     errors: &mut E,
-) -> Result<u8, CommandError> {
-    let Opened { log, hub } = system.open(store, hub)?;
-    let errors = Errors::new(folders, errors);
+) -> Result<(), CommandError> {
+    let opening = Opening::Kept {
+        accepts_loss: store.accepts_loss,
+    };
+    let Opened { log, hub, lost } = system.open(store.path.as_str(), terms.size, hub, opening)?;
+    tell_of_loss(errors, store.path.as_str(), lost);
     let plan = Plan {
         doors,
         terms: &terms_of(terms, hub),
-        journal: &errors,
+        journal,
     };
     match serve_from(rt, alloc, &plan, log, writer) {
         Ok(Served { log, ended }) => {
+            let failure = system.failure(&log);
             let closed = system.close(log);
-            ended?;
+            ended.map_err(|error| not_served(error, failure))?;
             closed?;
-            Ok(0)
+            Ok(())
         }
         Err(NotServed::NotRestored(NotRestored { log, error })) => {
+            let failure = system.failure(&log);
             let _ = system.close(log);
-            Err(CommandError::from(error))
+            Err(not_opened(error, failure))
         }
         Err(NotServed::OutOfMemory(log)) => {
             let _ = system.close(log);
             Err(CommandError::Memory)
         }
     }
+}
+
+/// Serves sessions, whose lines go to a journal.
+fn served_with<
+    H: Threads
+        + Wait
+        + Net<Listener = TcpListener, Stream = TcpStream>
+        + Files
+        + Clock
+        + Copy
+        + Send
+        + Sync,
+    Y: System,
+    J: Surroundings + Send + Sync,
+    W: Write,
+    E: Write,
+>(
+    rt: &H,
+    alloc: Global,
+    system: &Y,
+    journal: &J,
+    doors: &Doors,
+    terms: &Terms,
+    store: Option<&StoreFile>,
+    writer: &mut W,
+    errors: &mut E,
+) -> Result<(), CommandError> {
+    let hub = system
+        .hub_id()
+        .map_err(|error| CommandError::Fault(Fault::Random(error)))?;
+    match store {
+        Some(store) => served_kept(
+            rt, alloc, system, journal, hub, doors, terms, store, writer, errors,
+        ),
+        None => {
+            let plan = Plan {
+                doors,
+                terms: &terms_of(terms, hub),
+                journal,
+            };
+            serve(*rt, alloc, &plan, writer)?;
+            Ok(())
+        }
+    }
+}
+
+/// A queue of lines, for those who put them in and for the one who writes them.
+fn log_queue(alloc: Global) -> Result<(Arc<LogQueue, Global>, Arc<LogQueue, Global>), AllocError> {
+    let queue = Arc::new(alloc, LogQueue::new(alloc)?)?;
+    let other = Arc::try_clone(&queue)?;
+    Ok((queue, other))
 }
 
 /// Serves sessions.
@@ -145,7 +213,7 @@ pub(crate) fn served<
     Y: System,
     F: Folders + Send + Sync,
     W: Write,
-    E: Write + Send,
+    E: Write,
 >(
     rt: &H,
     alloc: Global,
@@ -153,35 +221,25 @@ pub(crate) fn served<
     folders: &F,
     doors: &Doors,
     terms: &Terms,
-    store: Option<&String>,
+    store: Option<&StoreFile>,
     writer: &mut W,
     errors: &mut E,
 ) -> Result<u8, CommandError> {
-    let hub = system
-        .hub_id()
-        .map_err(|error| CommandError::Fault(Fault::Random(error)))?;
-    match store {
-        Some(path) => served_kept(
-            rt,
-            alloc,
-            system,
-            folders,
-            hub,
-            doors,
-            terms,
-            path.as_str(),
-            writer,
-            errors,
-        ),
-        None => {
-            let errors = Errors::new(folders, errors);
-            let plan = Plan {
-                doors,
-                terms: &terms_of(terms, hub),
-                journal: &errors,
-            };
-            serve(*rt, alloc, &plan, writer)?;
-            Ok(0)
-        }
+    let Ok((queue, written)) = log_queue(alloc) else {
+        return Err(CommandError::Memory);
+    };
+    if !system.write_out(rt, written) {
+        return Err(CommandError::Fault(Fault::Connection(ConnectionFault::NoThread)));
+    }
+    let journal = ServerLog { folders, queue };
+    let ended = served_with(
+        rt, alloc, system, &journal, doors, terms, store, writer, errors,
+    );
+    let is_read = journal.queue.close(rt);
+    match ended {
+        Ok(()) => Ok(0),
+        // To tell what failed would wait for good, where nobody reads; the status says it.
+        Err(CommandError::Fault(_) | CommandError::StoreFailed(_)) if !is_read => Ok(3),
+        Err(error) => Err(error),
     }
 }

@@ -10,7 +10,7 @@ ghost use Rattle.std.specs.Prelude.{◌≡◌, ◌≤◌, SomeIff};
 ghost use Rattle.change_ops.specs.Sizes.{most_sessions};
 
 use crate::limits::SessionOptions;
-use crate::serving::{Doors, Terms};
+use crate::serving::{Doors, StoreFile, Terms};
 use change_ops::attribute::Link;
 use change_ops::size::Size;
 use span_context::profile::Profile;
@@ -183,17 +183,23 @@ impl Sessions {
 #[derive(Drop)]
 pub enum Request {
     Perform(Command),
+    /// To make a new store of the changes that a file keeps, which may have no sums on its pages.
+    Adopt {
+        size: Size,
+        from: String,
+        to: String,
+    },
     /// To answer the session that its input is, line by line, and to keep its changes in a file.
     Replay {
         size: Size,
         workers: Workers,
         options: SessionOptions,
-        store: Option<String>,
+        store: Option<StoreFile>,
     },
     /// To answer sessions at doors, and to keep their changes in a file.
     Serve {
         doors: Doors,
         terms: Terms,
-        store: Option<String>,
+        store: Option<StoreFile>,
     },
 }

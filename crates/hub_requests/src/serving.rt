@@ -47,6 +47,14 @@ pub struct Doors {
     pub unix: Option<String>,
 }
 
+/// A file that keeps changes.
+#[derive(Drop)]
+pub struct StoreFile {
+    pub path: String,
+    /// Whether it is opened also where its log is damaged, without the changes behind the damage.
+    pub accepts_loss: bool,
+}
+
 /// On what terms sessions are served.
 #[derive(Clone, Copy)]
 pub struct Terms {

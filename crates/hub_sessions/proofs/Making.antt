@@ -173,6 +173,7 @@ module _ (size : Size) (kept : Kept) where
   meets_make (next.Request request) s out out' answer s' is = answers_make request s out out' answer s' is
   meets_make (next.Refused refusal) s out out' answer s' is = none_made size s.share s'.share (ap (λ z. z.share) is.1)
   meets_make next.TooLong s out out' answer s' is = absurd is
+  meets_make next.Foreign s out out' answer s' is = absurd is
   meets_make next.End s out out' answer s' is = absurd is
 
   answered_make : (s : SessionState size kept) (left : Option (List ℕ)) (came : Next) (items : List ℕ) (answer : Reply) (s' : SessionState size kept) (left' : Option (List ℕ)) → IsAnswered s left came items answer s' left'

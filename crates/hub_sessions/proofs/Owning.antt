@@ -91,6 +91,7 @@ module _ (size : Size) (kept : Kept) where
   met_own (next.Request (asked.Read query)) s out out' answer s' is own = subst (AreOwnSubscribers s'.share) (sym (ap (λ (z : SessionState size kept). z.held) is.3)) own
   met_own (next.Refused refusal) s out out' answer s' is own = subst (AreOwnSubscribers s'.share) (sym (ap (λ (z : SessionState size kept). z.held) is.1)) own
   met_own next.TooLong s out out' answer s' is own = absurd is
+  met_own next.Foreign s out out' answer s' is own = absurd is
   met_own next.End s out out' answer s' is own = absurd is
 
 -- after a turn that was not the last, and what was done for others behind it

@@ -80,6 +80,7 @@ Meets (next.Request request) s out out' answer s' = Answers request s out out' a
 Meets (next.Refused refusal) s out out' answer s' =
     (answer ≡ reply.Refused (reason_of refusal)) × (s' ≡ s) × (out' ≡ out)
 Meets next.TooLong s out out' answer s' = ⊥
+Meets next.Foreign s out out' answer s' = ⊥
 Meets next.End s out out' answer s' = ⊥
 
 -- one came next of the input, and was met; what is left of the input, and the session's state then; and its share once
@@ -130,11 +131,13 @@ pub record Converses {size : Size} {kept : Kept} (s : SessionState size kept) (l
   pub follow : Follow s left exchanges s' left'
   pub written : Appends old new (flat_map printed exchanges)
 
--- nothing comes after it: the input's end, which prints nothing, or a line that is too long
+-- nothing comes after it, whatever is left of the input: the input's end, which prints nothing, or a line that is too
+-- long or of another protocol
 abbrev pub IsLast : Option (List ℕ) → Option (List ℕ) → List ℕ → Type 0
 IsLast left left' text =
     (IsNext left next.End left' × (text ≡ []))
     ⊎ (IsNext left next.TooLong left' × (text ≡ reply_line (reply.Refused reason.LineTooLong)))
+    ⊎ (IsNext left next.Foreign left' × (text ≡ reply_line (reply.Refused reason.BadCommand)))
 
 -- what came was met, or the session ends
 abbrev pub TakesTurn : {size : Size} {kept : Kept} → Turn → SessionState size kept → Option (List ℕ) → List ℕ

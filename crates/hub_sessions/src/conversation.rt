@@ -233,6 +233,10 @@ fn take_turn<
             Reply::Refused(Reason::LineTooLong).push_line(out)?;
             Ok(Turn::Last)
         }
+        Next::Foreign => {
+            Reply::Refused(Reason::BadCommand).push_line(out)?;
+            Ok(Turn::Last)
+        }
         Next::End => Ok(Turn::Last),
     }
 }

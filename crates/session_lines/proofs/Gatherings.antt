@@ -1,6 +1,6 @@
 -- How the lines of a change are gathered, and what comes of them.
 use Rattle.std.proofs.Common.{◌≡◌, ℕ, ◌+◌, ◌<◌, Bool, true, false, List, [], ◌∷◌, ◌++◌, length, map, Option, Result, All, refl, sym, ap, subst, ◌∙◌, arith, length-append, append_assoc}
-use Rattle.std.specs.Prelude.{IsTrue}
+use Rattle.std.specs.Prelude.{IsTrue, IsFalse}
 use Rattle.std.specs.Io.KnownBytes.{Consumes}
 use Rattle.std.proofs.KnownBytes.{Consumes-nil, Consumes-trans}
 use Rattle.std.proofs.lemmas.List.{append-nil, map-append}
@@ -9,6 +9,7 @@ use Rattle.std.proofs.lemmas.List.Elements.{All-push, All-cons}
 use Rattle.change_ops.specs.Changes.{Change}
 use Rattle.change_ops.specs.declared.refusal.ChangeError.{ChangeError}
 use Rattle.session_lines.specs.Lines.{LineReader, IsLine, Arrives, joined}
+use Rattle.session_lines.specs.Foreign.{is_foreign}
 use Rattle.session_lines.specs.Changes.{is_header, right_header, followers, legible, text_of}
 use Rattle.session_lines.specs.Gathering.{IsSettled, KeepsLine, IsReadAs, Gathers}
 use Rattle.session_lines.specs.Requests.{changed, IsRead, ChangeLines, change, cut, long_within, GoesOn}
@@ -135,27 +136,27 @@ change_front : (old left new : Option (List ℕ)) (line last : List ℕ) (lines 
 change_front old left new line last lines f g =
     subst (Consumes old new) (sym (append_assoc (line ++ 10 ∷ []) (joined lines) last)) (Consumes-trans old left new (line ++ 10 ∷ []) (joined lines ++ last) f g)
 
-lines_of : (line : List ℕ) (lines : List (List ℕ)) → IsLine line → All IsLine lines → IsTrue (is_header line) → ChangeLines line lines
-lines_of line lines h all first = record { first = first; are_lines = All-cons IsLine line lines h all }
+lines_of : (line : List ℕ) (lines : List (List ℕ)) → IsLine line → All IsLine lines → IsFalse (is_foreign line) → IsTrue (is_header line) → ChangeLines line lines
+lines_of line lines h all own first = record { own = own; first = first; are_lines = All-cons IsLine line lines h all }
 
 pub goes_on_all : (count : ℕ) (left new : Option (List ℕ)) (line text : List ℕ) (what : Next) (read : Result Change ChangeError) → count ≡ followers (right_header line)
     → Gathers count left (legible line ++ 10 ∷ []) AllThere new text → IsRead text read → what ≡ changed read → GoesOn line left what new
-goes_on_all count left new line text what read e g r is = λ old h first front.
-    change line g.lines read (lines_of line g.lines h g.are_lines first) (g.ends.0 ∙ e)
+goes_on_all count left new line text what read e g r is = λ old h own first front.
+    change line g.lines read (lines_of line g.lines h g.are_lines own first) (g.ends.0 ∙ e)
     (subst (Consumes old new) (append-nil (joined (line ∷ g.lines))) (change_front old left new line [] g.lines front (subst (λ (l : List ℕ). Consumes left new (joined g.lines ++ l)) g.ends.1 g.front)))
     (g.read read r) is
 
 pub goes_on_cut : (count : ℕ) (left new : Option (List ℕ)) (line text : List ℕ) (what : Next) (read : Result Change ChangeError) → count ≡ followers (right_header line)
     → Gathers count left (legible line ++ 10 ∷ []) Cut new text → IsRead text read → what ≡ changed read → GoesOn line left what new
-goes_on_cut count left new line text what read e g r is = λ old h first front.
-    cut line g.lines g.last read (lines_of line g.lines h g.are_lines first) (subst (λ (n : ℕ). length g.lines < n) e g.ends.0) g.ends.1
+goes_on_cut count left new line text what read e g r is = λ old h own first front.
+    cut line g.lines g.last read (lines_of line g.lines h g.are_lines own first) (subst (λ (n : ℕ). length g.lines < n) e g.ends.0) g.ends.1
     (change_front old left new line g.last g.lines front g.front) (over_since old left new (line ++ 10 ∷ []) front g.ends.2)
     (g.read read r) is
 
 pub goes_on_long : (count : ℕ) (left new : Option (List ℕ)) (line text : List ℕ) → count ≡ followers (right_header line)
     → Gathers count left (legible line ++ 10 ∷ []) TooLong new text → GoesOn line left next.TooLong new
-goes_on_long count left new line text e g = λ old h first front.
-    long_within line g.lines g.last (lines_of line g.lines h g.are_lines first) (subst (λ (n : ℕ). length g.lines < n) e g.ends.0) g.ends.1
+goes_on_long count left new line text e g = λ old h own first front.
+    long_within line g.lines g.last (lines_of line g.lines h g.are_lines own first) (subst (λ (n : ℕ). length g.lines < n) e g.ends.0) g.ends.1
     (change_front old left new line g.last g.lines front g.front) refl
 
 -- ---- the same, as the parts are lent

@@ -1,6 +1,7 @@
 pub mod Lines
 pub mod Commands
 pub mod Changes
+pub mod Foreign
 pub mod Requests
 pub mod Reading
 pub mod Parts

@@ -11,6 +11,7 @@ use Rattle.session_lines.specs.declared.reply.Reply.{Reply}
 use Rattle.session_lines.specs.declared.reply.Reply.TheVariants.{Version, Subscribed, Hit, End, Items, NoItemsFull}
 use Rattle.session_lines.specs.declared.reply.Reply.TheVariants.{Closed, Latest, Left, Hub, Stats, Spans, Changes}
 use Rattle.session_lines.specs.declared.reply.Reply.TheVariants.{Newest, Refused}
+use Rattle.session_lines.specs.declared.stats.Limits.{Limits}
 use Rattle.session_lines.specs.declared.stats.PerLimit.{PerLimit}
 use Rattle.session_lines.specs.declared.stats.Stats.{Stats as StatsValue}
 
@@ -37,6 +38,12 @@ used_stats used =
     codes " changes-used " ++ decimal used.changes ++ codes " characters-used " ++ decimal used.characters
     ++ codes " marks-used " ++ decimal used.marks ++ codes " subscribers-used " ++ decimal used.subscribers
 
+abbrev pub limit_stats : Limits → List ℕ
+limit_stats limits =
+    codes " changes-limit " ++ decimal limits.changes ++ codes " characters-limit " ++ decimal limits.characters
+    ++ codes " bytes-limit " ++ decimal limits.bytes ++ codes " marks-limit " ++ decimal limits.marks
+    ++ codes " subscribers-limit " ++ decimal limits.subscribers ++ codes " open-limit " ++ decimal limits.open_subscribers
+
 abbrev pub reply_text : Reply → List ℕ
 reply_text (Version number) = codes "ok version " ++ decimal number
 reply_text (Subscribed id) = codes "ok sub " ++ decimal id
@@ -49,7 +56,8 @@ reply_text (Closed id) = codes "ok closed " ++ decimal id
 reply_text (Latest number) = codes "ok latest " ++ decimal number
 reply_text (Left left) = left_text left
 reply_text (Hub id) = codes "ok hub " ++ encode_lower id.bytes
-reply_text (Stats stats) = text_stats stats ++ user_stats stats ++ used_stats stats.used
+reply_text (Stats stats) =
+    text_stats stats ++ user_stats stats ++ used_stats stats.used ++ limit_stats stats.limits
 reply_text (Spans count) = codes "ok spans " ++ decimal count
 reply_text (Changes count) = codes "ok changes " ++ decimal count
 reply_text (Newest counter) = codes "ok newest " ++ decimal counter

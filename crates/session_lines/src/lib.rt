@@ -4,6 +4,7 @@
 mod changes;
 mod commands;
 pub mod fault;
+mod foreign;
 pub mod query;
 pub mod reader;
 pub mod reply;

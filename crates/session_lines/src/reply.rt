@@ -3,11 +3,12 @@ ghost use Rattle.std.specs.Prelude.{◌≡◌, ◌≤◌, ◌+◌, ◌++◌, ◌
 ghost use Rattle.std.specs.String.{string_capacity};
 ghost use Rattle.std.specs.Fmt.{decimal};
 ghost use Rattle.refusals.specs.Reasons.{location_text};
-ghost use Rattle.session_lines.specs.Replies.{reply_text, reason_of, left_text, text_stats, user_stats, used_stats};
+ghost use Rattle.session_lines.specs.Replies.{reply_text, reason_of, left_text, text_stats, user_stats};
+ghost use Rattle.session_lines.specs.Replies.{used_stats, limit_stats};
 ghost use Rattle.session_lines.specs.declared.reply.Reply.TheVariants as told;
 
 use crate::fault::LineRefusal;
-use crate::stats::{PerLimit, Stats};
+use crate::stats::{Limits, PerLimit, Stats};
 use hub_requests::identity::HubId;
 use itoa::Buffer;
 use refusals::reason::{Location, Reason};
@@ -67,8 +68,8 @@ const HUB_ROOM: usize = 8;
 /// Room for the line of what is left: `ok left`, four numbers, each behind a space, and a LF.
 const LEFT_ROOM: usize = 92;
 
-/// Room for the line of a hub's stats: its words, thirteen numbers, and a LF.
-const STATS_ROOM: usize = 420;
+/// Room for the line of a hub's stats: its words, nineteen numbers, and a LF.
+const STATS_ROOM: usize = 630;
 
 /// Room for `no `, ` line ` or ` slot `, a number of at most 40 digits, and a LF, beside a refusal's number and name.
 const REFUSAL_ROOM: usize = 50;
@@ -230,6 +231,21 @@ fn append_used_stats(out: &mut String, used: PerLimit)
     append_number(out, " subscribers-used ", used.subscribers);
 }
 
+/// Appends a hub's limits, for which there is room.
+fn append_limit_stats(out: &mut String, limits: &Limits)
+    requires { string_len out.old + 210 ≤ string_capacity out.old }
+    ensures bytes { string_bytes out.new ≡ string_bytes out.old ++ limit_stats limits.now }
+    ensures len { string_len out.new ≤ string_len out.old + 210 }
+    ensures capacity { string_capacity out.old ≤ string_capacity out.new }
+{
+    append_number(out, " changes-limit ", limits.changes);
+    append_number(out, " characters-limit ", limits.characters);
+    append_number(out, " bytes-limit ", limits.bytes);
+    append_number(out, " marks-limit ", limits.marks);
+    append_number(out, " subscribers-limit ", limits.subscribers);
+    append_number(out, " open-limit ", limits.open_subscribers);
+}
+
 /// Appends the line of how much there is of a hub.
 fn push_stats(out: &mut String, stats: &Stats) -> Result<(), AllocError>
     ensures ok { OnOk result (string_bytes out.new ≡ string_bytes out.old
@@ -240,6 +256,7 @@ fn push_stats(out: &mut String, stats: &Stats) -> Result<(), AllocError>
     append_text_stats(out, stats);
     append_user_stats(out, stats);
     append_used_stats(out, stats.used);
+    append_limit_stats(out, &stats.limits);
     append(out, "\n");
     Ok(())
 }

@@ -1,16 +1,16 @@
 //! The requests of a session.
-ghost use Rattle.std.specs.Prelude.{◌≡◌, ◌++◌, ◌∷◌, [], Result, IfOk, IsTrue, if◌then◌else◌, string_bytes};
+ghost use Rattle.std.specs.Prelude.{◌≡◌, ◌++◌, ◌∷◌, [], Result, IfOk, IsTrue, string_bytes};
 ghost use Rattle.change_ops.specs.Changes.{Change};
 ghost use Rattle.change_ops.specs.declared.refusal.ChangeError.{ChangeError};
 ghost use Rattle.change_ops.specs.declared.refusal.ChangeError.TheVariants as reading;
-ghost use Rattle.session_lines.specs.declared.fault.LineRefusal.TheVariants as why;
-ghost use Rattle.session_lines.specs.Changes.{is_header as begins_change, legible};
+ghost use Rattle.session_lines.specs.Changes.{legible};
 ghost use Rattle.session_lines.specs.Gathering.{Gathers, IsSettled, KeepsLine};
-ghost use Rattle.session_lines.specs.Requests.{changed, IsRead, IsNext, GoesOn};
+ghost use Rattle.session_lines.specs.Requests.{changed, unended_as, IsRead, IsNext, GoesOn};
 
 use crate::changes::{followers, is_header, push_line};
 use crate::commands::command_of;
 use crate::fault::{LineRefusal, ReadFault};
+use crate::foreign::is_foreign;
 use crate::query::Query;
 use crate::reader::{Arrival, LineReader};
 use change_ops::change::{Change, read_change};
@@ -57,6 +57,8 @@ pub enum Next {
     Refused(LineRefusal),
     /// A line of more than 70,000 bytes: the session ends.
     TooLong,
+    /// A line of another protocol, with which no session can have begun: the session ends.
+    Foreign,
     /// Nothing: the session ends.
     End,
 }
@@ -179,14 +181,16 @@ fn next_change<R: Read>(alloc: Global, reader: &mut LineReader<R>) -> Result<Nex
     }
 }
 
-/// What a last line without LF is refused as.
-fn unended(line: &[u8]) -> LineRefusal
-    ensures { result ≡ (if begins_change line.now then why.BadChange reading.Truncated else why.BadCommand) }
+/// What a last line without LF is taken for.
+fn unended(line: &[u8]) -> Next
+    ensures { result ≡ unended_as line.now }
 {
-    if is_header(line) {
-        LineRefusal::BadChange(ChangeError::Truncated)
+    if is_foreign(line) {
+        Next::Foreign
+    } else if is_header(line) {
+        Next::Refused(LineRefusal::BadChange(ChangeError::Truncated))
     } else {
-        LineRefusal::BadCommand
+        Next::Refused(LineRefusal::BadCommand)
     }
 }
 
@@ -198,13 +202,15 @@ pub fn next_request<R: Read>(alloc: Global, reader: &mut LineReader<R>) -> Resul
 {
     match reader.advance()? {
         Arrival::Whole => {
-            if is_header(reader.line()) {
+            if is_foreign(reader.line()) {
+                Ok(Next::Foreign)
+            } else if is_header(reader.line()) {
                 next_change(alloc, reader)
             } else {
                 Ok(Next::from(command_of(alloc, reader.line())))
             }
         }
-        Arrival::Unended => Ok(Next::Refused(unended(reader.line()))),
+        Arrival::Unended => Ok(unended(reader.line())),
         Arrival::TooLong => Ok(Next::TooLong),
         Arrival::End => Ok(Next::End),
     }

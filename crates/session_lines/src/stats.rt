@@ -5,12 +5,29 @@
 pub struct PerLimit {
     /// Of the accepted changes.
     pub changes: u64,
-    /// Of the characters that were inserted, removed ones too.
+    /// Of the characters that are inserted: those that were, removed ones too, and the bytes of the visible ones.
     pub characters: u64,
     /// Of the mark operations.
     pub marks: u64,
     /// Of the subscribers, closed ones too.
     pub subscribers: u64,
+}
+
+/// The most that a hub takes, by its size.
+#[derive(Clone, Copy)]
+pub struct Limits {
+    /// Accepted changes.
+    pub changes: u64,
+    /// Characters that are inserted, removed ones too.
+    pub characters: u64,
+    /// Bytes of the visible text.
+    pub bytes: u64,
+    /// Mark operations.
+    pub marks: u64,
+    /// Subscribers, closed ones too.
+    pub subscribers: u64,
+    /// Subscribers that are open.
+    pub open_subscribers: u64,
 }
 
 /// How much there is of a hub.
@@ -36,4 +53,6 @@ pub struct Stats {
     pub lag: u64,
     /// How much of each limit is used, in parts of a thousand.
     pub used: PerLimit,
+    /// The hub's limits.
+    pub limits: Limits,
 }

@@ -1,16 +1,17 @@
 //! How much there is of a hub, and how much it still takes.
-ghost use Rattle.std.specs.Prelude.{◌≡◌, ◌<◌, ◌≤◌};
+ghost use Rattle.std.specs.Prelude.{◌≡◌, ◌<◌, ◌≤◌, length};
 ghost use Rattle.change_ops.specs.Sizes.{most_changes, most_characters, most_marks, most_subscribers, most_open};
+ghost use Rattle.change_ops.specs.Sizes.{most_bytes};
 ghost use Rattle.hub_core.specs.Counting.{AreWithinLimits};
-ghost use Rattle.session_reads.specs.Counting.{used_of, used_by, left_of, IsLeft, AreStats, stats_of};
+ghost use Rattle.session_reads.specs.Counting.{used_of, used_by, left_of, limits_of, IsLeft, AreStats, stats_of};
 ghost use Rattle.ingest_workers.specs.Calls.{IsLook};
 
 use call_history::knowledge::HistoryNaming;
-use change_ops::size::Size;
+use change_ops::size::{BYTE_LIMIT, Size};
 use core_history::share::Share;
 use hub_core::counts::Counts;
 use ingest_workers::hub::Hub;
-use session_lines::stats::{PerLimit, Stats};
+use session_lines::stats::{Limits, PerLimit, Stats};
 use std::sync::Wait;
 use std::sync::ledger::Ledger;
 use version_blocks::version::BlockVersion;
@@ -25,33 +26,62 @@ fn used_of(count: u64, limit: u64) -> u64
     count * 1000 / limit
 }
 
-/// How much of each limit is used.
-fn used_by(size: Size, counts: Counts) -> PerLimit
-    requires { AreWithinLimits size counts }
-    ensures { result ≡ used_by size counts }
+/// How much of each limit is used, where the visible text has so many bytes.
+fn used_by(size: Size, counts: Counts, bytes: u64) -> PerLimit
+    requires counts { AreWithinLimits size counts }
+    requires bytes { bytes ≤ most_bytes }
+    ensures { result ≡ used_by size counts bytes }
 {
+    let inserted = used_of(counts.inserted, size.characters() as u64);
+    let visible = used_of(bytes, BYTE_LIMIT as u64);
     let ever = used_of(counts.subscribed, size.subscribers() as u64);
     let open = used_of(counts.subscribers, size.open_subscribers() as u64);
     PerLimit {
         changes: used_of(counts.changes, size.changes() as u64),
-        characters: used_of(counts.inserted, size.characters() as u64),
+        characters: inserted.max(visible),
         marks: used_of(counts.marks, size.marks() as u64),
         subscribers: ever.max(open),
     }
 }
 
-/// How much of each limit is left.
-fn left_of(size: Size, counts: Counts) -> PerLimit
-    requires { AreWithinLimits size counts }
-    ensures { result ≡ left_of size counts }
+/// How much of each limit is left, where the visible text has so many bytes.
+fn left_of(size: Size, counts: Counts, bytes: u64) -> PerLimit
+    requires counts { AreWithinLimits size counts }
+    requires bytes { bytes ≤ most_bytes }
+    ensures { result ≡ left_of size counts bytes }
 {
+    let inserted = size.characters() as u64 - counts.inserted;
+    let visible = BYTE_LIMIT as u64 - bytes;
     let ever = size.subscribers() as u64 - counts.subscribed;
     let open = size.open_subscribers() as u64 - counts.subscribers;
     PerLimit {
         changes: size.changes() as u64 - counts.changes,
-        characters: size.characters() as u64 - counts.inserted,
+        characters: inserted.min(visible),
         marks: size.marks() as u64 - counts.marks,
         subscribers: ever.min(open),
+    }
+}
+
+/// The bytes of a version's text.
+fn text_bytes(version: &BlockVersion) -> u64
+    ensures value { result ≡ length version.now.text }
+    ensures few { result ≤ most_bytes }
+{
+    version.keeps();
+    version.byte_count() as u64
+}
+
+/// The limits of a hub of this size.
+fn limits_of(size: Size) -> Limits
+    ensures { result ≡ limits_of size }
+{
+    Limits {
+        changes: size.changes() as u64,
+        characters: size.characters() as u64,
+        bytes: BYTE_LIMIT as u64,
+        marks: size.marks() as u64,
+        subscribers: size.subscribers() as u64,
+        open_subscribers: size.open_subscribers() as u64,
     }
 }
 
@@ -61,6 +91,7 @@ fn stats_of(size: Size, counts: Counts, version: &BlockVersion, sessions: u64) -
     ensures { result ≡ stats_of size counts version.now sessions }
 {
     let characters = version.character_count() as u64;
+    let bytes = text_bytes(version);
     Stats {
         versions: counts.changes,
         characters,
@@ -69,22 +100,25 @@ fn stats_of(size: Size, counts: Counts, version: &BlockVersion, sessions: u64) -
         subscribers: counts.subscribers,
         subscribed: counts.subscribed,
         sessions,
-        bytes: version.byte_count() as u64,
+        bytes,
         lag: counts.lag,
-        used: used_by(size, counts),
+        used: used_by(size, counts, bytes),
+        limits: limits_of(size),
     }
 }
 
-/// How much of each limit of a hub is left.
+/// How much of each limit of a hub is left. Its text is looked at without its lock.
 pub(crate) fn left<N: Naming + HistoryNaming + Ledger, R: Wait + Copy>(
     rt: &R,
     hub: &Hub<'_, N, R>,
     share: &mut Share<N>,
+    published: &Published<'_, N>,
 ) -> PerLimit
     ensures { IsLook N.size share.old (λ s. IsLeft N.size s result) share.new }
 {
-    let (_, counts) = hub.counts(rt, share);
-    left_of(hub.size(), counts)
+    let (latest, counts) = hub.counts(rt, share);
+    let bytes = text_bytes(published.look(&latest));
+    left_of(hub.size(), counts, bytes)
 }
 
 /// How much there is of a hub. Its text is looked at without its lock.

@@ -109,7 +109,7 @@ fn told<'a, N: Naming + HistoryNaming + Ledger, R: Wait + Copy>(
 {
     match query {
         Query::Latest => Ok(Answer::line(Reply::Latest(hub.latest(rt, share)))),
-        Query::Left => Ok(Answer::line(Reply::Left(left(rt, hub, share)))),
+        Query::Left => Ok(Answer::line(Reply::Left(left(rt, hub, share, published)))),
         Query::Hub => Ok(Answer::line(name(id))),
         Query::Stats => Ok(Answer::line(Reply::Stats(stats(rt, hub, share, published)))),
         Query::Show {

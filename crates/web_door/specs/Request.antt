@@ -1,5 +1,5 @@
 -- What a request's head asks for: RFC 9112 (requests), RFC 6455 section 4 (handshakes) and section 10.2 (origins).
-use Rattle.std.specs.Prelude.{◌≡◌, ◌⊎◌, ℕ, ◌<◌, ◌≤◌, List, ◌++◌}
+use Rattle.std.specs.Prelude.{◌≡◌, ◌↔◌, ◌⊎◌, ℕ, ◌<◌, ◌≤◌, IsTrue, List, ◌++◌, option_map}
 use Rattle.std.specs.Prelude.{Any, take, map, length, codes, String, string_bytes, IsUtf8}
 use Rattle.std.specs.Prelude.{Option, Some, None, IsSome, IsNone, IfSome, Result, Ok, Err}
 use Rattle.std.specs.declared.alloc.Global.{Global}
@@ -45,6 +45,14 @@ parts_of head = record {
 abbrev pub IsGet : Request → Type 0
 IsGet request = request.method ≡ codes "GET"
 
+-- only the head of an answer is asked for
+abbrev pub IsHead : Request → Type 0
+IsHead request = request.method ≡ codes "HEAD"
+
+-- the methods that are answered
+abbrev pub IsTaken : Request → Type 0
+IsTaken request = IsGet request ⊎ IsHead request
+
 abbrev pub NamesSession : Request → Type 0
 NamesSession request = request.path ≡ codes "/session"
 
@@ -55,6 +63,10 @@ accept_of request = requested_key request.method request.minor request.fields
 -- the Sec-WebSocket-Key that any handshake has
 abbrev pub handshake_key : Request → Option (List ℕ)
 handshake_key request = header_value request.fields (codes "Sec-WebSocket-Key")
+
+-- the tags of what the client has
+abbrev pub known_tags : Request → Option (List ℕ)
+known_tags request = header_value request.fields (codes "If-None-Match")
 
 -- the path as a text, if it is one
 abbrev pub IsNameOf : List ℕ → Option (String Global) → Type 0
@@ -89,12 +101,12 @@ module _ {S : Type 0} (text : S → List ℕ) (origins : List S) where
 
   -- the first of these reasons that there is
   abbrev pub IsRefused : Request → Refusal → Type 0
-  IsRefused request MethodNotAllowed = ¬ (IsGet request)
-  IsRefused request Forbidden = IsGet request × NamesSession request × ¬ (IsFromWelcome request)
-  IsRefused request BadRequest = IsGet request
+  IsRefused request MethodNotAllowed = ¬ (IsTaken request)
+  IsRefused request Forbidden = IsTaken request × NamesSession request × ¬ (IsFromWelcome request)
+  IsRefused request BadRequest = IsTaken request
       × ((NamesSession request × IsFromWelcome request × ((e : HandshakeError) × Answers (Err e) (accept_of request)))
       ⊎ (¬ (NamesSession request) × IsNone (handshake_key request) × ¬ (IsUtf8 request.path)))
-  IsRefused request NotFound = IsGet request × ¬ (NamesSession request) × IsSome (handshake_key request)
+  IsRefused request NotFound = IsTaken request × ¬ (NamesSession request) × IsSome (handshake_key request)
   IsRefused request RequestTimeout = ⊥
   IsRefused request HeadTooLarge = ⊥
 
@@ -102,14 +114,16 @@ module _ {S : Type 0} (text : S → List ℕ) (origins : List S) where
   abbrev pub IsAsked : Request → Asked → Type 0
   IsAsked request (Session accept) =
       IsGet request × NamesSession request × IsFromWelcome request × Answers (Ok accept) (accept_of request)
-  IsAsked request (File name) =
-      IsGet request × ¬ (NamesSession request) × IsNone (handshake_key request) × (string_bytes name ≡ request.path)
+  IsAsked request (File file) =
+      IsTaken request × ¬ (NamesSession request) × IsNone (handshake_key request)
+      × (string_bytes file.path ≡ request.path) × (option_map (λ tags. tags.items) file.known ≡ known_tags request)
   IsAsked request (Refused refusal) = IsRefused request refusal
 
-  -- what bytes ask for whose front is a request's head, and what follows it
+  -- what bytes ask for whose front is a request's head, whether for an answer's head alone, and what follows it
   abbrev pub ReadsAsked : List ℕ → Opening → Type 0
   ReadsAsked read opening =
       (head : RequestHead) × ReadsRequest read head opening.rest.items × IsAsked (parts_of head) opening.asked
+      × (IsTrue opening.is_head ↔ IsHead (parts_of head))
 
   -- what bytes ask for that were read so far; none where the end of a head is still to come
   abbrev pub IsOpenedBy : List ℕ → Option Opening → Type 0

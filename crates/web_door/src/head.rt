@@ -1,4 +1,4 @@
-ghost use Rattle.std.specs.Prelude.{◌≡◌, ◌↔◌, ◌<◌, ℕ, List, length, codes, option_map};
+ghost use Rattle.std.specs.Prelude.{◌≡◌, ◌↔◌, ◌⊎◌, ◌<◌, ℕ, List, length, codes, option_map};
 ghost use Rattle.std.specs.Prelude.{None, Ok, All, IfOk, IfErr, IfSome, IsSome, IsTrue, OnOk};
 ghost use Rattle.std.specs.Io.KnownBytes.{Consumes};
 ghost use Rattle.httparse.specs.Grammar.{HasNoRequest};
@@ -21,8 +21,8 @@ const MAX_HEADERS: usize = 64;
 /// The most bytes of a request's head.
 const HEAD_LIMIT: usize = 16_384;
 
-/// The most reads that a head takes, each of which may wait as long as the stream lets it.
-const HEAD_READS: u32 = 16;
+/// The most reads that a head takes: what was read is looked at again behind each.
+const HEAD_READS: u32 = 64;
 
 /// Why a request is refused.
 #[derive(Clone, Copy)]
@@ -33,7 +33,7 @@ pub enum Refusal {
     Forbidden,
     /// A session is asked for at another path.
     NotFound,
-    /// Its method isn't GET.
+    /// Its method is neither GET nor HEAD.
     MethodNotAllowed,
     /// Its head did not come in time.
     RequestTimeout,
@@ -55,13 +55,21 @@ impl Refusal {
     }
 }
 
+/// A file that is asked for.
+#[derive(Drop)]
+pub struct FileRequest {
+    pub path: String,
+    /// The tags of what the client has: the value of `If-None-Match`.
+    pub known: Option<Vec<u8>>,
+}
+
 /// What a request asks for.
 #[derive(Drop)]
 pub enum Asked {
     /// To begin a session: the key that answers it.
     Session([u8; 28]),
-    /// A file, by its path.
-    File(String),
+    /// A file.
+    File(FileRequest),
     /// It is refused.
     Refused(Refusal),
 }
@@ -70,6 +78,8 @@ pub enum Asked {
 #[derive(Drop)]
 pub struct Opening {
     pub asked: Asked,
+    /// Whether only the head of an answer is asked for.
+    pub is_head: bool,
     pub rest: Vec<u8>,
 }
 
@@ -134,6 +144,36 @@ fn file_name(alloc: Global, path: &[u8]) -> Result<Option<String>, AllocError>
     }
 }
 
+/// The tags of what the client has.
+fn known_tags(
+    alloc: Global,
+    head: &[u8],
+    lines: &[HeaderSpan],
+) -> Result<Option<Vec<u8>>, AllocError>
+    requires { All (IsHeaderWithin (length head.now)) lines.now }
+    ensures { IfOk result (λ tags. option_map (λ v. v.items) tags
+        ≡ header_value (fields_of head.now lines.now) (codes "If-None-Match")) }
+{
+    match header(head, lines, b"If-None-Match") {
+        Some(tags) => Ok(Some(Vec::from_slice(alloc, tags)?)),
+        None => Ok(None),
+    }
+}
+
+/// Whether a method is GET or HEAD.
+fn is_taken(method: &[u8]) -> bool
+    ensures { IsTrue result ↔ (method.now ≡ codes "GET") ⊎ (method.now ≡ codes "HEAD") }
+{
+    method == b"GET".as_slice() || method == b"HEAD".as_slice()
+}
+
+/// Whether a method asks for the head of an answer alone.
+fn wants_head(method: &[u8]) -> bool
+    ensures { IsTrue result ↔ (method.now ≡ codes "HEAD") }
+{
+    method == b"HEAD".as_slice()
+}
+
 /// What a whole head asks for.
 fn asked_by<S: AsStr>(
     alloc: Global,
@@ -147,7 +187,7 @@ fn asked_by<S: AsStr>(
 {
     let path = found.path.of(head);
     let lines = &spans[..found.headers];
-    if found.method.of(head) != b"GET".as_slice() {
+    if !is_taken(found.method.of(head)) {
         return Ok(Asked::Refused(Refusal::MethodNotAllowed));
     }
     if path == b"/session".as_slice() {
@@ -163,7 +203,10 @@ fn asked_by<S: AsStr>(
         return Ok(Asked::Refused(Refusal::NotFound));
     }
     match file_name(alloc, path)? {
-        Some(name) => Ok(Asked::File(name)),
+        Some(path) => {
+            let known = known_tags(alloc, head, lines)?;
+            Ok(Asked::File(FileRequest { path, known }))
+        }
         None => Ok(Asked::Refused(Refusal::BadRequest)),
     }
 }
@@ -191,12 +234,18 @@ fn opened_by<S: AsStr>(alloc: Global, read: &[u8], origins: &[S]) -> io::Result<
     match find_head(read, &mut spans) {
         Ok(Some(found)) => {
             let asked = asked_by(alloc, read, &found, &spans, origins)?;
+            let is_head = wants_head(found.method.of(read));
             let rest = Vec::from_slice(alloc, &read[found.len..])?;
-            Ok(Some(Opening { asked, rest }))
+            Ok(Some(Opening {
+                asked,
+                is_head,
+                rest,
+            }))
         }
         Ok(None) => Ok(None),
         Err(refusal) => Ok(Some(Opening {
             asked: Asked::Refused(refusal),
+            is_head: false,
             rest: Vec::new(alloc),
         })),
     }
@@ -266,6 +315,7 @@ fn late(alloc: Global) -> Opening
 {
     Opening {
         asked: Asked::Refused(Refusal::RequestTimeout),
+        is_head: false,
         rest: Vec::new(alloc),
     }
 }
@@ -277,34 +327,5 @@ pub fn write_accept<W: Write>(alloc: Global, writer: &mut W, accept: &[u8; 28]) 
         return Err(io::Error::from(ErrorKind::OutOfMemory));
     }
     writer.write_all(&out)?;
-    writer.flush()
-}
-
-/// Writes the head of an answer, which says that the connection is closed behind it.
-pub fn write_head<W: Write>(
-    writer: &mut W,
-    status: &str,
-    kind: &str,
-    length: u64,
-) -> io::Result<()> {
-    write!(
-        writer,
-        "HTTP/1.1 {status}\r\ncontent-type: {kind}\r\ncontent-length: {length}\r\n"
-    )?;
-    write!(
-        writer,
-        "x-content-type-options: nosniff\r\ncache-control: no-cache\r\nconnection: close\r\n\r\n"
-    )
-}
-
-/// Answers a request whole, and says that the connection is closed behind it.
-pub fn write_answer<W: Write>(
-    writer: &mut W,
-    status: &str,
-    kind: &str,
-    body: &[u8],
-) -> io::Result<()> {
-    write_head(writer, status, kind, body.len() as u64)?;
-    writer.write_all(body)?;
     writer.flush()
 }

@@ -17,8 +17,18 @@ use tungstenite::{
 };
 use websocket::error::ProtocolError;
 
-/// The most bytes of one message of a client, all fragments together.
-pub const MESSAGE_LIMIT: usize = 1 << 22;
+/// The most bytes of a header of a change: `change2`, a node and a count.
+const HEADER_BYTES: usize = 18;
+
+/// The most lines of a change behind its header.
+const CHANGE_LINES: usize = 256;
+
+/// The most bytes of one of these lines: a mark whose link has 1,024 bytes, at the greatest ids.
+const CHANGE_LINE_BYTES: usize = 1_100;
+
+/// The most bytes of one message of a client, all fragments together: those of the longest request that can be
+/// accepted, a change.
+pub const MESSAGE_LIMIT: usize = HEADER_BYTES + CHANGE_LINES * CHANGE_LINE_BYTES;
 
 /// The most pings in a row that nothing follows.
 const SILENCES: u32 = 3;

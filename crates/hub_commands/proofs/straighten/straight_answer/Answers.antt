@@ -1,5 +1,5 @@
 use Rattle.std.proofs.Common.{◌≡◌, ℕ, List, ◌∙◌, ap}
-use Rattle.refusals.specs.declared.reason.Reason.TheVariants.{Unverified}
+use Rattle.refusals.specs.declared.reason.Reason.{Reason}
 use Rattle.hub_commands.specs.Answers.{Answer, done}
 use Rattle.hub_commands.specs.Hexadecimal.{slot_lines}
 use Rattle.hub_commands.specs.Reasons.{refusal}
@@ -15,5 +15,5 @@ returns-in_ok-slot_lines-in-Ok c =
 
 pub returns-in-Err : goal.returns-in-Err
 returns-in-Err c =
-    mapped (λ (reply : Answer). reply ≡ refusal (Unverified c.verdict_of.result)) (λ (reply : Answer). IsStraightReply c.args.words.now reply) c.refused.result c.refused.ensures
-    (λ reply e. refused_by c.in-Err.error c.in-Err.ensures.refused (e ∙ ap (λ v. refusal (Unverified v)) c.verdict_of.ensures))
+    mapped (λ (reply : Answer). reply ≡ refusal c.reason_of.result) (λ (reply : Answer). IsStraightReply c.args.words.now reply) c.refused.result c.refused.ensures
+    (λ reply e. refused_by c.in-Err.error c.in-Err.ensures.refused (e ∙ ap (λ (reason : Reason). refusal reason) c.reason_of.ensures))

@@ -1,4 +1,4 @@
-use Rattle.std.proofs.Common.{[], ◌++◌, refl, sym, subst, ap, ◌∙◌, append_assoc, string_bytes, inr}
+use Rattle.std.proofs.Common.{[], ◌++◌, refl, sym, subst, ap, ◌∙◌, append_assoc, string_bytes, inl, inr}
 use Rattle.refusals.specs.declared.reason.Reason.TheVariants as reason
 use Rattle.session_lines.specs.Replies.{reason_of}
 use Rattle.session_lines.specs.Requests.{IsNext}
@@ -40,10 +40,19 @@ returns-in_ok-push_line-in-Refused-clause-ok g c = (
 
 pub returns-in_ok-push_line-in-TooLong-clause-ok : goal.returns-in_ok-push_line-in-TooLong-clause-ok
 returns-in_ok-push_line-in-TooLong-clause-ok g c = (
-  inr (
+  inr (inl (
     subst (λ n. IsNext c.args.lines.now.left n c.next_request.new.reader.left) c.in-TooLong.is c.in_ok-request.ensures,
     refused_line _ _ reason.LineTooLong _ c.in_ok-push_line-in-TooLong.ensures.ok c.empty_reply.ensures refl,
-  ),
+  )),
+  refl,
+)
+
+pub returns-in_ok-push_line-in-Foreign-clause-ok : goal.returns-in_ok-push_line-in-Foreign-clause-ok
+returns-in_ok-push_line-in-Foreign-clause-ok g c = (
+  inr (inr (
+    subst (λ n. IsNext c.args.lines.now.left n c.next_request.new.reader.left) c.in-Foreign.is c.in_ok-request.ensures,
+    refused_line _ _ reason.BadCommand _ c.in_ok-push_line-in-Foreign.ensures.ok c.empty_reply.ensures refl,
+  )),
   refl,
 )
 
@@ -72,3 +81,6 @@ returns-in_err-push_line-in-Refused-clause-err g c = broke_still c.from_residual
 
 pub returns-in_err-push_line-in-TooLong-clause-err : goal.returns-in_err-push_line-in-TooLong-clause-err
 returns-in_err-push_line-in-TooLong-clause-err g c = broke_still c.from_residual-in_err-push_line-in-TooLong.result _ _ _ _ (c.in_err-push_line-in-TooLong.ensures.err ∙ c.empty_reply.ensures)
+
+pub returns-in_err-push_line-in-Foreign-clause-err : goal.returns-in_err-push_line-in-Foreign-clause-err
+returns-in_err-push_line-in-Foreign-clause-err g c = broke_still c.from_residual-in_err-push_line-in-Foreign.result _ _ _ _ (c.in_err-push_line-in-Foreign.ensures.err ∙ c.empty_reply.ensures)
