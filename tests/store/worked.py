@@ -13,21 +13,22 @@ def run(hub, store, words, given):
     return done.returncode, done.stdout.decode()
 
 
-def spans(hub, texts):
-    done = subprocess.run([hub, "spans"], input="".join(texts).encode(), stdout=subprocess.PIPE, check=True)
+def spans(hub, texts, size):
+    done = subprocess.run([hub, "spans", *size], input="".join(texts).encode(), stdout=subprocess.PIPE, check=True)
     return done.stdout.decode().split("\n")[:-1]
 
 
 def try_case(hub, store, words, given, printed):
     """One case on a new store. Returns how many changes are in it."""
     same(run(hub, store, words, given), (0, printed), "a session with a store")
+    size = words[words.index("--size") :][:2] if "--size" in words else []
     count = sum(line.startswith("ok version ") for line in printed.splitlines())
     texts = kept(store)
     same(len(texts), count, "changes in the store")
-    expect(replayed_changes(hub, store, count)[0] == texts, "another hub has other changes")
-    status, lines = replayed(hub, store, *(f"show {count} {first} 1024" for first in range(0, 1 << 13, 1 << 10)))
+    expect(replayed_changes(hub, store, count, options=size)[0] == texts, "another hub has other changes")
+    status, lines = replayed(hub, store, *(f"show {count} {first} 1024" for first in range(0, 1 << 13, 1 << 10)), options=size)
     found = [line.removeprefix("span ") for line in lines if line.startswith("span ")]
-    same((status, found), (0, spans(hub, texts)[: 1 << 13]), "the spans of a hub that starts from it")
+    same((status, found), (0, spans(hub, texts, size)[: 1 << 13]), "the spans of a hub that starts from it")
     return count
 
 
