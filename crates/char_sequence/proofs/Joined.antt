@@ -164,3 +164,11 @@ joined_few (x ∷ xs) m each =
 pub shape_none : (cs : List (List Element)) (m : ℕ) → length cs ≡ 0 → (m ≡ 0) ⊎ ((i : ℕ) × ((c : List Element) × (slice_get cs i ≡ Some c) × (length c ≡ m))) → m ≡ 0
 shape_none cs m none (inl e) = e
 shape_none cs m none (inr (i, (c, g, is))) = absurd (let low = slice_get_within cs i c g in omega (arith, low, none))
+
+-- a place within a chunk, among all elements
+pub element_in : (cs : List (List Element)) (i start place : ℕ) (c : List Element) (e : Element) → slice_get cs i ≡ Some c → start ≡ start_of cs i → start ≤ place
+    → slice_get c (place - start) ≡ Some e → Some e ≡ slice_get (joined cs) place
+element_in cs i start place c e here is reached at =
+    let within : place - start < length c = slice_get_within c (place - start) e at in
+    let same : start_of cs i + (place - start) ≡ place = omega (arith, is, reached) in
+    sym (ap (slice_get (joined cs)) (sym same) ∙ joined_get cs i c (place - start) here within ∙ at)

@@ -297,6 +297,18 @@ impl ChunkList {
         Some(self.counts.length_before(spot.position) + spot.at)
     }
 
+    /// The element at a place, if there is one.
+    pub(crate) fn element_at(&self, place: usize) -> Option<Element>
+        ensures { result ≡ slice_get (joined self.now.chunks) place }
+    {
+        let found = self.counts.chunk_at(place);
+        if found.position == self.chunks.len() {
+            return None;
+        }
+        let element = self.chunks[found.position].as_slice()[place - found.start];
+        Some(element)
+    }
+
     /// The elements from a place on, to read the visible ones of them.
     pub(crate) fn visible_from(&self, place: usize) -> VisibleCursor<'_>
         requires { place ≤ length (joined self.now.chunks) }

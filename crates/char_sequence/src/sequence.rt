@@ -295,6 +295,13 @@ impl Sequence {
         }
     }
 
+    /// The character at a place, which counts removed ones too, if there is one.
+    pub fn element_at(&self, place: usize) -> Option<Element>
+        ensures { result ≡ slice_get self.now.elements place }
+    {
+        self.elements.element_at(place)
+    }
+
     /// The number of characters, removed ones too.
     pub fn len(&self) -> usize
         ensures value { result ≡ length self.now.elements }
