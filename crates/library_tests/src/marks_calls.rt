@@ -3,7 +3,7 @@ use change_ops::id::OpId;
 use change_ops::line::Line;
 use change_ops::operation::{Anchor, Op};
 use mark_anchors::marks::Marks;
-use std::alloc::Global;
+use std::alloc::{AllocError, Global};
 use std::test::Fail;
 use test_inputs::lines::lines;
 
@@ -40,22 +40,41 @@ fn are_counters(ids: &[OpId], counters: &[u64]) -> bool {
 }
 
 /// Whether the marks of these counters begin and end at the anchor.
-fn are_at(marks: &Marks, anchor: Anchor, begins: &[u64], ends: &[u64]) -> bool {
-    are_counters(marks.begin_at(&anchor), begins) && are_counters(marks.end_at(&anchor), ends)
+fn are_at(
+    alloc: Global,
+    marks: &Marks,
+    anchor: Anchor,
+    begins: &[u64],
+    ends: &[u64],
+) -> Result<bool, AllocError> {
+    let beginning = marks.begin_at(alloc, &anchor)?;
+    let ending = marks.end_at(alloc, &anchor)?;
+    Ok(are_counters(&beginning, begins) && are_counters(&ending, ends))
+}
+
+/// The character of this counter.
+fn character(counter: u64) -> Result<OpId, Fail> {
+    let id = OpId::new(counter, 1).ok_or("an id is refused")?;
+    Ok(id)
 }
 
 /// Whether each mark is at its two anchors.
-fn are_at_their_anchors(marks: &Marks) -> Option<bool> {
-    let first = OpId::new(1, 1)?;
-    let second = OpId::new(2, 1)?;
-    let third = OpId::new(3, 1)?;
-    let before = are_at(marks, Anchor::TextStart, &[8], &[])
-        && are_at(marks, Anchor::BeforeCharacter(first), &[], &[7])
-        && are_at(marks, Anchor::BeforeCharacter(second), &[6], &[8]);
-    let after = are_at(marks, Anchor::AfterCharacter(second), &[5, 9, 10], &[6, 9])
-        && are_at(marks, Anchor::AfterCharacter(third), &[7], &[10])
-        && are_at(marks, Anchor::TextEnd, &[], &[5]);
-    Some(before && after)
+fn are_at_their_anchors(alloc: Global, marks: &Marks) -> Result<bool, Fail> {
+    let first = character(1)?;
+    let second = character(2)?;
+    let third = character(3)?;
+    let before = are_at(alloc, marks, Anchor::TextStart, &[8], &[])?
+        && are_at(alloc, marks, Anchor::BeforeCharacter(first), &[], &[7])?
+        && are_at(alloc, marks, Anchor::BeforeCharacter(second), &[6], &[8])?;
+    let after = are_at(
+        alloc,
+        marks,
+        Anchor::AfterCharacter(second),
+        &[5, 9, 10],
+        &[6, 9],
+    )? && are_at(alloc, marks, Anchor::AfterCharacter(third), &[7], &[10])?
+        && are_at(alloc, marks, Anchor::TextEnd, &[], &[5])?;
+    Ok(before && after)
 }
 
 /// The counter of the mark of this counter, if it is there.
@@ -72,7 +91,7 @@ fn are_found(marks: &Marks) -> bool {
 #[test]
 fn marks_are_asked(rt: HostRuntime) -> Result<(), Fail> {
     let marks = marks_of(rt.alloc(), CHANGE)?;
-    let are_right = are_at_their_anchors(&marks) == Some(true) && are_found(&marks);
+    let are_right = are_at_their_anchors(rt.alloc(), &marks)? && are_found(&marks);
     assert!(rt; are_right && !marks.is_full());
     Ok(())
 }

@@ -50,12 +50,6 @@ placed_skipped es operations key k o marks at not first = record {
       (first_or_last operations k j o x l at g);
 }
 
--- a placed mark is one of the operations
-pub in_range : (es : List Element) (operations : List Op) (key : Key) (k : ℕ) (marks : List PlacedMark) → AreFirstPlaced es operations key k marks → (i : ℕ) (p : PlacedMark) → slice_get marks i ≡ Some p → p.index < length operations
-in_range es operations key k marks first i p g =
-    let r = first.placed i p g in
-    slice_get_within operations p.index r.0 r.1
-
 -- the order in which the marks stand doesn't matter
 pub placed_permuted : (es : List Element) (operations : List Op) (key : Key) (k : ℕ) (xs ys : List PlacedMark) → IsPermutation xs ys → AreFirstPlaced es operations key k xs → AreFirstPlaced es operations key k ys
 placed_permuted es operations key k xs ys permuted first = record {

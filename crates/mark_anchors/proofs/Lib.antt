@@ -1,9 +1,7 @@
 pub mod Lists
-pub mod Rising
 pub mod Formats
-pub mod Entries
-pub mod AnchorLists
-pub mod Holding
+pub mod IdOrder
+pub mod AtAnchor
 pub mod MarkLaws
 mod Nearby
 pub mod Places
@@ -11,9 +9,11 @@ pub mod AnchorOrder
 pub mod Deciding
 pub mod Gathering
 pub mod Values
+pub mod Adding
 pub mod Commenting
 pub mod Grouping
 pub mod Uniform
+pub mod Windows
 pub mod Cuts
 pub mod FormatLaws
 pub mod Jumps
@@ -21,6 +21,7 @@ pub mod Alike
 pub mod Painting
 pub mod Stretching
 pub mod Running
+pub mod Segments
 pub mod Lengthening
 pub mod Passing
 pub mod Counting

@@ -1,28 +1,25 @@
 -- Marks painted over places, one after another.
-use Rattle.std.proofs.Common.{◌≡◌, ◌≢◌, ℕ, ◌+◌, ◌<◌, ◌≤◌, ◌↔◌, List, [], ◌∷◌, ◌++◌, Option, Some, None, ◌⊎◌, inl, inr, length, get_or, sym, ap, refl, ◌∙◌, subst, ⊎_elim, arith, rules, Bor}
+use Rattle.std.proofs.Common.{◌≡◌, ◌≢◌, ℕ, ◌+◌, ◌<◌, ◌≤◌, ◌↔◌, List, [], ◌∷◌, ◌++◌, Option, Some, None, ◌⊎◌, inl, inr, length, get_or, sym, ap, refl, ◌∙◌, subst, ⊎_elim, arith, Bor}
 use Rattle.std.specs.List.{slice_get, Contains}
 use Rattle.std.proofs.Math.ListN.{set}
 use Rattle.std.proofs.lemmas.List.{length-set}
-use Rattle.std.specs.List.Sorted.{IsStrictlyIncreasing, IsBinarySearchResult, IsSortedByKey, IsNonDecreasingBy}
-use Rattle.std.specs.Cmp.{IsTotalOrder}
-use Rattle.std.specs.Cmp.Rules.{comparing}
-use Rattle.std.specs.Ordering.{nat_cmp, ordering_index}
+use Rattle.std.specs.List.Sorted.{IsStrictlyIncreasing, IsBinarySearchResult, IsSortedByKey}
+use Rattle.std.specs.Ordering.{nat_cmp}
 use Rattle.std.specs.declared.result.Result.TheVariants.{Ok, Err}
 use Rattle.std.specs.Option.{option_copied}
 use Rattle.std.specs.Slice.{IsItemAt}
 use Rattle.std.proofs.lemmas.Bool.{cases_lt, cases_eq, false≢true, ltb-true, lt-ltb}
 use Rattle.std.proofs.lemmas.List.Elements.{Contains-append_left, Contains-push, Contains-push_cases}
 use Rattle.std.proofs.lemmas.List.Kept.{AllPairs-from_increasing}
-use Rattle.std.proofs.lemmas.List.Sorted.{searched, searchable_from_sorted}
+use Rattle.std.proofs.lemmas.List.Sorted.{searched}
 use Rattle.std.proofs.lemmas.Option.{same_Some, none-some, slice_get_within, slice_get_past, slice_get_read, get_or_from_slice_get}
 use Rattle.change_ops.specs.Ids.{Less, id_cmp}
-use Rattle.change_ops.specs.declared.id.OpId.{OpId}
-use Rattle.change_ops.proofs.IdLaws.{compares_ids}
 use Rattle.char_sequence.proofs.Ids.{less_irrefl}
 use Rattle.char_sequence.proofs.Lists.{slice_get_set_same, slice_get_set_other}
 use Rattle.mark_anchors.specs.Placed.{CoversPlace, IsBest}
 use Rattle.mark_anchors.specs.KeyMarks.{AreById, IsEndOf, IsCountBelow, IsCountUpTo, ArePainted, AreOver, numbered, ArePaintedFrom, IsLast, IsFree, NoneFree, AreJumpsOver}
 use Rattle.mark_anchors.specs.declared.placed.PlacedMark.{PlacedMark}
+use Rattle.mark_anchors.proofs.IdOrder.{never_falls}
 use Rattle.mark_anchors.proofs.Lists.{contains_at, contains_from, item_at}
 
 -- ---- how many places are before one
@@ -64,31 +61,8 @@ pub gap : (xs : List ℕ) → IsStrictlyIncreasing xs → (x : ℕ) → (n : ℕ
 gap xs rising x n is = let r = searched xs x (Err n) is (ascending xs rising) in below_gap xs x n r.1 r.2
 
 -- ---- marks by their ids
-id_total : IsTotalOrder id_cmp
-id_total = search (comparing, rules)
-
-greater_index : (a b : OpId) → Less b a → ordering_index (id_cmp a b) ≡ 2
-greater_index a b less = ap ordering_index ((compares_ids a b).greater.1 less)
-
-equal_index : (a : OpId) → ordering_index (id_cmp a a) ≡ 1
-equal_index a = ap ordering_index ((compares_ids a a).equal.1 refl)
-
-non_decreasing : {X : Type 0} (n : X → ℕ) (xs : List X) → IsNonDecreasingBy n xs → (i j : ℕ) (x y : X) → i < j → slice_get xs i ≡ Some x → slice_get xs j ≡ Some y → n x ≤ n y
-non_decreasing n xs h i j x y less at next =
-    let here : get_or xs i x ≡ x = get_or_from_slice_get xs i x x at in
-    let there : get_or xs j x ≡ y = get_or_from_slice_get xs j y x next in
-    let le : n (get_or xs i x) ≤ n (get_or xs j x) = h i j x (omega arith) (slice_get_within xs j y next) in
-    let one : n (get_or xs i x) ≡ n x = ap n here in
-    let two : n (get_or xs j x) ≡ n y = ap n there in
-    omega arith
-
 pub by_id_from_sort : (marks : List PlacedMark) → IsSortedByKey (λ (p : PlacedMark). p.id) id_cmp marks → AreById marks
-by_id_from_sort marks sorted i j p q less at next below =
-    let rise = searchable_from_sorted id_total (λ (m : PlacedMark). m.id) marks q.id sorted in
-    let le = non_decreasing (λ (m : PlacedMark). ordering_index (id_cmp m.id q.id)) marks rise i j p q less at next in
-    let one : ordering_index (id_cmp q.id q.id) ≡ 1 = equal_index q.id in
-    let two : ordering_index (id_cmp p.id q.id) ≡ 2 = greater_index p.id q.id below in
-    absurd (omega arith)
+by_id_from_sort marks sorted = never_falls (λ (p : PlacedMark). p.id) marks sorted
 
 -- ---- one mark more, below those that are painted
 -- where there was no number, from one index up to another, is this number, and the others are as they were

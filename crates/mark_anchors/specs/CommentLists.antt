@@ -1,29 +1,24 @@
 -- The comments on a character, by the runs of its version.
-use Rattle.std.specs.Prelude.{◌≡◌, ◌↔◌, ℕ, List, [], Option, Some, None, count_by, length, nat_le}
+use Rattle.std.specs.Prelude.{◌≡◌, ◌+◌, ◌↔◌, ℕ, List, [], Option, Some, None, count_by, length, nat_le, slice_get}
 use Rattle.std.specs.Arc.{arc_slice_items}
 use Rattle.std.specs.List.Sorted.{IsStrictlyIncreasing, IsNonDecreasingBy, IsPermutation}
 use Rattle.std.specs.declared.sync.ArcSlice.{ArcSlice}
+use Rattle.std.specs.declared.vec.Vec.{Vec}
 use Rattle.mark_anchors.specs.CommentRuns.{AreOrderly, HasRun, numbers_at}
+use Rattle.mark_anchors.specs.KeyMarks.{IsCountUpTo}
 use Rattle.mark_anchors.specs.declared.comment_runs.CommentRun.{CommentRun}
-
--- the shared runs, or none
-abbrev pub runs_in : {A : Type 0} → Option (ArcSlice CommentRun A) → List CommentRun
-runs_in None = []
-runs_in (Some runs) = arc_slice_items runs
 
 -- the numbers of the shared runs that have the place
 abbrev pub numbers_in : {A : Type 0} → Option (ArcSlice CommentRun A) → ℕ → List ℕ
 numbers_in None place = []
 numbers_in (Some runs) place = numbers_at (arc_slice_items runs) place
 
--- orderly runs, of which `count` have the place
-pub record AreCounted (runs : List CommentRun) (place count : ℕ) : Type 0 where
-  pub orderly : AreOrderly runs
-  pub counted : count ≡ length (numbers_at runs place)
+-- `count` of the runs have the place
+abbrev pub AreCounted : List CommentRun → ℕ → ℕ → Type 0
+AreCounted runs place count = count ≡ length (numbers_at runs place)
 
--- shared runs in order, of which `count` have the place, by rising numbers
+-- shared runs, of which `count` have the place, by rising numbers
 pub record IsList {A : Type 0} (runs : Option (ArcSlice CommentRun A)) (place count : ℕ) : Type 0 where
-  pub orderly : AreOrderly (runs_in runs)
   pub counted : count ≡ length (numbers_in runs place)
   pub rising : IsStrictlyIncreasing (numbers_in runs place)
 
@@ -55,3 +50,19 @@ AreAlike runs first second = numbers_at runs first ≡ numbers_at runs second
 -- the comment of the number holds at both places or at neither
 abbrev pub IsSteady : List CommentRun → ℕ → ℕ → ℕ → Type 0
 IsSteady runs n first second = HasRun runs n first ↔ HasRun runs n second
+
+-- the runs of a vector
+abbrev pub vec_runs : {A : Type 0} → Vec CommentRun A → List CommentRun
+vec_runs runs = runs.items
+
+-- none of the lists has a run
+abbrev pub AreEmpty : {A : Type 0} → List (Vec CommentRun A) → Type 0
+AreEmpty {A} lists = (i : ℕ) (l : Vec CommentRun A) → slice_get lists i ≡ Some l → vec_runs l ≡ []
+
+-- each segment, between two cuts side by side, has runs with the numbers that all runs have at its places
+pub record AreSegments {S : Type 0} (runs_of : S → List CommentRun) (runs : List CommentRun) (cuts : List ℕ)
+    (segments : List S) : Type 0 where
+  pub rising : IsStrictlyIncreasing cuts
+  pub sized : length segments ≡ length cuts + 1
+  pub same : (i place : ℕ) (s : S) → slice_get segments i ≡ Some s → IsCountUpTo cuts place i
+      → numbers_at (runs_of s) place ≡ numbers_at runs place

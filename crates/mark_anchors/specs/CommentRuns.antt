@@ -3,12 +3,15 @@ use Rattle.std.specs.Prelude.{◌≡◌, ℕ, ◌<◌, ◌≤◌, ◌^◌, ◌�
 use Rattle.std.specs.Prelude.{Contains, slice_get}
 use Rattle.change_ops.specs.declared.id.OpId.{OpId}
 use Rattle.change_ops.specs.declared.attribute.Attribute.TheVariants.{Comment}
+use Rattle.change_ops.specs.declared.attribute.Key.TheVariants as key
 use Rattle.change_ops.specs.declared.operation.Op.{Op}
 use Rattle.char_sequence.specs.declared.sequence.Element.{Element}
 use Rattle.char_sequence.specs.Order.{Shows, IsAt}
 use Rattle.mark_anchors.specs.Format.{Bears}
 use Rattle.mark_anchors.specs.Marks.{AreMarks}
+use Rattle.mark_anchors.specs.Placed.{ArePlaced}
 use Rattle.mark_anchors.specs.declared.comment_runs.CommentRun.{CommentRun}
+use Rattle.mark_anchors.specs.declared.placed.PlacedMark.{PlacedMark}
 
 abbrev pub HasPlace : CommentRun → ℕ → Type 0
 HasPlace run place = (run.from ≤ place) × (place < run.to)
@@ -62,3 +65,12 @@ IsCovered es operations runs n =
 pub record AreHolding (es : List Element) (operations : List Op) (runs : List CommentRun) : Type 0 where
   pub held : AreHeld es operations runs
   pub covered : (n : ℕ) → IsCovered es operations runs n
+
+-- the runs of lesser numbers that were there, and behind them those of the comment with these marks
+pub record AreAdded (operations : List Op) (n : ℕ) (marks : List PlacedMark) (old new : List CommentRun) : Type 0 where
+  pub orderly : AreOrderly new
+  pub up_to : (run : CommentRun) → Contains new run → run.number ≤ n
+  pub kept : (m place : ℕ) → HasRun old m place → HasRun new m place
+  pub held : (es : List Element) → ArePlaced es operations (key.Comment n) marks → AreHeld es operations old
+      → AreHeld es operations new
+  pub covered : (es : List Element) → ArePlaced es operations (key.Comment n) marks → IsCovered es operations new n

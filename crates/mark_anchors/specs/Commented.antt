@@ -1,34 +1,40 @@
--- The marks of each comment.
-use Rattle.std.specs.Prelude.{◌≡◌, ℕ, List, [], Some, Contains, map, slice_get}
-use Rattle.std.specs.declared.vec.Vec.{Vec}
-use Rattle.std.specs.List.Sorted.{IsStrictlyIncreasing}
+-- The marks of comments.
+use Rattle.std.specs.Prelude.{◌≡◌, ◌<◌, ◌≤◌, ℕ, List, Some, Contains, length, map, slice_get}
+use Rattle.std.specs.List.Sorted.{IsNonDecreasingBy}
 use Rattle.change_ops.specs.declared.attribute.Key.TheVariants.{Comment}
 use Rattle.change_ops.specs.declared.operation.Op.{Op}
 use Rattle.char_sequence.specs.declared.sequence.Element.{Element}
 use Rattle.mark_anchors.specs.Places.{IsOfKey}
-use Rattle.mark_anchors.specs.Placed.{ArePlaced, AreFirstPlaced}
+use Rattle.mark_anchors.specs.Placed.{IsPlaced}
 use Rattle.mark_anchors.specs.declared.placed.PlacedMark.{PlacedMark}
-use Rattle.mark_anchors.specs.declared.comments.CommentMarks.{CommentMarks}
+use Rattle.mark_anchors.specs.declared.comments.CommentMark.{CommentMark}
 
--- each comment of a mark has its number in the list
-abbrev pub AreNumbered : List PlacedMark → List ℕ → Type 0
-AreNumbered marks numbers = (n : ℕ) (p : PlacedMark) → Contains marks p → p.key ≡ Comment n → Contains numbers n
+abbrev pub number_of : CommentMark → ℕ
+number_of comment = comment.number
 
-abbrev pub AreEmpty : {A : Type 0} → List (Vec PlacedMark A) → Type 0
-AreEmpty {A} groups = (i : ℕ) (g : Vec PlacedMark A) → slice_get groups i ≡ Some g → g.items ≡ []
+-- the marks alone
+abbrev pub placed_of : List CommentMark → List PlacedMark
+placed_of comments = map (λ c. c.mark) comments
 
--- each group has the marks of the comment of its number among the first `count` operations
-abbrev pub AreGrouped : {A : Type 0} → List Element → List Op → ℕ → List ℕ → List (Vec PlacedMark A) → Type 0
-AreGrouped {A} es operations count numbers groups =
-    (i n : ℕ) (g : Vec PlacedMark A) → slice_get numbers i ≡ Some n → slice_get groups i ≡ Some g
-    → AreFirstPlaced es operations (Comment n) count g.items
+-- those of the marks that are of comments, with the comments' numbers
+pub record AreNumbered (marks : List PlacedMark) (comments : List CommentMark) : Type 0 where
+  pub held : (c : CommentMark) → Contains comments c → Contains marks c.mark × (c.mark.key ≡ Comment c.number)
+  pub every : (n : ℕ) (p : PlacedMark) → Contains marks p → p.key ≡ Comment n
+      → Contains comments (record { number = n; mark = p })
 
-abbrev pub numbers_of : List CommentMarks → List ℕ
-numbers_of comments = map (λ c. c.number) comments
+-- the operations on comments with their places, by rising numbers of the comments
+pub record AreCommented (es : List Element) (operations : List Op) (comments : List CommentMark) : Type 0 where
+  pub rising : IsNonDecreasingBy number_of comments
+  pub placed : (c : CommentMark) → Contains comments c
+      → (o : Op) × (slice_get operations c.mark.index ≡ Some o) × IsPlaced es (Comment c.number) o c.mark
+  pub every : (j n : ℕ) (o : Op) → slice_get operations j ≡ Some o → IsOfKey (Comment n) o
+      → (c : CommentMark) × Contains comments c × (c.number ≡ n) × (c.mark.index ≡ j)
 
--- the marks of each comment, by rising numbers
-pub record AreCommented (es : List Element) (operations : List Op) (comments : List CommentMarks) : Type 0 where
-  pub each : (i : ℕ) (c : CommentMarks) → slice_get comments i ≡ Some c
-      → ArePlaced es operations (Comment c.number) c.marks
-  pub rising : IsStrictlyIncreasing (numbers_of comments)
-  pub every : (n : ℕ) (o : Op) → Contains operations o → IsOfKey (Comment n) o → Contains (numbers_of comments) n
+-- the marks from the one index up to the other are of one comment, and the next is of another
+pub record IsCommentEnd (comments : List CommentMark) (from to : ℕ) : Type 0 where
+  pub some : from < to
+  pub within : to ≤ length comments
+  pub same : (i : ℕ) (first c : CommentMark) → from ≤ i → i < to → slice_get comments from ≡ Some first
+      → slice_get comments i ≡ Some c → c.number ≡ first.number
+  pub next : (first c : CommentMark) → slice_get comments from ≡ Some first → slice_get comments to ≡ Some c
+      → c.number ≡ first.number → ⊥

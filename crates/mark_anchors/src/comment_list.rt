@@ -1,10 +1,10 @@
 //! The comments on a character.
-ghost use Rattle.std.specs.Prelude.{◌≡◌, ◌+◌, ◌<◌, ◌≤◌, ◌∷◌, ◌↔◌, [], false, IfSome, IsTrue, MatchOption, Some, drop};
-ghost use Rattle.std.specs.Prelude.{length, slice_get};
+ghost use Rattle.std.specs.Prelude.{◌≡◌, ◌+◌, ◌<◌, ◌∷◌, ◌↔◌, [], IfSome, IsTrue, MatchOption, Some, drop, length};
+ghost use Rattle.std.specs.Prelude.{slice_get};
 ghost use Rattle.std.specs.List.Sorted.{IsStrictlyIncreasing};
 ghost use Rattle.std.specs.Iterator.{UpTo, YieldsFirst, item_count};
 ghost use Rattle.std.specs.Iterator.SizeHint.{IsWithinCount};
-ghost use Rattle.mark_anchors.specs.CommentRuns.{has_place, numbers_at, AreOrderly};
+ghost use Rattle.mark_anchors.specs.CommentRuns.{numbers_at};
 ghost use Rattle.mark_anchors.specs.declared.comment_runs.CommentRun.{CommentRun};
 
 use crate::comment_runs::CommentRun;
@@ -13,8 +13,8 @@ use std::alloc::{AllocError, Global};
 use std::marker::Model;
 use std::sync::ArcSlice;
 
-/// The numbers of the comments on a character, as the character's place and the runs of its version, which the
-/// version's formats share. Contracts see the numbers.
+/// The numbers of the comments on a character, as the character's place and the runs of the place's segment, which the
+/// formats there share. Contracts see the numbers.
 pub(crate) struct CommentList {
     /// None where there is no comment.
     pub(crate) runs: Option<ArcSlice<CommentRun, Global>>,
@@ -122,40 +122,17 @@ impl<'a> Model for CommentNumbers<'a> {
     ghost invariant = { λ c. AreCounted c.runs.now c.place c.count };
 }
 
-/// How many runs, from one on that doesn't have the place, can be passed over because they don't have it either: up to
-/// the one of the comment's that can, or to the next comment.
-fn count_without(runs: &[CommentRun], first: CommentRun, place: usize) -> usize
-    requires orderly { AreOrderly runs.now }
-    requires first { slice_get runs.now 0 ≡ Some first }
-    requires without { has_place first place ≡ false }
-    ensures some { 0 < result }
-    ensures within { result ≤ length runs.now }
-    ensures without { numbers_at runs.now place ≡ numbers_at (drop result runs.now) place }
-{
-    let number = first.number.number();
-    if place < first.from {
-        runs.partition_point(|run| run.number.number() == number)
-    } else {
-        runs.partition_point(|run| run.number.number() == number && run.to <= place)
-    }
-}
-
-/// The index of the first of the runs that has the place: the search goes from comment to comment, as one can have many
-/// runs.
+/// The index of the first of the runs that has the place.
 fn first_at(runs: &[CommentRun], place: usize) -> Option<usize>
-    requires { AreOrderly runs.now }
     ensures within { IfSome result (λ first. first < length runs.now) }
     ensures first { MatchOption result (numbers_at runs.now place ≡ []) (λ first. (run : CommentRun)
         → slice_get runs.now first ≡ Some run
         → numbers_at runs.now place ≡ run.number ∷ numbers_at (drop (first + 1) runs.now) place) }
 {
-    let mut index = 0;
-    while index < runs.len() {
-        let run = runs[index];
+    for (index, run) in runs.iter().enumerate() {
         if run.has(place) {
             return Some(index);
         }
-        index += count_without(&runs[index..], run, place);
     }
     None
 }

@@ -1,6 +1,6 @@
 //! The places at which comments hold, as runs of places side by side.
-ghost use Rattle.std.specs.Prelude.{◌≡◌, ◌<◌, ◌≤◌, ◌^◌, ◌⊎◌, ◌↔◌, ℕ, List, Some, Contains, IfOk, IfSome, IsSome};
-ghost use Rattle.std.specs.Prelude.{length, slice_get};
+ghost use Rattle.std.specs.Prelude.{◌≡◌, ◌<◌, ◌≤◌, ◌^◌, ◌⊎◌, ◌↔◌, ◌∷◌, [], ℕ, List, Some, Contains, IfOk, IfSome};
+ghost use Rattle.std.specs.Prelude.{IsSome, length, slice_get};
 ghost use Rattle.change_ops.specs.declared.attribute.Attribute.{Attribute};
 ghost use Rattle.change_ops.specs.declared.attribute.Key.{Key};
 ghost use Rattle.char_sequence.specs.declared.sequence.Element.{Element};
@@ -8,15 +8,16 @@ ghost use Rattle.char_sequence.specs.Order.{Shows, IsAt};
 ghost use Rattle.mark_anchors.specs.Format.{Bears};
 ghost use Rattle.mark_anchors.specs.Marks.{AreMarks};
 ghost use Rattle.mark_anchors.specs.KeyMarks.{AreStill};
-ghost use Rattle.mark_anchors.specs.Placed.{ArePlaced};
-ghost use Rattle.mark_anchors.specs.Commented.{AreCommented};
-ghost use Rattle.mark_anchors.specs.CommentRuns.{HasPlace, has_place, HasRun, IsRun, Precedes, AreOrderly, AreHeld};
-ghost use Rattle.mark_anchors.specs.CommentRuns.{IsCovered, AreHolding};
+ghost use Rattle.mark_anchors.specs.Placed.{ArePlaced, CoversPlace};
+ghost use Rattle.mark_anchors.specs.Commented.{AreCommented, placed_of};
+ghost use Rattle.mark_anchors.specs.CommentRuns.{HasPlace, has_place, HasRun, IsRun, Precedes, AreOrderly, AreAdded};
+ghost use Rattle.mark_anchors.specs.CommentRuns.{AreHolding};
 ghost use Rattle.mark_anchors.specs.declared.comment_runs.CommentRun.{CommentRun};
+ghost use Rattle.mark_anchors.specs.declared.comments.CommentMark.{CommentMark};
 ghost use Rattle.mark_anchors.specs.declared.placed.PlacedMark.{PlacedMark};
 
-use crate::comments::CommentMarks;
-use crate::placed::holds_at;
+use crate::comments::{CommentMark, CommentMarks, comment_end};
+use crate::placed::{PlacedMark, holds_at};
 use change_ops::attribute::CommentNumber;
 use change_ops::id::OpId;
 use change_ops::operation::Op;
@@ -90,7 +91,49 @@ fn push_run(runs: &mut Vec<CommentRun>, run: CommentRun) -> Result<(), AllocErro
     Ok(())
 }
 
-/// Adds the runs of the comment.
+/// The run of a comment that has one mark, if that is added and covers a place.
+fn run_of_one(operations: &[Op], number: CommentNumber, mark: &PlacedMark) -> Option<CommentRun>
+    requires { mark.now.index < length operations.now }
+    ensures run { IfSome result (λ run. IsRun number mark.now.start mark.now.end run) }
+    ensures along { IfSome result (λ run. run.from ≤ run.to) }
+    ensures holding { (es : List Element) (ops : List Op) (p : ℕ) (e : OpId) → Shows es ops
+        → AreMarks ops operations.now → ArePlaced es operations.now (Key.Comment number) (mark.now ∷ [])
+        → IsAt es e p → Bears ops e (Attribute.Comment number) ↔ (IsSome result × CoversPlace mark.now p) }
+{
+    let Op::AddMark { .. } = &operations[mark.index] else {
+        return None;
+    };
+    if mark.start >= mark.end {
+        return None;
+    }
+    // Its contract bounds the number, and so how many comments hold at a place.
+    let _least = number.number();
+    Some(CommentRun {
+        number,
+        from: mark.start,
+        to: mark.end,
+    })
+}
+
+/// Adds the run of a comment that has one mark.
+fn push_run_of_one(
+    runs: &mut Vec<CommentRun>,
+    operations: &[Op],
+    number: CommentNumber,
+    mark: &PlacedMark,
+) -> Result<(), AllocError>
+    requires placed { mark.now.index < length operations.now }
+    requires orderly { AreOrderly runs.old.items }
+    requires below { (run : CommentRun) → Contains runs.old.items run → run.number < number }
+    ensures { IfOk result (λ _. AreAdded operations.now number (mark.now ∷ []) runs.old.items runs.new.items) }
+{
+    if let Some(run) = run_of_one(operations, number, mark) {
+        push_run(runs, run)?;
+    }
+    Ok(())
+}
+
+/// Adds the runs of a comment.
 fn push_runs(
     runs: &mut Vec<CommentRun>,
     operations: &[Op],
@@ -100,16 +143,8 @@ fn push_runs(
         → p.index < length operations.now }
     requires orderly { AreOrderly runs.old.items }
     requires below { (run : CommentRun) → Contains runs.old.items run → run.number < comment.now.number }
-    ensures orderly { IfOk result (λ _. AreOrderly runs.new.items) }
-    ensures up_to { IfOk result (λ _. (run : CommentRun) → Contains runs.new.items run
-        → run.number ≤ comment.now.number) }
-    ensures kept { IfOk result (λ _. (n place : ℕ) → HasRun runs.old.items n place → HasRun runs.new.items n place) }
-    ensures held { IfOk result (λ _. (es : List Element)
-        → ArePlaced es operations.now (Key.Comment comment.now.number) comment.now.marks
-        → AreHeld es operations.now runs.old.items → AreHeld es operations.now runs.new.items) }
-    ensures covered { IfOk result (λ _. (es : List Element)
-        → ArePlaced es operations.now (Key.Comment comment.now.number) comment.now.marks
-        → IsCovered es operations.now runs.new.items comment.now.number) }
+    ensures { IfOk result (λ _. AreAdded operations.now comment.now.number comment.now.marks runs.old.items
+        runs.new.items) }
 {
     let places = comment.marks.places();
     let gaps = places.len().saturating_sub(1);
@@ -128,11 +163,31 @@ fn push_runs(
     Ok(())
 }
 
+/// Adds the runs of the comment of the number, which has these marks: mostly one, which needs no search.
+fn push_comment(
+    alloc: Global,
+    runs: &mut Vec<CommentRun>,
+    operations: &[Op],
+    number: CommentNumber,
+    marks: &[CommentMark],
+) -> Result<(), AllocError>
+    requires placed { (c : CommentMark) → Contains marks.now c → c.mark.index < length operations.now }
+    requires orderly { AreOrderly runs.old.items }
+    requires below { (run : CommentRun) → Contains runs.old.items run → run.number < number }
+    ensures { IfOk result (λ _. AreAdded operations.now number (placed_of marks.now) runs.old.items runs.new.items) }
+{
+    if let [only] = marks {
+        return push_run_of_one(runs, operations, number, &only.mark);
+    }
+    let comment = CommentMarks::new(alloc, number, marks)?;
+    push_runs(runs, operations, &comment)
+}
+
 /// The runs of all comments, by rising numbers.
 pub(crate) fn comment_runs(
     alloc: Global,
     operations: &[Op],
-    comments: &[CommentMarks],
+    comments: &[CommentMark],
 ) -> Result<Vec<CommentRun>, AllocError>
     requires { (es : List Element) × AreCommented es operations.now comments.now }
     ensures orderly { IfOk result (λ runs. AreOrderly runs.items) }
@@ -140,8 +195,12 @@ pub(crate) fn comment_runs(
         → AreHolding es operations.now runs.items) }
 {
     let mut runs = Vec::new(alloc);
-    for comment in comments {
-        push_runs(&mut runs, operations, comment)?;
+    let mut index = 0;
+    while index < comments.len() {
+        let number = comments[index].number;
+        let end = comment_end(comments, index);
+        push_comment(alloc, &mut runs, operations, number, &comments[index..end])?;
+        index = end;
     }
     Ok(runs)
 }

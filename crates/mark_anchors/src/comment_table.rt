@@ -8,6 +8,8 @@ ghost use Rattle.mark_anchors.specs.declared.comment_runs.CommentRun.{CommentRun
 
 use crate::comment_list::CommentList;
 use crate::comment_runs::CommentRun;
+use crate::comment_segments::{segment_cuts, segments};
+use crate::key_marks::count_near;
 use change_ops::attribute::CommentNumber;
 use std::alloc::{AllocError, Global};
 use std::marker::Model;
@@ -15,32 +17,37 @@ use std::sync::ArcSlice;
 
 /// The runs of all comments, also in the order in which they begin and in that in which they end: as many comments hold
 /// at a place as have begun there without having ended, and between two places only those change that begin or end
-/// there.
+/// there. Which comments hold at a place is read from the runs of its segment, which begin and end at the cuts.
 #[derive(Drop)]
 pub(crate) struct CommentTable {
-    runs: ArcSlice<CommentRun, Global>,
+    runs: Vec<CommentRun>,
     begins: Vec<CommentRun>,
     ends: Vec<CommentRun>,
+    cuts: Vec<usize>,
+    segments: Vec<ArcSlice<CommentRun, Global>>,
 }
 
 impl Model for CommentTable {
     ghost use Rattle.std.specs.Prelude.{List};
     ghost use Rattle.std.specs.Arc.{arc_slice_items};
-    ghost use Rattle.mark_anchors.specs.CommentLists.{IsTable};
+    ghost use Rattle.mark_anchors.specs.CommentLists.{AreSegments, IsTable};
     ghost use Rattle.mark_anchors.specs.declared.comment_runs.CommentRun.{CommentRun};
 
     ghost Value = { List CommentRun };
 
-    ghost view = { λ t. arc_slice_items t.runs };
+    ghost view = { λ t. t.runs.items };
 
-    ghost invariant = { λ t. IsTable (arc_slice_items t.runs) t.begins.items t.ends.items };
+    ghost invariant = { λ t. IsTable t.runs.items t.begins.items t.ends.items
+        × AreSegments arc_slice_items t.runs.items t.cuts.items t.segments.items };
 }
 
-/// How many runs had begun, and how many had ended, where the last look-up ended: from there the next one begins.
+/// How many runs had begun, how many had ended, and how many cuts were passed, where the last look-up ended: from there
+/// the next one begins.
 #[derive(Clone, Copy)]
 pub(crate) struct RunCounts {
     pub(crate) begun: usize,
     pub(crate) ended: usize,
+    pub(crate) cuts: usize,
 }
 
 /// The runs in the order in which they begin.
@@ -60,7 +67,7 @@ fn by_end(mut runs: Vec<CommentRun>) -> Vec<CommentRun>
 }
 
 /// How many of the runs begin at the place or before it.
-fn begun_up_to(begins: &[CommentRun], place: usize) -> usize
+pub(crate) fn begun_up_to(begins: &[CommentRun], place: usize) -> usize
     requires { IsNonDecreasingBy begin_of begins.now }
     ensures count { result ≡ count_up_to begin_of begins.now place }
     ensures within { result ≤ length begins.now }
@@ -72,7 +79,7 @@ fn begun_up_to(begins: &[CommentRun], place: usize) -> usize
 }
 
 /// How many of the runs end at the place or before it.
-fn ended_up_to(ends: &[CommentRun], place: usize) -> usize
+pub(crate) fn ended_up_to(ends: &[CommentRun], place: usize) -> usize
     requires { IsNonDecreasingBy end_of ends.now }
     ensures count { result ≡ count_up_to end_of ends.now place }
     ensures within { result ≤ length ends.now }
@@ -239,10 +246,14 @@ impl CommentTable {
     {
         let begins = by_begin(Vec::from_slice(alloc, &runs)?);
         let ends = by_end(Vec::from_slice(alloc, &runs)?);
+        let cuts = segment_cuts(alloc, &begins, &ends)?;
+        let segments = segments(alloc, &runs, &cuts)?;
         Ok(CommentTable {
-            runs: ArcSlice::from_vec(runs)?,
+            runs,
             begins,
             ends,
+            cuts,
+            segments,
         })
     }
 
@@ -274,8 +285,9 @@ impl CommentTable {
         if count == 0 {
             return Ok(CommentList::none());
         }
+        let segment = count_near(&self.cuts, place, &mut near.cuts);
         Ok(CommentList {
-            runs: Some(self.runs.clone()?),
+            runs: Some(self.segments[segment].clone()?),
             place,
             count,
         })

@@ -1,17 +1,24 @@
-//! The marks of each comment.
-ghost use Rattle.std.specs.Prelude.{◌≡◌, ℕ, List, Some, Contains, IfOk, length, slice_get};
-ghost use Rattle.std.specs.List.Sorted.{IsStrictlyIncreasing};
+//! The marks of comments, comment by comment.
+ghost use Rattle.std.specs.Prelude.{◌≡◌, ◌<◌, ℕ, List, Some, IfOk, length};
+ghost use Rattle.std.specs.List.Sorted.{IsNonDecreasingBy, IsPermutation};
+ghost use Rattle.change_ops.specs.declared.operation.Op.{Op};
 ghost use Rattle.char_sequence.specs.declared.sequence.Element.{Element};
 ghost use Rattle.mark_anchors.specs.Placed.{AreAllPlaced};
-ghost use Rattle.mark_anchors.specs.Commented.{AreCommented, AreEmpty, AreGrouped, AreNumbered};
+ghost use Rattle.mark_anchors.specs.Commented.{AreCommented, AreNumbered, IsCommentEnd, number_of, placed_of};
 
 use crate::key_marks::KeyMarks;
 use crate::placed::PlacedMark;
 use change_ops::attribute::{CommentNumber, Key};
-use change_ops::operation::Op;
 use std::alloc::{AllocError, Global};
 
-/// The marks of one comment.
+/// A mark of a comment, with the comment's number.
+#[derive(Clone, Copy)]
+pub(crate) struct CommentMark {
+    pub(crate) number: CommentNumber,
+    pub(crate) mark: PlacedMark,
+}
+
+/// The marks of one comment, so that the one that decides at a place is found.
 #[derive(Drop)]
 pub(crate) struct CommentMarks {
     pub(crate) number: CommentNumber,
@@ -29,84 +36,74 @@ fn comment_number(mark: &PlacedMark) -> Option<CommentNumber>
     }
 }
 
-/// The numbers of all comments, rising.
-fn comment_numbers(alloc: Global, marks: &[PlacedMark]) -> Result<Vec<CommentNumber>, AllocError>
-    ensures rising { IfOk result (λ numbers. IsStrictlyIncreasing numbers.items) }
-    ensures every { IfOk result (λ numbers. AreNumbered marks.now numbers.items) }
+/// The marks of comments, as they come.
+fn numbered(alloc: Global, marks: &[PlacedMark]) -> Result<Vec<CommentMark>, AllocError>
+    ensures { IfOk result (λ comments. AreNumbered marks.now comments.items) }
 {
-    let mut numbers = Vec::new(alloc);
+    let mut comments = Vec::new(alloc);
     for mark in marks {
         if let Some(number) = comment_number(mark) {
-            numbers.push(number)?;
+            comments.push(CommentMark {
+                number,
+                mark: *mark,
+            })?;
         }
     }
-    numbers.sort_unstable();
-    numbers.dedup();
-    Ok(numbers)
+    Ok(comments)
 }
 
-/// `count` groups of no mark.
-fn empty_groups(alloc: Global, count: usize) -> Result<Vec<Vec<PlacedMark>>, AllocError>
-    ensures sized { IfOk result (λ groups. length groups.items ≡ count) }
-    ensures empty { IfOk result (λ groups. AreEmpty groups.items) }
+/// The marks by rising numbers of their comments.
+fn by_number(mut comments: Vec<CommentMark>) -> Vec<CommentMark>
+    ensures rising { IsNonDecreasingBy number_of result.items }
+    ensures same { IsPermutation comments.items result.items }
 {
-    let mut groups = Vec::with_capacity(alloc, count)?;
-    for _group in 0..count {
-        groups.push(Vec::new(alloc))?;
-    }
-    Ok(groups)
+    comments.sort_unstable_by_key(|comment| comment.number.number());
+    comments
 }
 
-/// Where the comment of the number stands.
-fn position_of(numbers: &[CommentNumber], number: CommentNumber) -> usize
-    requires rising { IsStrictlyIncreasing numbers.now }
-    requires there { Contains numbers.now number }
-    ensures { slice_get numbers.now result ≡ Some number }
-{
-    match numbers.binary_search(&number) {
-        Ok(position) => position,
-        Err(_) => unreachable!(),
-    }
-}
-
-/// The marks of each of the comments.
-fn grouped(
-    alloc: Global,
-    marks: &[PlacedMark],
-    numbers: &[CommentNumber],
-) -> Result<Vec<Vec<PlacedMark>>, AllocError>
-    requires rising { IsStrictlyIncreasing numbers.now }
-    requires every { AreNumbered marks.now numbers.now }
-    ensures sized { IfOk result (λ groups. length groups.items ≡ length numbers.now) }
-    ensures grouped { IfOk result (λ groups. (es : List Element) (operations : List Op)
-        → AreAllPlaced es operations marks.now
-        → AreGrouped es operations (length operations) numbers.now groups.items) }
-{
-    let mut groups = empty_groups(alloc, numbers.len())?;
-    for mark in marks {
-        if let Some(number) = comment_number(mark) {
-            groups[position_of(numbers, number)].push(*mark)?;
-        }
-    }
-    Ok(groups)
-}
-
-/// The marks of each comment, by rising numbers.
+/// The marks of comments, by rising numbers of these: those of one comment stand side by side.
 pub(crate) fn comment_marks(
     alloc: Global,
     marks: &[PlacedMark],
-) -> Result<Vec<CommentMarks>, AllocError>
+) -> Result<Vec<CommentMark>, AllocError>
     ensures { IfOk result (λ comments. (es : List Element) (operations : List Op)
         → AreAllPlaced es operations marks.now → AreCommented es operations comments.items) }
 {
-    let numbers = comment_numbers(alloc, marks)?;
-    let groups = grouped(alloc, marks, &numbers)?;
-    let mut comments = Vec::with_capacity(alloc, numbers.len())?;
-    for index in 0..numbers.len() {
-        comments.push(CommentMarks {
-            number: numbers[index],
-            marks: KeyMarks::new(alloc, Vec::from_slice(alloc, &groups[index])?)?,
-        })?;
+    let comments = numbered(alloc, marks)?;
+    Ok(by_number(comments))
+}
+
+/// Where the marks of the comment end whose first one stands at `from`.
+pub(crate) fn comment_end(comments: &[CommentMark], from: usize) -> usize
+    requires { from < length comments.now }
+    ensures { IsCommentEnd comments.now from result }
+{
+    let number = comments[from].number;
+    let mut end = from + 1;
+    while end < comments.len() && comments[end].number == number {
+        end += 1;
     }
-    Ok(comments)
+    end
+}
+
+/// The marks alone.
+fn marks_alone(alloc: Global, comments: &[CommentMark]) -> Result<Vec<PlacedMark>, AllocError>
+    ensures { IfOk result (λ marks. marks.items ≡ placed_of comments.now) }
+{
+    comments.iter().map(|comment| comment.mark).collect(alloc)
+}
+
+impl CommentMarks {
+    /// The marks of the comment of the number, in whatever order they come.
+    pub(crate) fn new(
+        alloc: Global,
+        number: CommentNumber,
+        comments: &[CommentMark],
+    ) -> Result<CommentMarks, AllocError>
+        ensures number { IfOk result (λ comment. comment.number ≡ number) }
+        ensures marks { IfOk result (λ comment. IsPermutation (placed_of comments.now) comment.marks) }
+    {
+        let marks = KeyMarks::new(alloc, marks_alone(alloc, comments)?)?;
+        Ok(CommentMarks { number, marks })
+    }
 }

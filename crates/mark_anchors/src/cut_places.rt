@@ -1,45 +1,29 @@
 //! The places at which marks begin and end, of those in a window.
-ghost use Rattle.std.specs.Prelude.{ℕ, Contains, IfOk, OnOk};
-ghost use Rattle.mark_anchors.specs.Ranges.{AreWithin, IsCutAt};
-ghost use Rattle.mark_anchors.specs.declared.placed.PlacedMark.{PlacedMark};
+ghost use Rattle.std.specs.Prelude.{IfOk};
+ghost use Rattle.std.specs.List.Sorted.{IsStrictlyIncreasing};
+ghost use Rattle.mark_anchors.specs.Resolution.{AreInWindow};
 
-use crate::placed::PlacedMark;
+use crate::key_marks::{count_below, count_up_to};
 use std::alloc::{AllocError, Global};
 
-/// Adds a place, where it is behind `low` and not behind `high`.
-pub(crate) fn push_within(
-    places: &mut Vec<usize>,
-    place: usize,
-    low: usize,
-    high: usize,
-) -> Result<(), AllocError>
-    ensures kept { OnOk result ((c : ℕ) → Contains places.old.items c → Contains places.new.items c) }
-    ensures added { OnOk result (IsCutAt low high places.new.items place) }
-    ensures within { OnOk result (AreWithin low high places.old.items → AreWithin low high places.new.items) }
-{
-    if low < place && place <= high {
-        places.push(place)?;
-    }
-    Ok(())
-}
-
-/// The places behind `low`, up to `high`, at which the marks begin and end.
-pub(crate) fn places_within(
+/// Those of the places that are behind `low` and before `high`, and `high` itself. There are none where `high` is not
+/// behind `low`.
+pub(crate) fn cuts_between(
     alloc: Global,
-    marks: &[PlacedMark],
+    places: &[usize],
     low: usize,
     high: usize,
 ) -> Result<Vec<usize>, AllocError>
-    ensures begins { IfOk result (λ places. (m : PlacedMark) → Contains marks.now m
-        → IsCutAt low high places.items m.start) }
-    ensures ends { IfOk result (λ places. (m : PlacedMark) → Contains marks.now m
-        → IsCutAt low high places.items m.end) }
-    ensures within { IfOk result (λ places. AreWithin low high places.items) }
+    requires { IsStrictlyIncreasing places.now }
+    ensures { IfOk result (λ cuts. AreInWindow places.now low high cuts.items) }
 {
-    let mut places = Vec::new(alloc);
-    for mark in marks {
-        push_within(&mut places, mark.start, low, high)?;
-        push_within(&mut places, mark.end, low, high)?;
+    if high <= low {
+        return Ok(Vec::new(alloc));
     }
-    Ok(places)
+    let from = count_up_to(places, low);
+    let to = count_below(places, high);
+    let mut cuts = Vec::with_capacity(alloc, to - from + 1)?;
+    cuts.extend_from_slice(&places[from..to])?;
+    cuts.push(high)?;
+    Ok(cuts)
 }

@@ -43,7 +43,7 @@ fn by_id(mut marks: Vec<PlacedMark>) -> Vec<PlacedMark>
 }
 
 /// How many of the places are before this one.
-fn count_below(places: &[usize], place: usize) -> usize
+pub(crate) fn count_below(places: &[usize], place: usize) -> usize
     requires { IsStrictlyIncreasing places.now }
     ensures below { IsCountBelow places.now place result }
     ensures within { result ≤ length places.now }
@@ -109,7 +109,7 @@ fn paint(
 }
 
 /// How many of the places are at this one or before it.
-fn count_up_to(places: &[usize], place: usize) -> usize
+pub(crate) fn count_up_to(places: &[usize], place: usize) -> usize
     requires { IsStrictlyIncreasing places.now }
     ensures up_to { IsCountUpTo places.now place result }
     ensures within { result ≤ length places.now }
@@ -133,7 +133,7 @@ fn is_count_up_to(places: &[usize], count: usize, place: usize) -> bool
 
 /// How many of the places are at this one or before it. What was found last, `near`, and one more are tried first, as
 /// places are mostly looked up in their order.
-fn count_near(places: &[usize], place: usize, near: &mut usize) -> usize
+pub(crate) fn count_near(places: &[usize], place: usize, near: &mut usize) -> usize
     requires { IsStrictlyIncreasing places.now }
     ensures up_to { IsCountUpTo places.now place result }
     ensures within { result ≤ length places.now }
@@ -160,7 +160,7 @@ pub(crate) fn in_order(mut places: Vec<usize>) -> Vec<usize>
 }
 
 /// The places at which the marks begin and end.
-fn places_of(alloc: Global, marks: &[PlacedMark]) -> Result<Vec<usize>, AllocError>
+pub(crate) fn places_of(alloc: Global, marks: &[PlacedMark]) -> Result<Vec<usize>, AllocError>
     ensures begins { IfOk result (λ places. (m : PlacedMark) → Contains marks.now m → Contains places.items m.start) }
     ensures ends { IfOk result (λ places. (m : PlacedMark) → Contains marks.now m → Contains places.items m.end) }
     ensures no_other { IfOk result (λ places. (c : ℕ) → Contains places.items c → IsEndOf marks.now c) }

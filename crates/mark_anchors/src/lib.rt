@@ -1,17 +1,16 @@
 //! The marks of a text: which characters each covers, and the format that they give.
 #![tactic(auto)]
 
-mod anchored;
 pub mod anchors;
 pub mod comment_list;
 mod comment_runs;
+mod comment_segments;
 mod comment_table;
 mod comments;
 mod cut_places;
 pub mod format;
 pub mod format_sweep;
 mod key_marks;
-mod mark_index;
 pub mod mark_range;
 pub mod marks;
 pub mod placed;

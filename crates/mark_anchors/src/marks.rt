@@ -1,10 +1,11 @@
-ghost use Rattle.std.specs.Prelude.{◌≡◌, ◌≤◌, ◌++◌, ◌∷◌, [], ◌↔◌, List, Contains, true, length, IsTrue, MatchOption};
-ghost use Rattle.std.specs.Prelude.{OnOk, OnErr};
+ghost use Rattle.std.specs.Prelude.{◌≡◌, ◌≤◌, ◌++◌, ◌∷◌, [], ◌↔◌, List, Contains, true, length, IfOk, IsTrue};
+ghost use Rattle.std.specs.Prelude.{MatchOption, OnOk, OnErr};
+ghost use Rattle.std.specs.List.Sorted.{IsPermutation};
 ghost use Rattle.change_ops.specs.Operations.{id_of, is_mark};
 ghost use Rattle.mark_anchors.specs.Marks.{AreMarks};
-ghost use Rattle.mark_anchors.specs.Anchored.{Begins, Ends, AreIdsAt};
+ghost use Rattle.mark_anchors.specs.Anchored.{Begins, Ends, AreApart, AreRising, AreIdsAt};
 
-use crate::mark_index::MarkIndex;
+use crate::mark_range::mark_range;
 use change_ops::id::OpId;
 use change_ops::operation::{Anchor, Op};
 use std::alloc::{AllocError, Global};
@@ -31,23 +32,61 @@ impl From<AllocError> for MarksError {
     }
 }
 
-/// The operations that add and remove marks, by id and by their anchors, in the order in which they came.
+/// The operations that add and remove marks, in the order in which they came.
 #[derive(Drop)]
 pub struct Marks {
-    index: MarkIndex,
+    operations: Vec<Op>,
 }
 
 impl Model for Marks {
     ghost use Rattle.std.specs.Prelude.{List};
     ghost use Rattle.change_ops.specs.declared.operation.Op.{Op};
-    ghost use Rattle.std.specs.Map.{values_of};
-    ghost use Rattle.mark_anchors.specs.Anchored.{AreHeld};
+    ghost use Rattle.mark_anchors.specs.Marks.{AreKept};
 
     ghost Value = { List Op };
 
-    ghost view = { λ m. values_of m.index.by_id.entries };
+    ghost view = { λ m. m.operations.items };
 
-    ghost invariant = { λ m. AreHeld m.index.by_id.entries m.index.begins.lists.entries m.index.ends.lists.entries };
+    ghost invariant = { λ m. AreKept m.operations.items };
+}
+
+/// Puts a clone of the operation last. Want of memory changes nothing.
+fn push_clone(operations: &mut Vec<Op>, op: &Op) -> Result<(), AllocError>
+    ensures ok { OnOk result (operations.new.items ≡ operations.old.items ++ op.now ∷ []) }
+    ensures err { OnErr result (operations.new.items ≡ operations.old.items) }
+{
+    let clone = op.clone()?;
+    operations.push(clone)?;
+    Ok(())
+}
+
+/// Whether this is the mark's first anchor.
+fn begins_at(operation: &Op, anchor: &Anchor) -> bool
+    ensures { IsTrue result ↔ Begins operation.now anchor.now }
+{
+    match mark_range(operation) {
+        Some(range) => range.start == *anchor,
+        None => false,
+    }
+}
+
+/// Whether this is the mark's second anchor.
+fn ends_at(operation: &Op, anchor: &Anchor) -> bool
+    ensures { IsTrue result ↔ Ends operation.now anchor.now }
+{
+    match mark_range(operation) {
+        Some(range) => range.end == *anchor,
+        None => false,
+    }
+}
+
+/// The ids in their order.
+fn sorted(mut ids: Vec<OpId>) -> Vec<OpId>
+    ensures rising { AreApart ids.items → AreRising result.items }
+    ensures same { IsPermutation ids.items result.items }
+{
+    ids.sort_unstable();
+    ids
 }
 
 impl Marks {
@@ -56,7 +95,7 @@ impl Marks {
         ensures { result ≡ [] }
     {
         Marks {
-            index: MarkIndex::new(alloc),
+            operations: Vec::new(alloc),
         }
     }
 
@@ -65,7 +104,7 @@ impl Marks {
         ensures full { IsTrue result ↔ (length self.now ≡ 16384) }
         ensures limit { length self.now ≤ 16384 }
     {
-        self.index.by_id.len() >= MARK_LIMIT
+        self.operations.len() >= MARK_LIMIT
     }
 
     /// Adds a mark operation, or leaves the marks unchanged.
@@ -80,7 +119,7 @@ impl Marks {
         if self.is_full() {
             return Err(MarksError::MarksFull);
         }
-        self.index.add(op)?;
+        push_clone(&mut self.operations, op)?;
         Ok(())
     }
 
@@ -89,28 +128,45 @@ impl Marks {
         ensures { MatchOption result ((o : Op) → Contains self.now o → id_of o ≡ id
             → ⊥) (λ o. Contains self.now o.now × (id_of o.now ≡ id)) }
     {
-        self.index.by_id.get(&id)
+        for operation in &self.operations {
+            if operation.id() == id {
+                return Some(operation);
+            }
+        }
+        None
     }
 
     /// The ids, rising, of the marks whose first anchor this is.
-    pub fn begin_at(&self, anchor: &Anchor) -> &[OpId]
-        ensures { AreIdsAt Begins self.now anchor.now result.now }
+    pub fn begin_at(&self, alloc: Global, anchor: &Anchor) -> Result<Vec<OpId>, AllocError>
+        ensures { IfOk result (λ ids. AreIdsAt Begins self.now anchor.now ids.items) }
     {
-        self.index.begins.at(anchor)
+        let mut ids = Vec::new(alloc);
+        for operation in &self.operations {
+            if begins_at(operation, anchor) {
+                ids.push(operation.id())?;
+            }
+        }
+        Ok(sorted(ids))
     }
 
     /// The ids, rising, of the marks whose second anchor this is.
-    pub fn end_at(&self, anchor: &Anchor) -> &[OpId]
-        ensures { AreIdsAt Ends self.now anchor.now result.now }
+    pub fn end_at(&self, alloc: Global, anchor: &Anchor) -> Result<Vec<OpId>, AllocError>
+        ensures { IfOk result (λ ids. AreIdsAt Ends self.now anchor.now ids.items) }
     {
-        self.index.ends.at(anchor)
+        let mut ids = Vec::new(alloc);
+        for operation in &self.operations {
+            if ends_at(operation, anchor) {
+                ids.push(operation.id())?;
+            }
+        }
+        Ok(sorted(ids))
     }
 
     /// The operations, in the order in which they came.
     pub fn operations(&self) -> &[Op]
         ensures { result.now ≡ self.now }
     {
-        self.index.by_id.values().as_slice()
+        &self.operations
     }
 }
 
@@ -118,7 +174,7 @@ impl Clone for Marks {
     ghost is_clone = { λ old new. new ≡ old };
 
     fn clone(&self) -> Result<Marks, AllocError> {
-        let index = self.index.clone()?;
-        Ok(Marks { index })
+        let operations = self.operations.clone()?;
+        Ok(Marks { operations })
     }
 }

@@ -14,10 +14,10 @@ ghost use Rattle.mark_anchors.specs.Ranges.{AreCuts, IsFormatAt};
 use crate::comment_runs::comment_runs;
 use crate::comment_table::{CommentTable, RunCounts};
 use crate::comments::comment_marks;
-use crate::cut_places::{places_within, push_within};
+use crate::cut_places::cuts_between;
 use crate::format::Format;
 use crate::format_sweep::FormatSweep;
-use crate::key_marks::{KeyMarks, in_order};
+use crate::key_marks::{KeyMarks, in_order, places_of};
 use crate::marks::Marks;
 use crate::placed::{PlacedMark, color_at, holds_at, link_at, marks_in, marks_of};
 use change_ops::attribute::{Color, Key, Link};
@@ -32,7 +32,8 @@ use std::marker::Model;
 pub struct ResolvedMarks<'a> {
     sequence: &'a Sequence,
     operations: &'a [Op],
-    marks: Vec<PlacedMark>,
+    /// At these places marks begin and end.
+    places: Vec<usize>,
     strong: KeyMarks,
     em: KeyMarks,
     code: KeyMarks,
@@ -48,7 +49,7 @@ impl<'a> Model for ResolvedMarks<'a> {
 
     ghost view = { λ r. record { elements = r.sequence.now.elements; marks = r.operations.now; runs = r.comments } };
 
-    ghost invariant = { λ r. AreResolved r.sequence.now.elements r.operations.now r.marks.items r.strong r.em r.code
+    ghost invariant = { λ r. AreResolved r.sequence.now.elements r.operations.now r.places.items r.strong r.em r.code
         r.link r.color r.comments };
 }
 
@@ -93,7 +94,11 @@ impl Near {
             code: 0,
             link: 0,
             color: 0,
-            comments: RunCounts { begun: 0, ended: 0 },
+            comments: RunCounts {
+                begun: 0,
+                ended: 0,
+                cuts: 0,
+            },
         }
     }
 }
@@ -129,13 +134,13 @@ pub fn resolve_placed<'a>(
     Ok(ResolvedMarks {
         sequence,
         operations,
+        places: in_order(places_of(alloc, &marks)?),
         strong: marks_of(alloc, &marks, &Key::Strong)?,
         em: marks_of(alloc, &marks, &Key::Em)?,
         code: marks_of(alloc, &marks, &Key::Code)?,
         link: marks_of(alloc, &marks, &Key::Link)?,
         color: marks_of(alloc, &marks, &Key::Color)?,
         comments: CommentTable::new(alloc, runs)?,
-        marks,
     })
 }
 
@@ -182,9 +187,7 @@ impl ResolvedMarks<'_> {
     pub fn cuts(&self, alloc: Global, low: usize, high: usize) -> Result<Vec<usize>, AllocError>
         ensures { IfOk result (λ cuts. AreCuts self.now.elements self.now.marks low high cuts.items) }
     {
-        let mut cuts = places_within(alloc, &self.marks, low, high)?;
-        push_within(&mut cuts, high, low, high)?;
-        Ok(in_order(cuts))
+        cuts_between(alloc, &self.places, low, high)
     }
 
     /// What holds of each key but comments at the place.

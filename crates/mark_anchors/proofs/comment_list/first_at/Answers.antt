@@ -4,7 +4,7 @@ use Rattle.std.proofs.lemmas.Option.{same_Some}
 use Rattle.mark_anchors.specs.CommentRuns.{has_place}
 use Rattle.mark_anchors.specs.declared.comment_runs.CommentRun.{CommentRun}
 use Rattle.mark_anchors.proofs.Lists.{read_at}
-use Rattle.mark_anchors.proofs.Passing.{orderly_rest}
+use Rattle.mark_anchors.proofs.Passing.{run_passed}
 use Rattle.mark_anchors.proofs.Running.{run_taken}
 use Rattle.mark_anchors.proofs.comment_list.first_at.Goals as goal
 
@@ -15,7 +15,10 @@ returns-then-has-clause-first c =
     let read : slice_get c.args.runs.now c.loop-index.index ≡ Some here = read_at c.args.runs.now c.loop-index.index here c.index-runs-index.is c.loop-index-test.true in
     let same : here ≡ run = same_Some here run (sym read ∙ at) in
     let has : has_place here c.args.place ≡ true = sym c.has.ensures ∙ c.if-has.true in
-    c.loop-index.invariant.1 ∙ run_taken c.args.runs.now c.loop-index.index run c.args.place at (ap (λ (z : CommentRun). has_place z c.args.place) (sym same) ∙ has)
+    c.loop-index.invariant ∙ run_taken c.args.runs.now c.loop-index.index run c.args.place at (ap (λ (z : CommentRun). has_place z c.args.place) (sym same) ∙ has)
 
-pub count_without-index-requires-clause-orderly : goal.count_without-index-requires-clause-orderly
-count_without-index-requires-clause-orderly c = orderly_rest c.args.runs.now c.loop-index.index c.requires
+pub loop-index-preserved : goal.loop-index-preserved
+loop-index-preserved c =
+    let here : CommentRun = c.index-runs-index.result in
+    let read : slice_get c.args.runs.now c.loop-index.index ≡ Some here = read_at c.args.runs.now c.loop-index.index here c.index-runs-index.is c.loop-index-test.true in
+    c.loop-index.invariant ∙ run_passed c.args.runs.now c.loop-index.index here c.args.place read (sym c.has.ensures ∙ c.if-has.false)

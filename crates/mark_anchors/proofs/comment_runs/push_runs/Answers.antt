@@ -133,10 +133,21 @@ loop-index-preserved c =
           }
     ]
 
-pub returns-clause-covered : goal.returns-clause-covered
-returns-clause-covered c =
-    λ es placed ops p e h are here bears.
-    let places : List ℕ = c.places-places.result.now in
-    let last : c.loop-index.index ≡ length places - 1 = omega arith in
-    let r = within_ends ops es c.args.operations.now c.args.comment.now.marks (key.Comment c.args.comment.now.number) places p c.loop-index.index e (Comment c.args.comment.now.number) h are placed c.places-places.ensures here refl bears last in
-    c.loop-index.invariant.covered es ops p r.0 r.1.0 e placed h are here r.1.1 r.1.2 r.1.3 r.1.4 bears
+pub returns : goal.returns
+returns c =
+    let inv = c.loop-index.invariant in
+    record {
+      orderly = inv.orderly;
+      up_to = inv.up_to;
+      kept = inv.kept;
+      held = inv.held;
+      covered =
+          λ es placed ops p e h are here bears.
+          let places : List ℕ = c.places-places.result.now in
+          let n : ℕ = c.args.comment.now.number in
+          let last : c.loop-index.index ≡ length places - 1 = omega arith in
+          let r =
+          within_ends ops es c.args.operations.now c.args.comment.now.marks (key.Comment n) places p c.loop-index.index e (Comment n) h are placed
+          c.places-places.ensures here refl bears last in
+          inv.covered es ops p r.0 r.1.0 e placed h are here r.1.1 r.1.2 r.1.3 r.1.4 bears;
+    }

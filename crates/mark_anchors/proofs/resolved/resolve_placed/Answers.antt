@@ -3,6 +3,7 @@ use Rattle.mark_anchors.specs.CommentRuns.{AreHolding, AreOrderly}
 use Rattle.mark_anchors.specs.Commented.{AreCommented}
 use Rattle.mark_anchors.specs.Placed.{AreAllPlaced}
 use Rattle.mark_anchors.specs.declared.placed.PlacedMark.{PlacedMark}
+use Rattle.mark_anchors.proofs.Cuts.{ends_of_places}
 use Rattle.mark_anchors.proofs.resolved.resolve_placed.Goals as goal
 
 pub invariant_of-result : goal.invariant_of-result
@@ -14,12 +15,17 @@ invariant_of-result c =
     let commented : AreCommented es operations c.in_ok-comment_marks.field-0.items = c.in_ok-comment_marks.ensures es operations (read c.deref.result.now c.deref.ensures.value) in
     record {
       text = c.requires.text;
-      all = all;
-      strong = c.in_ok-marks_of.ensures es operations (read c.deref-3.result.now c.deref-3.ensures.value);
-      em = c.in_ok-marks_of-2.ensures es operations (read c.deref-4.result.now c.deref-4.ensures.value);
-      code = c.in_ok-marks_of-3.ensures es operations (read c.deref-5.result.now c.deref-5.ensures.value);
-      link = c.in_ok-marks_of-4.ensures es operations (read c.deref-6.result.now c.deref-6.ensures.value);
-      color = c.in_ok-marks_of-5.ensures es operations (read c.deref-7.result.now c.deref-7.ensures.value);
+      ends = (
+        c.args.marks.items,
+        all,
+        ends_of_places c.args.marks.items c.deref-3.result.now c.in_ok-places_of.field-0.items c.in_order.result.items c.deref-3.ensures.value
+            c.in_ok-places_of.ensures.begins c.in_ok-places_of.ensures.ends c.in_order.ensures.rising c.in_order.ensures.members,
+      );
+      strong = c.in_ok-marks_of.ensures es operations (read c.deref-4.result.now c.deref-4.ensures.value);
+      em = c.in_ok-marks_of-2.ensures es operations (read c.deref-5.result.now c.deref-5.ensures.value);
+      code = c.in_ok-marks_of-3.ensures es operations (read c.deref-6.result.now c.deref-6.ensures.value);
+      link = c.in_ok-marks_of-4.ensures es operations (read c.deref-7.result.now c.deref-7.ensures.value);
+      color = c.in_ok-marks_of-5.ensures es operations (read c.deref-8.result.now c.deref-8.ensures.value);
       comments = subst (AreHolding es operations) (sym c.in_ok-new.ensures) (c.in_ok-runs.ensures.holding es (subst (AreCommented es operations) (sym c.deref-2.ensures.value) commented));
       orderly = subst AreOrderly (sym c.in_ok-new.ensures) c.in_ok-runs.ensures.orderly;
     }

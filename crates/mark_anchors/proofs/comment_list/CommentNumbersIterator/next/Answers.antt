@@ -1,7 +1,7 @@
 use Rattle.std.proofs.Common.{◌≡◌, ℕ, ◌+◌, ◌-◌, ◌<◌, ◌∙◌, List, ◌∷◌, drop, take, length, sym, ap, arith}
 use Rattle.mark_anchors.specs.CommentRuns.{numbers_at}
 use Rattle.mark_anchors.specs.declared.comment_runs.CommentRun.{CommentRun}
-use Rattle.mark_anchors.proofs.Passing.{numbers_rest, orderly_rest}
+use Rattle.mark_anchors.proofs.Passing.{numbers_rest}
 use Rattle.mark_anchors.proofs.comment_list.CommentNumbersIterator.next.Goals as goal
 
 pub invariant_of-self : goal.invariant_of-self
@@ -13,11 +13,8 @@ invariant_of-self c =
     let rest : List ℕ = numbers_at (take (length runs - (k + 1)) (drop (k + 1) runs)) place in
     let steps : numbers_at runs place ≡ run.number ∷ rest = numbers_rest runs place k run c.index-self-first.is c.in_ok-first.ensures.within c.in_ok-first.ensures.first in
     let whole : length (numbers_at runs place) ≡ length rest + 1 = ap length steps ∙ omega arith in
-    let count : c.self.inside.count ≡ length (numbers_at runs place) = c.self.invariant.counted in
-    record {
-      orderly = orderly_rest runs (k + 1) c.self.invariant.orderly;
-      counted = omega arith;
-    }
+    let count : c.self.inside.count ≡ length (numbers_at runs place) = c.self.invariant in
+    omega arith
 
 pub returns-clause-steps : goal.returns-clause-steps
 returns-clause-steps c =

@@ -1,5 +1,4 @@
 use Rattle.std.proofs.Common.{◌<◌, ◌≤◌, ◌∙◌, ℕ, List, sym, subst, All}
-use Rattle.std.specs.Arc.{arc_slice_items}
 use Rattle.std.specs.List.{Contains}
 use Rattle.std.proofs.lemmas.Bool.{false≢true}
 use Rattle.mark_anchors.specs.CommentLists.{AreAlike, IsSteady}
@@ -9,7 +8,7 @@ use Rattle.mark_anchors.proofs.comment_table.CommentTable.is_alike.Goals as goal
 
 pub returns-then-are_steady : goal.returns-then-are_steady
 returns-then-are_steady c =
-    let runs : List CommentRun = arc_slice_items c.self.inside.runs in
+    let runs : List CommentRun = c.self.inside.runs.items in
     let first : ℕ = c.args.first in
     let second : ℕ = c.args.second in
     let begun : List CommentRun = c.begun_between-begun.result.now in
@@ -17,7 +16,7 @@ returns-then-are_steady c =
     let changes : List CommentRun → List CommentRun → Type 0 = λ rs changed. All (λ run. IsSteady rs run.number first second) changed in (
       λ is.
           subst (λ (rs : List CommentRun). AreAlike rs first second) c.self.view_is
-          (alike_both runs c.self.inside.begins.items c.self.inside.ends.items begun ended first second c.self.invariant c.requires
+          (alike_both runs c.self.inside.begins.items c.self.inside.ends.items begun ended first second c.self.invariant.0 c.requires
           (subst (λ (l : List CommentRun). (run : CommentRun) → Contains l run → first < run.from → run.from ≤ second → Contains begun run) c.deref.ensures.value c.begun_between-begun.ensures)
           (subst (λ (l : List CommentRun). (run : CommentRun) → Contains l run → first < run.to → run.to ≤ second → Contains ended run) c.deref-2.ensures.value c.ended_between-ended.ensures)
           (subst (λ (rs : List CommentRun). changes rs begun) c.deref-3.ensures.value (c.are_steady.ensures.0 c.if-are_steady.true))
@@ -30,7 +29,7 @@ returns-then-are_steady c =
 
 pub returns-else-are_steady : goal.returns-else-are_steady
 returns-else-are_steady c =
-    let runs : List CommentRun = arc_slice_items c.self.inside.runs in
+    let runs : List CommentRun = c.self.inside.runs.items in
     let first : ℕ = c.args.first in
     let second : ℕ = c.args.second in
     let begun : List CommentRun = c.begun_between-begun.result.now in

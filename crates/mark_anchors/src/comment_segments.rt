@@ -1,0 +1,140 @@
+//! The places, cut into segments: which comments hold at a place is read from the runs of its segment alone, which are
+//! not many more than those that have the place.
+ghost use Rattle.std.specs.Prelude.{◌≡◌, ◌<◌, ◌+◌, ◌/◌, ◌∷◌, ◌++◌, [], ℕ, List, IfOk, IfSome, OnOk, length, max};
+ghost use Rattle.std.specs.Arc.{arc_slice_items};
+ghost use Rattle.std.specs.List.Sorted.{IsNonDecreasing, IsStrictlyIncreasing};
+ghost use Rattle.mark_anchors.specs.CommentRuns.{numbers_at};
+ghost use Rattle.mark_anchors.specs.CommentLists.{AreEmpty, AreSegments, IsTable, vec_runs};
+ghost use Rattle.mark_anchors.specs.declared.comment_runs.CommentRun.{CommentRun};
+
+use crate::comment_runs::CommentRun;
+use crate::comment_table::{begun_up_to, ended_up_to};
+use crate::key_marks::{count_below, count_up_to};
+use std::alloc::{AllocError, Global};
+use std::sync::ArcSlice;
+
+/// How many runs may begin and end in a segment behind its first place, however few have that place.
+const LEAST_CHANGES: usize = 8;
+
+/// The places at which the runs begin and end, each as often, in order.
+fn changes(alloc: Global, runs: &[CommentRun]) -> Result<Vec<usize>, AllocError>
+    ensures { IfOk result (λ changes. IsNonDecreasing changes.items) }
+{
+    let mut changes = Vec::with_capacity(alloc, 2 * runs.len())?;
+    for run in runs {
+        changes.push(run.from)?;
+        changes.push(run.to)?;
+    }
+    changes.sort_unstable();
+    Ok(changes)
+}
+
+/// How many of the runs have the place.
+fn count_with(begins: &[CommentRun], ends: &[CommentRun], place: usize) -> usize
+    requires { (runs : List CommentRun) × IsTable runs begins.now ends.now }
+    ensures { (runs : List CommentRun) → IsTable runs begins.now ends.now → result ≡ length (numbers_at runs place) }
+{
+    begun_up_to(begins, place) - ended_up_to(ends, place)
+}
+
+/// How many runs may begin and end behind a segment's first place, in it.
+fn most_changes(begins: &[CommentRun], ends: &[CommentRun], first: usize) -> usize
+    requires { (runs : List CommentRun) × IsTable runs begins.now ends.now }
+    ensures { (runs : List CommentRun) → IsTable runs begins.now ends.now
+        → result ≡ max 8 (length (numbers_at runs first) / 2) }
+{
+    LEAST_CHANGES.max(count_with(begins, ends, first) / 2)
+}
+
+/// The place at which the next segment begins, so that at most `most` of the changes are behind `from` and before it.
+fn next_cut(changes: &[usize], from: usize, most: usize) -> Option<usize>
+    requires { IsNonDecreasing changes.now }
+    ensures { IfSome result (λ cut. from < cut) }
+{
+    let passed = changes.partition_point(|place| *place <= from);
+    changes.get(passed.saturating_add(most)).copied()
+}
+
+/// The places at which all segments but the first begin. Where `n` runs have a segment's first place, at most n / 2 or
+/// 8 begin and end in it behind that: so it has at most three times the runs that have one of its places, and 16 more.
+/// And as more begin and end up to the first place of the next one, all segments have at most seven times the runs.
+pub(crate) fn segment_cuts(
+    alloc: Global,
+    begins: &[CommentRun],
+    ends: &[CommentRun],
+) -> Result<Vec<usize>, AllocError>
+    requires { (runs : List CommentRun) × IsTable runs begins.now ends.now }
+    ensures { IfOk result (λ cuts. IsStrictlyIncreasing cuts.items) }
+{
+    let changes = changes(alloc, begins)?;
+    let mut cuts = Vec::new(alloc);
+    let mut from = 0;
+    while let Some(cut) = next_cut(&changes, from, most_changes(begins, ends, from)) {
+        cuts.push(cut)?;
+        from = cut;
+    }
+    Ok(cuts)
+}
+
+/// `count` lists of no run.
+fn empty_lists(alloc: Global, count: usize) -> Result<Vec<Vec<CommentRun>>, AllocError>
+    ensures sized { IfOk result (λ lists. length lists.items ≡ count) }
+    ensures empty { IfOk result (λ lists. AreEmpty lists.items) }
+{
+    let mut lists = Vec::with_capacity(alloc, count)?;
+    for _list in 0..count {
+        lists.push(Vec::new(alloc))?;
+    }
+    Ok(lists)
+}
+
+/// Adds the run to the segments of which it has a place.
+fn add_run(
+    cuts: &[usize],
+    segments: &mut Vec<Vec<CommentRun>>,
+    run: &CommentRun,
+) -> Result<(), AllocError>
+    requires rising { IsStrictlyIncreasing cuts.now }
+    requires sized { length segments.old.items ≡ length cuts.now + 1 }
+    ensures sized { OnOk result (length segments.new.items ≡ length cuts.now + 1) }
+    ensures more { OnOk result ((runs : List CommentRun) → AreSegments vec_runs runs cuts.now segments.old.items
+        → AreSegments vec_runs (runs ++ run.now ∷ []) cuts.now segments.new.items) }
+{
+    let first = count_up_to(cuts, run.from);
+    let last = count_below(cuts, run.to);
+    for segment in first..last + 1 {
+        segments[segment].push(*run)?;
+    }
+    Ok(())
+}
+
+/// The runs of each segment, to be shared.
+fn shared(
+    alloc: Global,
+    segments: &[Vec<CommentRun>],
+) -> Result<Vec<ArcSlice<CommentRun, Global>>, AllocError>
+    ensures { IfOk result (λ shared. (runs : List CommentRun) (cuts : List ℕ)
+        → AreSegments vec_runs runs cuts segments.now → AreSegments arc_slice_items runs cuts shared.items) }
+{
+    let mut shared = Vec::with_capacity(alloc, segments.len())?;
+    for runs in segments {
+        shared.push(ArcSlice::from_slice(alloc, runs)?)?;
+    }
+    Ok(shared)
+}
+
+/// The runs of each segment between these cuts, in their order.
+pub(crate) fn segments(
+    alloc: Global,
+    runs: &[CommentRun],
+    cuts: &[usize],
+) -> Result<Vec<ArcSlice<CommentRun, Global>>, AllocError>
+    requires { IsStrictlyIncreasing cuts.now }
+    ensures { IfOk result (λ segments. AreSegments arc_slice_items runs.now cuts.now segments.items) }
+{
+    let mut segments = empty_lists(alloc, cuts.len() + 1)?;
+    for run in runs {
+        add_run(cuts, &mut segments, run)?;
+    }
+    shared(alloc, &segments)
+}
