@@ -22,28 +22,29 @@ use Rattle.change_ops.specs.declared.size.Size.TheVariants.{Large}
 accepts_all : (ops added : List Op) → AllFollow Large ops added (length added) → AcceptsAll Large ops added
 accepts_all ops added follow i op here = (follow i op (slice_get_within added i op here) here).accepted
 
-pub is_step : (ops : List Op) (previous : Version) (lines : List Line) (parts : Parts) → AreNextParts ops previous lines parts → IsStep ops previous parts.sequence.elements parts.marks lines
-is_step ops previous lines parts next = record {
-  before = next.before;
+pub is_step : (ops : List Op) (previous : Version) (lines : List Line) (before parts : Parts) → AreNextParts ops previous lines before parts
+    → IsStep ops previous before.sequence.elements parts.sequence.elements parts.marks lines
+is_step ops previous lines before parts next = record {
+  shows_before = next.kept_before.shows;
   version = next.version;
   accepted = accepts_all ops (ops_of_lines lines) next.accepted;
   shows = next.kept.shows;
   marks = are_marks (ops ++ ops_of_lines lines) parts.marks next.kept.marks;
 }
 
-pub next_kept : {E : Type 0} (r : Result Version E) (previous : Version) (lines : List Line) (parts : Parts) (number : ℕ)
-    → IfOk r (λ v. (ops : List Op) → IsStep ops previous parts.sequence.elements parts.marks lines → IsVersion (ops ++ ops_of_lines lines) number v)
-    → IfOk r (λ v. (ops : List Op) → AreNextParts ops previous lines parts → IsVersion (ops ++ ops_of_lines lines) number v)
-next_kept (Ok v) previous lines parts number h = λ ops next. h ops (is_step ops previous lines parts next)
-next_kept (Err e) previous lines parts number h = tt
+pub next_kept : {E : Type 0} (r : Result Version E) (previous : Version) (lines : List Line) (before parts : Parts) (number : ℕ)
+    → IfOk r (λ v. (ops : List Op) → IsStep ops previous before.sequence.elements parts.sequence.elements parts.marks lines → IsVersion (ops ++ ops_of_lines lines) number v)
+    → IfOk r (λ v. (ops : List Op) → AreNextParts ops previous lines before parts → IsVersion (ops ++ ops_of_lines lines) number v)
+next_kept (Ok v) previous lines before parts number h = λ ops next. h ops (is_step ops previous lines before parts next)
+next_kept (Err e) previous lines before parts number h = tt
 
 module _ {size : Size} where
   -- the parts of a draft
   pub are_next : (changes : List Change) (change : Change) (previous : Version) (lines : List Line) (draft : Draft) (parts : Parts) → Keeps (operations_of changes) parts → (number : ℕ) × IsVersion (operations_of changes) number previous → IsDraft size changes change draft → lines ≡ change.lines
-      → AreNextParts (operations_of changes) previous lines draft.parts
+      → AreNextParts (operations_of changes) previous lines parts draft.parts
   are_next changes change previous lines draft parts kept version drafted same =
-      subst (λ (ls : List Line). AreNextParts (operations_of changes) previous ls draft.parts) (sym same) (record {
-        before = (parts.sequence.elements, kept.shows);
+      subst (λ (ls : List Line). AreNextParts (operations_of changes) previous ls parts draft.parts) (sym same) (record {
+        kept_before = kept;
         version = version;
         accepted = follow_large (operations_of changes) (operations change) (length (operations change)) drafted.accepted.follow;
         kept = subst (λ (ops : List Op). Keeps ops draft.parts) (operations_of-push changes change) drafted.kept;

@@ -14,7 +14,7 @@ use Rattle.char_sequence.specs.Acceptance.{Accepts}
 use Rattle.char_sequence.specs.RunElements.{AcceptsRun}
 use Rattle.char_sequence.specs.Tree.{Present}
 use Rattle.mark_places.specs.Places.{AreMarkPlaces}
-use Rattle.mark_places.specs.declared.places.MarkPlace.{MarkPlace}
+use Rattle.mark_places.specs.MarkPlace.{MarkPlace}
 use Rattle.mark_places.proofs.Boundaries.{lies_hidden}
 use Rattle.version_laws.proofs.Put.{ArePut, IsHidden}
 use Rattle.change_history.specs.declared.parts.Parts.{Parts}
@@ -68,7 +68,7 @@ run_present (c ∷ cs) ops id parent some =
 pub text_counted : (ops : List Op) (parts : Parts) → Keeps ops parts → length parts.sequence.elements ≡ count_by is_insert ops
 text_counted ops parts k = k.held.size ∙ inserts_counted ops
 
-pub insert_fits : (ops : List Op) (op : Op) (parts : Parts) → is_insert op ≡ true → Keeps ops parts → Accepts Large ops op → length parts.sequence.elements + 1 < 2 ^ 64
+pub insert_fits : (ops : List Op) (op : Op) (parts : Parts) → is_insert op ≡ true → Keeps ops parts → Accepts Large ops op → length parts.sequence.elements + 1 < 2 ^ 30
 insert_fits ops op parts insert k a =
     let size = text_counted ops parts k in
     ⊎_elim
@@ -76,7 +76,7 @@ insert_fits ops op parts insert k a =
     (λ (full : 262144 ≤ count_by is_insert ops). absurd (a.room (insert, inl full)))
     (cases_lt (count_by is_insert ops) 262144)
 
-pub run_fits : (ops : List Op) (id : OpId) (parent : Option OpId) (cs : List ℕ) (n : ℕ) (parts : Parts) → n ≤ length cs → Keeps ops parts → AcceptsRun Large ops id parent cs → length parts.sequence.elements + n < 2 ^ 64
+pub run_fits : (ops : List Op) (id : OpId) (parent : Option OpId) (cs : List ℕ) (n : ℕ) (parts : Parts) → n ≤ length cs → Keeps ops parts → AcceptsRun Large ops id parent cs → length parts.sequence.elements + n < 2 ^ 30
 run_fits ops id parent cs n parts low k a =
     let size = text_counted ops parts k in
     let room = a.room in

@@ -4,15 +4,14 @@ use Rattle.change_ops.specs.Lines.{ops_of_lines}
 use Rattle.change_ops.specs.declared.line.Line.{Line}
 use Rattle.change_ops.specs.declared.operation.Op.{Op}
 use Rattle.change_ops.specs.declared.size.Size.TheVariants.{Large}
-use Rattle.char_sequence.specs.Order.{Shows}
-use Rattle.char_sequence.specs.declared.sequence.Element.{Element}
 use Rattle.span_flatten.specs.Version.{Version, IsVersion}
 use Rattle.change_history.specs.Kept.{Keeps, AreAllAccepted}
 use Rattle.change_history.specs.declared.parts.Parts.{Parts}
 
--- the version is of operations, after which those of the lines are accepted, and the parts are of them all
-pub record AreNextParts (ops : List Op) (previous : Version) (lines : List Line) (parts : Parts) : Type 0 where
-  pub before : (es : List Element) × Shows es ops
+-- the version and the parts before are of operations, after which those of the lines are accepted, and the other parts
+-- are of them all
+pub record AreNextParts (ops : List Op) (previous : Version) (lines : List Line) (before parts : Parts) : Type 0 where
+  pub kept_before : Keeps ops before
   pub version : (number : ℕ) × IsVersion ops number previous
   pub accepted : AreAllAccepted Large ops lines
   pub kept : Keeps (ops ++ ops_of_lines lines) parts

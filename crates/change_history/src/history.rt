@@ -292,11 +292,12 @@ impl History {
         ensures { IfOk result (λ version. (change : Change) → IsDraft self.now.size self.now.changes change draft.now
             → IsVersion (operations_of (self.now.changes ++ change ∷ [])) (length self.now.changes + 1) version) }
     {
-        // The type keeps that these are the parts of the changes, which the proof needs.
-        let _parts = &self.parts;
         let lines = lines_of(draft);
         let number = self.len() as u64 + 1;
-        let version = draft.parts.next_version(alloc, previous, lines, number)?;
+        let before = &self.parts;
+        let version = draft
+            .parts
+            .next_version(alloc, before, previous, lines, number)?;
         Ok(version)
     }
 

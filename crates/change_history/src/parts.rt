@@ -263,21 +263,24 @@ impl Parts {
         Ok(version)
     }
 
-    /// The version of the operations that were applied, with this number, from the one before those of the lines.
+    /// The version of the operations that were applied, with this number, from the one before those of the lines; the
+    /// parts `before` are of the operations before them.
     pub fn next_version(
         &self,
         alloc: Global,
+        before: &Parts,
         previous: &BlockVersion,
         lines: &[Line],
         number: u64,
     ) -> Result<BlockVersion, AllocError>
-        requires { (ops : List Op) × AreNextParts ops previous.now lines.now self.now }
-        ensures { IfOk result (λ next. (ops : List Op) → AreNextParts ops previous.now lines.now self.now
+        requires { (ops : List Op) × AreNextParts ops previous.now lines.now before.now self.now }
+        ensures { IfOk result (λ next. (ops : List Op) → AreNextParts ops previous.now lines.now before.now self.now
             → IsVersion (ops ++ ops_of_lines lines.now) number next) }
     {
         next_version(
             alloc,
             previous,
+            &before.sequence,
             &self.sequence,
             &self.marks,
             &self.places,

@@ -1,9 +1,9 @@
 -- Which marks are kept for a window.
-use Rattle.std.proofs.Common.{◌≡◌, ℕ, ◌+◌, ◌<◌, ◌≤◌, true, List, [], ◌∷◌, ◌++◌, Option, Some, None, length, refl, sym, ap, subst, ◌∙◌, arith, ⊎_elim, ◌⊎◌, inl, inr}
+use Rattle.std.proofs.Common.{◌≡◌, ℕ, ◌+◌, ◌<◌, ◌≤◌, true, false, List, [], ◌∷◌, ◌++◌, Option, Some, None, length, refl, sym, ap, subst, ◌∙◌, arith, ⊎_elim, ◌⊎◌, inl, inr}
 use Rattle.std.specs.List.{slice_get, Contains}
 use Rattle.std.proofs.lemmas.List.{length_push}
 use Rattle.std.proofs.lemmas.List.Elements.{Contains-append_left}
-use Rattle.std.proofs.lemmas.Bool.{cases_lt}
+use Rattle.std.proofs.lemmas.Bool.{cases_lt, and_from, lt-ltb, false≢true}
 use Rattle.std.proofs.lemmas.Option.{same_Some, none-some}
 use Rattle.change_ops.specs.Ids.{Less}
 use Rattle.change_ops.specs.declared.id.OpId.{OpId}
@@ -13,8 +13,9 @@ use Rattle.change_ops.specs.declared.operation.Op.{Op}
 use Rattle.char_sequence.proofs.Ids.{less_irrefl, less_trans, less_cases, lower_floor}
 use Rattle.mark_anchors.specs.declared.placed.PlacedMark.{PlacedMark}
 use Rattle.mark_anchors.proofs.Lists.{contains_from, first_or_last, pushed_at, pushed_here, pushed_still}
+use Rattle.mark_places.specs.Touching.{touches}
+use Rattle.mark_places.specs.declared.range.PlaceRange.{PlaceRange}
 use Rattle.mark_places.specs.Floors.{floor_of, has_floor, IsGreaterOf, IsRaised, IsFloored, CoversAll, AreFirstFloors, IsKept, AreKept, numbered}
-use Rattle.mark_places.specs.declared.places.MarkPlace.{MarkPlace}
 use Rattle.mark_places.specs.declared.floors.Floors.{Floors}
 use Rattle.mark_places.proofs.KeyCases.{key_cases}
 
@@ -46,45 +47,45 @@ own_floored None after id greater = record { at = id; is = greater; reaches = le
 own_floored (Some found) after id (inl (same, less)) = record { at = found; is = same; reaches = λ above. less_irrefl id (less_trans id found id less above) }
 own_floored (Some found) after id (inr (same, not)) = record { at = id; is = same; reaches = less_irrefl id }
 
-pub floors_none : (places : List MarkPlace) (low high : ℕ) (floors : Floors) → ((key : Key) → floor_of floors key ≡ None) → AreFirstFloors places low high 0 floors
+pub floors_none : (places : List PlacedMark) (low high : ℕ) (floors : Floors) → ((key : Key) → floor_of floors key ≡ None) → AreFirstFloors places low high 0 floors
 floors_none places low high floors none = record {
   found = λ key id is. absurd (none-some id (sym (none key) ∙ is));
   greatest = λ i place less at covers has. absurd (omega arith);
 }
 
-pub floors_raised : (places : List MarkPlace) (low high k : ℕ) (place : MarkPlace) (before after : Floors) → slice_get places k ≡ Some place → CoversAll low high place → IsRaised place.mark.key place.mark.id before after → AreFirstFloors places low high k before → AreFirstFloors places low high (k + 1) after
+pub floors_raised : (places : List PlacedMark) (low high k : ℕ) (place : PlacedMark) (before after : Floors) → slice_get places k ≡ Some place → CoversAll low high place → IsRaised place.key place.id before after → AreFirstFloors places low high k before → AreFirstFloors places low high (k + 1) after
 floors_raised places low high k place before after here covers raised are = record {
   found =
       λ key x is.
       ⊎_elim
-      (λ (same : key ≡ place.mark.key).
-      let there : floor_of after place.mark.key ≡ Some x = ap (floor_of after) (sym same) ∙ is in
+      (λ (same : key ≡ place.key).
+      let there : floor_of after place.key ≡ Some x = ap (floor_of after) (sym same) ∙ is in
       ⊎_elim
-      (λ (was : floor_of before place.mark.key ≡ Some x). are.found key x (ap (floor_of before) same ∙ was))
-      (λ (new : place.mark.id ≡ x). (place, contains_from places k place here, covers, sym same, new))
-      (own_floor (floor_of before place.mark.key) (floor_of after place.mark.key) place.mark.id x (raised.own (floor_has after place.mark.key x there)) there))
-      (λ (other : key ≡ place.mark.key → ⊥). are.found key x (sym (raised.others key other) ∙ is))
-      (key_cases key place.mark.key);
+      (λ (was : floor_of before place.key ≡ Some x). are.found key x (ap (floor_of before) same ∙ was))
+      (λ (new : place.id ≡ x). (place, contains_from places k place here, covers, sym same, new))
+      (own_floor (floor_of before place.key) (floor_of after place.key) place.id x (raised.own (floor_has after place.key x there)) there))
+      (λ (other : key ≡ place.key → ⊥). are.found key x (sym (raised.others key other) ∙ is))
+      (key_cases key place.key);
   greatest =
       λ i q less at over has.
       ⊎_elim
       (λ (earlier : i < k).
       let was = are.greatest i q earlier at over has in
       ⊎_elim
-      (λ (same : q.mark.key ≡ place.mark.key).
-      subst (λ z. IsFloored (floor_of after z) q.mark.id) (sym same)
-      (still_floored (floor_of before place.mark.key) (floor_of after place.mark.key) place.mark.id q.mark.id
-      (raised.own (subst (λ z. has_floor z ≡ true) same has)) (subst (λ z. IsFloored (floor_of before z) q.mark.id) same was)))
-      (λ (other : q.mark.key ≡ place.mark.key → ⊥). subst (λ f. IsFloored f q.mark.id) (sym (raised.others q.mark.key other)) was)
-      (key_cases q.mark.key place.mark.key))
+      (λ (same : q.key ≡ place.key).
+      subst (λ z. IsFloored (floor_of after z) q.id) (sym same)
+      (still_floored (floor_of before place.key) (floor_of after place.key) place.id q.id
+      (raised.own (subst (λ z. has_floor z ≡ true) same has)) (subst (λ z. IsFloored (floor_of before z) q.id) same was)))
+      (λ (other : q.key ≡ place.key → ⊥). subst (λ f. IsFloored f q.id) (sym (raised.others q.key other)) was)
+      (key_cases q.key place.key))
       (λ (last : (i ≡ k) × (place ≡ q)).
-      let own : has_floor place.mark.key ≡ true → IsFloored (floor_of after place.mark.key) place.mark.id =
-      λ h. own_floored (floor_of before place.mark.key) (floor_of after place.mark.key) place.mark.id (raised.own h) in
-      subst (λ (z : MarkPlace). has_floor z.mark.key ≡ true → IsFloored (floor_of after z.mark.key) z.mark.id) last.1 own has)
+      let own : has_floor place.key ≡ true → IsFloored (floor_of after place.key) place.id =
+      λ h. own_floored (floor_of before place.key) (floor_of after place.key) place.id (raised.own h) in
+      subst (λ (z : PlacedMark). has_floor z.key ≡ true → IsFloored (floor_of after z.key) z.id) last.1 own has)
       (first_or_last places k i place q less here at);
 }
 
-pub floors_skipped : (places : List MarkPlace) (low high k : ℕ) (place : MarkPlace) (floors : Floors) → slice_get places k ≡ Some place → (CoversAll low high place → ⊥) → AreFirstFloors places low high k floors → AreFirstFloors places low high (k + 1) floors
+pub floors_skipped : (places : List PlacedMark) (low high k : ℕ) (place : PlacedMark) (floors : Floors) → slice_get places k ≡ Some place → (CoversAll low high place → ⊥) → AreFirstFloors places low high k floors → AreFirstFloors places low high (k + 1) floors
 floors_skipped places low high k place floors here not are = record {
   found = are.found;
   greatest =
@@ -116,49 +117,65 @@ floor_cases (Some found) id =
     (less_cases id found)
 
 -- the mark covers no place of the window
-pub record IsBeside (low high : ℕ) (place : MarkPlace) : Type 0 where
-  pub apart : (at : ℕ) → low ≤ at → at < high → (at < place.mark.start) ⊎ (place.mark.end ≤ at)
+pub record IsBeside (low high : ℕ) (place : PlacedMark) : Type 0 where
+  pub apart : (at : ℕ) → low ≤ at → at < high → (at < place.start) ⊎ (place.end ≤ at)
 
-pub kept_cases : (floors : Floors) (low high : ℕ) (place : MarkPlace) → IsKept floors low high place ⊎ (IsBeside low high place ⊎ IsBelow (floor_of floors place.mark.key) place.mark.id)
-kept_cases floors low high place =
+-- a mark that doesn't touch the window covers none
+pub beside : (low high : ℕ) (mark : PlacedMark) → touches low high mark ≡ false → IsBeside low high mark
+beside low high mark apart =
     ⊎_elim
-    (λ (before : place.mark.start < high).
+    (λ (begins : mark.start < high).
     ⊎_elim
-    (λ (behind : low < place.mark.end).
+    (λ (ongoing : low < mark.end).
     ⊎_elim
-    (λ (some : place.mark.start < place.mark.end).
-    ⊎_elim
-    (λ (reaches : (x : OpId) → floor_of floors place.mark.key ≡ Some x → Less place.mark.id x → ⊥). inl (record { before = before; behind = behind; some = some; reaches = reaches }))
-    (λ (below : IsBelow (floor_of floors place.mark.key) place.mark.id). inr (inr below))
-    (floor_cases (floor_of floors place.mark.key) place.mark.id))
-    (λ (none : place.mark.end ≤ place.mark.start). inr (inl (record { apart = λ at from to. ⊎_elim (λ (l : at < place.mark.start). inl l) (λ (r : place.mark.start ≤ at). inr (omega arith)) (cases_lt at place.mark.start) })))
-    (cases_lt place.mark.start place.mark.end))
-    (λ (ended : place.mark.end ≤ low). inr (inl (record { apart = λ at from to. inr (omega arith) })))
-    (cases_lt low place.mark.end))
-    (λ (later : high ≤ place.mark.start). inr (inl (record { apart = λ at from to. inl (omega arith) })))
-    (cases_lt place.mark.start high)
+    (λ (some : mark.start < mark.end).
+    absurd (false≢true (sym apart ∙ and_from _ _ (and_from _ _ (lt-ltb mark.start high begins) (lt-ltb low mark.end ongoing)) (lt-ltb mark.start mark.end some))))
+    (λ (none : mark.end ≤ mark.start). record { apart = λ at from to. ⊎_elim (λ (l : at < mark.start). inl l) (λ (r : mark.start ≤ at). inr (omega arith)) (cases_lt at mark.start) })
+    (cases_lt mark.start mark.end))
+    (λ (ended : mark.end ≤ low). record { apart = λ at from to. inr (omega arith) })
+    (cases_lt low mark.end))
+    (λ (later : high ≤ mark.start). record { apart = λ at from to. inl (omega arith) })
+    (cases_lt mark.start high)
 
--- a mark that covers the whole window and whose id is the floor is kept
-pub floor_kept : (floors : Floors) (low high : ℕ) (place : MarkPlace) → low < high → CoversAll low high place → floor_of floors place.mark.key ≡ Some place.mark.id → IsKept floors low high place
-floor_kept floors low high place some covers is =
-    let begun : place.mark.start ≤ low = covers.0 in
-    let ongoing : high ≤ place.mark.end = covers.1 in
+pub kept_cases : (floors : Floors) (ranges : List PlaceRange) (range : PlaceRange) (place : PlacedMark) → Contains ranges range → IsKept floors ranges place ⊎ (IsBeside range.low range.high place ⊎ IsBelow (floor_of floors place.key) place.id)
+kept_cases floors ranges range place held =
+    ⊎_elim
+    (λ (before : place.start < range.high).
+    ⊎_elim
+    (λ (behind : range.low < place.end).
+    ⊎_elim
+    (λ (some : place.start < place.end).
+    ⊎_elim
+    (λ (reaches : (x : OpId) → floor_of floors place.key ≡ Some x → Less place.id x → ⊥).
+    inl (record { covers = (range, held, record { before = before; behind = behind; some = some }); reaches = reaches }))
+    (λ (below : IsBelow (floor_of floors place.key) place.id). inr (inr below))
+    (floor_cases (floor_of floors place.key) place.id))
+    (λ (none : place.end ≤ place.start). inr (inl (record { apart = λ at from to. ⊎_elim (λ (l : at < place.start). inl l) (λ (r : place.start ≤ at). inr (omega arith)) (cases_lt at place.start) })))
+    (cases_lt place.start place.end))
+    (λ (ended : place.end ≤ range.low). inr (inl (record { apart = λ at from to. inr (omega arith) })))
+    (cases_lt range.low place.end))
+    (λ (later : range.high ≤ place.start). inr (inl (record { apart = λ at from to. inl (omega arith) })))
+    (cases_lt place.start range.high)
+
+-- a mark that covers a whole range and whose id is the floor is kept
+pub floor_kept : (floors : Floors) (ranges : List PlaceRange) (range : PlaceRange) (place : PlacedMark) → Contains ranges range → range.low < range.high → CoversAll range.low range.high place → floor_of floors place.key ≡ Some place.id → IsKept floors ranges place
+floor_kept floors ranges range place held some covers is =
+    let begun : place.start ≤ range.low = covers.0 in
+    let ongoing : range.high ≤ place.end = covers.1 in
     record {
-      before = omega arith;
-      behind = omega arith;
-      some = omega arith;
-      reaches = λ x at less. less_irrefl place.mark.id (subst (Less place.mark.id) (same_Some x place.mark.id (sym at ∙ is)) less);
+      covers = (range, held, record { before = omega arith; behind = omega arith; some = omega arith });
+      reaches = λ x at less. less_irrefl place.id (subst (Less place.id) (same_Some x place.id (sym at ∙ is)) less);
     }
 
 -- ---- the kept ones, one after another
-module _ (places : List MarkPlace) (operations : List Op) (floors : Floors) (low high : ℕ) where
-  pub kept_none : AreKept places operations floors low high 0 [] []
+module _ (places : List PlacedMark) (operations : List Op) (floors : Floors) (ranges : List PlaceRange) where
+  pub kept_none : AreKept places operations floors ranges 0 [] []
   kept_none = record { sized = refl; held = λ i p g. absurd (none-some p g); listed = λ i place o less g at kept. absurd (omega arith) }
 
-  pub kept_more : (k : ℕ) (place : MarkPlace) (o : Op) (chosen : List Op) (marks : List PlacedMark) → slice_get places k ≡ Some place → slice_get operations place.mark.index ≡ Some o → AreKept places operations floors low high k chosen marks → AreKept places operations floors low high (k + 1) (chosen ++ o ∷ []) (marks ++ numbered place.mark (length chosen) ∷ [])
+  pub kept_more : (k : ℕ) (place : PlacedMark) (o : Op) (chosen : List Op) (marks : List PlacedMark) → slice_get places k ≡ Some place → slice_get operations place.index ≡ Some o → AreKept places operations floors ranges k chosen marks → AreKept places operations floors ranges (k + 1) (chosen ++ o ∷ []) (marks ++ numbered place (length chosen) ∷ [])
   kept_more k place o chosen marks here at are =
       let size : length marks ≡ length chosen = are.sized in
-      let mark : PlacedMark = numbered place.mark (length chosen) in
+      let mark : PlacedMark = numbered place (length chosen) in
       record {
         sized = omega (arith, length_push marks mark, length_push chosen o);
         held =
@@ -171,7 +188,7 @@ module _ (places : List MarkPlace) (operations : List Op) (floors : Floors) (low
             let end : length chosen ≡ i = sym (new.0 ∙ size) in (
               place,
               contains_from places k place here,
-              sym new.1 ∙ ap (numbered place.mark) end,
+              sym new.1 ∙ ap (numbered place) end,
               (o, at, ap (slice_get (chosen ++ o ∷ [])) (sym end) ∙ pushed_here chosen o),
             ))
             (pushed_at marks mark i p g);
@@ -180,12 +197,12 @@ module _ (places : List MarkPlace) (operations : List Op) (floors : Floors) (low
             ⊎_elim
             (λ (before : i < k). Contains-append_left chosen (o ∷ []) x (are.listed i q x before g h kept))
             (λ (last : (i ≡ k) × (place ≡ q)).
-            let one : o ≡ x = same_Some o x (sym at ∙ ap (λ (z : MarkPlace). slice_get operations z.mark.index) last.1 ∙ h) in
+            let one : o ≡ x = same_Some o x (sym at ∙ ap (λ (z : PlacedMark). slice_get operations z.index) last.1 ∙ h) in
             subst (Contains (chosen ++ o ∷ [])) one (contains_from (chosen ++ o ∷ []) (length chosen) o (pushed_here chosen o)))
             (first_or_last places k i place q less here g);
       }
 
-  pub kept_skipped : (k : ℕ) (place : MarkPlace) (chosen : List Op) (marks : List PlacedMark) → slice_get places k ≡ Some place → (IsKept floors low high place → ⊥) → AreKept places operations floors low high k chosen marks → AreKept places operations floors low high (k + 1) chosen marks
+  pub kept_skipped : (k : ℕ) (place : PlacedMark) (chosen : List Op) (marks : List PlacedMark) → slice_get places k ≡ Some place → (IsKept floors ranges place → ⊥) → AreKept places operations floors ranges k chosen marks → AreKept places operations floors ranges (k + 1) chosen marks
   kept_skipped k place chosen marks here not are = record {
     sized = are.sized;
     held = are.held;
@@ -193,10 +210,10 @@ module _ (places : List MarkPlace) (operations : List Op) (floors : Floors) (low
         λ i q x less g h kept.
         ⊎_elim
         (λ (before : i < k). are.listed i q x before g h kept)
-        (λ (last : (i ≡ k) × (place ≡ q)). absurd (not (subst (IsKept floors low high) (sym last.1) kept)))
+        (λ (last : (i ≡ k) × (place ≡ q)). absurd (not (subst (IsKept floors ranges) (sym last.1) kept)))
         (first_or_last places k i place q less here g);
   }
 
-  pub kept_as : (k : ℕ) (chosen chosen' : List Op) (marks marks' : List PlacedMark) → chosen' ≡ chosen → marks' ≡ marks → AreKept places operations floors low high k chosen marks → AreKept places operations floors low high k chosen' marks'
+  pub kept_as : (k : ℕ) (chosen chosen' : List Op) (marks marks' : List PlacedMark) → chosen' ≡ chosen → marks' ≡ marks → AreKept places operations floors ranges k chosen marks → AreKept places operations floors ranges k chosen' marks'
   kept_as k chosen chosen' marks marks' same also are =
-      subst (λ c. AreKept places operations floors low high k c marks') (sym same) (subst (AreKept places operations floors low high k chosen) (sym also) are)
+      subst (λ c. AreKept places operations floors ranges k c marks') (sym same) (subst (AreKept places operations floors ranges k chosen) (sym also) are)

@@ -1,7 +1,11 @@
 pub mod KeyCases
 pub mod Boundaries
 pub mod Placing
+pub mod Raising
+pub mod Blocks
+pub mod Ranks
+pub mod Ranges
 pub mod Keeping
-pub mod Choosing
 pub mod Filters
+pub mod Choosing
 pub mod Deciding

@@ -1,19 +1,17 @@
 -- One mark more with its places, and places that are shifted.
-use Rattle.std.proofs.Common.{◌≡◌, ℕ, ◌+◌, ◌<◌, ◌≤◌, ◌≢◌, List, [], ◌∷◌, ◌++◌, Some, length, set, take, refl, sym, ap, subst, ◌∙◌, arith, ⊎_elim}
+use Rattle.std.proofs.Common.{◌≡◌, ℕ, ◌<◌, ◌≤◌, List, [], ◌∷◌, ◌++◌, Some, length, refl, sym, ap, subst, ◌∙◌, arith, ⊎_elim}
 use Rattle.std.specs.List.{slice_get}
-use Rattle.std.proofs.lemmas.List.{length_push, length-set}
-use Rattle.std.proofs.lemmas.Grind.{common_steps}
+use Rattle.std.proofs.lemmas.List.{length_push}
 use Rattle.std.proofs.lemmas.Option.{same_Some, slice_get_within}
 use Rattle.change_ops.specs.declared.operation.Op.{Op}
 use Rattle.change_ops.specs.declared.operation.Op.TheVariants.{Insert, Remove, AddMark, RemoveMark}
 use Rattle.char_sequence.specs.declared.sequence.Element.{Element}
-use Rattle.char_sequence.proofs.Lists.{set_cases}
 use Rattle.mark_anchors.specs.Places.{IsOfKey, Lies}
 use Rattle.mark_anchors.proofs.Lists.{item_at, pushed_at, pushed_here, pushed_still}
 use Rattle.mark_anchors.proofs.Uniform.{boundary_within}
 use Rattle.mark_places.specs.Places.{IsMarkPlace, AreMarkPlaces}
-use Rattle.mark_places.specs.Shifted.{IsShifted, IsMarkShifted, AreFirstShifted}
-use Rattle.mark_places.specs.declared.places.MarkPlace.{MarkPlace}
+use Rattle.mark_places.specs.Shifted.{IsShifted, IsMarkShifted, AreShifted}
+use Rattle.mark_places.specs.MarkPlace.{MarkPlace}
 use Rattle.mark_places.proofs.Boundaries.{lies_shifted}
 
 -- ---- one more
@@ -37,36 +35,6 @@ places_more es operations o places p is are =
     }
 
 -- ---- places that are shifted
-pub none_shifted : (place count : ℕ) (places : List MarkPlace) → AreFirstShifted place count 0 places places
-none_shifted place count places = record {
-  sized = refl;
-  shifted = λ i p q less g h. absurd (omega arith);
-  same = λ i p q le g h. same_Some q p (sym h ∙ g);
-}
-
-pub shifted_more : (place count k : ℕ) (old now : List MarkPlace) (x y : MarkPlace) → slice_get now k ≡ Some x → IsMarkShifted place count x y → AreFirstShifted place count k old now → AreFirstShifted place count (k + 1) old (set now k y)
-shifted_more place count k old now x y at moved first =
-    let within : k < length now = slice_get_within now k x at in
-    record {
-      sized = length-set now k y ∙ first.sized;
-      shifted =
-          λ i p q less g h.
-          ⊎_elim
-          (λ (here : (i ≡ k) × (y ≡ q)).
-          let was : x ≡ p = first.same k p x (omega arith) (ap (slice_get old) (sym here.0) ∙ g) at in
-          subst (λ z. IsMarkShifted place count p z) here.1 (subst (λ z. IsMarkShifted place count z y) was moved))
-          (λ (other : (i ≢ k) × (slice_get now i ≡ Some q)).
-          let apart : i ≢ k = other.0 in
-          first.shifted i p q (omega arith) g other.1)
-          (set_cases now k y i q within h);
-      same =
-          λ i p q le g h.
-          ⊎_elim
-          (λ (here : (i ≡ k) × (y ≡ q)). let one : i ≡ k = here.0 in absurd (omega arith))
-          (λ (other : (i ≢ k) × (slice_get now i ≡ Some q)). first.same i p q (omega arith) g other.1)
-          (set_cases now k y i q within h);
-    }
-
 mark_shifted : (front run back : List Element) (o : Op) (i : ℕ) (p q : MarkPlace) → IsMarkPlace (front ++ back) o i p → IsMarkShifted (length front) (length run) p q → IsMarkPlace (front ++ (run ++ back)) o i q
 mark_shifted front run back o i p q is moved = record {
   indexed = moved.index ∙ is.indexed;
@@ -82,9 +50,9 @@ mark_shifted front run back o i p q is moved = record {
   end = λ anchor ends. moved.end_same ∙ is.end anchor ends;
 }
 
-pub places_shifted : (front run back : List Element) (operations : List Op) (old new : List MarkPlace) (done : ℕ) → length old ≤ done → AreFirstShifted (length front) (length run) done old new → AreMarkPlaces (front ++ back) operations old → AreMarkPlaces (front ++ (run ++ back)) operations new
-places_shifted front run back operations old new done all first are =
-    let size : length new ≡ length old = first.sized in
+pub places_shifted : (front run back : List Element) (operations : List Op) (old new : List MarkPlace) → AreShifted (length front) (length run) old new → AreMarkPlaces (front ++ back) operations old → AreMarkPlaces (front ++ (run ++ back)) operations new
+places_shifted front run back operations old new all are =
+    let size : length new ≡ length old = all.sized in
     record {
       sized = size ∙ are.sized;
       each =
@@ -92,7 +60,7 @@ places_shifted front run back operations old new done all first are =
           let within : i < length new = slice_get_within new i q g in
           let p = item_at old i (omega arith) in
           let r = are.each i p.0 p.1 in
-          (r.0, r.1, mark_shifted front run back r.0 i p.0 q r.2 (first.shifted i p.0 q (omega arith) p.1 g));
+          (r.0, r.1, mark_shifted front run back r.0 i p.0 q r.2 (all.shifted i p.0 q p.1 g));
     }
 
 -- ---- no place is behind the end
@@ -107,12 +75,22 @@ place_within es operations places are i p g =
     let r = are.each i p g in
     lies_within es r.0 p.mark.start p.mark.end r.2.placed.lies
 
-pub next_within : (es : List Element) (operations : List Op) (old now : List MarkPlace) (place count k : ℕ) (x : MarkPlace) → AreMarkPlaces es operations old → AreFirstShifted place count k old now → slice_get now k ≡ Some x → (x.mark.start ≤ length es) × (x.mark.end ≤ length es)
-next_within es operations old now place count k x are first at =
-    let size : length now ≡ length old = first.sized in
-    let within : k < length now = slice_get_within now k x at in
-    let p = item_at old k (omega arith) in
-    place_within es operations old are k x (p.1 ∙ ap Some (sym (first.same k p.0 x (omega arith) p.1 at)))
-
-pub take_first : {X : Type 0} (n : ℕ) (xs ys : List X) → n ≡ length xs → take n (xs ++ ys) ≡ xs
-take_first n xs ys all = grind (arith, common_steps)
+-- a place behind the end of the text moves none
+pub far_shifted : (es : List Element) (operations : List Op) (places : List MarkPlace) (place count : ℕ) → length es < place → AreMarkPlaces es operations places → AreShifted place count places places
+far_shifted es operations places place count far are = record {
+  sized = refl;
+  shifted =
+      λ i p q g h.
+      let low = place_within es operations places are i p g in
+      let start = low.0 in
+      let end = low.1 in
+      subst (IsMarkShifted place count p) (same_Some p q (sym g ∙ h)) (record {
+        start = record { behind = λ b. absurd (omega arith); moves = λ at g. absurd (omega arith); stays = λ at g. refl; before = λ b. refl };
+        end = record { behind = λ b. absurd (omega arith); moves = λ at g. absurd (omega arith); stays = λ at g. refl; before = λ b. refl };
+        index = refl;
+        id = refl;
+        key = refl;
+        start_same = refl;
+        end_same = refl;
+      });
+}

@@ -7,7 +7,8 @@ use Rattle.change_ops.specs.declared.attribute.Key.{Key}
 use Rattle.change_ops.specs.declared.attribute.Key.TheVariants as key
 use Rattle.change_ops.specs.declared.operation.Op.{Op}
 use Rattle.mark_anchors.specs.declared.placed.PlacedMark.{PlacedMark}
-use Rattle.mark_places.specs.declared.places.MarkPlace.{MarkPlace}
+use Rattle.mark_places.specs.PlaceRanges.{CoversAny}
+use Rattle.mark_places.specs.declared.range.PlaceRange.{PlaceRange}
 use Rattle.mark_places.specs.declared.floors.Floors.{Floors}
 
 -- what was found for the key; nothing for comments
@@ -40,8 +41,8 @@ pub record IsRaised (key : Key) (id : OpId) (before after : Floors) : Type 0 whe
   pub others : (other : Key) → (other ≡ key → ⊥) → floor_of after other ≡ floor_of before other
 
 -- the mark covers all places from `low` up to `high`
-abbrev pub CoversAll : ℕ → ℕ → MarkPlace → Type 0
-CoversAll low high place = (place.mark.start ≤ low) × (high ≤ place.mark.end)
+abbrev pub CoversAll : ℕ → ℕ → PlacedMark → Type 0
+CoversAll low high place = (place.start ≤ low) × (high ≤ place.end)
 
 -- the floor is there, and the id isn't above it
 pub record IsFloored (floor : Option OpId) (id : OpId) : Type 0 where
@@ -50,33 +51,31 @@ pub record IsFloored (floor : Option OpId) (id : OpId) : Type 0 where
   pub reaches : Less at id → ⊥
 
 -- each floor is the id of a mark of the key that covers the whole window, and none of the first `done` that do is above
-pub record AreFirstFloors (places : List MarkPlace) (low high done : ℕ) (floors : Floors) : Type 0 where
+pub record AreFirstFloors (places : List PlacedMark) (low high done : ℕ) (floors : Floors) : Type 0 where
   pub found : (key : Key) (id : OpId) → floor_of floors key ≡ Some id
-      → (place : MarkPlace) × Contains places place × CoversAll low high place
-      × (place.mark.key ≡ key) × (place.mark.id ≡ id)
-  pub greatest : (i : ℕ) (place : MarkPlace) → i < done → slice_get places i ≡ Some place → CoversAll low high place
-      → has_floor place.mark.key ≡ true → IsFloored (floor_of floors place.mark.key) place.mark.id
+      → (place : PlacedMark) × Contains places place × CoversAll low high place
+      × (place.key ≡ key) × (place.id ≡ id)
+  pub greatest : (i : ℕ) (place : PlacedMark) → i < done → slice_get places i ≡ Some place → CoversAll low high place
+      → has_floor place.key ≡ true → IsFloored (floor_of floors place.key) place.id
 
-abbrev pub AreFloors : List MarkPlace → ℕ → ℕ → Floors → Type 0
+abbrev pub AreFloors : List PlacedMark → ℕ → ℕ → Floors → Type 0
 AreFloors places low high floors = AreFirstFloors places low high (length places) floors
 
--- the mark covers a place from `low` up to `high`, and isn't below its key's floor
-pub record IsKept (floors : Floors) (low high : ℕ) (place : MarkPlace) : Type 0 where
-  pub before : place.mark.start < high
-  pub behind : low < place.mark.end
-  pub some : place.mark.start < place.mark.end
-  pub reaches : (floor : OpId) → floor_of floors place.mark.key ≡ Some floor → Less place.mark.id floor → ⊥
+-- the mark covers a place of the ranges, and isn't below its key's floor
+pub record IsKept (floors : Floors) (ranges : List PlaceRange) (place : PlacedMark) : Type 0 where
+  pub covers : CoversAny ranges place
+  pub reaches : (floor : OpId) → floor_of floors place.key ≡ Some floor → Less place.id floor → ⊥
 
 -- the mark with its number among the chosen ones
 abbrev pub numbered : PlacedMark → ℕ → PlacedMark
 numbered mark index = record mark { index = index }
 
 -- those of the first `done` marks that are kept, with their operations, numbered anew
-pub record AreKept (places : List MarkPlace) (operations : List Op) (floors : Floors) (low high done : ℕ)
-    (chosen : List Op) (marks : List PlacedMark) : Type 0 where
+pub record AreKept (places : List PlacedMark) (operations : List Op) (floors : Floors)
+    (ranges : List PlaceRange) (done : ℕ) (chosen : List Op) (marks : List PlacedMark) : Type 0 where
   pub sized : length marks ≡ length chosen
   pub held : (i : ℕ) (p : PlacedMark) → slice_get marks i ≡ Some p
-      → (place : MarkPlace) × Contains places place × (p ≡ numbered place.mark i)
-      × ((o : Op) × (slice_get operations place.mark.index ≡ Some o) × (slice_get chosen i ≡ Some o))
-  pub listed : (i : ℕ) (place : MarkPlace) (o : Op) → i < done → slice_get places i ≡ Some place
-      → slice_get operations place.mark.index ≡ Some o → IsKept floors low high place → Contains chosen o
+      → (place : PlacedMark) × Contains places place × (p ≡ numbered place i)
+      × ((o : Op) × (slice_get operations place.index ≡ Some o) × (slice_get chosen i ≡ Some o))
+  pub listed : (i : ℕ) (place : PlacedMark) (o : Op) → i < done → slice_get places i ≡ Some place
+      → slice_get operations place.index ≡ Some o → IsKept floors ranges place → Contains chosen o

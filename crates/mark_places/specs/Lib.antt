@@ -1,4 +1,9 @@
+pub mod MarkPlace
 pub mod Places
 pub mod Shifted
+pub mod Ranks
+pub mod Blocks
+pub mod Touching
+pub mod PlaceRanges
 pub mod Floors
 pub mod Chosen

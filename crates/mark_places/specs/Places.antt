@@ -6,7 +6,7 @@ use Rattle.change_ops.specs.declared.operation.Op.{Op}
 use Rattle.char_sequence.specs.declared.sequence.Element.{Element}
 use Rattle.mark_anchors.specs.Anchored.{Begins, Ends}
 use Rattle.mark_anchors.specs.Placed.{IsPlaced}
-use Rattle.mark_places.specs.declared.places.MarkPlace.{MarkPlace}
+use Rattle.mark_places.specs.MarkPlace.{MarkPlace}
 
 -- characters that are put where the anchor is stand before it
 abbrev pub gives_way : Anchor → Bool

@@ -1,6 +1,6 @@
 -- How many characters stand before an anchor once more of them stand at a place.
-use Rattle.std.specs.Prelude.{◌≡◌, ℕ, ◌+◌, ◌<◌, ◌≤◌, Bool, true, false, List, Some, length, slice_get}
-use Rattle.mark_places.specs.declared.places.MarkPlace.{MarkPlace}
+use Rattle.std.specs.Prelude.{◌≡◌, ℕ, ◌+◌, ◌<◌, Bool, true, false, List, Some, length, slice_get}
+use Rattle.mark_places.specs.MarkPlace.{MarkPlace}
 
 -- `old` characters stood before the anchor, and `new` do once `count` more stand from `place` on: an anchor behind the
 -- place moves, and one at the place if it gives way
@@ -20,9 +20,8 @@ pub record IsMarkShifted (place count : ℕ) (old new : MarkPlace) : Type 0 wher
   pub start_same : new.start_gives_way ≡ old.start_gives_way
   pub end_same : new.end_gives_way ≡ old.end_gives_way
 
--- the first `done` marks are shifted, and the others are as they were
-pub record AreFirstShifted (place count done : ℕ) (old new : List MarkPlace) : Type 0 where
+-- each mark is shifted
+pub record AreShifted (place count : ℕ) (old new : List MarkPlace) : Type 0 where
   pub sized : length new ≡ length old
-  pub shifted : (i : ℕ) (p q : MarkPlace) → i < done → slice_get old i ≡ Some p → slice_get new i ≡ Some q
+  pub shifted : (i : ℕ) (p q : MarkPlace) → slice_get old i ≡ Some p → slice_get new i ≡ Some q
       → IsMarkShifted place count p q
-  pub same : (i : ℕ) (p q : MarkPlace) → done ≤ i → slice_get old i ≡ Some p → slice_get new i ≡ Some q → q ≡ p

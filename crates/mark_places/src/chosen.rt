@@ -1,5 +1,5 @@
 //! Those of the marks that decide the formats between two places.
-ghost use Rattle.std.specs.Prelude.{◌≡◌, ◌≤◌, ◌<◌, ◌++◌, ◌∷◌, [], ℕ, List, IfOk, OnOk, length};
+ghost use Rattle.std.specs.Prelude.{◌≡◌, ◌≤◌, ◌<◌, ◌++◌, ◌∷◌, [], ℕ, List, Contains, IfOk, OnOk, length};
 ghost use Rattle.change_ops.specs.declared.id.OpId.{OpId};
 ghost use Rattle.change_ops.specs.declared.operation.Op.{Op as TheOp};
 ghost use Rattle.char_sequence.specs.declared.sequence.Element.{Element};
@@ -11,9 +11,12 @@ ghost use Rattle.mark_anchors.specs.Placed.{AreAllPlaced};
 ghost use Rattle.mark_places.specs.Places.{AreMarkPlaces};
 ghost use Rattle.mark_places.specs.Chosen.{AreChosen};
 ghost use Rattle.mark_places.specs.Floors.{numbered};
+ghost use Rattle.mark_places.specs.PlaceRanges.{AreApart};
+ghost use Rattle.mark_places.specs.declared.range.PlaceRange.{PlaceRange as TheRange};
 
 use crate::floors::Floors;
 use crate::places::MarkPlaces;
+use crate::range::{PlaceRange, hull};
 use change_ops::operation::Op;
 use char_sequence::sequence::Sequence;
 use mark_anchors::placed::PlacedMark;
@@ -37,33 +40,35 @@ impl Model for ChosenMarks {
 }
 
 impl MarkPlaces {
-    /// Chooses those of the marks that decide the formats of the characters from the place `low` up to `high`.
+    /// Chooses those of the marks that decide the formats of the characters at the places of the ranges.
     ///
     /// `operations` are all marks; `alloc` is for the copies of those that are chosen.
     pub fn choose(
         &self,
         alloc: Global,
         operations: &[Op],
-        low: usize,
-        high: usize,
+        ranges: &[PlaceRange],
     ) -> Result<ChosenMarks, AllocError>
-        requires { (es : List Element) × AreMarkPlaces es operations.now self.now }
+        requires places { (es : List Element) × AreMarkPlaces es operations.now self.now }
+        requires apart { (end : ℕ) × AreApart ranges.now 0 end }
         ensures placed { IfOk result (λ chosen. (es : List Element) → AreMarkPlaces es operations.now self.now
             → AreAllPlaced es chosen.operations chosen.marks) }
         ensures chosen { IfOk result (λ chosen. (es : List Element) → AreMarkPlaces es operations.now self.now
-            → AreChosen es low high operations.now chosen.operations) }
+            → (range : TheRange) → Contains ranges.now range
+            → AreChosen es range.low range.high operations.now chosen.operations) }
     {
         let mut chosen = ChosenMarks {
             operations: Vec::new(alloc),
             marks: Vec::new(alloc),
         };
-        if high <= low {
+        let Some(hull) = hull(ranges) else {
             return Ok(chosen);
-        }
-        let floors = Floors::of(&self.places, low, high);
-        for place in &self.places {
-            if floors.keeps(place, low, high) {
-                chosen.push(&place.mark, &operations[place.mark.index])?;
+        };
+        let marks = self.touching(alloc, hull.low, hull.high)?;
+        let floors = Floors::of(&marks, hull.low, hull.high);
+        for mark in &marks {
+            if floors.keeps(mark, ranges) {
+                chosen.push(mark, &operations[mark.index])?;
             }
         }
         Ok(chosen)

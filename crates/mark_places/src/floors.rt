@@ -1,11 +1,13 @@
 //! The greatest of the marks that cover a whole window, by key: lesser ones decide nothing there.
-ghost use Rattle.std.specs.Prelude.{◌≡◌, ◌↔◌, None, IsTrue};
+ghost use Rattle.std.specs.Prelude.{◌≡◌, ◌↔◌, ℕ, None, IsTrue};
 ghost use Rattle.change_ops.specs.declared.attribute.Key.{Key};
+ghost use Rattle.mark_places.specs.PlaceRanges.{AreApart};
 ghost use Rattle.mark_places.specs.Floors.{AreFloors, CoversAll, IsGreaterOf, IsKept, IsRaised, floor_of};
 
-use crate::places::MarkPlace;
+use crate::range::{PlaceRange, covers_any};
 use change_ops::attribute::Key;
 use change_ops::id::OpId;
+use mark_anchors::placed::PlacedMark;
 
 /// For each key of one value the greatest id found among the marks that cover the whole window.
 #[derive(Clone, Copy)]
@@ -17,13 +19,11 @@ pub(crate) struct Floors {
     color: Option<OpId>,
 }
 
-impl MarkPlace {
-    /// Whether it covers all places from `low` up to `high`.
-    fn covers_all(&self, low: usize, high: usize) -> bool
-        ensures { IsTrue result ↔ CoversAll low high self.now }
-    {
-        self.mark.start <= low && high <= self.mark.end
-    }
+/// Whether the mark covers all places from `low` up to `high`.
+fn covers_all(mark: &PlacedMark, low: usize, high: usize) -> bool
+    ensures { IsTrue result ↔ CoversAll low high mark.now }
+{
+    mark.start <= low && high <= mark.end
 }
 
 /// The greater one of the ids, or the one that there is.
@@ -51,13 +51,13 @@ impl Floors {
     }
 
     /// Of the marks that cover all places from `low` up to `high`.
-    pub(crate) fn of(places: &[MarkPlace], low: usize, high: usize) -> Floors
-        ensures { AreFloors places.now low high result }
+    pub(crate) fn of(marks: &[PlacedMark], low: usize, high: usize) -> Floors
+        ensures { AreFloors marks.now low high result }
     {
         let mut floors = Floors::new();
-        for place in places {
-            if place.covers_all(low, high) {
-                floors.raise(&place.mark.key, place.mark.id);
+        for mark in marks {
+            if covers_all(mark, low, high) {
+                floors.raise(&mark.key, mark.id);
             }
         }
         floors
@@ -91,13 +91,13 @@ impl Floors {
         }
     }
 
-    /// Whether the mark decides at some place of the window, as far as is known: it covers one from `low` up to
-    /// `high`, and its id isn't below the floor.
-    pub(crate) fn keeps(&self, place: &MarkPlace, low: usize, high: usize) -> bool
-        ensures { IsTrue result ↔ IsKept self.now low high place.now }
+    /// Whether the mark decides at some place of the ranges, as far as is known: it covers one of them, and its id
+    /// isn't below the floor.
+    pub(crate) fn keeps(&self, mark: &PlacedMark, ranges: &[PlaceRange]) -> bool
+        requires { (end : ℕ) × AreApart ranges.now 0 end }
+        ensures { IsTrue result ↔ IsKept self.now ranges.now mark.now }
     {
-        let mark = &place.mark;
-        if mark.start >= high || mark.end <= low || mark.start >= mark.end {
+        if !covers_any(ranges, mark) {
             return false;
         }
         match self.of_key(&mark.key) {

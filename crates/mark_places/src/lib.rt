@@ -2,7 +2,10 @@
 //! between two places.
 #![tactic(auto)]
 
+mod block;
 pub mod boundary;
 pub mod chosen;
 mod floors;
 pub mod places;
+pub mod range;
+mod ranked;

@@ -1,14 +1,18 @@
 //! Where marks begin and end, kept from change to change: characters that are put into the text shift the places, so
 //! that no anchor is looked up twice.
-ghost use Rattle.std.specs.Prelude.{◌≡◌, ◌+◌, ◌<◌, ◌^◌, ◌++◌, ◌∷◌, [], ℕ, true, List, IfOk, length};
+ghost use Rattle.std.specs.Prelude.{◌≡◌, ◌==◌, ◌+◌, ◌/◌, ◌%◌, ◌<◌, ◌^◌, ◌++◌, ◌∷◌, [], ℕ, true, List};
+ghost use Rattle.std.specs.Prelude.{IfOk, OnOk, length};
 ghost use Rattle.change_ops.specs.Operations.{is_mark, Names};
 ghost use Rattle.char_sequence.specs.declared.sequence.Element.{Element};
 ghost use Rattle.char_sequence.specs.Order.{Shows};
 ghost use Rattle.char_sequence.specs.Tree.{Present};
 ghost use Rattle.mark_places.specs.Places.{AreMarkPlaces, IsMarkPlace, gives_way};
-ghost use Rattle.mark_places.specs.Shifted.{IsShifted, IsMarkShifted};
+ghost use Rattle.mark_places.specs.Ranks.{place_of, IsBelow};
+ghost use Rattle.mark_places.specs.Touching.{touching};
 
+use crate::block::{PLACE_LIMIT, PlaceBlock};
 use crate::boundary::characters_before;
+use crate::ranked::RankedMark;
 use change_ops::id::OpId;
 use change_ops::operation::{Anchor, Op};
 use char_sequence::sequence::Sequence;
@@ -17,15 +21,6 @@ use mark_anchors::placed::PlacedMark;
 use std::alloc::{AllocError, Global};
 use std::marker::Model;
 
-/// A mark with the places that it covers. Characters that are put where one of its anchors is stand before the anchor
-/// if it gives way, else behind it.
-#[derive(Clone, Copy)]
-pub struct MarkPlace {
-    pub mark: PlacedMark,
-    pub start_gives_way: bool,
-    pub end_gives_way: bool,
-}
-
 /// Whether characters that are put where the anchor is stand before it.
 fn gives_way(anchor: Anchor) -> bool
     ensures { result ≡ gives_way anchor }
@@ -33,66 +28,54 @@ fn gives_way(anchor: Anchor) -> bool
     matches!(anchor, Anchor::BeforeCharacter(_) | Anchor::TextEnd)
 }
 
-/// How many characters stand before an anchor once `count` more were put at a place, where `before` did.
-fn shifted(before: usize, gives_way: bool, place: usize, count: usize) -> usize
-    requires { before + count < 2 ^ 64 }
-    ensures { IsShifted place count gives_way before result }
+/// The rank of an end: twice as many as characters stand before it, and one more if it gives way.
+fn rank(before: usize, gives_way: bool) -> u32
+    requires { before < 2 ^ 30 }
+    ensures place { result / 2 ≡ before }
+    ensures gives_way { (result % 2 == 1) ≡ gives_way }
+    ensures limit { result < 2 ^ 31 }
 {
-    if before > place || (before == place && gives_way) {
-        before + count
-    } else {
-        before
-    }
+    2 * before as u32 + u32::from(gives_way)
 }
 
-/// The mark operation with its places, which are looked up.
-fn mark_place(sequence: &Sequence, operation: &Op, index: usize) -> MarkPlace
+/// The mark operation with the ranks of its anchors, which are looked up.
+fn ranked_mark(sequence: &Sequence, operation: &Op) -> RankedMark
     requires mark { is_mark operation.now ≡ true }
     requires there { (ops : List Op) × Shows sequence.now.elements ops
         × ((x : OpId) → Names operation.now x → Present ops x) }
-    ensures { IsMarkPlace sequence.now.elements operation.now index result }
+    ensures place { (index : ℕ) → IsMarkPlace sequence.now.elements operation.now index (place_of index result) }
+    ensures below { IsBelow (2 ^ 31) result }
 {
     let Some(range) = mark_range(operation) else {
         unreachable!();
     };
-    MarkPlace {
-        mark: PlacedMark {
-            index,
-            id: operation.id(),
-            key: range.key,
-            start: characters_before(sequence, range.start),
-            end: characters_before(sequence, range.end),
-        },
-        start_gives_way: gives_way(range.start),
-        end_gives_way: gives_way(range.end),
-    }
-}
-
-impl MarkPlace {
-    /// Shifts both places for `count` characters that were put into the text at a place.
-    fn shift(&mut self, place: usize, count: usize)
-        requires start { self.old.mark.start + count < 2 ^ 64 }
-        requires end { self.old.mark.end + count < 2 ^ 64 }
-        ensures { IsMarkShifted place count self.old self.new }
-    {
-        self.mark.start = shifted(self.mark.start, self.start_gives_way, place, count);
-        self.mark.end = shifted(self.mark.end, self.end_gives_way, place, count);
+    // Its contract bounds the places, which the proof needs.
+    let _count = sequence.len();
+    let start = characters_before(sequence, range.start);
+    let end = characters_before(sequence, range.end);
+    RankedMark {
+        id: operation.id(),
+        key: range.key,
+        start: rank(start, gives_way(range.start)),
+        end: rank(end, gives_way(range.end)),
     }
 }
 
 /// Where the marks of a text begin and end, in the order of the marks.
 #[derive(Drop)]
 pub struct MarkPlaces {
-    pub(crate) places: Vec<MarkPlace>,
+    blocks: Vec<PlaceBlock>,
 }
 
 impl Model for MarkPlaces {
     ghost use Rattle.std.specs.Prelude.{List};
-    ghost use Rattle.mark_places.specs.declared.places.MarkPlace.{MarkPlace};
+    ghost use Rattle.std.specs.List.{flat_map};
+    ghost use Rattle.mark_places.specs.MarkPlace.{MarkPlace};
+    ghost use Rattle.mark_places.specs.Ranks.{places_from};
 
     ghost Value = { List MarkPlace };
 
-    ghost view = { λ p. p.places.items };
+    ghost view = { λ p. places_from 0 (flat_map (λ block. block) p.blocks.items) };
 }
 
 impl MarkPlaces {
@@ -101,8 +84,24 @@ impl MarkPlaces {
         ensures { (es : List Element) → AreMarkPlaces es [] result }
     {
         MarkPlaces {
-            places: Vec::new(alloc),
+            blocks: Vec::new(alloc),
         }
+    }
+
+    /// Adds a mark behind the others.
+    fn push(&mut self, mark: &RankedMark) -> Result<(), AllocError>
+        requires { IsBelow (2 ^ 31) mark.now }
+        ensures { OnOk result (self.new ≡ self.old ++ place_of (length self.old) mark.now ∷ []) }
+    {
+        let count = self.blocks.len();
+        if count > 0 && self.blocks[count - 1].has_room() {
+            self.blocks[count - 1].push(mark)?;
+            return Ok(());
+        }
+        self.blocks.reserve(1)?;
+        let block = PlaceBlock::of(*self.blocks.allocator(), mark)?;
+        self.blocks.push_reserved(block);
+        Ok(())
     }
 
     /// Adds the places of the next mark, whose anchors are looked up.
@@ -113,23 +112,49 @@ impl MarkPlaces {
         ensures { (operations : List Op) → AreMarkPlaces sequence.now.elements operations self.old
             → IfOk result (λ _. AreMarkPlaces sequence.now.elements (operations ++ operation.now ∷ []) self.new) }
     {
-        let place = mark_place(sequence, operation, self.places.len());
-        // Where memory runs out, `push` gives back what it was handed, which nobody asks for here.
-        self.places.extend_from_slice(&[place])?;
+        let mark = ranked_mark(sequence, operation);
+        self.push(&mark)?;
         Ok(())
     }
 
     /// Shifts the places for `count` characters that were put into the text at a place.
     pub fn shift(&mut self, place: usize, count: usize)
         requires { (es : List Element) × ((operations : List Op) × AreMarkPlaces es operations self.old
-            × (length es + count < 2 ^ 64)) }
+            × (length es + count < 2 ^ 30)) }
         ensures { (front run back : List Element) (operations : List Op) → length front ≡ place → length run ≡ count
             → AreMarkPlaces (front ++ back) operations self.old
             → AreMarkPlaces (front ++ (run ++ back)) operations self.new }
     {
-        for mark in self.places.iter_mut() {
-            mark.shift(place, count);
+        // No mark is behind such a place.
+        if place >= PLACE_LIMIT {
+            return;
         }
+        let from = 2 * place as u32 + 1;
+        let by = 2 * count as u32;
+        for block in self.blocks.iter_mut() {
+            block.raise(from, by);
+        }
+    }
+
+    /// The marks that cover a place from `low` up to `high`.
+    ///
+    /// `alloc` is for the list of the result.
+    pub(crate) fn touching(
+        &self,
+        alloc: Global,
+        low: usize,
+        high: usize,
+    ) -> Result<Vec<PlacedMark>, AllocError>
+        requires { length self.now < 2 ^ 64 }
+        ensures { IfOk result (λ marks. marks.items ≡ touching low high self.now) }
+    {
+        let mut marks = Vec::new(alloc);
+        let mut first = 0;
+        for block in &self.blocks {
+            block.gather(first, low, high, &mut marks)?;
+            first += block.len();
+        }
+        Ok(marks)
     }
 }
 
@@ -137,7 +162,7 @@ impl Clone for MarkPlaces {
     ghost is_clone = { λ old new. new ≡ old };
 
     fn clone(&self) -> Result<MarkPlaces, AllocError> {
-        let places = self.places.clone()?;
-        Ok(MarkPlaces { places })
+        let blocks = self.blocks.clone()?;
+        Ok(MarkPlaces { blocks })
     }
 }

@@ -1,17 +1,20 @@
 -- Blocks in the making.
-use Rattle.std.proofs.Common.{◌≡◌, ◌<◌, List, [], ◌∷◌, ◌++◌, length, map, sym, ap, subst, ◌∙◌, arith, append_assoc, length-append}
+use Rattle.std.proofs.Common.{◌≡◌, ℕ, zero, suc, ◌+◌, ◌-◌, ◌<◌, List, Some, refl, [], ◌∷◌, ◌++◌, length, map, sym, ap, subst, ◌∙◌, arith, append_assoc, length-append}
+use Rattle.std.specs.List.{slice_get}
 use Rattle.std.specs.Str.{chars}
+use Rattle.std.proofs.lemmas.Option.{none-some, same_Some}
 use Rattle.std.proofs.lemmas.Grind.{flat_map-append}
 use Rattle.std.proofs.lemmas.List.{append-nil, length-map}
 use Rattle.std.proofs.lemmas.List.Elements.{All-push}
+use Rattle.mark_anchors.specs.Formatting.{Format}
 use Rattle.span_flatten.specs.Spans.{Shown, Span}
 use Rattle.version_laws.specs.Joints.{Apart}
 use Rattle.version_laws.specs.Blocked.{in_blocks}
 use Rattle.version_laws.proofs.Blocks.{apart_last}
-use Rattle.version_laws.proofs.CutJoined.{apart_from_characters, characters_from_apart}
-use Rattle.version_laws.proofs.Lists.{map_at, map_from}
+use Rattle.version_laws.proofs.CutJoined.{apart_from_characters, characters_from_apart, last_character}
+use Rattle.version_laws.proofs.Lists.{get_behind, map_at, map_from}
 use Rattle.version_blocks.specs.Blocks.{IsSized, AreDrafted}
-use Rattle.version_blocks.specs.Glyphs.{Glyph, glyphs_of, glyphs, IsSpan, AreMaximal, AreApart}
+use Rattle.version_blocks.specs.Glyphs.{Glyph, glyphs_of, glyphs, with_format, IsSpan, AreMaximal, AreApart, HasLast}
 use Rattle.version_blocks.proofs.Glyphs.{glyphs-append, maximal-append, maximal_parted, some_characters}
 use Rattle.version_blocks.proofs.Contents.{shown_as, shown_cuts, maximal-push}
 
@@ -45,7 +48,7 @@ apart_longer before (g ∷ after) more some apart = apart
 pub in_blocks-push : (blocks : List (List Span)) (block : List Span) → in_blocks (blocks ++ block ∷ []) ≡ in_blocks blocks ++ block
 in_blocks-push blocks block = flat_map-append (λ (b : List Span). b) blocks (block ∷ []) ∙ ap (λ l. in_blocks blocks ++ l) (append-nil block)
 
-behind_blocks : (blocks : List (List Span)) (spans after : List Span) → AreDrafted blocks spans → Apart spans after → Apart (in_blocks blocks ++ spans) after
+pub behind_blocks : (blocks : List (List Span)) (spans after : List Span) → AreDrafted blocks spans → Apart spans after → Apart (in_blocks blocks ++ spans) after
 behind_blocks [] spans after d apart = apart
 behind_blocks (b ∷ blocks) spans after d apart = apart_last (in_blocks (b ∷ blocks)) spans after (d.begun (omega arith)) apart
 
@@ -93,3 +96,60 @@ glyphs_longer blocks spans longer x e =
 
 pub glyphs-push : (spans : List Span) (x : Span) → glyphs (spans ++ x ∷ []) ≡ glyphs spans ++ glyphs_of x
 glyphs-push spans x = glyphs-append spans (x ∷ []) ∙ ap (λ l. glyphs spans ++ l) (append-nil (glyphs_of x))
+
+-- ---- the last span
+pub last-push : (spans : List Span) (x : Span) → HasLast (spans ++ x ∷ []) x.format
+last-push spans x =
+    let size = length-append spans (x ∷ []) in
+    record {
+      some = omega (arith, size);
+      alike = λ i z last g.
+          let at : length spans + 0 ≡ i = omega (arith, size) in
+          let here : Some x ≡ Some z = sym (get_behind spans (x ∷ []) 0) ∙ ap (slice_get (spans ++ x ∷ [])) at ∙ g in
+          ap (λ (s : Span). s.format) (sym (same_Some x z here));
+    }
+
+format_at : (f : Format) (cs : List ℕ) (k : ℕ) (g : Glyph) → slice_get (with_format f cs) k ≡ Some g → g.format ≡ f
+format_at f [] k g e = absurd (none-some g e)
+format_at f (c ∷ cs) zero g e =
+    let made : Glyph = record { character = c; format = f } in
+    ap (λ (z : Glyph). z.format) (sym (same_Some made g e))
+format_at f (c ∷ cs) (suc k) g e = format_at f cs k g e
+
+-- the last span has the format of the last character
+pub last_lengthened : (spans : List Span) (before : List Glyph) (x : Span) → AreMaximal spans → IsSpan x → glyphs spans ≡ before ++ glyphs_of x → HasLast spans x.format
+last_lengthened spans before x m is spelt =
+    let more : 0 < length (chars x.text) = some_characters x is in
+    let more_glyphs : length (glyphs_of x) ≡ length (chars x.text) = length-map (chars x.text) (λ c. let g : Glyph = record { character = c; format = x.format } in g) in
+    let size : length (glyphs spans) ≡ length before + length (glyphs_of x) = ap length spelt ∙ length-append before (glyphs_of x) in
+    record {
+      some = some_spans spans (omega (arith, more, more_glyphs, size));
+      alike = λ i z last g.
+          let s = last_character (map shown_as (glyphs spans)) spans (shown_cuts spans m) i z last g in
+          let r = map_from shown_as (glyphs spans) s.0 s.1.0 s.1.2 in
+          let ended : s.0 + 1 ≡ length (glyphs spans) = s.1.1 ∙ length-map (glyphs spans) shown_as in
+          let k : ℕ = s.0 - length before in
+          let at : s.0 ≡ length before + k = omega (arith, ended, size, more, more_glyphs) in
+          let here : slice_get (glyphs_of x) k ≡ Some r.0 = sym (get_behind before (glyphs_of x) k) ∙ ap (slice_get (before ++ glyphs_of x)) (sym at) ∙ ap (λ l. slice_get l s.0) (sym spelt) ∙ r.1 in
+          sym s.1.3 ∙ ap (λ (y : Shown). y.format) (sym r.2) ∙ format_at x.format (chars x.text) k r.0 here;
+    }
+  where
+    some_spans : (spans : List Span) → 0 < length (glyphs spans) → 0 < length spans
+    some_spans [] some = absurd (omega arith)
+    some_spans (y ∷ ys) some = omega arith
+
+-- what is behind a span of the last one's format
+pub apart_last_span : (spans after : List Span) (x : Span) → HasLast spans x.format → Apart (x ∷ []) after → Apart spans after
+apart_last_span spans after x has apart i p q last g h same = apart 0 x q refl refl h (sym (has.alike i p last g) ∙ same)
+
+-- the last spans are apart from what all are apart from
+pub apart_open : (before spans after : List Span) → Apart (before ++ spans) after → Apart spans after
+apart_open before spans after apart i p q last g h =
+    apart (length before + i) p q (omega (arith, last, length-append before spans)) (get_behind before spans i ∙ g) h
+
+-- one of the spans that are left is added
+pub apart_first : (spans rest : List Span) (x : Span) → Apart spans (x ∷ rest) → Apart spans (x ∷ [])
+apart_first spans rest x apart i p q last g h = apart i p q last g h
+
+pub apart_others : (spans rest : List Span) (x : Span) → AreMaximal (x ∷ rest) → Apart (spans ++ x ∷ []) rest
+apart_others spans rest x m = apart_last spans (x ∷ []) rest (omega arith) m.1

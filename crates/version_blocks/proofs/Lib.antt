@@ -6,7 +6,11 @@ pub mod Texts
 pub mod Spelling
 pub mod Splicing
 pub mod Windows
+pub mod Replacing
+pub mod Putting
 pub mod Wholes
 pub mod Meeting
+pub mod WindowsMet
 pub mod Iterating
 pub mod Made
+pub mod Between

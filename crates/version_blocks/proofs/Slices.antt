@@ -77,38 +77,10 @@ take_next [] i x g = absurd (none-some x g)
 take_next (y ∷ ys) zero x g = let on : zero + 1 ≡ suc zero = omega arith in ap (λ n. take n (y ∷ ys)) on ∙ ap (λ z. z ∷ []) (same_Some y x g)
 take_next (y ∷ ys) (suc i) x g = let on : suc i + 1 ≡ suc (i + 1) = omega arith in ap (λ n. take n (y ∷ ys)) on ∙ ap (λ l. y ∷ l) (take_next ys i x g)
 
--- the parts of spans, once one more of them is taken
-pub more_spans : (before before' : List Glyph) (spans : List Span) (i place from to : ℕ) (x : Span) → slice_get spans i ≡ Some x → place ≡ length (glyphs (take i spans)) → before' ≡ (before ++ slice_range (glyphs (take i spans)) from to) ++ slice_range (glyphs_of x) (from - place) (to - place) → before' ≡ before ++ slice_range (glyphs (take (i + 1) spans)) from to
-more_spans before before' spans i place from to x g at e =
-    let gs : List Glyph = glyphs (take i spans) in
-    let next : glyphs (take (i + 1) spans) ≡ gs ++ glyphs_of x = ap glyphs (take_next spans i x g) ∙ glyphs-push (take i spans) x in
-    e ∙ append_assoc before (slice_range gs from to) (slice_range (glyphs_of x) (from - place) (to - place))
-    ∙ ap (λ n. before ++ (slice_range gs from to ++ slice_range (glyphs_of x) (from - n) (to - n))) at
-    ∙ ap (λ l. before ++ l) (sym (slice_append gs (glyphs_of x) from to)) ∙ ap (λ l. before ++ slice_range l from to) (sym next)
-
-pub next_place : (spans : List Span) (i place more : ℕ) (x : Span) → slice_get spans i ≡ Some x → place ≡ length (glyphs (take i spans)) → more ≡ length (chars x.text) → place + more ≡ length (glyphs (take (i + 1) spans))
-next_place spans i place more x g at size =
-    let next = ap length (ap glyphs (take_next spans i x g) ∙ glyphs-push (take i spans) x) in
-    omega (arith, next, length-append (glyphs (take i spans)) (glyphs_of x), length-glyphs_of x)
-
--- the same of blocks
-pub more_blocks : (before before' : List Glyph) (blocks : List (List Span)) (i place from to : ℕ) (b : List Span) → slice_get blocks i ≡ Some b → place ≡ length (glyphs (in_blocks (take i blocks))) → before' ≡ (before ++ slice_range (glyphs (in_blocks (take i blocks))) from to) ++ slice_range (glyphs b) (from - place) (to - place) → before' ≡ before ++ slice_range (glyphs (in_blocks (take (i + 1) blocks))) from to
-more_blocks before before' blocks i place from to b g at e =
-    let gs : List Glyph = glyphs (in_blocks (take i blocks)) in
-    let next : glyphs (in_blocks (take (i + 1) blocks)) ≡ gs ++ glyphs b = ap (λ l. glyphs (in_blocks l)) (take_next blocks i b g) ∙ ap glyphs (in_blocks-push (take i blocks) b) ∙ glyphs-append (in_blocks (take i blocks)) b in
-    e ∙ append_assoc before (slice_range gs from to) (slice_range (glyphs b) (from - place) (to - place))
-    ∙ ap (λ n. before ++ (slice_range gs from to ++ slice_range (glyphs b) (from - n) (to - n))) at
-    ∙ ap (λ l. before ++ l) (sym (slice_append gs (glyphs b) from to)) ∙ ap (λ l. before ++ slice_range l from to) (sym next)
-
 pub next_block : (blocks : List (List Span)) (i place more : ℕ) (b : List Span) → slice_get blocks i ≡ Some b → place ≡ length (glyphs (in_blocks (take i blocks))) → more ≡ length (glyphs b) → place + more ≡ length (glyphs (in_blocks (take (i + 1) blocks)))
 next_block blocks i place more b g at size =
     let next = ap length (ap (λ l. glyphs (in_blocks l)) (take_next blocks i b g) ∙ ap glyphs (in_blocks-push (take i blocks) b) ∙ glyphs-append (in_blocks (take i blocks)) b) in
     omega (arith, next, length-append (glyphs (in_blocks (take i blocks))) (glyphs b))
-
-pub glyphs_within : (spans : List Span) (i : ℕ) → length (glyphs (take i spans)) ≤ length (glyphs spans)
-glyphs_within spans i =
-    let whole = ap length (ap glyphs (sym (take-append-drop i spans)) ∙ glyphs-append (take i spans) (drop i spans)) in
-    omega (arith, whole, length-append (glyphs (take i spans)) (glyphs (drop i spans)))
 
 pub blocks_parted : (blocks : List (List Span)) (i : ℕ) → in_blocks blocks ≡ in_blocks (take i blocks) ++ in_blocks (drop i blocks)
 blocks_parted blocks i = ap in_blocks (sym (take-append-drop i blocks)) ∙ flat_map-append (λ (b : List Span). b) (take i blocks) (drop i blocks)
@@ -124,11 +96,6 @@ slice_end xs a to n end size (inr same) le = slice_short xs a to n size (omega a
 
 pub slice_some : {X : Type 0} (xs : List X) (a b : ℕ) → a < b → b ≤ length xs → 0 < length (slice_range xs a b)
 slice_some xs a b less le = omega (arith, length-take-le (b - a) (drop a xs) (omega (arith, length-drop a xs)))
-
--- nothing of a span is left between the places
-pub slice_none : {X : Type 0} (xs : List X) (a to n end : ℕ) → n ≡ length xs → (end ≡ to) ⊎ (end ≡ n) → end ≤ a → slice_range xs a to ≡ []
-slice_none xs a to n end size (inl same) le = slice_nothing xs a to (omega arith)
-slice_none xs a to n end size (inr same) le = slice_past xs a to (omega arith)
 
 -- one row more
 pub more_rows : (before before' : List Glyph) (text : List ℕ) (rows : List Row) (i : ℕ) (row : Row) → slice_get rows i ≡ Some row → before' ≡ (before ++ glyphs (spans_in text (take i rows))) ++ glyphs_of (span_at text row) → before' ≡ before ++ glyphs (spans_in text (take (i + 1) rows))

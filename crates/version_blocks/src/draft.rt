@@ -1,14 +1,15 @@
 //! Blocks in the making.
-ghost use Rattle.std.specs.Prelude.{◌≡◌, ◌<◌, ◌≤◌, ◌⊎◌, ◌++◌, [], IfOk, All, length, slice_range};
+ghost use Rattle.std.specs.Prelude.{◌≡◌, ◌<◌, ◌++◌, ◌∷◌, [], IfOk, All, length, slice_range};
 ghost use Rattle.span_flatten.specs.Version.{IsWhole, spans_in};
 ghost use Rattle.version_laws.specs.Blocked.{in_blocks};
+ghost use Rattle.version_laws.specs.Joints.{Apart};
 ghost use Rattle.version_blocks.specs.Blocks.{IsSized};
-ghost use Rattle.version_blocks.specs.Glyphs.{AreMaximal, glyphs, glyphs_of};
+ghost use Rattle.version_blocks.specs.Glyphs.{AreMaximal, HasLast, glyphs, glyphs_of};
 
 use crate::block::{BLOCK_LIMIT, Block};
 use crate::content::Content;
+use crate::parts::parts_between;
 use crate::span_text::SpanText;
-use crate::text::characters_between;
 use span_flatten::version::Row;
 use std::alloc::{AllocError, Global};
 use std::marker::Model;
@@ -63,73 +64,43 @@ impl Draft {
     /// Adds the span, or lengthens the last one where that has its format.
     pub fn with(self, alloc: Global, span: &SpanText<'_>) -> Result<Draft, AllocError>
         requires { 0 < length span.now.text }
-        ensures { IfOk result (λ more. glyphs more ≡ glyphs self ++ glyphs_of span.now) }
+        ensures glyphs { IfOk result (λ more. glyphs more ≡ glyphs self ++ glyphs_of span.now) }
+        ensures last { IfOk result (λ more. HasLast more span.now.format) }
+    {
+        if !self.open.ends_with(span.format) {
+            let more = self.with_apart(alloc, span)?;
+            return Ok(more);
+        }
+        let Draft { blocks, open } = self;
+        let open = open.lengthened(span)?;
+        // Its contract says that the spans are maximal, which the proof needs.
+        let _count = open.count();
+        Ok(Draft { blocks, open })
+    }
+
+    /// Adds a span of another format than the last one's. Formats are not compared, which is dear where a character has
+    /// many comments.
+    pub fn with_apart(self, alloc: Global, span: &SpanText<'_>) -> Result<Draft, AllocError>
+        requires some { 0 < length span.now.text }
+        requires apart { Apart self (span.now ∷ []) }
+        ensures { IfOk result (λ more. more ≡ self ++ span.now ∷ []) }
     {
         let Draft { mut blocks, open } = self;
-        if open.ends_with(span.format) {
-            let open = open.lengthened(span)?;
+        if open.count() < BLOCK_LIMIT {
+            let open = open.with(span)?;
             // Its contract says that the spans are maximal, which the proof needs.
             let _count = open.count();
             return Ok(Draft { blocks, open });
         }
-        if open.count() < BLOCK_LIMIT {
-            let open = open.with(span)?;
-            return Ok(Draft { blocks, open });
-        }
         blocks.push(Block::new(alloc, open)?)?;
         let open = Content::new(alloc).with(span)?;
+        // As above.
+        let _one = open.count();
         Ok(Draft { blocks, open })
     }
 
-    /// Adds the span's characters from the one place up to the other, as far as it has them.
-    pub fn with_part(
-        self,
-        alloc: Global,
-        span: &SpanText<'_>,
-        from: usize,
-        to: usize,
-    ) -> Result<Draft, AllocError>
-        ensures { IfOk result (λ more. glyphs more ≡ glyphs self ++ slice_range (glyphs_of span.now) from to) }
-    {
-        let end = lesser(to, span.characters);
-        if from >= end {
-            return Ok(self);
-        }
-        let part = SpanText {
-            text: characters_between(span.text, span.characters, from, end),
-            characters: end - from,
-            format: span.format,
-        };
-        let more = self.with(alloc, &part)?;
-        Ok(more)
-    }
-
-    /// Adds the characters of the spans from the one place up to the other, as far as they have them.
-    pub fn with_content(
-        self,
-        alloc: Global,
-        content: &Content,
-        from: usize,
-        to: usize,
-    ) -> Result<Draft, AllocError>
-        ensures { IfOk result (λ more. glyphs more ≡ glyphs self ++ slice_range (glyphs content.now) from to) }
-    {
-        let mut draft = self;
-        let mut place: usize = 0;
-        // Its contract bounds the places, which the proof needs.
-        let _total = content.characters();
-        for index in 0..content.count() {
-            let Some(span) = content.span(index) else {
-                return Ok(draft);
-            };
-            let behind = from.saturating_sub(place);
-            draft = draft.with_part(alloc, &span, behind, to.saturating_sub(place))?;
-            place += span.characters;
-        }
-        Ok(draft)
-    }
-
-    /// Adds the characters of the blocks from the one place up to the other, as far as they have them.
+    /// Adds the characters of the blocks from the one place up to the other, as far as they have them. Neighbors among
+    /// the blocks' spans are not alike, so only the first span can be like what stands before it.
     pub fn with_blocks(
         self,
         alloc: Global,
@@ -137,17 +108,18 @@ impl Draft {
         from: usize,
         to: usize,
     ) -> Result<Draft, AllocError>
-        requires { length (glyphs (in_blocks blocks.now)) ≤ 131072 }
+        requires maximal { AreMaximal (in_blocks blocks.now) }
+        requires sized { All IsSized blocks.now }
         ensures { IfOk result (λ more. glyphs more
             ≡ glyphs self ++ slice_range (glyphs (in_blocks blocks.now)) from to) }
     {
-        let mut draft = self;
-        let mut place: usize = 0;
-        for block in blocks {
-            let content = block.content();
-            let behind = from.saturating_sub(place);
-            draft = draft.with_content(alloc, content, behind, to.saturating_sub(place))?;
-            place += content.characters();
+        let mut parts = parts_between(blocks, from, to);
+        let Some(first) = parts.next() else {
+            return Ok(self);
+        };
+        let mut draft = self.with(alloc, &first)?;
+        for part in parts {
+            draft = draft.with_apart(alloc, &part)?;
         }
         Ok(draft)
     }
@@ -184,13 +156,4 @@ impl Draft {
         }
         Ok(blocks)
     }
-}
-
-/// The lesser of two numbers.
-fn lesser(first: usize, second: usize) -> usize
-    ensures one { (result ≡ first) ⊎ (result ≡ second) }
-    ensures first { result ≤ first }
-    ensures second { result ≤ second }
-{
-    if first < second { first } else { second }
 }

@@ -1,7 +1,9 @@
 //! The spans of a version, one after another.
-ghost use Rattle.std.specs.Prelude.{◌≡◌, drop};
+ghost use Rattle.std.specs.Prelude.{◌≡◌, All, drop};
 ghost use Rattle.std.specs.Iterator.{YieldsFirst, item_count};
 ghost use Rattle.span_flatten.specs.Version.{spans_of};
+ghost use Rattle.version_laws.specs.Blocked.{in_blocks};
+ghost use Rattle.version_blocks.specs.Blocks.{IsSized};
 
 use crate::block::Block;
 use crate::span_text::SpanText;
@@ -36,6 +38,14 @@ pub fn spans_from<'a>(version: &'a BlockVersion, index: usize) -> SpanTexts<'a>
 {
     let (blocks, row) = version.blocks_from(index);
     SpanTexts { blocks, row }
+}
+
+/// The spans of the blocks, in order.
+pub(crate) fn spans_in<'a>(blocks: &'a [Block]) -> SpanTexts<'a>
+    requires { All IsSized blocks.now }
+    ensures { result ≡ in_blocks blocks.now }
+{
+    SpanTexts { blocks, row: 0 }
 }
 
 impl<'a> Iterator for SpanTexts<'a> {

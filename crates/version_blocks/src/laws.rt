@@ -1,34 +1,30 @@
 //! That a version which is made from the one before it is one of all operations.
-ghost use Rattle.std.specs.Prelude.{◌≡◌, ◌+◌, ◌++◌, ℕ, List, Contains, count_by, drop, length, map, take};
+ghost use Rattle.std.specs.Prelude.{◌≡◌, ◌++◌, ℕ, List, Contains, length};
 ghost use Rattle.change_ops.specs.declared.operation.Op.{Op};
 ghost use Rattle.change_ops.specs.declared.size.Size.TheVariants.{Large};
 ghost use Rattle.char_sequence.specs.Acceptance.{AcceptsAll};
 ghost use Rattle.char_sequence.specs.Order.{Shows};
 ghost use Rattle.char_sequence.specs.declared.sequence.Element.{Element};
-ghost use Rattle.mark_anchors.specs.Format.{IsFormat};
-ghost use Rattle.span_flatten.specs.Spans.{Shown, Span};
-ghost use Rattle.span_flatten.specs.Taken.{is_visible};
+ghost use Rattle.mark_anchors.specs.Marks.{AreMarks};
+ghost use Rattle.mark_places.specs.PlaceRanges.{AreApart};
+ghost use Rattle.mark_places.specs.declared.range.PlaceRange.{PlaceRange};
 ghost use Rattle.span_flatten.specs.Version.{IsVersion, spans_of};
-ghost use Rattle.version_laws.specs.Characters.{AreDrawn};
-ghost use Rattle.version_laws.specs.Windows.{IsWithinWindow};
-ghost use Rattle.version_blocks.specs.Glyphs.{AreMaximal, glyph_of, glyphs};
+ghost use Rattle.version_laws.specs.Ranges.{AreChangedWithin, TouchesOneOf};
+ghost use Rattle.version_blocks.specs.Glyphs.{glyphs};
+ghost use Rattle.version_blocks.specs.Replacements.{AreReplacements, put_all};
+ghost use Rattle.version_blocks.specs.declared.replacement.Replacement.{Replacement};
 
 use crate::version::BlockVersion;
 
-/// The law that the next version is one of all operations, where the window has as many characters before it and in it
-/// as are visible of the elements there, each mark of the change lies within it, and the rows are those of what is
-/// shown in it after the change.
-pub fn window_is_version(now: &BlockVersion, next: &BlockVersion)
-    ensures { (ops added : List Op) (first middle changed last : List Element) (number : ℕ) (window : List Shown)
-        (rows : List Span) → Shows (first ++ (middle ++ last)) ops
-        → AcceptsAll Large ops added → Shows (first ++ (changed ++ last)) (ops ++ added)
-        → ((o : Op) → Contains added o
-        → IsWithinWindow (first ++ (changed ++ last)) (length first) (length first + length changed) o)
-        → IsVersion ops number now.now → AreDrawn changed window
-        → ((s : Shown) → Contains window s → IsFormat (ops ++ added) s.id s.format)
-        → glyphs rows ≡ map glyph_of window
-        → glyphs (spans_of next.now) ≡ take (count_by is_visible first) (glyphs (spans_of now.now)) ++ (glyphs rows
-        ++ drop (count_by is_visible first + count_by is_visible middle) (glyphs (spans_of now.now)))
+/// The law that the next version is one of all operations, where each of them touches places of one of several ranges
+/// alone, and windows that show those ranges were put in place of what was visible in those of the elements before.
+pub fn windows_are_version(now: &BlockVersion, next: &BlockVersion)
+    ensures { (ops added : List Op) (old new : List Element) (olds ranges : List PlaceRange) (number : ℕ)
+        (windows : List Replacement) (marks : List Op) → Shows old ops → AcceptsAll Large ops added
+        → Shows new (ops ++ added) → AreMarks (ops ++ added) marks → AreApart ranges 0 (length new)
+        → ((o : Op) → Contains added o → TouchesOneOf new ranges o) → AreChangedWithin old new olds ranges 0 0
+        → IsVersion ops number now.now → AreReplacements old new marks olds ranges windows
+        → glyphs (spans_of next.now) ≡ put_all windows (glyphs (spans_of now.now))
         → IsVersion (ops ++ added) next.now.number next.now }
 {
     // What the type of a version keeps.

@@ -3,10 +3,16 @@
 #![tactic(auto)]
 
 mod block;
+mod change;
 mod content;
 mod draft;
 pub mod iter;
 pub mod laws;
+mod list;
+mod parts;
+mod reach;
+pub mod replacement;
+mod shown;
 pub mod span_text;
 mod text;
 pub mod version;

@@ -14,5 +14,8 @@ pub mod Replaced
 pub mod Blocks
 pub mod ReplacedByRows
 pub mod Room
+pub mod Rising
 pub mod Outside
+pub mod Ranging
+pub mod OldRanges
 pub mod Put

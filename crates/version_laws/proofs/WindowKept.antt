@@ -44,7 +44,7 @@ pub there : (ops : List Op) (es : List Element) → Shows es ops → (x : OpId) 
 there ops es shows x i at = subst (λ z. Present ops z) at.2 (present_at ops es shows.text i at.0 at.1)
 
 -- an operation within the window touches no character outside it
-outside : (ops : List Op) (es : List Element) → Shows es ops → (from to : ℕ) (o : Op) → IsWithinWindow es from to o → (key : Key) (e : OpId) (place : ℕ) → IsAt es e place → (place < from) ⊎ (to ≤ place) → Touches ops key e o → ⊥
+pub outside : (ops : List Op) (es : List Element) → Shows es ops → (from to : ℕ) (o : Op) → IsWithinWindow es from to o → (key : Key) (e : OpId) (place : ℕ) → IsAt es e place → (place < from) ⊎ (to ≤ place) → Touches ops key e o → ⊥
 outside ops es shows from to o (inl edit) key e place at out touches = edit_touches ops key e o edit touches
 outside ops es shows from to o (inr (first, (last, lies, window))) key e place at out touches =
     let within = place_from_touches ops es shows key o first last place e lies at touches in

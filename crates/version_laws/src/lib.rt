@@ -2,7 +2,7 @@
 //! callers ask for most are functions too. They do nothing: a call brings the law.
 #![tactic(auto)]
 
-ghost use Rattle.std.specs.Prelude.{◌≡◌, ◌↔◌, ◌++◌, ◌∷◌, [], ℕ, List, Some, ◌⊎◌, ◌<◌, ◌≤◌, true, Contains};
+ghost use Rattle.std.specs.Prelude.{◌≡◌, ◌↔◌, ◌++◌, ◌∷◌, [], ℕ, List, Some, ◌⊎◌, ◌<◌, ◌≤◌, true, Contains, length};
 ghost use Rattle.change_ops.specs.Operations.{is_edit};
 ghost use Rattle.change_ops.specs.declared.id.OpId.{OpId};
 ghost use Rattle.change_ops.specs.declared.operation.Op.{Op};
@@ -14,8 +14,11 @@ ghost use Rattle.char_sequence.specs.declared.sequence.Element.{Element};
 ghost use Rattle.mark_anchors.specs.Format.{IsFormat};
 ghost use Rattle.mark_anchors.specs.Formatting.{Format};
 ghost use Rattle.mark_anchors.specs.Places.{Lies};
+ghost use Rattle.mark_places.specs.PlaceRanges.{AreApart};
+ghost use Rattle.mark_places.specs.declared.range.PlaceRange.{PlaceRange};
 ghost use Rattle.span_flatten.specs.Spans.{Shown, Span, Cuts};
 ghost use Rattle.version_laws.specs.Joints.{Apart};
+ghost use Rattle.version_laws.specs.Ranges.{AreChangedWithin, TouchesOneOf};
 ghost use Rattle.version_laws.specs.Touched.{IsChangedWithin, TouchesWithin};
 
 /// Of two characters that were there, one stands before the other exactly if it did.
@@ -51,4 +54,12 @@ pub fn changes_keep_outside()
     ensures { (ops added : List Op) (es later : List Element) (low high : ℕ) → Shows es ops → Shows later (ops ++ added)
         → ((o : Op) → Contains added o → TouchesWithin later low high o) → low ≤ high
         → IsChangedWithin es later low high }
+{}
+
+/// Operations that touch places of several ranges alone leave the elements before each range, and behind the last one.
+pub fn changes_keep_between_ranges()
+    ensures { (ops added : List Op) (old new : List Element) (ranges : List PlaceRange) → Shows old ops
+        → Shows new (ops ++ added) → AreApart ranges 0 (length new)
+        → ((o : Op) → Contains added o → TouchesOneOf new ranges o)
+        → (olds : List PlaceRange) × AreChangedWithin old new olds ranges 0 0 }
 {}

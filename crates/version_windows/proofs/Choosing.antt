@@ -12,7 +12,7 @@ use Rattle.span_flatten.specs.Spans.{Shown}
 use Rattle.span_flatten.specs.Taken.{AreDrawn, element_of}
 use Rattle.span_flatten.specs.Window.{Window, IsFlattened}
 use Rattle.span_flatten.proofs.Showing.{stood}
-use Rattle.version_laws.proofs.Outside.{get_drop, get_take}
+use Rattle.version_laws.proofs.Rising.{get_drop, get_take}
 
 -- each character that a window shows stands at a place in it
 shown_within : (es : List Element) (low high : ℕ) (shown : List Shown) → AreDrawn (slice_range es low high) shown → (s : Shown) → Contains shown s

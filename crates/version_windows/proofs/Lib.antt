@@ -1,4 +1,7 @@
 pub mod Runs
 pub mod Lines
-pub mod Stepping
+pub mod Joining
+pub mod Touching
+pub mod Changing
 pub mod Choosing
+pub mod Replaced

@@ -1,1 +1,3 @@
+pub mod Joined
 pub mod Step
+pub mod Places

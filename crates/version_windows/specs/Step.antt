@@ -10,11 +10,11 @@ use Rattle.char_sequence.specs.declared.sequence.Element.{Element}
 use Rattle.mark_anchors.specs.Marks.{AreMarks}
 use Rattle.span_flatten.specs.Version.{Version, IsVersion}
 
--- the version is of operations, after which those of the lines are accepted, one after the other; the elements and the
--- marks are of them all
-pub record IsStep (ops : List Op) (previous : Version) (elements : List Element) (held : List Op) (lines : List Line)
-    : Type 0 where
-  pub before : (es : List Element) × Shows es ops
+-- the version and the old elements are of operations, after which those of the lines are accepted, one after the other;
+-- the elements and the marks are of them all
+pub record IsStep (ops : List Op) (previous : Version) (old elements : List Element) (held : List Op)
+    (lines : List Line) : Type 0 where
+  pub shows_before : Shows old ops
   pub version : (number : ℕ) × IsVersion ops number previous
   pub accepted : AcceptsAll Large ops (ops_of_lines lines)
   pub shows : Shows elements (ops ++ ops_of_lines lines)

@@ -2,5 +2,7 @@
 //! anew.
 #![tactic(auto)]
 
+mod ranges;
 pub mod step;
 mod touched;
+mod windows;

@@ -1,46 +1,37 @@
-use Rattle.std.proofs.Common.{◌≡◌, ◌<◌, ◌≤◌, ℕ, List, Some, length, refl, sym, ap, subst, ◌∙◌, arith, ⊎_elim}
-use Rattle.std.specs.List.{slice_get, Contains}
-use Rattle.std.proofs.lemmas.Bool.{cases_lt}
-use Rattle.std.proofs.lemmas.Option.{same_Some, slice_get_read, slice_get_within}
-use Rattle.change_ops.specs.Lines.{ops_of}
-use Rattle.change_ops.specs.declared.line.Line.{Line}
-use Rattle.char_sequence.specs.declared.sequence.Element.{Element}
-use Rattle.version_windows.proofs.Lines.{line_of, line_within}
+use Rattle.std.proofs.Common.{◌≤◌, ℕ, List, length, sym, subst, All}
+use Rattle.std.specs.List.{Contains}
+use Rattle.std.specs.List.Sorted.{IsNonDecreasingBy}
+use Rattle.std.proofs.lemmas.List.Sorted.{All-permutation, Contains-permutation}
+use Rattle.mark_places.specs.declared.range.PlaceRange.{PlaceRange}
+use Rattle.version_windows.specs.Joined.{low_of}
+use Rattle.version_windows.proofs.Touching.{covered_touched}
 use Rattle.version_windows.proofs.touched.touched.Goals as goal
 
-pub touched_by_line-requires : goal.touched_by_line-requires
-touched_by_line-requires c =
-    let lines : List Line = c.args.lines.now in
-    let i : ℕ = c.loop-line.line-index in
-    let here : slice_get lines i ≡ Some c.line-item.result = slice_get_read lines (length lines) i c.line-item.result refl c.loop-line-test.true c.line-item.is in
-    (c.requires.0, c.requires.1, λ o held. c.requires.2 o (line_within lines i c.line-item.result here o held))
-
-pub loop-line-preserved : goal.loop-line-preserved
-loop-line-preserved c =
-    let lines : List Line = c.args.lines.now in
-    let es : List Element = c.args.sequence.now.elements in
-    let i : ℕ = c.loop-line.line-index in
-    let item : Line = c.line-item.result in
-    let here : slice_get lines i ≡ Some item = slice_get_read lines (length lines) i item refl c.loop-line-test.true c.line-item.is in
+pub joined-requires : goal.joined-requires
+joined-requires c =
+    let each : List PlaceRange = c.in_ok-each.each.items in
+    let sorted : List PlaceRange = c.by_low-each.result.items in
     record {
-      order = c.joined-places.ensures.order;
-      within = c.joined-places.ensures.within (length es) c.loop-line.invariant.within c.touched_by_line.ensures.within;
-      touched =
-          λ k line less g o held.
-          ⊎_elim
-          (λ (earlier : k < i). c.joined-places.ensures.own es o (c.loop-line.invariant.touched k line earlier g o held))
-          (λ (last : i ≤ k).
-          let same : k ≡ i = omega arith in
-          let one : line ≡ item = same_Some line item (sym g ∙ ap (slice_get lines) same ∙ here) in
-          c.joined-places.ensures.others es o (c.touched_by_line.ensures.touched o (subst (λ l. Contains (ops_of l) o) one held)))
-          (cases_lt k i);
+      sorted = subst (IsNonDecreasingBy low_of) (sym c.as_slice.ensures.value) c.by_low-each.ensures.sorted;
+      order =
+          subst (All (λ (r : PlaceRange). r.low ≤ r.high)) (sym c.as_slice.ensures.value)
+          (All-permutation (λ (r : PlaceRange). r.low ≤ r.high) each sorted c.by_low-each.ensures.same c.in_ok-each.ensures.order);
     }
+
+pub returns-clause-apart : goal.returns-clause-apart
+returns-clause-apart c =
+    let count : ℕ = length c.args.sequence.now.elements in
+    let each : List PlaceRange = c.in_ok-each.each.items in
+    let sorted : List PlaceRange = c.by_low-each.result.items in
+    c.in_ok-ranges.ensures.apart count
+    (subst (All (λ (r : PlaceRange). r.high ≤ count)) (sym c.as_slice.ensures.value)
+    (All-permutation (λ (r : PlaceRange). r.high ≤ count) each sorted c.by_low-each.ensures.same c.in_ok-each.ensures.within))
 
 pub returns-clause-touched : goal.returns-clause-touched
 returns-clause-touched c =
     λ o held.
-    let lines : List Line = c.args.lines.now in
-    let r = line_of lines o held in
-    let within : r.0 < length lines = slice_get_within lines r.0 r.1.0 r.1.1 in
-    let all : length lines ≤ c.loop-line.line-index = c.loop-line-test.false in
-    c.loop-line.invariant.touched r.0 r.1.0 (omega arith) r.1.1 o r.1.2
+    let each : List PlaceRange = c.in_ok-each.each.items in
+    let sorted : List PlaceRange = c.by_low-each.result.items in
+    let t = c.in_ok-each.ensures.touched o held in
+    let among = subst (λ (l : List PlaceRange). Contains l t.0) (sym c.as_slice.ensures.value) (Contains-permutation each sorted t.0 c.by_low-each.ensures.same t.1) in
+    covered_touched c.args.sequence.now.elements c.in_ok-ranges.ranges.items t.0 o (c.in_ok-ranges.ensures.covered t.0 among) t.2

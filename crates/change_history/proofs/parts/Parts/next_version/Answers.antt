@@ -3,9 +3,9 @@ use Rattle.change_history.proofs.parts.Parts.next_version.Goals as goal
 
 pub next_version-requires : goal.next_version-requires
 next_version-requires c = record {
-  step = (c.requires.0, is_step c.requires.0 c.args.previous.now c.args.lines.now c.args.self.now c.requires.1);
+  step = (c.requires.0, is_step c.requires.0 c.args.previous.now c.args.lines.now c.args.before.now c.args.self.now c.requires.1);
   places = c.requires.1.kept.places;
 }
 
 pub returns : goal.returns
-returns c = next_kept c.next_version.result c.args.previous.now c.args.lines.now c.args.self.now c.args.number c.next_version.ensures
+returns c = next_kept c.next_version.result c.args.previous.now c.args.lines.now c.args.before.now c.args.self.now c.args.number c.next_version.ensures

@@ -1,5 +1,5 @@
 use Rattle.mark_places.specs.Floors.{AreKept}
 use Rattle.mark_places.proofs.places.MarkPlaces.choose.Given as goal
 
-abbrev pub invariant-loop-place : goal.invariant-loop-place
-invariant-loop-place l = AreKept l.fn.self l.operations l.floors l.low l.high l.place-index l.chosen.operations l.chosen.marks
+abbrev pub invariant-loop-mark : goal.invariant-loop-mark
+invariant-loop-mark l = AreKept l.mark-items l.operations l.floors l.ranges l.mark-index l.chosen.operations l.chosen.marks

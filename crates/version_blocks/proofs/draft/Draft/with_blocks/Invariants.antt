@@ -1,11 +1,11 @@
-use Rattle.std.proofs.Common.{◌≡◌, ◌++◌, length, take}
-use Rattle.std.specs.List.{slice_range}
-use Rattle.version_laws.specs.Blocked.{in_blocks}
-use Rattle.version_blocks.specs.Glyphs.{glyphs}
+use Rattle.std.proofs.Common.{◌≡◌, ◌++◌}
+use Rattle.version_laws.specs.Joints.{Apart}
+use Rattle.version_blocks.specs.Glyphs.{AreMaximal, glyphs}
 use Rattle.version_blocks.proofs.draft.Draft.with_blocks.Given as goal
 
-abbrev pub invariant-loop-block : goal.invariant-loop-block
-invariant-loop-block l = record {
-  place : l.place ≡ length (glyphs (in_blocks (take l.block-index l.blocks)));
-  taken : glyphs l.draft ≡ glyphs l.initial.draft ++ slice_range (glyphs (in_blocks (take l.block-index l.blocks))) l.from l.to;
+abbrev pub invariant-loop-part : goal.invariant-loop-part
+invariant-loop-part l = record {
+  spelt : glyphs l.draft ++ glyphs l.part-iterator ≡ glyphs l.initial.draft ++ glyphs l.initial.part-iterator;
+  maximal : AreMaximal l.part-iterator;
+  apart : Apart l.draft l.part-iterator;
 }

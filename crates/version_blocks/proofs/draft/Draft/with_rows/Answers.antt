@@ -25,7 +25,7 @@ loop-row-preserved c =
     let e : glyphs c.if-not-is_empty.draft ≡ (before ++ so_far) ++ glyphs_of x =
     elim c.if-not-is_empty.branch [
       | then-not-is_empty+in_ok-draft w ↦
-          ap glyphs w.draft-is ∙ w.in_ok-draft.ensures ∙ ap (λ t. glyphs c.loop-row.draft ++ glyphs_of (read t)) cut ∙ ap (λ l. l ++ glyphs_of x) c.loop-row.invariant
+          ap glyphs w.draft-is ∙ w.in_ok-draft.ensures.glyphs ∙ ap (λ t. glyphs c.loop-row.draft ++ glyphs_of (read t)) cut ∙ ap (λ l. l ++ glyphs_of x) c.loop-row.invariant
       | else-not-is_empty w ↦
           let none : length c.range-part.result.now ≡ 0 = search rules in
           ap glyphs w.draft-is ∙ c.loop-row.invariant ∙ sym (append-nil (before ++ so_far)) ∙ ap (λ l. (before ++ so_far) ++ l) (sym (empty_span x (ap length (sym cut) ∙ none)))

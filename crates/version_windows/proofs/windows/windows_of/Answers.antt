@@ -1,0 +1,90 @@
+use Rattle.std.proofs.Common.{◌≡◌, ◌≤◌, ◌<◌, ◌++◌, ◌∷◌, [], ℕ, List, length, get_or, eq-eqb, refl, sym, ap, subst, ◌∙◌, arith, ⊎_elim}
+use Rattle.std.proofs.lemmas.Bool.{cases_lt, eqb-true, false≢true}
+use Rattle.std.proofs.lemmas.List.{nil_from_length}
+use Rattle.std.proofs.lemmas.List.Elements.{Contains-get_or}
+use Rattle.change_ops.specs.declared.operation.Op.{Op}
+use Rattle.char_sequence.specs.declared.sequence.Element.{Element}
+use Rattle.mark_anchors.specs.Marks.{AreMarks}
+use Rattle.mark_places.specs.Chosen.{AreChosen}
+use Rattle.mark_places.specs.PlaceRanges.{AreApart}
+use Rattle.mark_places.specs.Places.{AreMarkPlaces}
+use Rattle.mark_places.specs.declared.range.PlaceRange.{PlaceRange}
+use Rattle.version_blocks.specs.Replacements.{AreReplacements}
+use Rattle.version_blocks.specs.declared.replacement.Replacement.{Replacement}
+use Rattle.version_laws.specs.Ranges.{AreChangedWithin}
+use Rattle.version_windows.proofs.Choosing.{flattened_by_all}
+use Rattle.version_windows.proofs.Replaced.{replaced_by_all}
+use Rattle.version_windows.proofs.windows.windows_of.Goals as goal
+
+abbrev none : PlaceRange
+none = record { low = 0; high = 0 }
+
+-- no window for no range
+no_windows : (old new : List Element) (marks : List Op) (olds ranges : List PlaceRange) → ranges ≡ []
+    → AreChangedWithin old new olds ranges 0 0 → AreReplacements old new marks olds ranges []
+no_windows old new marks [] [] empty changed = tt
+no_windows old new marks (o ∷ olds) [] empty changed = absurd changed
+no_windows old new marks olds (n ∷ ranges) empty changed = absurd (cc)
+
+pub choose-requires : goal.choose-requires
+choose-requires c =
+    let es : List Element = c.args.sequence.now.elements in
+    record {
+      places = (es, subst (λ ms. AreMarkPlaces es ms c.args.places.now) (sym c.operations.ensures) c.requires.places);
+      apart = (length es, c.requires.apart);
+    }
+
+pub resolve-requires : goal.resolve-requires
+resolve-requires c =
+    let es : List Element = c.args.sequence.now.elements in
+    let ranges : List PlaceRange = c.args.ranges.now in
+    let places = subst (λ ms. AreMarkPlaces es ms c.args.places.now) (sym c.operations.ensures) c.requires.places in
+    let marks = subst (AreMarks c.requires.text.0) (sym c.operations.ensures) c.requires.text.2 in
+    let range : PlaceRange = get_or ranges 0 none in
+    let some : 0 < length ranges =
+    ⊎_elim
+    (λ (less : 0 < length ranges). less)
+    (λ (le : length ranges ≤ 0).
+    let empty : length ranges ≡ 0 = omega arith in
+    absurd (false≢true (sym c.if-is_empty.false ∙ c.is_empty.ensures ∙ eq-eqb (length ranges) 0 empty)))
+    (cases_lt 0 (length ranges)) in
+    let law = c.chosen_give_formats.ensures es c.requires.text.0 c.operations.result.now c.in_ok-chosen.chosen.operations range.low range.high c.requires.text.1 marks
+    (c.in_ok-chosen.ensures.chosen es places range (Contains-get_or ranges 0 none some)) in
+    record {
+      text = (law.0, law.1, law.2);
+      placed = c.in_ok-chosen.ensures.placed es places;
+    }
+
+pub replacements-requires : goal.replacements-requires
+replacements-requires c = record {
+  elements = c.in_ok-resolved.ensures.elements;
+  shows = c.requires.shows;
+  apart = c.requires.apart;
+  gapped = c.requires.gapped;
+  changed = c.requires.changed;
+}
+
+pub returns-then-is_empty : goal.returns-then-is_empty
+returns-then-is_empty c =
+    λ olds changed.
+    let ranges : List PlaceRange = c.args.ranges.now in
+    let empty = nil_from_length ranges (eqb-true (length ranges) 0 (sym c.is_empty.ensures ∙ c.if-is_empty.true)) in
+    subst (AreReplacements c.args.before.now.elements c.args.sequence.now.elements c.args.marks.now olds ranges) (sym c.new.ensures.items)
+    (no_windows c.args.before.now.elements c.args.sequence.now.elements c.args.marks.now olds ranges empty changed)
+
+pub returns : goal.returns
+returns c =
+    λ olds changed.
+    let old : List Element = c.args.before.now.elements in
+    let es : List Element = c.args.sequence.now.elements in
+    let ranges : List PlaceRange = c.args.ranges.now in
+    let windows : List Replacement = c.in_ok-windows.windows.items in
+    let marks : c.operations.result.now ≡ c.args.marks.now = c.operations.ensures in
+    let places = subst (λ ms. AreMarkPlaces es ms c.args.places.now) (sym marks) c.requires.places in
+    let chosen : List Op = c.in_ok-chosen.chosen.operations in
+    replaced_by_all old es c.args.marks.now chosen olds ranges windows
+    (λ n w held flat.
+    let are = subst (λ ms. AreChosen es n.low n.high ms chosen) marks (c.in_ok-chosen.ensures.chosen es places n held) in
+    flattened_by_all es c.args.marks.now chosen n.low n.high w
+    (λ all shows text. c.chosen_give_formats.ensures es all c.args.marks.now chosen n.low n.high shows text are) flat)
+    (subst (λ ms. AreReplacements old es ms olds ranges windows) c.in_ok-resolved.ensures.marks (c.in_ok-windows.ensures olds changed))
