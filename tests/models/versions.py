@@ -221,8 +221,8 @@ class Size(NamedTuple):
     weights: dict
 
 
-SMALL = {"typed": 30, "remove": 26, "mark": 24, "unmark": 8, "equal": 4, "far": 8, "at_ends": 6, "clear": 1}
-LARGE = {"typed": 20, "remove": 14, "mark": 14, "unmark": 14, "equal": 14, "far": 14, "at_ends": 8, "clear": 0.4}
+SMALL = {"typed": 30, "remove": 26, "mark": 24, "unmark": 8, "equal": 4, "far": 8, "cursors": 3, "at_ends": 6, "clear": 1}
+LARGE = {"typed": 20, "remove": 14, "mark": 14, "unmark": 14, "equal": 14, "far": 14, "cursors": 6, "at_ends": 8, "clear": 0.4}
 
 
 def random_size(rng):
@@ -412,6 +412,21 @@ class Writer:
             else:
                 key, until = self.key(draft), there[min(last, at + rng.choice([0, 1, 3]))]
                 draft.mark(rng.choice("mmu"), key, self.value(key), self.around(there[at], until))
+
+    def cursors(self, draft):
+        """One small edit at many places at once, in any order of them."""
+        rng, there = self.rng, self.there
+        if len(there) < 24:
+            return self.far(draft)
+        places = rng.sample(there, min(rng.choice([10, 12, 20, 40]), len(there) // 2))
+        way, codes, key = rng.randrange(4), self.codes([1, 1, 2]), self.key(draft)
+        for own in places:
+            if way in (0, 3):
+                draft.insert(own, codes)
+            if way in (1, 3):
+                draft.remove([own])
+            if way == 2:
+                draft.mark("m", key, self.value(key), self.around(own, own))
 
     def at_ends(self, draft):
         """The first and the last visible character, or the text's start and end."""

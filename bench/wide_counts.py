@@ -1,0 +1,190 @@
+"""What changes that touch the whole of a text cost a hub, counted as in hostile_counts.py: texts full of marks, then a change over all of the text,
+one that shows nothing, one with two cursors or with 256, and a key."""
+
+from typing import NamedTuple
+
+import hostile_inputs as inputs
+from counted import Counted
+from hostile_counts import MILLION, alone, beside, most_held
+
+# A wide change of at most 256 operations: beside the same change over strong marks that stand apart, and at most altogether.
+MOST_TIMES, MOST = 10, 60
+# A key in a text near its limit: at most so many instructions, and so many times those of a text of 500 marks.
+A_KEY, KEY_TIMES = 130000, 1.5
+KIB = 1024
+SPANS = 1024
+# So many changes that show nothing follow one that does not count: what the first needs for a while is not kept.
+SILENT = 64
+
+
+class Wide(NamedTuple):
+    """A text, and the changes over all of it that a client can send next; each takes the first counter that is free."""
+
+    text: inputs.Text
+    counter: int
+
+    @classmethod
+    def of(cls, text):
+        return cls(text, text.newest() + 1)
+
+    def bold(self):
+        return f"change 1 1\nm {self.counter}@1 strong - ^ $\n"
+
+    def removal_of_ends(self, times=1):
+        """The first and the last character are removed; the second time, and each later one, shows nothing."""
+        changes = []
+        for at in range(times):
+            first = self.counter + 2 * at
+            changes.append(f"change 1 2\nd {first}@1 1@1\nd {first + 1}@1 {self.text.characters}@1\n")
+        return changes
+
+    def typed_at(self, places):
+        """One change that types a character behind each of these."""
+        lines = [f"i {self.counter + at}@1 {place}@1 61\n" for at, place in enumerate(places)]
+        return f"change 1 {len(lines)}\n" + "".join(lines)
+
+    def typed_apart(self, places):
+        """The same as a change each."""
+        return [f"change 1 1\ni {self.counter + at}@1 {place}@1 61\n" for at, place in enumerate(places)]
+
+    def places(self, count):
+        step = self.text.characters // count
+        return [step * at + step // 2 + 1 for at in range(count)]
+
+
+def spaced(key, times=1):
+    """Marks of four characters with three between them."""
+    marks = [inputs.mark(key(number), 7 * number + 1, 7 * number + 4) for number in range(times * inputs.MARKS)]
+    return inputs.Text(7 * len(marks), marks)
+
+
+def at_one_anchor(key, times=1):
+    """Marks that all begin at the start of the text and end at its end."""
+    marks = [("m", f"{key(number)} ^ $") for number in range(times * inputs.MARKS)]
+    return inputs.Text(7 * len(marks), marks)
+
+
+def scattered(key, marks, characters=131000):
+    """Marks of some characters each, all over a text that is near its limit, in no order."""
+    step = characters // marks
+    order = sorted(range(marks), key=lambda number: number * 7919 % marks)
+    return inputs.Text(characters, [inputs.mark(key(at), step * at + 1, step * at + max(1, step // 2)) for at in order])
+
+
+def session_of(hub, size, text):
+    session = Counted(hub, "--size", size)
+    for change in text.changes():
+        if (reply := session.ask(change)).startswith("no "):
+            raise SystemExit(f"a text of the size {size} is refused: {reply}")
+    return session
+
+
+def counted_after(hub, size, text, before, requests):
+    """Millions of instructions of some requests, which follow a text and some others."""
+    session = session_of(hub, size, text)
+    for request in before:
+        session.ask(request)
+    replies, count = session.count(requests)
+    if refused := [reply for reply in replies if reply.startswith("no ")]:
+        raise SystemExit(f"refused: {refused[0]}")
+    session.end()
+    return count / MILLION
+
+
+# What is sent over all of a text: its name, what comes before it, and the change itself.
+CHANGES = {
+    "bold over all of it": lambda wide: ([], [wide.bold()]),
+    "removals at both ends that show nothing": lambda wide: (wide.removal_of_ends(2)[:1], wide.removal_of_ends(2)[1:]),
+    "a character at 256 places": lambda wide: ([], [wide.typed_at(wide.places(256))]),
+}
+TEXTS = {
+    "comments that touch": lambda times: inputs.side_by_side(inputs.comment, 7, times),
+    "comments apart": lambda times: spaced(inputs.comment, times),
+    "nested comments": lambda times: inputs.nested(inputs.comment, times),
+    "comments in windows of 512 characters": lambda times: inputs.windows(inputs.comment, 512, times),
+    "colors that touch": lambda times: inputs.side_by_side(inputs.color, 7, times),
+    "nested colors": lambda times: inputs.nested(inputs.color, times),
+    "colors at one anchor": lambda times: at_one_anchor(inputs.color, times),
+    "comments at one anchor": lambda times: at_one_anchor(inputs.comment, times),
+}
+
+
+def wide_changes(hub):
+    for size, times in (("small", 1), ("large", inputs.LARGE)):
+        for what, sent in CHANGES.items():
+            other = counted_after(hub, size, spaced(inputs.strong, times), *sent(Wide.of(spaced(inputs.strong, times))))
+            for name, make in TEXTS.items():
+                text = make(times)
+                count = counted_after(hub, size, text, *sent(Wide.of(text)))
+                figure = beside("12", f"{size}, {times * inputs.MARKS:,} {name}, {what}", count, other, "million", MOST_TIMES, 1)
+                yield figure._replace(limit=min(figure.limit, MOST), aim=f"{figure.aim}, and {MOST} million")
+
+
+def one_anchor(hub):
+    for size, times in (("small", 1), ("large", inputs.LARGE)):
+        counts = []
+        for text in (at_one_anchor(inputs.strong, times), spaced(inputs.strong, times)):
+            *before, last = text.mark_changes()
+            session = Counted(hub, "--size", size)
+            for change in text.changes()[: -len(before) - 1] + before:
+                session.ask(change)
+            counts.append(session.count([last])[1] / MILLION)
+            session.end()
+        yield beside("13", f"{size}: the last 256 of {times * inputs.MARKS:,} marks at one anchor, beside apart", counts[0], counts[1], "million", 2)
+
+
+def two_cursors(hub):
+    for name, key in (("strong marks", inputs.strong), ("comments", inputs.comment)):
+        text = spaced(key, inputs.LARGE)
+        wide, ends = Wide.of(text), (8, text.characters - 8)
+        one = counted_after(hub, "large", text, [], [wide.typed_at(ends)])
+        two = counted_after(hub, "large", text, [], wide.typed_apart(ends))
+        yield beside("14", f"large, {len(text.marks):,} {name}: two cursors in one change, beside two changes", one, two, "million", 1.5)
+
+
+def kept(hub, text, changes):
+    """Bytes of the heap that changes keep each, with their versions."""
+    given = "".join(text.changes()).encode()
+    most = [most_held(hub, ["replay"], given + "".join(changes[:count]).encode()) for count in (1, len(changes))]
+    return (most[1] - most[0]) / (len(changes) - 1)
+
+
+def kept_by_wide_changes(hub):
+    text = spaced(inputs.strong)
+    wide = Wide.of(text)
+    silent = kept(hub, text, wide.removal_of_ends(SILENT + 2)[1:])
+    yield alone("15", f"{len(text.marks):,} marks: a change that shows nothing keeps", silent, "bytes", KIB)
+    pairs = [(8 + 7 * at, text.characters - 8 - 7 * at) for at in range(16)]
+    one = [Wide(text, wide.counter + 2 * at).typed_at(pair) for at, pair in enumerate(pairs)]
+    two = ["".join(Wide(text, wide.counter + 2 * at).typed_apart(pair)) for at, pair in enumerate(pairs)]
+    yield beside("15", "two cursors in one change keep, beside two changes", kept(hub, text, one) / KIB, kept(hub, text, two) / KIB, "KiB", 1.5)
+
+
+def keys(hub):
+    counts = []
+    for marks in (500, 4096, 16376):
+        text = scattered(inputs.strong, marks)
+        wide = Wide.of(text)
+        typed = wide.typed_apart([text.characters // 2 + at for at in range(9)])
+        counts.append(counted_after(hub, "large", text, typed[:1], typed[1:]) * MILLION / 8)
+        figure = beside("16", f"a key at {text.characters:,} characters under {marks:,} marks", counts[-1], counts[0], "", KEY_TIMES)
+        yield figure._replace(limit=min(figure.limit, A_KEY), aim=f"{figure.aim} those of 500, and {A_KEY:,}")
+
+
+def shown_after(hub):
+    for name, make in TEXTS.items():
+        text = make(inputs.LARGE)
+        wide, newest = Wide.of(text), len(text.changes())
+        before = counted_after(hub, "large", text, [], [f"show {newest} 0 {SPANS}\n"])
+        after = counted_after(hub, "large", text, [wide.bold()], [f"show {newest + 1} 0 {SPANS}\n"])
+        yield beside("17", f"large, {name}: `show` of {SPANS:,} spans after a wide change, beside before it", after, before, "million", 1.5, 1)
+
+
+ROWS = {
+    "wide_changes": wide_changes,
+    "one_anchor": one_anchor,
+    "two_cursors": two_cursors,
+    "kept_by_wide_changes": kept_by_wide_changes,
+    "keys": keys,
+    "shown_after": shown_after,
+}
