@@ -27,6 +27,11 @@ class Wide(NamedTuple):
     def of(cls, text):
         return cls(text, text.newest() + 1)
 
+    @classmethod
+    def with_room(cls, text):
+        """The text without its last mark, as it has all that a hub takes."""
+        return cls.of(text._replace(marks=text.marks[:-1]))
+
     def bold(self):
         return f"change 1 1\nm {self.counter}@1 strong - ^ $\n"
 
@@ -72,7 +77,7 @@ def scattered(key, marks, characters=131000):
 
 
 def session_of(hub, size, text):
-    session = Counted(hub, "--size", size)
+    session = Counted(hub, "--size", size, "--read")
     for change in text.changes():
         if (reply := session.ask(change)).startswith("no "):
             raise SystemExit(f"a text of the size {size} is refused: {reply}")
@@ -112,10 +117,11 @@ TEXTS = {
 def wide_changes(hub):
     for size, times in (("small", 1), ("large", inputs.LARGE)):
         for what, sent in CHANGES.items():
-            other = counted_after(hub, size, spaced(inputs.strong, times), *sent(Wide.of(spaced(inputs.strong, times))))
+            wide = Wide.with_room(spaced(inputs.strong, times))
+            other = counted_after(hub, size, wide.text, *sent(wide))
             for name, make in TEXTS.items():
-                text = make(times)
-                count = counted_after(hub, size, text, *sent(Wide.of(text)))
+                wide = Wide.with_room(make(times))
+                count = counted_after(hub, size, wide.text, *sent(wide))
                 figure = beside("12", f"{size}, {times * inputs.MARKS:,} {name}, {what}", count, other, "million", MOST_TIMES, 1)
                 yield figure._replace(limit=min(figure.limit, MOST), aim=f"{figure.aim}, and {MOST} million")
 
@@ -143,10 +149,10 @@ def two_cursors(hub):
 
 
 def kept(hub, text, changes):
-    """Bytes of the heap that changes keep each, with their versions."""
-    given = "".join(text.changes()).encode()
-    most = [most_held(hub, ["replay"], given + "".join(changes[:count]).encode()) for count in (1, len(changes))]
-    return (most[1] - most[0]) / (len(changes) - 1)
+    """Bytes of the heap that changes keep each, with their versions: of the later half, as what is held at once at first may be more."""
+    given, half = "".join(text.changes()).encode(), len(changes) // 2
+    most = [most_held(hub, ["replay"], given + "".join(changes[:count]).encode()) for count in (half, len(changes))]
+    return (most[1] - most[0]) / (len(changes) - half)
 
 
 def kept_by_wide_changes(hub):
@@ -154,29 +160,34 @@ def kept_by_wide_changes(hub):
     wide = Wide.of(text)
     silent = kept(hub, text, wide.removal_of_ends(SILENT + 2)[1:])
     yield alone("15", f"{len(text.marks):,} marks: a change that shows nothing keeps", silent, "bytes", KIB)
-    pairs = [(8 + 7 * at, text.characters - 8 - 7 * at) for at in range(16)]
+    pairs = [(8 + 7 * at, text.characters - 8 - 7 * at) for at in range(1024)]
     one = [Wide(text, wide.counter + 2 * at).typed_at(pair) for at, pair in enumerate(pairs)]
     two = ["".join(Wide(text, wide.counter + 2 * at).typed_apart(pair)) for at, pair in enumerate(pairs)]
     yield beside("15", "two cursors in one change keep, beside two changes", kept(hub, text, one) / KIB, kept(hub, text, two) / KIB, "KiB", 1.5)
 
 
 def keys(hub):
-    counts = []
-    for marks in (500, 4096, 16376):
-        text = scattered(inputs.strong, marks)
-        wide = Wide.of(text)
-        typed = wide.typed_apart([text.characters // 2 + at for at in range(9)])
-        counts.append(counted_after(hub, "large", text, typed[:1], typed[1:]) * MILLION / 8)
-        figure = beside("16", f"a key at {text.characters:,} characters under {marks:,} marks", counts[-1], counts[0], "", KEY_TIMES)
-        yield figure._replace(limit=min(figure.limit, A_KEY), aim=f"{figure.aim} those of 500, and {A_KEY:,}")
+    """Keys that follow one another, and keys with another character between each two."""
+    for kind, follows in (("a key", True), ("a key apart from the last one", False)):
+        counts = []
+        for marks in (500, 4096, 16376):
+            text = scattered(inputs.strong, marks)
+            wide = Wide.of(text)
+            middle = text.characters // 2
+            places = [middle, *range(wide.counter, wide.counter + 8)] if follows else range(middle, middle + 9)
+            typed = wide.typed_apart(places)
+            counts.append(counted_after(hub, "large", text, typed[:1], typed[1:]) * MILLION / 8)
+            what = f"{kind} at {text.characters:,} characters under {marks:,} marks"
+            figure = beside("16", what, counts[-1], counts[0], "", KEY_TIMES)
+            yield figure._replace(limit=min(figure.limit, A_KEY), aim=f"{figure.aim} those of 500, and {A_KEY:,}")
 
 
 def shown_after(hub):
     for name, make in TEXTS.items():
-        text = make(inputs.LARGE)
-        wide, newest = Wide.of(text), len(text.changes())
-        before = counted_after(hub, "large", text, [], [f"show {newest} 0 {SPANS}\n"])
-        after = counted_after(hub, "large", text, [wide.bold()], [f"show {newest + 1} 0 {SPANS}\n"])
+        wide = Wide.with_room(make(inputs.LARGE))
+        newest = len(wide.text.changes())
+        before = counted_after(hub, "large", wide.text, [], [f"show {newest} 0 {SPANS}\n"])
+        after = counted_after(hub, "large", wide.text, [wide.bold()], [f"show {newest + 1} 0 {SPANS}\n"])
         yield beside("17", f"large, {name}: `show` of {SPANS:,} spans after a wide change, beside before it", after, before, "million", 1.5, 1)
 
 

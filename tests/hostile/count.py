@@ -23,7 +23,7 @@ def main():
     parser.add_argument("hub", metavar="HUB")
     parser.add_argument("rows", metavar="ROWS", nargs="*", help=f"of {', '.join(ROWS)}; none: all")
     parser.add_argument("--jobs", type=int, default=2)
-    arguments = parser.parse_args()
+    arguments = parser.parse_intermixed_args()
     install()
     unknown = [name for name in arguments.rows if name not in ROWS]
     if unknown:

@@ -1,9 +1,8 @@
 -- Addresses that took the tails that the bounds give them.
-use Rattle.std.proofs.Common.{◌≡◌, ◌≤◌, ◌<◌, ℕ, min, max, Option, Some, None, inl, inr, refl, sym, ◌∙◌, ap, subst, ⊎_elim, arith}
+use Rattle.std.proofs.Common.{◌≡◌, ◌≤◌, ℕ, min, max, Option, Some, None, inl, inr, refl, sym, ◌∙◌, ap, subst, ⊎_elim, arith}
 use Rattle.known_bits.specs.declared.Bits.{Bits}
 use Rattle.known_bits.specs.Bits as known
 use Rattle.intervals.specs.declared.Range.{Range}
-use Rattle.abstract_state.specs.declared.region.Region.{Region}
 use Rattle.abstract_state.specs.declared.address.LentAddress.{LentAddress}
 use Rattle.abstract_state.specs.declared.quantity.Quantity.{Quantity}
 use Rattle.abstract_state.specs.declared.known.Known.{Known}
@@ -12,15 +11,11 @@ use Rattle.abstract_state.specs.declared.slot.Slot.{Slot}
 use Rattle.abstract_state.specs.declared.slot.Slot.TheVariants.{Marks, Spilled}
 use Rattle.abstract_state.specs.declared.state.AbsReg.{AbsReg}
 use Rattle.abstract_state.specs.declared.state.AbsReg.TheVariants.{Unset, Set}
-use Rattle.abstract_state.specs.declared.state.AbsState.{AbsState}
 use Rattle.abstract_state.specs.Known.{IsNumber}
 use Rattle.abstract_state.specs.Quantity.{JoinsNumber}
 use Rattle.abstract_state.specs.Estimate.{greater_tail}
-use Rattle.abstract_state.specs.Addresses.{Content}
-use Rattle.abstract_state.specs.Stacks.{Eight, either_eight, slots_of}
 use Rattle.abstract_state.specs.Kinds.{IsNumberReg, IsContextAt, IsStackAt, IsMarked, JoinsReg, JoinsSlot, spilled_in}
 use Rattle.abstract_state.specs.Bounded.{KeepsNumber, KeepsAddress, KeepsKnown, KeepsReg, KeepsSlot}
-use Rattle.abstract_state.specs.Situation.{Situation, Least, IsSituation, registers_of, situation_of, least_of, either_register, either_situation, shorter}
 
 -- ---- the greater of two tails
 pub greater_keeps : (a u : Option ℕ) (t : ℕ) → a ≡ Some t → (v : ℕ) × (greater_tail a u ≡ Some v) × (t ≤ v)
@@ -115,18 +110,4 @@ pub slot_joins : (a b x y c : Slot) → KeepsSlot a x → KeepsSlot b y → Join
 slot_joins a b x y c ka kb j = record {
   spilled = register_joins _ _ _ _ _ (slot_spilled a x ka) (slot_spilled b y kb) j.spilled;
   marked = λ n less p q. j.marked n less (slot_marked a x n ka p) (slot_marked b y n kb q);
-}
-
--- ---- what either of two situations is depends on the situations alone
-pub either_is : (a b c : AbsState) (s t : Situation) → IsSituation a s → IsSituation b t → IsSituation c (either_situation (situation_of a) (situation_of b)) → IsSituation c (either_situation s t)
-either_is a b c s t x y h = record {
-  registers = λ i less.
-      h.registers i less
-      ∙ ap (λ (o : Option Content). either_register o (registers_of b.registers i)) (x.registers i less)
-      ∙ ap (λ (o : Option Content). either_register (s.registers i) o) (y.registers i less);
-  slots = λ i less.
-      h.slots i less
-      ∙ ap (λ (e : Eight). either_eight e (slots_of b.stack i)) (x.slots i less)
-      ∙ ap (λ (e : Eight). either_eight (s.slots i) e) (y.slots i less);
-  least = h.least ∙ ap (λ (l : Least). shorter l (least_of b.bounds)) x.least ∙ ap (λ (l : Least). shorter s.least l) y.least;
 }

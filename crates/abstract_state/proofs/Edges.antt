@@ -88,6 +88,11 @@ pub edge_sides : (w : Width) (c : Comparison) (l : ℕ) (r : Operand) (taken : B
 unfolding edge
 edge_sides w c l r taken s a b e ea eb et = rw ea (rw eb (rw et refl))
 
+-- nothing is left of the sides, and these aren't one register
+pub edge_dead : (w : Width) (c : Comparison) (l : ℕ) (r : Operand) (taken : Bool) (s : Situation) (a b : Content) → read (s.registers l) ≡ Ok a → right_side w s.registers r ≡ Ok b → sides_on w c taken a b ≡ Ok None → is_register l r ≡ false → edge w c l r taken s ≡ Ok None
+unfolding refined
+edge_dead w c l r taken s a b ea eb et apart = edge_ok w c l r taken s a b None ea eb et ∙ ap (λ (t : Bool). Ok (refined l r (unless t (two a b) None) s)) apart
+
 -- ---- both edges
 ok_err : (f : Flow) (e : Refusal) (answer : Result Flow Refusal) → answer ≡ Ok f → answer ≡ Err e → ⊥
 ok_err f e answer p q = cc

@@ -1,16 +1,14 @@
 //! Addresses in lent regions with the tails that they have because their regions are so long at least.
-ghost use Rattle.std.specs.Prelude.{◌≡◌, ℕ, ◌<◌, ◌≤◌, Option};
-ghost use Rattle.semantics.specs.State.{State};
+ghost use Rattle.std.specs.Prelude.{◌≡◌, ℕ, ◌≤◌, Option};
 ghost use Rattle.abstract_state.specs.Lent.{Lengths, HasTail, HasTails, length_of};
 ghost use Rattle.abstract_state.specs.Quantity.{Contains as ContainsNumber};
 ghost use Rattle.abstract_state.specs.Known.{ContainsKnown};
-ghost use Rattle.abstract_state.specs.State.{Bytes, Contains, ContainsRegister, ContainsSlot, IsLong};
-ghost use Rattle.abstract_state.specs.State.{register_at, slot_at};
+ghost use Rattle.abstract_state.specs.State.{Bytes, ContainsRegister, ContainsSlot, IsLong};
 ghost use Rattle.abstract_state.specs.Bounded.{KeepsTails, KeepsAddress, KeepsKnown, KeepsReg, KeepsSlot};
 ghost use Rattle.abstract_state.specs.Addresses.{content_of};
-ghost use Rattle.abstract_state.specs.Stacks.{eight_of, slots_of};
+ghost use Rattle.abstract_state.specs.Stacks.{eight_of};
 ghost use Rattle.abstract_state.specs.Situation as rules;
-ghost use Rattle.abstract_state.specs.Situation.{least_of, register_of, registers_of, situation_of};
+ghost use Rattle.abstract_state.specs.Situation.{least_of, register_of};
 ghost use Rattle.std.specs.Prelude.{option_map};
 
 use crate::address::LentAddress;
@@ -19,7 +17,7 @@ use crate::known::Known;
 use crate::quantity::Quantity;
 use crate::region::{Region, Tails};
 use crate::slot::Slot;
-use crate::state::{AbsReg, AbsState};
+use crate::state::AbsReg;
 use crate::tail;
 
 /// The tail of a number up to `high`, where the region has at least `bound` bytes; `None` where the number may be
@@ -96,7 +94,7 @@ impl Known {
 
 impl AbsReg {
     /// The same with the tail that the bounds give an address.
-    fn bounded(self, bounds: Bounds) -> AbsReg
+    pub(crate) fn bounded(self, bounds: Bounds) -> AbsReg
         ensures contains { (lengths : Lengths) (o : Option ℕ) → IsLong bounds lengths
             → ContainsRegister self lengths o → ContainsRegister result lengths o }
         ensures keeps { KeepsReg self result }
@@ -111,7 +109,7 @@ impl AbsReg {
 
 impl Slot {
     /// The same with the tail that the bounds give an address.
-    fn bounded(self, bounds: Bounds) -> Slot
+    pub(crate) fn bounded(self, bounds: Bounds) -> Slot
         ensures contains { (lengths : Lengths) (bytes : Bytes) (i : ℕ) → IsLong bounds lengths
             → ContainsSlot self lengths bytes i → ContainsSlot result lengths bytes i }
         ensures keeps { KeepsSlot self result }
@@ -121,49 +119,5 @@ impl Slot {
             Slot::Marks(marks) => Slot::Marks(marks),
             Slot::Spilled(known) => Slot::Spilled(known.bounded(bounds)),
         }
-    }
-}
-
-/// Gives the addresses in all registers the tails that the bounds give them.
-fn bound_registers(registers: &mut [AbsReg; 11], bounds: Bounds)
-    ensures contains { (lengths : Lengths) (i : ℕ) (o : Option ℕ) → IsLong bounds lengths → i < 11
-        → ContainsRegister (register_at registers.old i) lengths o
-        → ContainsRegister (register_at registers.new i) lengths o }
-    ensures keeps { (i : ℕ) → i < 11 → KeepsReg (register_at registers.old i) (register_at registers.new i) }
-    ensures rule { (i : ℕ) → i < 11 → registers_of registers.new i
-        ≡ option_map (rules.bounded (least_of bounds)) (registers_of registers.old i) }
-{
-    for i in 0..11 {
-        registers[i] = registers[i].bounded(bounds);
-    }
-}
-
-/// Gives the addresses that are spilled in the stack the tails that the bounds give them.
-fn bound_slots(slots: &mut [Slot; 64], bounds: Bounds)
-    ensures contains { (lengths : Lengths) (bytes : Bytes) (i : ℕ) → IsLong bounds lengths → i < 64
-        → ContainsSlot (slot_at slots.old i) lengths bytes i → ContainsSlot (slot_at slots.new i) lengths bytes i }
-    ensures keeps { (i : ℕ) → i < 64 → KeepsSlot (slot_at slots.old i) (slot_at slots.new i) }
-    ensures rule { (i : ℕ) → i < 64
-        → slots_of slots.new i ≡ rules.bounded_eight (least_of bounds) (slots_of slots.old i) }
-{
-    for i in 0..64 {
-        slots[i] = slots[i].bounded(bounds);
-    }
-}
-
-impl AbsState {
-    /// The same with the tails that the bounds give the addresses.
-    pub fn bounded(&self) -> AbsState
-        ensures contains { (lengths : Lengths) (s : State) → Contains self.now lengths s → Contains result lengths s }
-        ensures registers { (i : ℕ) → i < 11
-            → KeepsReg (register_at self.now.registers i) (register_at result.registers i) }
-        ensures slots { (i : ℕ) → i < 64 → KeepsSlot (slot_at self.now.stack i) (slot_at result.stack i) }
-        ensures bounds { result.bounds ≡ self.now.bounds }
-        ensures rule { rules.IsSituation result (rules.bounded_all (situation_of self.now)) }
-    {
-        let mut state = *self;
-        bound_registers(&mut state.registers, self.bounds);
-        bound_slots(&mut state.stack, self.bounds);
-        state
     }
 }

@@ -328,8 +328,30 @@ impl AbsState {
         }
     }
 
+    /// Whether the sides of a comparison alone tell that no run goes along an edge: then no state is made for it.
+    pub fn is_dead_edge(
+        &self,
+        width: Width,
+        comparison: Comparison,
+        left: Register,
+        right: &Operand,
+        taken: bool,
+    ) -> bool
+        ensures sound { IsTrue result → Edge self.now width comparison left right.now taken None }
+        ensures rule { IsTrue result
+            → rules.edge width comparison left right.now taken (situation_of self.now) ≡ Ok None }
+    {
+        let (Ok(a), Ok(b)) = (self.read(left), self.right_side(width, right)) else {
+            return false;
+        };
+        match pair_on(width, comparison, taken, a, b) {
+            Ok(None) => !is_one_register(left, right),
+            _ => false,
+        }
+    }
+
     /// Goes along the edge where the comparison holds, or along the other.
-    fn take_edge(
+    pub fn take_edge(
         &mut self,
         width: Width,
         comparison: Comparison,

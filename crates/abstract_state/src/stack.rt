@@ -55,7 +55,7 @@ fn both(a: &[bool; 8], b: &[bool; 8]) -> [bool; 8]
 {
     let mut marks = *a;
     for j in 0..8 {
-        marks[j] = a[j] && b[j];
+        marks[j] = a[j] & b[j];
     }
     marks
 }

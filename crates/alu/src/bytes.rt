@@ -24,8 +24,8 @@ pub fn number(bytes: &[u8], offset: usize, size: Size) -> u64
 }
 
 /// Writes as many of a number's low bytes as the size says, the lowest first.
-pub fn put_number(bytes: &mut [u8; STACK_BYTES], offset: usize, size: Size, value: u64)
-    requires { offset + bytes_in size ≤ 512 }
+pub fn put_number(bytes: &mut [u8], offset: usize, size: Size, value: u64)
+    requires { offset + bytes_in size ≤ length bytes.old }
     ensures { bytes.new ≡ take offset bytes.old ++ little_bytes (bytes_in size) value
         ++ drop (offset + bytes_in size) bytes.old }
 {

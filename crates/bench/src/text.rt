@@ -7,7 +7,7 @@ use change_history::history::History;
 use change_ops::change::read_change;
 use change_ops::size::Size;
 use std::alloc::Global;
-use version_blocks::version::BlockVersion;
+use version_pieces::version::PieceVersion;
 
 /// Reads the change at the front of a text, and answers what follows it.
 fn pass_change(alloc: Global, text: &str) -> Option<&str> {
@@ -55,9 +55,9 @@ fn spans_of(alloc: Global, history: &History) -> u64 {
 fn follow_change<'a>(
     alloc: Global,
     history: &mut History,
-    previous: &BlockVersion,
+    previous: &PieceVersion,
     text: &'a str,
-) -> Option<(BlockVersion, &'a str)>
+) -> Option<(PieceVersion, &'a str)>
     requires { (number : ℕ) × IsVersion (operations_of history.old.changes) number previous.now }
     ensures { IfSome result (λ followed. (number : ℕ)
         × IsVersion (operations_of history.new.changes) number followed.0) }

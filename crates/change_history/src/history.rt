@@ -33,7 +33,7 @@ use std::alloc::{AllocError, Global};
 use std::collections::LinkedList;
 use std::marker::Model;
 use std::mem::replace;
-use version_blocks::version::BlockVersion;
+use version_pieces::version::PieceVersion;
 
 /// The changes that were accepted, in their order, and the text that they make.
 pub struct History {
@@ -284,9 +284,9 @@ impl History {
     pub fn next_version(
         &self,
         alloc: Global,
-        previous: &BlockVersion,
+        previous: &PieceVersion,
         draft: &Draft,
-    ) -> Result<BlockVersion, AllocError>
+    ) -> Result<PieceVersion, AllocError>
         requires drafted { (change : Change) × IsDraft self.now.size self.now.changes change draft.now }
         requires previous { (number : ℕ) × IsVersion (operations_of self.now.changes) number previous.now }
         ensures { IfOk result (λ version. (change : Change) → IsDraft self.now.size self.now.changes change draft.now
@@ -302,7 +302,7 @@ impl History {
     }
 
     /// The version that the changes make: its number is how many they are.
-    pub fn version(&self, alloc: Global) -> Result<BlockVersion, AllocError>
+    pub fn version(&self, alloc: Global) -> Result<PieceVersion, AllocError>
         ensures { IfOk result (IsVersion (operations_of self.now.changes) (length self.now.changes)) }
     {
         self.parts.version(alloc, self.len() as u64)

@@ -37,7 +37,7 @@ use mark_places::boundary::place_of;
 use mark_places::places::MarkPlaces;
 use span_flatten::flatten::{flatten, same_set_same_spans};
 use std::alloc::{AllocError, Global};
-use version_blocks::version::BlockVersion;
+use version_pieces::version::PieceVersion;
 use version_windows::step::next_version;
 
 /// What is kept of the operations that were applied.
@@ -254,12 +254,12 @@ impl Parts {
     }
 
     /// The version of the operations that were applied, with this number.
-    pub fn version(&self, alloc: Global, number: u64) -> Result<BlockVersion, AllocError>
+    pub fn version(&self, alloc: Global, number: u64) -> Result<PieceVersion, AllocError>
         requires { (ops : List Op) × Keeps ops self.now }
         ensures { IfOk result (λ version. (ops : List Op) → Keeps ops self.now → IsVersion ops number version) }
     {
         let whole = flatten(alloc, &self.sequence, &self.marks, number)?;
-        let version = BlockVersion::from_version(alloc, &whole)?;
+        let version = PieceVersion::from_version(alloc, &whole)?;
         Ok(version)
     }
 
@@ -269,10 +269,10 @@ impl Parts {
         &self,
         alloc: Global,
         before: &Parts,
-        previous: &BlockVersion,
+        previous: &PieceVersion,
         lines: &[Line],
         number: u64,
-    ) -> Result<BlockVersion, AllocError>
+    ) -> Result<PieceVersion, AllocError>
         requires { (ops : List Op) × AreNextParts ops previous.now lines.now before.now self.now }
         ensures { IfOk result (λ next. (ops : List Op) → AreNextParts ops previous.now lines.now before.now self.now
             → IsVersion (ops ++ ops_of_lines lines.now) number next) }

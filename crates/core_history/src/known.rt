@@ -1,7 +1,7 @@
 //! What is known of values of a hub, whatever hub it is and when the values are gone. No value of these types is made.
 use std::marker::Model;
 use verifier::verify::Verified;
-use version_blocks::version::BlockVersion;
+use version_pieces::version::PieceVersion;
 
 /// What is known of a token: its index, and the value that is there.
 pub struct KnownToken<T> {
@@ -24,7 +24,7 @@ impl<T> Model for KnownToken<T> {
 pub type KnownProgram = KnownToken<Verified>;
 
 /// What is known of a version's token.
-pub type KnownVersion = KnownToken<BlockVersion>;
+pub type KnownVersion = KnownToken<PieceVersion>;
 
 /// What is known of a job.
 pub struct KnownJob {

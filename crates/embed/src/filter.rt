@@ -6,7 +6,7 @@ use change_ops::change::read_change;
 use change_ops::size::Size;
 use feeds::batch::verdict;
 use span_context::profile::Profile;
-use span_view::view::spans;
+use span_view::view::view;
 use std::alloc::Global;
 use verifier::verify::{Verified, verify};
 
@@ -27,7 +27,11 @@ pub fn verdicts(alloc: Global, program: &Verified, changes: &[&str]) -> Result<V
     }
     let version = history.version(alloc)?; // its spans are Peritext's, of all that was accepted
     let mut verdicts = Vec::new(alloc);
-    for span in spans(&version) {
+    let mut buffer = String::new(alloc); // where a span's text is put together that lies in several pieces
+    for index in 0..version.span_count() {
+        let Some(span) = view(&version, index, &mut buffer)? else {
+            break;
+        };
         let number = verdict(program, &span); // a run always ends, with a number
         verdicts.push(number)?;
     }

@@ -18,8 +18,8 @@ use std::sync::ledger::Ledger;
 use std::thread::Threads;
 use subscriber_queues::ends::queue;
 use verifier::verify::Verified;
-use version_blocks::version::BlockVersion;
 use version_history::published::{Naming, Published};
+use version_pieces::version::PieceVersion;
 
 /// What a new subscriber of a hub is sent, of the version that is there and of those that the changes make.
 fn findings<
@@ -77,7 +77,7 @@ fn on_lists<
     rt: &R,
     alloc: Global,
     start: Start,
-    versions: &boxcar::Vec<BlockVersion>,
+    versions: &boxcar::Vec<PieceVersion>,
     programs: &boxcar::Vec<Verified>,
     program: Verified,
     changes: &[&str],

@@ -1,5 +1,5 @@
 -- Spans that agree in all but index, count and number give a program that lists none of these one verdict.
-use Rattle.std.proofs.Common.{◌≡◌, ◌⊎◌, ℕ, zero, suc, ◌+◌, ◌-◌, ◌%◌, ◌/◌, ◌^◌, ◌<◌, ◌≤◌, List, [], ◌∷◌, ◌++◌, length, get_or, slice_index, map, refl, sym, ap, ◌∙◌, ⊎_elim, arith}
+use Rattle.std.proofs.Common.{◌≡◌, ◌⊎◌, ℕ, zero, suc, ◌+◌, ◌-◌, ◌/◌, ◌^◌, ◌<◌, ◌≤◌, List, ◌++◌, length, get_or, slice_index, refl, sym, ap, ◌∙◌, ⊎_elim, arith}
 use Rattle.std.proofs.Math.Nat.{mod-lt}
 use Rattle.std.proofs.lemmas.List.{get_or_append_left, get_or-append_right}
 use Rattle.std.specs.Int.{byte_at, bytes_low_first}
@@ -15,9 +15,10 @@ use Rattle.program_reads.specs.Positions.{IsPositionless}
 use Rattle.program_reads.specs.Reads.{AgreesOn, Determines}
 use Rattle.program_reads.proofs.Positions.{beside_position}
 use Rattle.span_view.specs.Views.{SpanView}
-use Rattle.span_view.specs.ContextOf.{bytes_of, context_of, facts_of, link_of, flags_of}
+use Rattle.span_view.specs.ContextOf.{bytes_of, facts_of, link_of}
 use Rattle.feeds.specs.Verdicts.{number_of, verdict_on}
 use Rattle.feeds.specs.Kept.{IsAlike, IsBlindToPosition}
+use Rattle.feeds.proofs.Bytes.{Are, join}
 
 -- the context's bytes before index, count and number, of these three, and behind them
 before : Facts → List ℕ
@@ -104,9 +105,6 @@ byte_small : (k x : ℕ) → byte_at k x < 256
 byte_small zero x = mod-lt x (omega arith)
 byte_small (suc k) x = mod-lt (x / 256 ^ suc k) (omega arith)
 
-record Are (bytes : List ℕ) : Type 0 where
-  pub each : AreBytes bytes
-
 low_bytes : (i n x : ℕ) → AreBytes (bytes_low_first i n x)
 low_bytes i zero x k = omega arith
 low_bytes i (suc n) x zero = byte_small i x
@@ -114,14 +112,6 @@ low_bytes i (suc n) x (suc k) = low_bytes (suc i) n x k
 
 number : (n x : ℕ) → Are (little_bytes n x)
 number n x = record { each = low_bytes 0 n x }
-
-joined_bytes : (xs ys : List ℕ) → AreBytes xs → AreBytes ys → AreBytes (xs ++ ys)
-joined_bytes [] ys some more k = more k
-joined_bytes (x ∷ xs) ys some more zero = some 0
-joined_bytes (x ∷ xs) ys some more (suc k) = joined_bytes xs ys (λ j. some (suc j)) more k
-
-join : {xs ys : List ℕ} → Are xs → Are ys → Are (xs ++ ys)
-join {xs} {ys} some more = record { each = joined_bytes xs ys some.each more.each }
 
 context_small : (f : Facts) → Are (context_bytes f)
 context_small f =

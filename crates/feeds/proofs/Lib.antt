@@ -5,5 +5,7 @@ pub mod Promises
 pub mod Sends
 pub mod Feeds
 pub mod Feeding
+pub mod Bytes
 pub mod Alike
 pub mod Reuse
+pub mod Walking

@@ -1,13 +1,13 @@
 -- The verdicts on a version, put together of those on an earlier one and of those on the spans in the middle.
-use Rattle.std.proofs.Common.{◌≡◌, ℕ, ◌+◌, ◌-◌, ◌<◌, ◌≤◌, List, ◌++◌, Some, length, take, drop, get_or, map, sym, ap, ◌∙◌, subst, arith}
-use Rattle.std.specs.List.{slice_get, slice_range, enumerate_from}
+use Rattle.std.proofs.Common.{◌≡◌, ℕ, ◌+◌, ◌-◌, ◌<◌, ◌≤◌, List, ◌++◌, Some, length, take, drop, get_or, sym, ap, ◌∙◌, subst, arith}
+use Rattle.std.specs.List.{slice_get, slice_range}
 use Rattle.std.specs.Option.{option_map}
 use Rattle.std.proofs.lemmas.List.{same_lists, append_assoc, take-append-drop, drop-drop, get_or-take, get_or-drop, length-take-le, length-drop}
 use Rattle.std.proofs.lemmas.Option.{get_or_from_slice_get, slice_get-map}
 use borrow.Author.Count.{below_more}
 use Rattle.semantics.specs.Step.{Program}
 use Rattle.span_flatten.specs.Version.{Version}
-use Rattle.span_view.specs.Views.{SpanView, view_of, view_at, views}
+use Rattle.span_view.specs.Views.{SpanView, view_of, views}
 use Rattle.span_view.proofs.Views.{viewed, row_at}
 use Rattle.feeds.specs.Verdicts.{verdict_on, verdicts_of}
 use Rattle.version_history.specs.Tokens.{Token}

@@ -1,8 +1,10 @@
 -- Spans that agree in all but index, count and number, and what is kept of the verdicts on a version.
-use Rattle.std.specs.Prelude.{◌≡◌, ℕ, ◌+◌, ◌-◌, ◌<◌, ◌≤◌, Some, length}
+use Rattle.std.specs.Prelude.{◌≡◌, ℕ, ◌+◌, ◌-◌, ◌<◌, ◌≤◌, IfSome, IsTrue, Some, length}
+use Rattle.change_ops.specs.Attributes.{is_link}
 use Rattle.mark_anchors.specs.Formatting.{Format}
 use Rattle.semantics.specs.Safe.{IsSpan}
 use Rattle.semantics.specs.Step.{Program}
+use Rattle.span_flatten.specs.Spans.{Span}
 use Rattle.span_flatten.specs.Version.{Version}
 use Rattle.span_view.specs.Views.{SpanView, view_at}
 use Rattle.span_view.specs.ContextOf.{bytes_of}
@@ -18,6 +20,12 @@ pub record AreFormattedAlike (older newer : Format) : Type 0 where
   pub link : older.link ≡ newer.link
   pub color : older.color ≡ newer.color
   pub comments : length older.comments ≡ length newer.comments
+
+-- what a program can read of the two spans is the same, and their links are links
+pub record AreAlike (older newer : Span) : Type 0 where
+  pub text : older.text ≡ newer.text
+  pub format : AreFormattedAlike older.format newer.format
+  pub link : IfSome newer.format.link (λ target. IsTrue (is_link target))
 
 -- a program may be run on both, and what it can read of them differs in the index, the count of spans and the
 -- version's number alone

@@ -11,12 +11,13 @@ ghost use Rattle.feeds.specs.Verdicts.{verdict_on, verdicts_of};
 use crate::item::{Finding, Item, Job};
 use interpreter::run::run;
 use span_view::context::{context, link};
-use span_view::view::{SpanView, spans};
+use span_view::view::{SpanView, lent};
 use std::alloc::{AllocError, Global};
 use std::marker::Model;
 use verifier::verify::Verified;
-use version_blocks::version::BlockVersion;
 use version_history::published::{Naming, Published};
+use version_pieces::iter::spans_from;
+use version_pieces::version::PieceVersion;
 
 /// A job with the items of its program on its version.
 pub struct Batch<N: Naming> {
@@ -55,12 +56,14 @@ pub fn verdict(program: &Verified, span: &SpanView<'_>) -> u64
 fn verdicts(
     alloc: Global,
     program: &Verified,
-    version: &BlockVersion,
+    version: &PieceVersion,
 ) -> Result<Vec<u64>, AllocError>
     ensures { IfOk result (λ found. found.items ≡ verdicts_of program.now version.now) }
 {
     let mut found = Vec::with_capacity(alloc, version.span_count())?;
-    for span in spans(version) {
+    let mut buffer = String::new(alloc);
+    for span in spans_from(version, 0) {
+        let span = lent(version, found.len(), span, &mut buffer)?;
         found.push(verdict(program, &span))?;
     }
     Ok(found)

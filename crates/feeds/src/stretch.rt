@@ -1,26 +1,23 @@
 //! Which spans of a later version are as they were in an earlier one.
-ghost use Rattle.std.specs.Prelude.{◌≡◌, ◌↔◌, ◌-◌, ◌<◌, ◌≤◌, ℕ, IsTrue, length};
-ghost use Rattle.semantics.specs.Safe.{IsSpan};
-ghost use Rattle.span_view.specs.ContextOf.{bytes_of, link_of};
-ghost use Rattle.feeds.specs.Kept.{IsAlike, AlikeAt, AreFormattedAlike};
+ghost use Rattle.std.specs.Prelude.{◌≡◌, ◌↔◌, ◌+◌, ◌-◌, ◌<◌, ◌≤◌, ℕ, IfSome, IsTrue, Some, drop, length, slice_get};
+ghost use Rattle.change_ops.specs.Attributes.{is_link};
+ghost use Rattle.span_flatten.specs.Spans.{Span};
+ghost use Rattle.feeds.specs.Kept.{AlikeAt, AreAlike, AreFormattedAlike};
 
 use mark_anchors::format::Format;
-use span_view::context::link;
-use span_view::view::{SpanView, view};
 use std::marker::Model;
-use version_blocks::version::BlockVersion;
 use version_history::published::{Naming, Published, VersionToken};
+use version_pieces::iter::{SpanTexts, spans_from};
+use version_pieces::span_text::SpanText;
+use version_pieces::version::PieceVersion;
 
-/// The law that a program may be run on a span, of which these are the text and the link's text.
-fn is_lent(span: &SpanView<'_>, text: &[u8], link: &[u8])
-    requires text { text.now ≡ span.now.text }
-    requires link { link.now ≡ link_of span.now }
-    requires short { length link.now ≤ 1024 }
-    ensures { IsSpan (bytes_of span.now) }
+/// The law that a format's link is one.
+fn keeps_link(format: &Format)
+    ensures { IfSome format.now.link (λ target. IsTrue (is_link target)) }
 {
-    let _index = span.index;
-    let _text = text;
-    let _link = link;
+    if let Some(link) = format.link() {
+        let _target = link.target();
+    }
 }
 
 /// Whether what a program can read of two formats is the same.
@@ -35,42 +32,83 @@ fn are_formatted_alike(older: &Format, newer: &Format) -> bool
         && older.comment_count() == newer.comment_count()
 }
 
-/// Whether what a program can read of two spans differs in index, count and number alone.
-fn is_alike(older: &SpanView<'_>, newer: &SpanView<'_>) -> bool
-    ensures { IsTrue result ↔ IsAlike older.now newer.now }
+/// Whether what a program can read of two spans is the same. Their texts are compared where they lie.
+fn is_alike(older: SpanText<'_>, newer: SpanText<'_>) -> bool
+    ensures { IsTrue result → AreAlike older.entry newer.entry }
 {
-    is_lent(older, older.text.as_bytes(), link(older));
-    is_lent(newer, newer.text.as_bytes(), link(newer));
-    older.text == newer.text && are_formatted_alike(older.format, newer.format)
-}
-
-/// Whether the spans at these two indices are there and alike.
-fn is_alike_at(older: &BlockVersion, i: usize, newer: &BlockVersion, j: usize) -> bool
-    ensures { IsTrue result → AlikeAt older.now i newer.now j }
-{
-    match (view(older, i), view(newer, j)) {
-        (Some(one), Some(other)) => is_alike(&one, &other),
-        _ => false,
-    }
+    // What the link keeps, which the proof needs.
+    keeps_link(newer.format);
+    older.characters == newer.characters
+        && are_formatted_alike(older.format, newer.format)
+        && older.text.is_same(newer.text)
 }
 
 /// How many spans from the first on are alike, `most` at most.
-fn alike_front(older: &BlockVersion, newer: &BlockVersion, most: usize) -> usize
+fn alike_front(older: &PieceVersion, newer: &PieceVersion, most: usize) -> usize
     ensures few { result ≤ most }
     ensures alike { (i : ℕ) → i < result → AlikeAt older.now i newer.now i }
 {
+    // What the versions keep, which the proof needs.
+    older.keeps();
+    newer.keeps();
+    let mut one = spans_from(older, 0);
+    let mut other = spans_from(newer, 0);
     let mut front = 0;
-    while front < most && is_alike_at(older, front, newer, front) {
+    while front < most && are_next_alike(&mut one, &mut other) {
         front += 1;
     }
     front
 }
 
+/// Takes the next span of each, if there is one. Whether they are there and alike.
+fn are_next_alike(older: &mut SpanTexts<'_>, newer: &mut SpanTexts<'_>) -> bool
+    ensures older { older.new ≡ drop 1 older.old }
+    ensures newer { newer.new ≡ drop 1 newer.old }
+    ensures alike { IsTrue result → (a b : Span) → slice_get older.old 0 ≡ Some a
+        → slice_get newer.old 0 ≡ Some b → AreAlike a b }
+{
+    match (older.next(), newer.next()) {
+        (Some(one), Some(other)) => is_alike(one, other),
+        _ => false,
+    }
+}
+
+/// Spans are read forward, so those at the back are compared in runs of so many, the last run first.
+const RUN: usize = 32;
+
+/// How many spans of a run are alike, up to its last one.
+fn alike_up_to_last(
+    older: &PieceVersion,
+    older_from: usize,
+    newer: &PieceVersion,
+    newer_from: usize,
+    count: usize,
+) -> usize
+    ensures few { result ≤ count }
+    ensures alike { (i : ℕ) → i < result
+        → AlikeAt older.now (older_from + count - 1 - i) newer.now (newer_from + count - 1 - i) }
+{
+    // What the versions keep, which the proof needs.
+    older.keeps();
+    newer.keeps();
+    let mut one = spans_from(older, older_from);
+    let mut other = spans_from(newer, newer_from);
+    let mut alike = 0;
+    for _pair in 0..count {
+        if are_next_alike(&mut one, &mut other) {
+            alike += 1;
+        } else {
+            alike = 0;
+        }
+    }
+    alike
+}
+
 /// How many spans up to the last are alike, `most` at most, where the versions have `older_end` and `newer_end` spans.
 fn alike_back(
-    older: &BlockVersion,
+    older: &PieceVersion,
     older_end: usize,
-    newer: &BlockVersion,
+    newer: &PieceVersion,
     newer_end: usize,
     most: usize,
 ) -> usize
@@ -80,8 +118,14 @@ fn alike_back(
     ensures alike { (i : ℕ) → i < result → AlikeAt older.now (older_end - 1 - i) newer.now (newer_end - 1 - i) }
 {
     let mut back = 0;
-    while back < most && is_alike_at(older, older_end - 1 - back, newer, newer_end - 1 - back) {
-        back += 1;
+    while back < most {
+        let count = RUN.min(most - back);
+        let from = back + count;
+        let alike = alike_up_to_last(older, older_end - from, newer, newer_end - from, count);
+        back += alike;
+        if alike < count {
+            return back;
+        }
     }
     back
 }

@@ -1,6 +1,7 @@
 -- What is said of each entry of a list, by the indexes.
-use Rattle.std.proofs.Common.{◌≡◌, ℕ, ◌+◌, ◌-◌, ◌≤◌, zero, suc, List, [], ◌∷◌, length, map, take, drop, arith, refl, sym, ap, ◌∙◌}
-use Rattle.std.specs.List.{range_with_len, enumerate_from, slice_get, slice_range}
+use Rattle.std.proofs.Common.{◌≡◌, ℕ, ◌+◌, ◌-◌, ◌≤◌, zero, suc, List, [], ◌∷◌, Result, Ok, Err, IfOk, length, map, take, drop, arith, refl, sym, ap, ◌∙◌}
+use Rattle.std.specs.Prelude.{MatchResult}
+use Rattle.std.specs.List.{AllZip, range_with_len, enumerate_from, slice_get, slice_range}
 use Rattle.std.proofs.lemmas.List.FromFn.{take-map-range_with_len}
 use Rattle.std.proofs.lemmas.List.{take_all}
 use Rattle.semantics.specs.Step.{Program}
@@ -54,3 +55,15 @@ whole program version n is =
     let size : n - 0 ≡ n = omega arith in
     ap (λ k. take k (verdicts_of program version)) size
     ∙ take_all n (verdicts_of program version) (omega (arith, verdict_count program version))
+
+-- ---- results of which each is `Ok`, or the whole is an `Err`
+-- what is said of each `Ok`, said of what is in them
+pub in_oks : {A B : Type 0} (E : Type 0) (R : A → B → Type 0) (xs : List A) (ys : List B) → AllZip (λ x (r : Result B E). IfOk r (λ y. R x y)) xs (map Ok ys) → AllZip R xs ys
+in_oks E R [] [] all = all
+in_oks E R [] (y ∷ ys) all = absurd all
+in_oks E R (x ∷ xs) [] all = absurd all
+in_oks E R (x ∷ xs) (y ∷ ys) all = (all.0, in_oks E R xs ys all.1)
+
+pub if_ok : {T E : Type 0} (r : Result T E) (P Q : T → Type 0) (R : E → Type 0) → MatchResult r P R → ((v : T) → P v → Q v) → IfOk r Q
+if_ok (Ok v) P Q R is so = so v is
+if_ok (Err e) P Q R is so = tt

@@ -14,8 +14,8 @@ use span_view::view::view;
 use std::alloc::{AllocError, Global};
 use std::thread::Threads;
 use verifier::verify::Verified;
-use version_blocks::version::BlockVersion;
 use version_history::published::{Naming, Published};
+use version_pieces::version::PieceVersion;
 
 /// How much work, in steps of a program, justifies a further thread: about half a millisecond.
 const STEPS_PER_THREAD: usize = 262_144;
@@ -32,12 +32,18 @@ fn spans_per_thread(workers: usize, steps: usize) -> usize
 }
 
 /// The verdict on the span at an index, or 0 past the last one.
-fn verdict_at(program: &Verified, version: &BlockVersion, index: usize) -> u64
-    ensures { result ≡ option_map_or (verdict_on program.now) (view_at version.now index) 0 }
+fn verdict_at(
+    alloc: Global,
+    program: &Verified,
+    version: &PieceVersion,
+    index: usize,
+) -> Result<u64, AllocError>
+    ensures { IfOk result (λ verdict. verdict ≡ option_map_or (verdict_on program.now) (view_at version.now index) 0) }
 {
-    match view(version, index) {
-        Some(span) => verdict(program, &span),
-        None => 0,
+    let mut buffer = String::new(alloc);
+    match view(version, index, &mut buffer)? {
+        Some(span) => Ok(verdict(program, &span)),
+        None => Ok(0),
     }
 }
 
@@ -47,7 +53,7 @@ fn verdicts_between<R: Threads + Sync>(
     rt: &R,
     alloc: Global,
     program: &Verified,
-    version: &BlockVersion,
+    version: &PieceVersion,
     from: usize,
     to: usize,
     least: usize,
@@ -60,11 +66,12 @@ fn verdicts_between<R: Threads + Sync>(
         .into_par_iter()
         .with_min_len(least)
         .map(
-            |index: usize| -> u64
-                ensures { result ≡ option_map_or (verdict_on program.entry.now) (view_at version.entry.now index) 0 }
-            { verdict_at(program, version, index) },
+            |index: usize| -> Result<u64, AllocError>
+                ensures { IfOk result (λ verdict. verdict
+                    ≡ option_map_or (verdict_on program.entry.now) (view_at version.entry.now index) 0) }
+            { verdict_at(alloc, program, version, index) },
         )
-        .collect(rt, alloc)
+        .collect::<Result<Vec<u64>, AllocError>>(rt, alloc)?
 }
 
 /// Whether a job's batch takes at most `most` steps, a little counted for each run's start.

@@ -6,3 +6,4 @@ pub mod Gathering
 pub mod Appending
 pub mod KeptInputs
 pub mod ReadingChanges
+pub mod Runs

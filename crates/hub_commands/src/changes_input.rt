@@ -43,17 +43,6 @@ pub(crate) struct ChangesInput {
     left: Vec<u8>,
 }
 
-/// Keeps the first bytes of an input, of which a piece comes next.
-fn keep_front(front: &mut Vec<u8>, piece: &[u8]) -> Result<(), AllocError>
-    ensures { OnOk result ((input : List ℕ) → front.old.items ≡ take 3 input
-        → front.new.items ≡ take 3 (input ++ piece.now)) }
-{
-    for byte in piece {
-        keep(front, MARK_BYTES, *byte)?;
-    }
-    Ok(())
-}
-
 /// Where the last line feed is.
 fn last_line_feed(bytes: &[u8]) -> Option<usize>
     ensures { IfSome result (λ last. (last < length bytes.now) × (slice_index bytes.now last ≡ 10)) }
@@ -216,7 +205,7 @@ impl Gather for ChangesInput {
     ghost keeps = { IsChangesInput };
 
     fn push_piece(&mut self, piece: &[u8]) -> Result<(), AllocError> {
-        keep_front(&mut self.front, piece)?;
+        keep(&mut self.front, MARK_BYTES, piece)?;
         append(&mut self.left, piece)?;
         self.read_lines()
     }

@@ -1,12 +1,14 @@
 //! Hexadecimal digits of any number, of which those are kept that a program may have.
-ghost use Rattle.std.specs.Prelude.{◌≡◌, ◌++◌, ◌∷◌, List, ℕ, [], take, IfOk, OnOk, MatchOption, Err};
-ghost use Rattle.hex.specs.Hex.{decode_of, is_hex_digit};
+ghost use Rattle.std.specs.Prelude.{◌≡◌, ◌≤◌, ◌<◌, ◌++◌, List, ℕ, [], true, length, take, slice_index};
+ghost use Rattle.std.specs.Prelude.{IfOk, OnOk, MatchOption, Err};
+ghost use Rattle.hex.specs.Hex.{decode_of};
 ghost use Rattle.hex.specs.declared.error.FromHexError.{FromHexError};
 ghost use Rattle.hub_commands.specs.Digits.{AreDigits, StandFor};
+ghost use Rattle.hub_commands.specs.Hexadecimal.{is_blank, without_blanks};
 ghost use Rattle.hub_commands.specs.Hints.{pairs_hint};
 
-use crate::hexadecimal::decode_hex;
-use crate::hint::Hint;
+use crate::hexadecimal::is_blank;
+use crate::hint::{Hint, are_digits};
 use std::alloc::{AllocError, Global};
 
 /// As many digits as are kept: two more than the longest program has, so that a longer one is seen to be too long.
@@ -22,21 +24,27 @@ pub struct Digits {
     pub(crate) are_right: bool,
 }
 
-/// Appends a byte to the first ones of a text, where fewer are there than are kept.
-pub fn keep(kept: &mut Vec<u8>, most: usize, byte: u8) -> Result<(), AllocError>
+/// Appends bytes to the first ones of a text, as many as are kept.
+pub fn keep(kept: &mut Vec<u8>, most: usize, more: &[u8]) -> Result<(), AllocError>
     ensures { OnOk result ((bytes : List ℕ) → kept.old.items ≡ take most bytes
-        → kept.new.items ≡ take most (bytes ++ byte ∷ [])) }
+        → kept.new.items ≡ take most (bytes ++ more.now)) }
 {
-    if kept.len() < most {
-        kept.push(byte)?;
-    }
-    Ok(())
+    let room = most.saturating_sub(kept.len()).min(more.len());
+    kept.extend_from_slice(&more[..room])
 }
 
-fn is_digit(byte: u8) -> bool
-    ensures { result ≡ is_hex_digit byte }
+/// How many bytes stand before the first blank.
+fn run_length(text: &[u8]) -> usize
+    ensures within { result ≤ length text.now }
+    ensures run { without_blanks (take result text.now) ≡ take result text.now }
+    ensures end { result < length text.now → is_blank (slice_index text.now result) ≡ true }
 {
-    byte.is_ascii_hexdigit()
+    for index in 0..text.len() {
+        if is_blank(text[index]) {
+            return index;
+        }
+    }
+    text.len()
 }
 
 impl Digits {
@@ -51,15 +59,31 @@ impl Digits {
         }
     }
 
-    /// Takes in the next digit.
-    pub fn push(&mut self, byte: u8) -> Result<(), AllocError>
+    /// Takes in the next digits.
+    fn push(&mut self, more: &[u8]) -> Result<(), AllocError>
         ensures { OnOk result ((digits : List ℕ) → AreDigits digits self.old
-            → AreDigits (digits ++ byte ∷ []) self.new) }
+            → AreDigits (digits ++ more.now) self.new) }
     {
-        keep(&mut self.first, MOST_DIGITS, byte)?;
-        self.is_odd = !self.is_odd;
-        self.are_right &= is_digit(byte);
+        keep(&mut self.first, MOST_DIGITS, more)?;
+        self.is_odd ^= more.len() % 2 == 1;
+        self.are_right &= are_digits(more);
         Ok(())
+    }
+
+    /// Takes in the digits of a text, which has blanks between them.
+    pub fn push_text(&mut self, text: &[u8]) -> Result<(), AllocError>
+        ensures { OnOk result ((digits : List ℕ) → AreDigits digits self.old
+            → AreDigits (digits ++ without_blanks text.now) self.new) }
+    {
+        let mut rest = text;
+        loop {
+            let (run, behind) = rest.split_at(run_length(rest));
+            self.push(run)?;
+            let Some((_blank, behind)) = behind.split_first() else {
+                return Ok(());
+            };
+            rest = behind;
+        }
     }
 
     /// The hint to the digits.
@@ -84,6 +108,6 @@ impl Digits {
         if self.is_odd || !self.are_right {
             return Ok(None);
         }
-        decode_hex(alloc, &self.first)
+        hex_table::decode(alloc, &self.first)
     }
 }

@@ -1,11 +1,11 @@
 //! An input of hexadecimal digits, read in pieces.
-ghost use Rattle.std.specs.Prelude.{◌≡◌, ◌++◌, ◌∷◌, List, ℕ, [], IfOk, IfSome, OnOk};
+ghost use Rattle.std.specs.Prelude.{◌≡◌, List, ℕ, [], IfOk, IfSome};
+ghost use Rattle.std.specs.List.{list_all};
 ghost use Rattle.hub_commands.specs.HexInput.{IsHexInput};
-ghost use Rattle.hub_commands.specs.Hints.{digits_hint};
+ghost use Rattle.hub_commands.specs.Hints.{digits_hint, is_printable};
 
 use crate::digits::{Digits, keep};
 use crate::failure::Failure;
-use crate::hexadecimal::is_blank;
 use crate::hint::{Hint, begins_with_mark, is_printable};
 use crate::pieces::{Gather, read_pieces};
 use std::alloc::{AllocError, Global};
@@ -25,6 +25,17 @@ pub struct HexInput {
     pub digits: Digits,
 }
 
+/// Each byte is a blank or printable. All are looked at in any case, so that the processor looks at several at once.
+fn are_printable(bytes: &[u8]) -> bool
+    ensures { result ≡ list_all is_printable bytes.now }
+{
+    let mut all = true;
+    for byte in bytes {
+        all &= is_printable(*byte);
+    }
+    all
+}
+
 impl HexInput {
     /// No byte yet.
     fn new(alloc: Global) -> HexInput
@@ -35,19 +46,6 @@ impl HexInput {
             are_printable: true,
             digits: Digits::new(alloc),
         }
-    }
-
-    /// Takes in the next byte.
-    fn push(&mut self, byte: u8) -> Result<(), AllocError>
-        ensures { OnOk result ((input : List ℕ) → IsHexInput input self.old
-            → IsHexInput (input ++ byte ∷ []) self.new) }
-    {
-        keep(&mut self.front, MARK_BYTES, byte)?;
-        self.are_printable &= is_printable(byte);
-        if is_blank(byte) {
-            return Ok(());
-        }
-        self.digits.push(byte)
     }
 
     /// The hint to the input.
@@ -81,9 +79,8 @@ impl Gather for HexInput {
     ghost keeps = { λ _. IsHexInput };
 
     fn push_piece(&mut self, piece: &[u8]) -> Result<(), AllocError> {
-        for byte in piece {
-            self.push(*byte)?;
-        }
-        Ok(())
+        keep(&mut self.front, MARK_BYTES, piece)?;
+        self.are_printable &= are_printable(piece);
+        self.digits.push_text(piece)
     }
 }

@@ -1,23 +1,8 @@
-ghost use Rattle.std.specs.Prelude.{◌≡◌, IfOk, Ok, Err, Result, IfSome, IfNone, MatchOption};
+ghost use Rattle.std.specs.Prelude.{◌≡◌, IfOk};
 ghost use Rattle.std.specs.String.{string_bytes};
-ghost use Rattle.hex.specs.Hex.{decode_of};
-ghost use Rattle.hex.specs.declared.error.FromHexError.{FromHexError};
 ghost use Rattle.hub_commands.specs.Hexadecimal.{is_blank, slot_lines};
 
 use std::alloc::{AllocError, Global};
-
-/// The bytes that pairs of hexadecimal digits stand for, where they do.
-pub fn decode_hex(alloc: Global, digits: &[u8]) -> Result<Option<Vec<u8>>, AllocError>
-    ensures { IfOk result (λ answer. MatchOption answer
-        ((error : FromHexError) × (decode_of digits.now ≡ Err error))
-        (λ bytes. decode_of digits.now ≡ Ok bytes.items)) }
-{
-    match hex::decode(alloc, digits) {
-        Ok(bytes) => Ok(Some(bytes)),
-        Err(hex::FromHexError::OutOfMemory) => Err(AllocError),
-        Err(_) => Ok(None),
-    }
-}
 
 pub fn is_blank(byte: u8) -> bool
     ensures { result ≡ is_blank byte }

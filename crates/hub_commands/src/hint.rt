@@ -78,10 +78,15 @@ pub fn source_hint(input: &[u8]) -> Option<Hint>
     }
 }
 
-fn are_digits(text: &[u8]) -> bool
+/// Each byte is a hexadecimal digit. All are looked at in any case, so that the processor looks at several at once.
+pub(crate) fn are_digits(text: &[u8]) -> bool
     ensures { result ≡ list_all is_hex_digit text.now }
 {
-    text.iter().all(|byte| byte.is_ascii_hexdigit())
+    let mut all = true;
+    for byte in text {
+        all &= byte.is_ascii_hexdigit();
+    }
+    all
 }
 
 /// The hint to hexadecimal digits without blanks.

@@ -5,7 +5,6 @@ ghost use Rattle.hub_commands.specs.Programs.{IsRunReply};
 
 use crate::answer::Answer;
 use crate::failure::Failure;
-use crate::hexadecimal::decode_hex;
 use crate::input::read_past;
 use crate::output::write_answer;
 use crate::trace::steps_answer;
@@ -130,7 +129,7 @@ fn run_answer<R: Read>(
     ensures { IfOk result (λ answer. IfSome (R.remaining reader.old)
         (λ text. IsRunReply shown digits.now options.now text answer)) }
 {
-    let Some(bytes) = decode_hex(alloc, digits)? else {
+    let Some(bytes) = hex_table::decode(alloc, digits)? else {
         return Ok(Answer::refused(alloc, &Reason::BadHex)?);
     };
     match Words::new(&bytes) {

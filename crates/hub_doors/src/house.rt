@@ -21,8 +21,8 @@ use std::sync::ledger::Ledger;
 use std::sync::{OnceLock, Wait};
 use std::thread::{Parker, Threads};
 use std::time::Duration;
-use version_blocks::version::BlockVersion;
 use version_history::published::{Naming, Published};
+use version_pieces::version::PieceVersion;
 
 /// For how many milliseconds no connection is accepted after an accept that failed: where the process has no descriptor
 /// left for it, the next one fails as well until a session has ended.
@@ -85,7 +85,7 @@ pub(crate) struct House<
     pub alloc: Global,
     pub hub: &'g Hub<'p, N, R>,
     pub published: &'g Published<'p, N>,
-    pub versions: &'p boxcar::Vec<BlockVersion>,
+    pub versions: &'p boxcar::Vec<PieceVersion>,
     pub desk: Option<&'h Desk<N>>,
     /// The sessions that there may still be, or may be at once.
     pub shares: &'h Pool<SessionShare<N>>,

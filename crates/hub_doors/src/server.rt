@@ -33,8 +33,8 @@ use std::thread::Threads;
 use std::{io, thread};
 use stored_history::history::StoredHistory;
 use verifier::verify::Verified;
-use version_blocks::version::BlockVersion;
 use version_history::published::{Naming, Published};
+use version_pieces::version::PieceVersion;
 
 /// Why sessions were not served, or not all of them to their ends.
 #[derive(Drop)]
@@ -163,7 +163,7 @@ fn serve_on<
     rt: R,
     alloc: Global,
     start: Start,
-    versions: &'p boxcar::Vec<BlockVersion>,
+    versions: &'p boxcar::Vec<PieceVersion>,
     programs: &'p boxcar::Vec<Verified>,
     sessions: usize,
     plan: &Plan<'_, J>,
@@ -252,7 +252,7 @@ fn serve_stored<
     alloc: Global,
     hub: Hub<'p, N, R>,
     published: &'g Published<'p, N>,
-    versions: &'p boxcar::Vec<BlockVersion>,
+    versions: &'p boxcar::Vec<PieceVersion>,
     shares: Vec<Share<N>>,
     stored: &mut StoredHistory<L>,
     plan: &Plan<'_, J>,
@@ -308,7 +308,7 @@ fn serve_kept_on<
     rt: R,
     alloc: Global,
     start: Start,
-    versions: &'p boxcar::Vec<BlockVersion>,
+    versions: &'p boxcar::Vec<PieceVersion>,
     programs: &'p boxcar::Vec<Verified>,
     sessions: usize,
     plan: &Plan<'_, J>,

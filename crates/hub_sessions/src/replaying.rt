@@ -22,8 +22,8 @@ use std::sync::Wait;
 use std::sync::ledger::Ledger;
 use std::thread::Threads;
 use verifier::verify::Verified;
-use version_blocks::version::BlockVersion;
 use version_history::published::{Naming, Published};
+use version_pieces::version::PieceVersion;
 
 /// Why a session on a hub of its own did not come to its end.
 #[derive(Clone, Copy)]
@@ -53,7 +53,7 @@ fn replay_on<
     alloc: Global,
     size: Size,
     start: Start,
-    versions: &boxcar::Vec<BlockVersion>,
+    versions: &boxcar::Vec<PieceVersion>,
     programs: &boxcar::Vec<Verified>,
     reader: I,
     writer: &mut O,
@@ -140,7 +140,7 @@ fn replay_kept_on<
     alloc: Global,
     size: Size,
     start: Start,
-    versions: &boxcar::Vec<BlockVersion>,
+    versions: &boxcar::Vec<PieceVersion>,
     programs: &boxcar::Vec<Verified>,
     log: L,
     progress: P,

@@ -4,11 +4,11 @@ use change_ops::id::OpId;
 use change_ops::size::Size;
 use change_ops::writing::write_change;
 use span_view::context::context;
-use span_view::view::{SpanView, spans, view};
-use std::alloc::Global;
+use span_view::view::{SpanView, view};
+use std::alloc::{AllocError, Global};
 use std::test::Fail;
 use test_inputs::lines::lines;
-use version_blocks::version::BlockVersion;
+use version_pieces::version::PieceVersion;
 
 /// `abc` with strong from before a to before c, and then strong taken off from before b on.
 static CHANGES: [&str; 2] = [
@@ -34,7 +34,7 @@ fn history_of(alloc: Global, texts: &[&'static str]) -> Result<History, Fail> {
 }
 
 /// The version that `CHANGES` make.
-fn version(alloc: Global) -> Result<BlockVersion, Fail> {
+fn version(alloc: Global) -> Result<PieceVersion, Fail> {
     let history = history_of(alloc, &CHANGES)?;
     let version = history.version(alloc)?;
     Ok(version)
@@ -44,7 +44,8 @@ fn version(alloc: Global) -> Result<BlockVersion, Fail> {
 fn a_context_has_its_bytes(rt: HostRuntime) -> Result<(), Fail> {
     let alloc = rt.alloc();
     let version = version(alloc)?;
-    let span = view(&version, 0).ok_or("there is no span")?;
+    let mut buffer = String::new(alloc);
+    let span = view(&version, 0, &mut buffer)?.ok_or("there is no span")?;
     // Text start, text end, length and characters, flags and color, link and comments, index and count, version, link
     // start, link end.
     let want =
@@ -65,20 +66,19 @@ fn parts(span: SpanView<'_>) -> (&str, bool, usize, usize, u64) {
     )
 }
 
-/// Whether a walk of the version of `CHANGES` gives the first span from the front, the second from the back, and no
-/// more from either end.
-fn is_walked_from_both_ends(version: &BlockVersion) -> bool {
-    let mut walk = spans(version);
-    let first = walk.next().map(parts);
-    let last = walk.next_back().map(parts);
-    let is_done = walk.next().is_none() && walk.next_back().is_none();
-    is_done && first == Some(("a", true, 0, 2, 2)) && last == Some(("bc", false, 1, 2, 2))
+/// Whether the version of `CHANGES` has two spans, and no more.
+fn has_two_spans(alloc: Global, version: &PieceVersion) -> Result<bool, AllocError> {
+    let mut buffer = String::new(alloc);
+    let first = view(version, 0, &mut buffer)?.map(parts) == Some(("a", true, 0, 2, 2));
+    let last = view(version, 1, &mut buffer)?.map(parts) == Some(("bc", false, 1, 2, 2));
+    Ok(first && last && view(version, 2, &mut buffer)?.is_none())
 }
 
 #[test]
-fn a_version_is_walked_from_both_ends(rt: HostRuntime) -> Result<(), Fail> {
+fn a_version_lends_its_spans(rt: HostRuntime) -> Result<(), Fail> {
     let version = version(rt.alloc())?;
-    assert!(rt; is_walked_from_both_ends(&version) && view(&version, 2).is_none());
+    let is_right = has_two_spans(rt.alloc(), &version)?;
+    assert!(rt; is_right);
     Ok(())
 }
 

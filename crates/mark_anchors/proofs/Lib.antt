@@ -24,6 +24,7 @@ pub mod Running
 pub mod Segments
 pub mod Lengthening
 pub mod Passing
+pub mod Matching
 pub mod Counting
 pub mod Between
 pub mod Searching

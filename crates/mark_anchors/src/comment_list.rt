@@ -1,5 +1,6 @@
 //! The comments on a character.
-ghost use Rattle.std.specs.Prelude.{◌≡◌, ◌+◌, ◌<◌, ◌∷◌, ◌↔◌, [], IfSome, IsTrue, MatchOption, Some, drop, length};
+ghost use Rattle.std.specs.Prelude.{◌≡◌, ◌+◌, ◌<◌, ◌≤◌, ◌∷◌, ◌↔◌, [], ℕ, List, IfSome, IsTrue, MatchOption, Some, drop};
+ghost use Rattle.std.specs.Prelude.{length};
 ghost use Rattle.std.specs.Prelude.{slice_get};
 ghost use Rattle.std.specs.List.Sorted.{IsStrictlyIncreasing};
 ghost use Rattle.std.specs.Iterator.{UpTo, YieldsFirst, item_count};
@@ -82,7 +83,7 @@ impl CommentList {
     pub(crate) fn is_same(&self, other: &CommentList) -> bool
         ensures { IsTrue result ↔ (self.now ≡ other.now) }
     {
-        self.count == other.count && are_same(self.numbers(), other.numbers())
+        self.count == other.count && are_same(&self.numbers(), &other.numbers())
     }
 }
 
@@ -129,12 +130,7 @@ fn first_at(runs: &[CommentRun], place: usize) -> Option<usize>
         → slice_get runs.now first ≡ Some run
         → numbers_at runs.now place ≡ run.number ∷ numbers_at (drop (first + 1) runs.now) place) }
 {
-    for (index, run) in runs.iter().enumerate() {
-        if run.has(place) {
-            return Some(index);
-        }
-    }
-    None
+    next_at(runs, place, 0)
 }
 
 impl<'a> Iterator for CommentNumbers<'a> {
@@ -161,17 +157,73 @@ impl<'a> Iterator for CommentNumbers<'a> {
     }
 }
 
-/// Whether the numbers are the same, one after another.
-fn are_same(first: CommentNumbers<'_>, mut second: CommentNumbers<'_>) -> bool
-    ensures { IsTrue result ↔ (first.entry ≡ second.entry) }
+/// The index of the first of the runs from one on that has the place.
+fn next_at(runs: &[CommentRun], place: usize, from: usize) -> Option<usize>
+    requires { from ≤ length runs.now }
+    ensures within { IfSome result (λ next. next < length runs.now) }
+    ensures next { MatchOption result (numbers_at (drop from runs.now) place ≡ []) (λ next. (run : CommentRun)
+        → slice_get runs.now next ≡ Some run
+        → numbers_at (drop from runs.now) place ≡ run.number ∷ numbers_at (drop (next + 1) runs.now) place) }
 {
-    for number in first {
-        let Some(other) = second.next() else {
-            return false;
-        };
-        if other != number {
-            return false;
+    for index in from..runs.len() {
+        if runs[index].has(place) {
+            return Some(index);
         }
     }
-    second.next().is_none()
+    None
+}
+
+/// Where the runs go on behind the first of them from one on that has the place, if that is of the number.
+fn passed(runs: &[CommentRun], place: usize, from: usize, number: CommentNumber) -> Option<usize>
+    requires { from ≤ length runs.now }
+    ensures within { IfSome result (λ next. next ≤ length runs.now) }
+    ensures passed { MatchOption result ((rest : List ℕ) → numbers_at (drop from runs.now) place ≡ number ∷ rest → ⊥)
+        (λ next. numbers_at (drop from runs.now) place ≡ number ∷ numbers_at (drop next runs.now) place) }
+{
+    let next = next_at(runs, place, from)?;
+    if runs[next].number == number {
+        Some(next + 1)
+    } else {
+        None
+    }
+}
+
+/// Whether none of the runs from one on has the place.
+fn are_passed(runs: &[CommentRun], place: usize, from: usize) -> bool
+    requires { from ≤ length runs.now }
+    ensures { IsTrue result ↔ (numbers_at (drop from runs.now) place ≡ []) }
+{
+    match next_at(runs, place, from) {
+        Some(_next) => false,
+        None => true,
+    }
+}
+
+/// Whether the numbers of the runs that have these places are the same. They are compared where they lie, as characters
+/// with thousands of comments are compared often.
+fn are_alike(
+    first: &[CommentRun],
+    first_place: usize,
+    second: &[CommentRun],
+    second_place: usize,
+) -> bool
+    ensures { IsTrue result ↔ (numbers_at first.now first_place ≡ numbers_at second.now second_place) }
+{
+    let mut at = 0;
+    for index in 0..first.len() {
+        if first[index].has(first_place) {
+            let Some(next) = passed(second, second_place, at, first[index].number) else {
+                return false;
+            };
+            at = next;
+        }
+    }
+    are_passed(second, second_place, at)
+}
+
+/// Whether the numbers are the same.
+fn are_same(first: &CommentNumbers<'_>, second: &CommentNumbers<'_>) -> bool
+    ensures { IsTrue result ↔ (first.now ≡ second.now) }
+{
+    are_alike(first.runs, first.place, second.runs, second.place)
 }

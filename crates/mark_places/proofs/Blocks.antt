@@ -1,10 +1,11 @@
 -- The marks of a block, by its lists.
-use Rattle.std.proofs.Common.{◌≡◌, ℕ, zero, suc, ◌*◌, ◌/◌, Some, get_or, ◌+◌, ◌-◌, ◌<◌, ◌≤◌, ◌^◌, ◌++◌, List, [], ◌∷◌, min, max, map, length, refl, sym, ap, subst, ◌∙◌, arith, ◌⊎◌, inl, inr, ⊎_elim, All}
+use Rattle.std.proofs.Common.{◌≡◌, ℕ, zero, suc, ◌*◌, Some, get_or, ◌+◌, ◌-◌, ◌<◌, ◌≤◌, ◌^◌, ◌++◌, ◌↔◌, List, [], ◌∷◌, min, max, map, length, refl, sym, ap, subst, ◌∙◌, arith, ◌⊎◌, inl, inr, ⊎_elim, All}
 use Rattle.std.specs.List.{Contains, slice_get}
 use Rattle.std.proofs.lemmas.Bool.{cases_lt}
 use Rattle.std.proofs.lemmas.Option.{same_Some, none-some}
 use Rattle.std.proofs.lemmas.List.{length-map, length_push}
 use Rattle.std.proofs.lemmas.List.Elements.{All-nil, All-cons, All-head, All-tail, All-map, All-push, All-weaker, All-contains, Contains-append_left, Contains-push}
+use Rattle.mark_anchors.proofs.Lists.{read_at}
 use Rattle.mark_places.specs.declared.block.MarkName.{MarkName}
 use Rattle.mark_places.specs.declared.ranked.RankedMark.{RankedMark}
 use Rattle.mark_places.specs.Ranks.{raised, mark_raised, IsBelow}
@@ -294,41 +295,64 @@ ranked_read offset (m ∷ names) (x ∷ starts) (y ∷ ends) zero n s e a b c =
     ∙ ap Some (named_as n (offset + x) (offset + s) (offset + y) (offset + e) (ap (λ k. offset + k) (same_Some x s b)) (ap (λ k. offset + k) (same_Some y e c)))
 ranked_read offset (m ∷ names) (x ∷ starts) (y ∷ ends) (suc i) n s e a b c = ranked_read offset names starts ends i n s e a b c
 
-module _ (offset least greatest low high below from : ℕ) (starting : (s : ℕ) → offset + s ≤ greatest → (offset + s) / 2 < high → s < below)
-    (ending : (e : ℕ) → offset + e ≤ greatest → e < from → (offset + e) / 2 ≤ low) where
-  pub all_apart : (names : List MarkName) (starts ends : List ℕ) → All (IsWithin least greatest) (ranked offset names starts ends)
-      → ((k : ℕ) → k < length starts → get_or starts k 0 < below → get_or ends k 0 < from) → All (IsApart low high) (ranked offset names starts ends)
-  all_apart [] starts ends within each = All-nil (IsApart low high)
-  all_apart (n ∷ names) [] ends within each = All-nil (IsApart low high)
-  all_apart (n ∷ names) (x ∷ starts) [] within each = All-nil (IsApart low high)
-  all_apart (n ∷ names) (x ∷ starts) (y ∷ ends) within each =
-      let m : RankedMark = named n (offset + x) (offset + y) in
-      let here = All-head (IsWithin least greatest) m (ranked offset names starts ends) within in
-      All-cons (IsApart low high) m (ranked offset names starts ends)
-      (λ begins ends_behind. let at = ending y here.1.1 (each 0 (omega arith) (starting x here.0.1 begins)) in omega (arith, at))
-      (all_apart names starts ends (All-tail (IsWithin least greatest) m (ranked offset names starts ends) within) (λ k less. each (suc k) (omega arith)))
+pub block_read : (offset least greatest : ℕ) (names : List MarkName) (starts ends : List ℕ) (i : ℕ) (n : MarkName) (s e : ℕ) (marks : List RankedMark) → IsBlock offset least greatest names starts ends
+    → ranked offset names starts ends ≡ marks → i < length marks → n ≡ get_or names i n → s ≡ get_or starts i s → e ≡ get_or ends i e
+    → slice_get marks i ≡ Some (named n (offset + s) (offset + e))
+block_read offset least greatest names starts ends i n s e marks block is within a b c =
+    let size = ranked_size offset names starts ends block.starts_sized block.ends_sized in
+    let names_within : i < length names = omega (arith, size, ap length is) in
+    let starts_within : i < length starts = omega (arith, names_within, block.starts_sized) in
+    let ends_within : i < length ends = omega (arith, names_within, block.ends_sized) in
+    ap (λ ms. slice_get ms i) (sym is)
+    ∙ ranked_read offset names starts ends i n s e (read_at names i n a names_within) (read_at starts i s b starts_within) (read_at ends i e c ends_within)
 
-pub block_apart : (offset least greatest low high : ℕ) (names : List MarkName) (starts ends : List ℕ) → IsBlock offset least greatest names starts ends
-    → ((greatest < 2 * min low (2 ^ 30) + 2) ⊎ (2 * min high (2 ^ 30) ≤ least)) → All (IsApart low high) (ranked offset names starts ends)
-block_apart offset least greatest low high names starts ends block side =
-    let below = block.bounded.below in
-    All-weaker (IsWithin least greatest) (IsApart low high) (λ m w.
-    let a = w.0.0 in
-    let b = w.0.1 in
-    let d = w.1.1 in
-    λ begins behind.
-    ⊎_elim
-    (λ (l : greatest < 2 * min low (2 ^ 30) + 2). omega arith)
-    (λ (r : 2 * min high (2 ^ 30) ≤ least). omega arith)
-    side) (ranked offset names starts ends) block.bounded.within
+-- ---- marks that cover none of the places once they are moved
+-- the two bounds, and which ranks reach them once they are moved
+module _ (from by low high first last below behind : ℕ) (first_is : first ≡ 2 * min high (2 ^ 30)) (last_is : last ≡ 2 * min low (2 ^ 30) + 2)
+    (starting : (rank : ℕ) → (raised from by rank < first) ↔ (rank < below)) (ending : (rank : ℕ) → (raised from by rank < last) ↔ (rank < behind)) where
+  mark_apart : (m : RankedMark) → IsBelow (2 ^ 31) (mark_raised from by m) → (m.start < below → m.end < behind) → IsApart low high (mark_raised from by m)
+  mark_apart m fits each begins reaches =
+      let start : raised from by m.start < 2 ^ 31 = fits.0 in
+      let end = (ending m.end).1 (each ((starting m.start).0 (omega arith))) in
+      omega (arith, end)
 
-pub block_between : (offset least greatest low high below from : ℕ) (names : List MarkName) (starts ends firsts lasts : List ℕ) → below ≡ 2 * min high (2 ^ 30) - offset → from ≡ (2 * min low (2 ^ 30) + 2) - offset
-    → firsts ≡ starts → lasts ≡ ends → IsBlock offset least greatest names starts ends
-    → ((k : ℕ) → k < length firsts → get_or firsts k 0 < below → get_or lasts k 0 < from)
-    → All (IsApart low high) (ranked offset names starts ends)
-block_between offset least greatest low high below from names starts ends firsts lasts few behind same also block each =
-    let limit = block.bounded.below in
-    let read = subst (λ xs. (k : ℕ) → k < length xs → get_or xs k 0 < below → get_or lasts k 0 < from) same each in
-    all_apart offset least greatest low high below from
-    (λ s most begins. omega arith) (λ e most before. omega arith) names starts ends block.bounded.within
-    (subst (λ ys. (k : ℕ) → k < length starts → get_or starts k 0 < below → get_or ys k 0 < from) also read)
+  marks_apart : (marks : List RankedMark) → All (λ m. IsBelow (2 ^ 31) (mark_raised from by m)) marks → All (λ m. m.start < below → m.end < behind) marks
+      → All (IsApart low high) (map (mark_raised from by) marks)
+  marks_apart [] fits each = All-nil (IsApart low high)
+  marks_apart (m ∷ marks) fits each =
+      All-cons (IsApart low high) (mark_raised from by m) (map (mark_raised from by) marks)
+      (mark_apart m (All-head (λ m. IsBelow (2 ^ 31) (mark_raised from by m)) m marks fits) (All-head (λ m. m.start < below → m.end < behind) m marks each))
+      (marks_apart marks (All-tail (λ m. IsBelow (2 ^ 31) (mark_raised from by m)) m marks fits) (All-tail (λ m. m.start < below → m.end < behind) m marks each))
+
+  ranked_between : (offset : ℕ) (names : List MarkName) (starts ends : List ℕ) → ((k : ℕ) → k < length starts → get_or starts k 0 < below - offset → get_or ends k 0 < behind - offset)
+      → All (λ m. m.start < below → m.end < behind) (ranked offset names starts ends)
+  ranked_between offset [] starts ends each = All-nil (λ m. m.start < below → m.end < behind)
+  ranked_between offset (n ∷ names) [] ends each = All-nil (λ m. m.start < below → m.end < behind)
+  ranked_between offset (n ∷ names) (x ∷ starts) [] each = All-nil (λ m. m.start < below → m.end < behind)
+  ranked_between offset (n ∷ names) (x ∷ starts) (y ∷ ends) each =
+      All-cons (λ m. m.start < below → m.end < behind) (named n (offset + x) (offset + y)) (ranked offset names starts ends)
+      (λ less. let at : y < behind - offset = each 0 (omega arith) (omega (arith, less)) in omega (arith, at))
+      (ranked_between offset names starts ends (λ k less. each (suc k) (omega arith)))
+
+  pub block_apart : (offset least greatest : ℕ) (names : List MarkName) (starts ends : List ℕ) (marks : List RankedMark) → ranked offset names starts ends ≡ marks
+      → All (λ m. IsBelow (2 ^ 31) (mark_raised from by m)) marks → IsBlock offset least greatest names starts ends
+      → ((greatest < behind) ⊎ (below ≤ least)) → All (IsApart low high) (map (mark_raised from by) marks)
+  block_apart offset least greatest names starts ends marks is fits block side =
+      marks_apart marks fits (subst (All (λ m. m.start < below → m.end < behind)) is (All-weaker (IsWithin least greatest) (λ m. m.start < below → m.end < behind) (λ m w.
+      let a = w.0.0 in
+      let d = w.1.1 in
+      λ begins.
+      ⊎_elim
+      (λ (l : greatest < behind). omega arith)
+      (λ (r : below ≤ least). absurd (omega arith))
+      side) (ranked offset names starts ends) block.bounded.within))
+
+  pub block_between : (offset below' behind' : ℕ) (names : List MarkName) (starts ends firsts lasts : List ℕ) (marks : List RankedMark) → ranked offset names starts ends ≡ marks
+      → All (λ m. IsBelow (2 ^ 31) (mark_raised from by m)) marks → below' ≡ below - offset → behind' ≡ behind - offset
+      → firsts ≡ starts → lasts ≡ ends → ((k : ℕ) → k < length firsts → get_or firsts k 0 < below' → get_or lasts k 0 < behind')
+      → All (IsApart low high) (map (mark_raised from by) marks)
+  block_between offset below' behind' names starts ends firsts lasts marks is fits few many same also each =
+      let read = subst (λ xs. (k : ℕ) → k < length xs → get_or xs k 0 < below' → get_or lasts k 0 < behind') same each in
+      let both = subst (λ ys. (k : ℕ) → k < length starts → get_or starts k 0 < below' → get_or ys k 0 < behind') also read in
+      marks_apart marks fits (subst (All (λ m. m.start < below → m.end < behind)) is (ranked_between offset names starts ends
+      (λ k less before. let at = both k less (omega (arith, before, few)) in omega (arith, at, many))))

@@ -1,8 +1,9 @@
 -- Ranks that are moved.
-use Rattle.std.proofs.Common.{◌≡◌, ℕ, ◌+◌, ◌-◌, ◌<◌, ◌≤◌, List, [], ◌∷◌, ◌++◌, length, take, map, cond, refl, ap, ◌∙◌, arith, ⊎_elim, All}
-use Rattle.std.specs.List.{Contains}
+use Rattle.std.proofs.Common.{◌≡◌, ℕ, ◌+◌, ◌-◌, ◌<◌, ◌≤◌, Some, List, [], ◌∷◌, ◌++◌, length, take, map, cond, refl, ap, subst, ◌∙◌, arith, ⊎_elim, All}
+use Rattle.std.specs.List.{Contains, slice_get}
 use Rattle.std.proofs.lemmas.Bool.{cases_lt, le-leb, lt-leb}
 use Rattle.std.proofs.lemmas.Grind.{common_steps}
+use Rattle.std.proofs.lemmas.Option.{slice_get_within, get_or_from_slice_get}
 use Rattle.std.proofs.lemmas.List.Elements.{All-nil, All-cons, All-head, All-tail, All-contains, All-contains_itself}
 use Rattle.mark_places.specs.declared.ranked.RankedMark.{RankedMark}
 use Rattle.mark_places.specs.Ranks.{raised, mark_raised, IsBelow}
@@ -33,7 +34,31 @@ raised_within offset from by rank low =
     (λ (high : from ≤ offset + rank). omega (arith, raised_from from by (offset + rank) high, raised_from (from - offset) by rank (omega arith)))
     (cases_lt (offset + rank) from)
 
+-- marks that are moved twice, where their ranks move at once
+mark_twice : (f b f' b' f'' b'' : ℕ) → ((rank : ℕ) → raised f b rank ≡ raised f'' b'' (raised f' b' rank)) → (m : RankedMark) → mark_raised f b m ≡ mark_raised f'' b'' (mark_raised f' b' m)
+mark_twice f b f' b' f'' b'' same m =
+    ap (λ (s : ℕ). record m { start = s; end = raised f b m.end }) (same m.start)
+    ∙ ap (λ (e : ℕ). record m { start = raised f'' b'' (raised f' b' m.start); end = e }) (same m.end)
+
+pub marks_twice : (f b f' b' f'' b'' : ℕ) → ((rank : ℕ) → raised f b rank ≡ raised f'' b'' (raised f' b' rank)) → (marks : List RankedMark)
+    → map (mark_raised f b) marks ≡ map (mark_raised f'' b'') (map (mark_raised f' b') marks)
+marks_twice f b f' b' f'' b'' same [] = refl
+marks_twice f b f' b' f'' b'' same (m ∷ ms) =
+    ap (λ (x : RankedMark). x ∷ map (mark_raised f b) ms) (mark_twice f b f' b' f'' b'' same m)
+    ∙ ap (λ xs. mark_raised f'' b'' (mark_raised f' b' m) ∷ xs) (marks_twice f b f' b' f'' b'' same ms)
+
+-- and those that aren't moved
+pub marks_same : (f b : ℕ) → ((rank : ℕ) → raised f b rank ≡ rank) → (marks : List RankedMark) → map (mark_raised f b) marks ≡ marks
+marks_same f b same [] = refl
+marks_same f b same (m ∷ ms) =
+    ap (λ (s : ℕ). record m { start = s; end = raised f b m.end } ∷ map (mark_raised f b) ms) (same m.start)
+    ∙ ap (λ (e : ℕ). record m { end = e } ∷ map (mark_raised f b) ms) (same m.end)
+    ∙ ap (λ xs. m ∷ xs) (marks_same f b same ms)
+
 -- ---- what is true of each moved element
+pub all_read : {X : Type 0} (P : X → Type 0) (xs : List X) (i : ℕ) (x : X) → All P xs → slice_get xs i ≡ Some x → P x
+all_read P xs i x all at = subst P (get_or_from_slice_get xs i x x at) (all i x (slice_get_within xs i x at))
+
 pub all_of_map : {X Y : Type 0} (P : Y → Type 0) (f : X → Y) (xs : List X) → All P (map f xs) → All (λ x. P (f x)) xs
 all_of_map P f [] all = All-nil (λ x. P (f x))
 all_of_map P f (x ∷ xs) all = All-cons (λ x. P (f x)) x xs (All-head P (f x) (map f xs) all) (all_of_map P f xs (All-tail P (f x) (map f xs) all))

@@ -6,7 +6,7 @@ use Rattle.std.proofs.lemmas.Option.{same_Some, none-some, slice_get_within, get
 use Rattle.std.proofs.lemmas.List.{append-nil, length-map, map-append, length-take-le, take_more, take_all, drop_all}
 use Rattle.std.proofs.lemmas.List.Concat.{flat_map-append}
 use Rattle.std.proofs.lemmas.Grind.{common_steps}
-use Rattle.std.proofs.lemmas.List.Elements.{All-nil, All-cons, All-head, All-tail, All-weaker, filter-append}
+use Rattle.std.proofs.lemmas.List.Elements.{All-nil, All-cons, All-head, All-tail, All-map, All-push, All-weaker, filter-append}
 use Rattle.change_ops.specs.declared.operation.Op.{Op}
 use Rattle.char_sequence.specs.declared.sequence.Element.{Element}
 use Rattle.mark_anchors.specs.declared.placed.PlacedMark.{PlacedMark}
@@ -17,7 +17,7 @@ use Rattle.mark_places.specs.Ranks.{is_odd, placed, place_of, places_from, raise
 use Rattle.mark_places.specs.Shifted.{IsShifted, IsMarkShifted, AreShifted}
 use Rattle.mark_places.specs.Touching.{touches, touching, IsApart}
 use Rattle.mark_places.proofs.Placing.{place_within, places_shifted}
-use Rattle.mark_places.proofs.Raising.{raised_from, raised_below, raised_between}
+use Rattle.mark_places.proofs.Raising.{raised_from, raised_below, raised_between, all_of_map}
 
 -- ---- their places
 pub places_size : (index : ℕ) (marks : List RankedMark) → length (places_from index marks) ≡ length marks
@@ -143,6 +143,11 @@ push_last (x ∷ (y ∷ blocks)) zero b new m at last is = absurd (omega arith)
 push_last (x ∷ (y ∷ blocks)) (suc i) b new m at last is =
     ap (λ ms. x ++ ms) (push_last (y ∷ blocks) i b new m at (omega arith) is) ∙ sym (append_assoc x (flat_map (λ b. b) (y ∷ blocks)) (m ∷ []))
 
+pub set_same : {X : Type 0} (xs : List X) (i : ℕ) (x new : X) → slice_get xs i ≡ Some x → new ≡ x → set xs i new ≡ xs
+set_same [] i x new at is = absurd (none-some x at)
+set_same (y ∷ xs) zero x new at is = ap (λ z. z ∷ xs) (is ∙ sym (same_Some y x at))
+set_same (y ∷ xs) (suc i) x new at is = ap (λ zs. y ∷ zs) (set_same xs i x new at is)
+
 pub push_block : (blocks : List (List RankedMark)) (b : List RankedMark) → flat_map (λ b. b) (blocks ++ b ∷ []) ≡ flat_map (λ b. b) blocks ++ b
 push_block blocks b = flat_map-append (λ b. b) blocks (b ∷ []) ∙ ap (λ ms. flat_map (λ b. b) blocks ++ ms) (append-nil b)
 
@@ -174,6 +179,35 @@ places_moved front run back operations marks place count at many are =
     places_shifted front run back operations (places_from 0 marks) (places_from 0 (map (mark_raised (2 * place + 1) (2 * count)) marks))
     (subst (λ n. AreShifted (length front) n (places_from 0 marks) (places_from 0 (map (mark_raised (2 * place + 1) (2 * count)) marks))) (sym many)
     (subst (λ n. AreShifted n count (places_from 0 marks) (places_from 0 (map (mark_raised (2 * place + 1) (2 * count)) marks))) (sym at) (are_shifted place count marks))) are
+
+-- ---- shifts that are pending
+-- no rank is moved farther by two shifts as one
+pub joined_fit : (f b f' b' f'' b'' : ℕ) → ((rank : ℕ) → raised f b rank ≡ raised f'' b'' (raised f' b' rank)) → (marks : List RankedMark)
+    → All (λ m. IsBelow (2 ^ 31) (mark_raised f'' b'' m)) (map (mark_raised f' b') marks) → All (λ m. IsBelow (2 ^ 31) (mark_raised f b m)) marks
+joined_fit f b f' b' f'' b'' same marks fits =
+    All-weaker (λ m. IsBelow (2 ^ 31) (mark_raised f'' b'' (mark_raised f' b' m))) (λ m. IsBelow (2 ^ 31) (mark_raised f b m)) (λ m w.
+    let start = w.0 in
+    let end = w.1 in
+    (omega (arith, start, same m.start), omega (arith, end, same m.end)))
+    marks (all_of_map (λ m. IsBelow (2 ^ 31) (mark_raised f'' b'' m)) (mark_raised f' b') marks fits)
+
+-- where none is pending, and a mark was added
+pub settled_fit : (f b f' b' : ℕ) → ((rank : ℕ) → raised f b rank ≡ rank) → (marks : List RankedMark) → All (λ m. IsBelow (2 ^ 31) (mark_raised f' b' m)) marks
+    → All (λ m. IsBelow (2 ^ 31) (mark_raised f b m)) (map (mark_raised f' b') marks)
+settled_fit f b f' b' none marks fits =
+    All-weaker (IsBelow (2 ^ 31)) (λ m. IsBelow (2 ^ 31) (mark_raised f b m)) (λ m w.
+    let start = w.0 in
+    let end = w.1 in
+    (omega (arith, start, none m.start), omega (arith, end, none m.end)))
+    (map (mark_raised f' b') marks) (All-map (IsBelow (2 ^ 31)) (mark_raised f' b') marks fits)
+
+pub added_fit : (f b f' b' : ℕ) → ((rank : ℕ) → raised f b rank ≡ rank) → (marks : List RankedMark) (mark : RankedMark) → IsBelow (2 ^ 31) mark
+    → All (λ m. IsBelow (2 ^ 31) (mark_raised f' b' m)) marks → All (λ m. IsBelow (2 ^ 31) (mark_raised f b m)) (map (mark_raised f' b') marks ++ mark ∷ [])
+added_fit f b f' b' none marks mark below fits =
+    let start = below.0 in
+    let end = below.1 in
+    All-push (λ m. IsBelow (2 ^ 31) (mark_raised f b m)) (map (mark_raised f' b') marks) mark (settled_fit f b f' b' none marks fits)
+    (omega (arith, start, none mark.start), omega (arith, end, none mark.end))
 
 pub joined_more : (blocks : List (List RankedMark)) (i : ℕ) (b : List RankedMark) → slice_get blocks i ≡ Some b → flat_map (λ b. b) (take (i + 1) blocks) ≡ flat_map (λ b. b) (take i blocks) ++ b
 joined_more blocks i b at =
@@ -230,13 +264,16 @@ module _ (low high : ℕ) where
       ∙ touching_none (index + 1) marks (All-tail (IsApart low high) m marks all)
 
   -- block after block
-  pub touching_blocks : (blocks : List (List RankedMark)) (i : ℕ) (b : List RankedMark) (count : ℕ) → slice_get blocks i ≡ Some b → count ≡ length (flat_map (λ b. b) (take i blocks))
-      → touching low high (places_from 0 (flat_map (λ b. b) (take (i + 1) blocks))) ≡ touching low high (places_from 0 (flat_map (λ b. b) (take i blocks))) ++ touching low high (places_from count b)
-  touching_blocks blocks i b count at size =
-      let zero_add : 0 + length (flat_map (λ b. b) (take i blocks)) ≡ count = omega arith in
-      ap (λ ms. touching low high (places_from 0 ms)) (joined_more blocks i b at)
-      ∙ touching_joined 0 (flat_map (λ b. b) (take i blocks)) b
-      ∙ ap (λ n. touching low high (places_from 0 (flat_map (λ b. b) (take i blocks))) ++ touching low high (places_from n b)) zero_add
+  pub touching_blocks : (f : RankedMark → RankedMark) (blocks : List (List RankedMark)) (i : ℕ) (b : List RankedMark) (count : ℕ) → slice_get blocks i ≡ Some b → count ≡ length (flat_map (λ b. b) (take i blocks))
+      → touching low high (places_from 0 (map f (flat_map (λ b. b) (take (i + 1) blocks))))
+      ≡ touching low high (places_from 0 (map f (flat_map (λ b. b) (take i blocks)))) ++ touching low high (places_from count (map f b))
+  touching_blocks f blocks i b count at size =
+      let front = flat_map (λ b. b) (take i blocks) in
+      let zero_add : 0 + length (map f front) ≡ count = omega (arith, size, length-map front f) in
+      ap (λ ms. touching low high (places_from 0 (map f ms))) (joined_more blocks i b at)
+      ∙ ap (λ ms. touching low high (places_from 0 ms)) (map-append f front b)
+      ∙ touching_joined 0 (map f front) (map f b)
+      ∙ ap (λ n. touching low high (places_from 0 (map f front)) ++ touching low high (places_from n (map f b))) zero_add
 
   -- one mark more of a block, which was read and tested
   pub gather_more : (index : ℕ) (marks : List RankedMark) (i : ℕ) (m : RankedMark) (mark : PlacedMark) (old before after : List PlacedMark) (is : Bool) → slice_get marks i ≡ Some m → mark ≡ placed (index + i) m

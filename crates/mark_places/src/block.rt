@@ -1,12 +1,13 @@
 //! Marks that follow one another, with the ranks of their ends: the characters that are put into a text mostly move all
 //! of them or none, so that they are gone through only where the characters come between their ends.
-ghost use Rattle.std.specs.Prelude.{◌≡◌, ◌+◌, ◌/◌, ◌<◌, ◌≤◌, ◌^◌, ◌++◌, ◌∷◌, [], ℕ, IfOk, OnOk, Some, false};
+ghost use Rattle.std.specs.Prelude.{◌≡◌, ◌+◌, ◌/◌, ◌<◌, ◌≤◌, ◌^◌, ◌++◌, ◌∷◌, [], ℕ, IfOk, OnOk, OnErr, Some, false};
 ghost use Rattle.std.specs.Prelude.{length, map, All, slice_get, slice_index};
 ghost use Rattle.mark_places.specs.Ranks.{raised, mark_raised, placed, places_from, IsBelow};
 ghost use Rattle.mark_places.specs.Touching.{touches, touching, IsApart};
 ghost use Rattle.mark_places.specs.declared.ranked.RankedMark.{RankedMark as TheRankedMark};
 
 use crate::ranked::RankedMark;
+use crate::shift::RankShift;
 use change_ops::attribute::Key;
 use change_ops::id::OpId;
 use mark_anchors::placed::PlacedMark;
@@ -54,7 +55,7 @@ impl Model for PlaceBlock {
 
 /// The rank, moved if it is from `from` on.
 fn raised(rank: u32, from: u32, by: u32) -> u32
-    requires { rank + by < 2 ^ 32 }
+    requires { raised from by rank < 2 ^ 32 }
     ensures { result ≡ raised from by rank }
 {
     if rank >= from { rank + by } else { rank }
@@ -130,7 +131,8 @@ impl PlaceBlock {
     /// Adds a mark behind the others.
     pub(crate) fn push(&mut self, mark: &RankedMark) -> Result<(), AllocError>
         requires { IsBelow (2 ^ 31) mark.now }
-        ensures { OnOk result (self.new ≡ self.old ++ mark.now ∷ []) }
+        ensures ok { OnOk result (self.new ≡ self.old ++ mark.now ∷ []) }
+        ensures err { OnErr result (self.new ≡ self.old) }
     {
         self.names.reserve(1)?;
         self.starts.reserve(1)?;
@@ -179,12 +181,13 @@ impl PlaceBlock {
         self.names.len()
     }
 
-    /// Whether some mark may cover a place from `low` up to `high`.
-    fn may_touch(&self, low: usize, high: usize) -> bool
-        ensures { result ≡ false → All (IsApart low high) self.now }
+    /// Whether some mark may cover a place from `low` up to `high` behind the shift.
+    fn may_touch(&self, shift: RankShift, low: usize, high: usize) -> bool
+        requires { All (λ mark. IsBelow (2 ^ 31) (mark_raised shift.from shift.by mark)) self.now }
+        ensures { result ≡ false → All (IsApart low high) (map (mark_raised shift.from shift.by) self.now) }
     {
-        let ends_from = 2 * low.min(PLACE_LIMIT) as u32 + 2;
-        let starts_below = 2 * high.min(PLACE_LIMIT) as u32;
+        let ends_from = shift.lowered(2 * low.min(PLACE_LIMIT) as u32 + 2);
+        let starts_below = shift.lowered(2 * high.min(PLACE_LIMIT) as u32);
         if self.greatest < ends_from || starts_below <= self.least {
             return false;
         }
@@ -193,38 +196,45 @@ impl PlaceBlock {
         is_any_between(&self.starts, &self.ends, starts_below - offset, ends_from)
     }
 
-    /// A mark with its number and its places.
-    fn mark(&self, at: usize, index: usize) -> PlacedMark
-        requires { at < length self.now }
-        ensures { (mark : TheRankedMark) × (slice_get self.now at ≡ Some mark) × (result ≡ placed index mark) }
+    /// A mark with its number and its places behind the shift.
+    fn mark(&self, shift: RankShift, at: usize, index: usize) -> PlacedMark
+        requires within { at < length self.now }
+        requires below { All (λ mark. IsBelow (2 ^ 31) (mark_raised shift.from shift.by mark)) self.now }
+        ensures { (mark : TheRankedMark) × (slice_get (map (mark_raised shift.from shift.by) self.now) at ≡ Some mark)
+            × (result ≡ placed index mark) }
     {
         let name = &self.names[at];
+        let start = self.offset + self.starts[at];
+        let end = self.offset + self.ends[at];
         PlacedMark {
             index,
             id: name.id,
             key: name.key,
-            start: ((self.offset + self.starts[at]) / 2) as usize,
-            end: ((self.offset + self.ends[at]) / 2) as usize,
+            start: (raised(start, shift.from, shift.by) / 2) as usize,
+            end: (raised(end, shift.from, shift.by) / 2) as usize,
         }
     }
 
-    /// Adds the marks that cover a place from `low` up to `high` to those that were found. Its first one has the
-    /// number `first`.
+    /// Adds the marks that cover a place from `low` up to `high` behind the shift to those that were found. Its first
+    /// one has the number `first`.
     pub(crate) fn gather(
         &self,
+        shift: RankShift,
         first: usize,
         low: usize,
         high: usize,
         found: &mut Vec<PlacedMark>,
     ) -> Result<(), AllocError>
-        requires { first + length self.now < 2 ^ 64 }
-        ensures { OnOk result (found.new.items ≡ found.old.items ++ touching low high (places_from first self.now)) }
+        requires count { first + length self.now < 2 ^ 64 }
+        requires below { All (λ mark. IsBelow (2 ^ 31) (mark_raised shift.from shift.by mark)) self.now }
+        ensures { OnOk result (found.new.items ≡ found.old.items
+            ++ touching low high (places_from first (map (mark_raised shift.from shift.by) self.now))) }
     {
-        if !self.may_touch(low, high) {
+        if !self.may_touch(shift, low, high) {
             return Ok(());
         }
         for i in 0..self.len() {
-            let mark = self.mark(i, first + i);
+            let mark = self.mark(shift, i, first + i);
             if touches(&mark, low, high) {
                 found.extend_from_slice(&[mark])?;
             }

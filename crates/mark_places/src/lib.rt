@@ -9,3 +9,4 @@ mod floors;
 pub mod places;
 pub mod range;
 mod ranked;
+mod shift;

@@ -1,18 +1,20 @@
 //! Where marks begin and end, kept from change to change: characters that are put into the text shift the places, so
 //! that no anchor is looked up twice.
 ghost use Rattle.std.specs.Prelude.{◌≡◌, ◌==◌, ◌+◌, ◌/◌, ◌%◌, ◌<◌, ◌^◌, ◌++◌, ◌∷◌, [], ℕ, true, List};
-ghost use Rattle.std.specs.Prelude.{IfOk, OnOk, length};
+ghost use Rattle.std.specs.Prelude.{IfOk, OnOk, OnErr, length, map, All};
+ghost use Rattle.std.specs.List.{flat_map};
 ghost use Rattle.change_ops.specs.Operations.{is_mark, Names};
 ghost use Rattle.char_sequence.specs.declared.sequence.Element.{Element};
 ghost use Rattle.char_sequence.specs.Order.{Shows};
 ghost use Rattle.char_sequence.specs.Tree.{Present};
 ghost use Rattle.mark_places.specs.Places.{AreMarkPlaces, IsMarkPlace, gives_way};
-ghost use Rattle.mark_places.specs.Ranks.{place_of, IsBelow};
+ghost use Rattle.mark_places.specs.Ranks.{mark_raised, place_of, IsBelow};
 ghost use Rattle.mark_places.specs.Touching.{touching};
 
 use crate::block::{PLACE_LIMIT, PlaceBlock};
 use crate::boundary::characters_before;
 use crate::ranked::RankedMark;
+use crate::shift::RankShift;
 use change_ops::id::OpId;
 use change_ops::operation::{Anchor, Op};
 use char_sequence::sequence::Sequence;
@@ -61,21 +63,58 @@ fn ranked_mark(sequence: &Sequence, operation: &Op) -> RankedMark
     }
 }
 
+/// Moves the ranks of all blocks.
+fn raise(blocks: &mut [PlaceBlock], shift: RankShift)
+    requires { All (λ mark. IsBelow (2 ^ 31) (mark_raised shift.from shift.by mark))
+        (flat_map (λ block. block) blocks.old) }
+    ensures { flat_map (λ block. block) blocks.new
+        ≡ map (mark_raised shift.from shift.by) (flat_map (λ block. block) blocks.old) }
+{
+    for block in blocks.iter_mut() {
+        block.raise(shift.from, shift.by);
+    }
+}
+
+/// Adds a mark behind the others.
+fn push(blocks: &mut Vec<PlaceBlock>, mark: &RankedMark) -> Result<(), AllocError>
+    requires { IsBelow (2 ^ 31) mark.now }
+    ensures ok { OnOk result (flat_map (λ block. block) blocks.new.items
+        ≡ flat_map (λ block. block) blocks.old.items ++ mark.now ∷ []) }
+    ensures err { OnErr result (flat_map (λ block. block) blocks.new.items
+        ≡ flat_map (λ block. block) blocks.old.items) }
+{
+    let count = blocks.len();
+    if count > 0 && blocks[count - 1].has_room() {
+        blocks[count - 1].push(mark)?;
+        return Ok(());
+    }
+    blocks.reserve(1)?;
+    let block = PlaceBlock::of(*blocks.allocator(), mark)?;
+    blocks.push_reserved(block);
+    Ok(())
+}
+
 /// Where the marks of a text begin and end, in the order of the marks.
 #[derive(Drop)]
 pub struct MarkPlaces {
     blocks: Vec<PlaceBlock>,
+    /// Belongs to the ranks of all blocks. As each key follows the last one, a run of keys is one shift.
+    pending: RankShift,
 }
 
 impl Model for MarkPlaces {
-    ghost use Rattle.std.specs.Prelude.{List};
+    ghost use Rattle.std.specs.Prelude.{◌^◌, List, map, All};
     ghost use Rattle.std.specs.List.{flat_map};
     ghost use Rattle.mark_places.specs.MarkPlace.{MarkPlace};
-    ghost use Rattle.mark_places.specs.Ranks.{places_from};
+    ghost use Rattle.mark_places.specs.Ranks.{mark_raised, places_from, IsBelow};
 
     ghost Value = { List MarkPlace };
 
-    ghost view = { λ p. places_from 0 (flat_map (λ block. block) p.blocks.items) };
+    ghost view = { λ p. places_from 0
+        (map (mark_raised p.pending.from p.pending.by) (flat_map (λ block. block) p.blocks.items)) };
+
+    ghost invariant = { λ p. All (λ mark. IsBelow (2 ^ 31) (mark_raised p.pending.from p.pending.by mark))
+        (flat_map (λ block. block) p.blocks.items) };
 }
 
 impl MarkPlaces {
@@ -85,23 +124,8 @@ impl MarkPlaces {
     {
         MarkPlaces {
             blocks: Vec::new(alloc),
+            pending: RankShift::none(),
         }
-    }
-
-    /// Adds a mark behind the others.
-    fn push(&mut self, mark: &RankedMark) -> Result<(), AllocError>
-        requires { IsBelow (2 ^ 31) mark.now }
-        ensures { OnOk result (self.new ≡ self.old ++ place_of (length self.old) mark.now ∷ []) }
-    {
-        let count = self.blocks.len();
-        if count > 0 && self.blocks[count - 1].has_room() {
-            self.blocks[count - 1].push(mark)?;
-            return Ok(());
-        }
-        self.blocks.reserve(1)?;
-        let block = PlaceBlock::of(*self.blocks.allocator(), mark)?;
-        self.blocks.push_reserved(block);
-        Ok(())
     }
 
     /// Adds the places of the next mark, whose anchors are looked up.
@@ -113,7 +137,9 @@ impl MarkPlaces {
             → IfOk result (λ _. AreMarkPlaces sequence.now.elements (operations ++ operation.now ∷ []) self.new) }
     {
         let mark = ranked_mark(sequence, operation);
-        self.push(&mark)?;
+        raise(&mut self.blocks, self.pending);
+        self.pending = RankShift::none();
+        push(&mut self.blocks, &mark)?;
         Ok(())
     }
 
@@ -131,9 +157,13 @@ impl MarkPlaces {
         }
         let from = 2 * place as u32 + 1;
         let by = 2 * count as u32;
-        for block in self.blocks.iter_mut() {
-            block.raise(from, by);
+        let next = RankShift { from, by };
+        if let Some(joined) = self.pending.joined(next) {
+            self.pending = joined;
+            return;
         }
+        raise(&mut self.blocks, self.pending);
+        self.pending = next;
     }
 
     /// The marks that cover a place from `low` up to `high`.
@@ -151,7 +181,7 @@ impl MarkPlaces {
         let mut marks = Vec::new(alloc);
         let mut first = 0;
         for block in &self.blocks {
-            block.gather(first, low, high, &mut marks)?;
+            block.gather(self.pending, first, low, high, &mut marks)?;
             first += block.len();
         }
         Ok(marks)
@@ -163,6 +193,6 @@ impl Clone for MarkPlaces {
 
     fn clone(&self) -> Result<MarkPlaces, AllocError> {
         let blocks = self.blocks.clone()?;
-        Ok(MarkPlaces { blocks })
+        Ok(MarkPlaces { blocks, ..*self })
     }
 }

@@ -256,10 +256,10 @@ fn program_of(alloc: Global, digits: &[u8]) -> Result<Vec<u8>, LineRefusal>
     ensures err { IfErr result (λ e. (e ≡ why.OutOfMemory)
         ⊎ ((e ≡ why.BadHex) × ((error : FromHexError) × (decode_of digits.now ≡ Err error)))) }
 {
-    match hex::decode(alloc, digits) {
-        Ok(program) => Ok(program),
-        Err(hex::FromHexError::OutOfMemory) => Err(LineRefusal::OutOfMemory),
-        Err(_) => Err(LineRefusal::BadHex),
+    match hex_table::decode(alloc, digits) {
+        Ok(Some(program)) => Ok(program),
+        Ok(None) => Err(LineRefusal::BadHex),
+        Err(_) => Err(LineRefusal::OutOfMemory),
     }
 }
 

@@ -14,8 +14,8 @@ use ingest_workers::hub::Hub;
 use session_lines::stats::{Limits, PerLimit, Stats};
 use std::sync::Wait;
 use std::sync::ledger::Ledger;
-use version_blocks::version::BlockVersion;
 use version_history::published::{Naming, Published};
+use version_pieces::version::PieceVersion;
 
 /// How much of a limit is used, in parts of a thousand, rounded down.
 fn used_of(count: u64, limit: u64) -> u64
@@ -63,7 +63,7 @@ fn left_of(size: Size, counts: Counts, bytes: u64) -> PerLimit
 }
 
 /// The bytes of a version's text.
-fn text_bytes(version: &BlockVersion) -> u64
+fn text_bytes(version: &PieceVersion) -> u64
     ensures value { result ≡ length version.now.text }
     ensures few { result ≤ most_bytes }
 {
@@ -86,7 +86,7 @@ fn limits_of(size: Size) -> Limits
 }
 
 /// What is told of a hub of this size with so much in it, of its latest version, and with so many sessions.
-fn stats_of(size: Size, counts: Counts, version: &BlockVersion, sessions: u64) -> Stats
+fn stats_of(size: Size, counts: Counts, version: &PieceVersion, sessions: u64) -> Stats
     requires { AreWithinLimits size counts }
     ensures { result ≡ stats_of size counts version.now sessions }
 {

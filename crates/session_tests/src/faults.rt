@@ -17,8 +17,8 @@ use std::test::Fail;
 use std::thread::Threads;
 use test_inputs::devices::{FailingReader, FailingWriter};
 use verifier::verify::Verified;
-use version_blocks::version::BlockVersion;
 use version_history::published::{Naming, Published};
+use version_pieces::version::PieceVersion;
 
 /// How a session went whose reader and writer failed after some reads and writes, and what the hub was left at.
 #[derive(Drop)]
@@ -57,7 +57,7 @@ fn tried_on<
     rt: &R,
     alloc: Global,
     start: Start,
-    versions: &boxcar::Vec<BlockVersion>,
+    versions: &boxcar::Vec<PieceVersion>,
     programs: &boxcar::Vec<Verified>,
     reads: usize,
     writes: usize,

@@ -18,8 +18,8 @@ use std::sync::ledger::Ledger;
 use std::test::*;
 use std::thread::Threads;
 use verifier::verify::Verified;
-use version_blocks::version::BlockVersion;
 use version_history::published::{Naming, Published};
+use version_pieces::version::PieceVersion;
 
 /// After how many bytes each of the answers to `TWO_SUBSCRIBERS` ends.
 static ENDS: [usize; 4] = [9, 18, 31, 68];
@@ -60,7 +60,7 @@ fn two_subscribed<
     rt: &R,
     alloc: Global,
     start: Start,
-    versions: &boxcar::Vec<BlockVersion>,
+    versions: &boxcar::Vec<PieceVersion>,
     programs: &boxcar::Vec<Verified>,
 ) -> Result<(), Fail>
     requires named { (Small ≡ N.size) × (versions.now ≡ N.versions) × (programs.now ≡ N.programs) }

@@ -19,8 +19,8 @@ use std::sync::ledger::Ledger;
 use std::test::*;
 use std::thread::Threads;
 use verifier::verify::Verified;
-use version_blocks::version::BlockVersion;
 use version_history::published::{Naming, Published};
+use version_pieces::version::PieceVersion;
 
 /// A reader that gives one line a read. Before each it takes all jobs of the hub and drops them, as workers of other
 /// sessions would that never come to an end.
@@ -79,7 +79,7 @@ fn taken<
     rt: R,
     alloc: Global,
     start: Start,
-    versions: &boxcar::Vec<BlockVersion>,
+    versions: &boxcar::Vec<PieceVersion>,
     programs: &boxcar::Vec<Verified>,
 ) -> Result<(), Fail>
     requires named { (Small ≡ N.size) × (versions.now ≡ N.versions) × (programs.now ≡ N.programs) }

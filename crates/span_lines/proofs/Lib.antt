@@ -1,4 +1,5 @@
 pub mod Calls
 pub mod Commas
+pub mod Numbered
 pub mod SpanPrinting
 pub mod Some

@@ -1,34 +1,42 @@
--- The spans of a version from one of them on, a given number of them or as many as there are.
-use Rattle.std.proofs.Common.{◌≡◌, ℕ, ◌+◌, ◌-◌, ◌<◌, ◌≤◌, List, ◌++◌, Some, length, take, drop, min, sym, ap, ◌∙◌, arith, ⊎_elim}
-use Rattle.std.specs.List.{flat_map, slice_get, slice_range}
-use Rattle.std.specs.Option.{option_map}
-use Rattle.std.proofs.lemmas.Bool.{cases_lt}
-use Rattle.std.proofs.lemmas.List.{take_all, length-drop, flat_map_more}
-use Rattle.span_flatten.specs.Version.{Version}
-use Rattle.span_view.specs.Views.{SpanView, view_of, view_at, views}
-use Rattle.span_view.proofs.Views.{length-views, viewed, back_taken, row_at}
-use Rattle.span_lines.specs.SpanLines.{named_line}
+-- The lines of the spans of a version from one of them on, a given number of them or as many as there are.
+use Rattle.std.proofs.Common.{◌≡◌, ℕ, zero, suc, ◌+◌, List, [], ◌∷◌, ◌++◌, map, take, drop, codes, refl, ap, ◌∙◌, arith}
+use Rattle.std.specs.List.{flat_map, enumerate_from}
+use Rattle.span_flatten.specs.declared.version.Row.{Row}
+use Rattle.span_flatten.specs.Spans.{Span}
+use Rattle.span_flatten.specs.Version.{Version, spans_in, spans_of}
+use Rattle.span_view.specs.Views.{SpanView, view_of}
+use Rattle.span_lines.specs.SpanLines.{span_line, named_line, some_lines}
+use Rattle.span_lines.proofs.Numbered.{numbered}
 
--- one more span
-pub some_more : (version : Version) (first index : ℕ) (span : SpanView) (before after : List ℕ) → first ≤ index → index < length version.rows → Some span ≡ view_at version index
-    → before ≡ after ++ flat_map named_line (slice_range (views version) first index)
-    → before ++ named_line span ≡ after ++ flat_map named_line (slice_range (views version) first (index + 1))
-some_more version first index span before after le within is e =
-    let row = row_at version index within in
-    let there : slice_get (views version) index ≡ Some span = viewed version index row.0 row.1 ∙ sym (is ∙ ap (option_map (λ w. view_of version index w)) row.1) in
-    ap (λ l. l ++ named_line span) e
-    ∙ flat_map_more named_line after (slice_range (views version) first index) span
-    ∙ ap (λ l. after ++ flat_map named_line l) (sym (back_taken (views version) first index span there le))
+abbrev pub named : ℕ → Span → List ℕ
+named index span = codes "span " ++ span_line index span
 
--- at the end all of them
-pub some_whole : (version : Version) (first most left end : ℕ) → left ≡ length version.rows - first → end ≡ first + min left most
-    → slice_range (views version) first end ≡ take most (drop first (views version))
-some_whole version first most left end is to =
-    let size : end - first ≡ min left most = omega arith in
-    let long : length (drop first (views version)) ≡ left = length-drop first (views version) ∙ ap (λ n. n - first) (length-views version) ∙ sym is in
-    ap (λ n. take n (drop first (views version))) size ∙ least (drop first (views version)) left most long
-  where
-    least : {X : Type 0} (xs : List X) (left most : ℕ) → length xs ≡ left → take (min left most) xs ≡ take most xs
-    least xs left most long = ⊎_elim
-        (λ (few : left < most). let n : min left most ≡ left = omega arith in ap (λ k. take k xs) n ∙ take_all left xs (omega arith) ∙ sym (take_all most xs (omega arith)))
-        (λ (many : most ≤ left). let n : min left most ≡ most = omega arith in ap (λ k. take k xs) n) (cases_lt left most)
+abbrev pub some_named : ℕ → ℕ → Version → List ℕ
+some_named first most version = numbered named first (take most (drop first (spans_of version)))
+
+abbrev lent_from : Version → ℕ → List Row → List SpanView
+lent_from version index rows = map (λ indexed. view_of version indexed.0 indexed.1) (enumerate_from index rows)
+
+first_named : (version : Version) (index most : ℕ) (rows : List Row)
+    → numbered named index (take most (spans_in version.text rows)) ≡ flat_map named_line (take most (lent_from version index rows))
+first_named version index zero rows = refl
+first_named version index (suc most) [] = refl
+first_named version index (suc most) (row ∷ rows) =
+    ap (λ (lines : List ℕ). named_line (view_of version index row) ++ lines) (first_named version (index + 1) most rows)
+
+past_named : (version : Version) (index first most : ℕ) (rows : List Row)
+    → numbered named (index + first) (take most (drop first (spans_in version.text rows))) ≡ flat_map named_line (take most (drop first (lent_from version index rows)))
+past_named version index zero most rows =
+    let same : index + zero ≡ index = omega arith in
+    ap (λ n. numbered named n (take most (spans_in version.text rows))) same ∙ first_named version index most rows
+past_named version index (suc first) zero [] = refl
+past_named version index (suc first) (suc most) [] = refl
+past_named version index (suc first) most (row ∷ rows) =
+    let same : index + suc first ≡ (index + 1) + first = omega arith in
+    ap (λ n. numbered named n (take most (drop first (spans_in version.text rows)))) same ∙ past_named version (index + 1) first most rows
+
+-- those that are walked over are those that are lent
+pub some_are : (version : Version) (first most : ℕ) → some_named first most version ≡ some_lines first most version
+some_are version first most =
+    let same : first ≡ 0 + first = omega arith in
+    ap (λ n. numbered named n (take most (drop first (spans_of version)))) same ∙ past_named version 0 first most version.rows

@@ -1,17 +1,15 @@
--- Which bytes are escaped, and what is written of colors and spans.
-use Rattle.std.proofs.Common.{◌≡◌, ◌≢◌, ℕ, suc, ◌+◌, ◌-◌, ◌^◌, ◌<◌, false, List, [], ◌∷◌, ◌++◌, length, get_or, map, refl, sym, ap, ◌∙◌, arith, inl, inr}
-use Rattle.std.specs.List.{flat_map, enumerate_from}
-use Rattle.std.specs.Prelude.{encode_utf8}
+-- Which bytes are escaped, and what is written of colors.
+use Rattle.std.proofs.Common.{◌≡◌, ◌≢◌, ℕ, suc, ◌-◌, ◌^◌, ◌<◌, false, List, [], ◌∷◌, ◌++◌, length, get_or, refl, sym, ap, ◌∙◌, arith, inl, inr}
+use Rattle.std.specs.Prelude.{encode_utf8, encode_utf8_all}
 use Rattle.std.specs.Fmt.{digits, padded_integral, format_spec}
 use Rattle.std.proofs.lemmas.List.{append-nil}
 use Rattle.std.proofs.lemmas.Bool.Decides.{eqb_tells}
-use Rattle.std.proofs.lemmas.Str.{inside_one}
+use Rattle.std.proofs.lemmas.Grind.{flat_map-append}
+use Rattle.std.proofs.lemmas.Str.{encodes-append, encodes-chars, inside_one}
+use Rattle.std.specs.Str.{chars, IsUtf8}
 use Rattle.change_ops.specs.Spelling.{last_digits}
 use Rattle.change_ops.proofs.Numerals.{six_written}
-use Rattle.span_flatten.specs.declared.version.Row.{Row}
-use Rattle.span_flatten.specs.Version.{Version, spans_in, spans_of}
-use Rattle.span_view.specs.Views.{view_of, views}
-use Rattle.span_lines.specs.SpanLines.{escaped_byte, escaped, span_line, span_lines, lent_line}
+use Rattle.span_lines.specs.SpanLines.{escaped_byte, escaped}
 
 -- a byte that is neither of the two
 escaped_other : (b : ℕ) → b ≢ 10 → b ≢ 92 → escaped_byte b ≡ b ∷ []
@@ -38,13 +36,12 @@ escaped_character c feed slash =
     (λ k h e. feed (inside_one c [] (encode_utf8 c) k whole h (omega arith) ∙ e))
     (λ k h e. slash (inside_one c [] (encode_utf8 c) k whole h (omega arith) ∙ e))
 
--- ---- the spans as they are lent
-lines_from : (version : Version) (index : ℕ) (rows : List Row) → flat_map lent_line (map (λ indexed. view_of version indexed.0 indexed.1) (enumerate_from index rows)) ≡ flat_map (λ indexed. span_line indexed.0 indexed.1) (enumerate_from index (spans_in version.text rows))
-lines_from version index [] = refl
-lines_from version index (row ∷ rows) = ap (λ (lines : List ℕ). lent_line (view_of version index row) ++ lines) (lines_from version (index + 1) rows)
-
-pub lent_lines : (version : Version) → flat_map lent_line (views version) ≡ span_lines (spans_of version)
-lent_lines version = lines_from version 0 version.rows
+-- the first part of a text and what is left of it, escaped one after the other
+pub escaped_part : (part text rest : List ℕ) → IsUtf8 part → text ≡ chars part ++ rest → escaped (encode_utf8_all text) ≡ escaped part ++ escaped (encode_utf8_all rest)
+escaped_part part text rest utf8 is =
+    let cut : encode_utf8_all text ≡ part ++ encode_utf8_all rest =
+    ap encode_utf8_all is ∙ encodes-append (chars part) rest ∙ ap (λ l. l ++ encode_utf8_all rest) (encodes-chars part utf8) in
+    ap escaped cut ∙ flat_map-append escaped_byte part (encode_utf8_all rest)
 
 -- ---- what is written of a color
 pub color_written : (n : ℕ) → n < 16 ^ 6 → padded_integral (format_spec 32 0 4 6 (2 ^ 64 - 1)) false [] (digits 16 false n) ≡ last_digits 6 n ++ []

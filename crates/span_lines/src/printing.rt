@@ -1,18 +1,21 @@
 //! Printing the spans of a version, a line a span.
-ghost use Rattle.std.specs.Prelude.{◌≡◌, ◌++◌, [], Some, if◌then◌else◌, IfOk, codes, map, encode_utf8, string_bytes};
+ghost use Rattle.std.specs.Prelude.{◌≡◌, ◌++◌, [], Some, if◌then◌else◌, IfOk, codes, map, string_bytes};
+ghost use Rattle.std.specs.Prelude.{encode_utf8, encode_utf8_all};
 ghost use Rattle.std.specs.Fmt.{WritesOnOk};
 ghost use Rattle.std.specs.Option.{option_copied};
 ghost use Rattle.span_flatten.specs.Version.{spans_of as spans_in};
 ghost use Rattle.span_lines.specs.SpanLines.{flag_keys, link_keys, color_keys, comment_key, parted, format_text};
-ghost use Rattle.span_lines.specs.SpanLines.{escaped, lent_line, some_lines, span_lines};
+ghost use Rattle.span_lines.specs.SpanLines.{escaped, some_lines, span_line, span_lines};
 
 use change_ops::attribute::{Color, Link};
 use mark_anchors::format::Format;
-use span_view::view::{SpanView, spans as spans_of, view};
 use std::alloc::{AllocError, Global};
 use std::fmt;
-use std::fmt::Write as _;
-use version_blocks::version::BlockVersion;
+use std::string::ToString;
+use text_pieces::extract::Extract;
+use version_pieces::iter::spans_from;
+use version_pieces::span_text::SpanText;
+use version_pieces::version::PieceVersion;
 
 /// What stands before a key: a comma behind another key.
 #[derive(Clone, Copy)]
@@ -167,36 +170,57 @@ impl fmt::Display for Escaped<'_> {
     }
 }
 
-/// The line of a span with its LF: its index, format and text.
-#[derive(Clone, Copy)]
-struct SpanLine<'a>(&'a SpanView<'a>);
+/// Writes a text with its line feeds and backslashes escaped, part by part as it lies in its pieces.
+fn write_text<W: fmt::Write>(f: &mut fmt::Formatter<W>, mut text: Extract<'_>) -> fmt::Result
+    ensures { WritesOnOk W.write_str_gives f.old result (escaped (encode_utf8_all text.entry)) f.new }
+{
+    while let Some(part) = text.next() {
+        write!(f, "{}", Escaped(part))?;
+    }
+    Ok(())
+}
 
-impl fmt::Display for SpanLine<'_> {
-    ghost output = { λ line. Some (lent_line line.0.now) };
+/// Writes the line of a span with its LF: its index, format and text.
+fn write_span<W: fmt::Write>(
+    f: &mut fmt::Formatter<W>,
+    index: usize,
+    span: SpanText<'_>,
+) -> fmt::Result
+    ensures { WritesOnOk W.write_str_gives f.old result (span_line index span.entry) f.new }
+{
+    write!(f, "{index} {} ", Keys(span.format))?;
+    write_text(f, span.text)?;
+    f.write_str("\n")
+}
+
+/// A line for each span of the version.
+#[derive(Clone, Copy)]
+struct AllSpans<'a>(&'a PieceVersion);
+
+impl fmt::Display for AllSpans<'_> {
+    ghost output = { λ all. Some (span_lines (spans_in all.0.now)) };
 
     fn fmt<W: fmt::Write>(&self, f: &mut fmt::Formatter<W>) -> fmt::Result {
-        let span = self.0;
-        let index = span.index;
-        write!(f, "{index} {} {}\n", Keys(span.format), Escaped(span.text))
+        let indices = 0..self.0.span_count();
+        for (index, span) in indices.zip(spans_from(self.0, 0)) {
+            write_span(f, index, span)?;
+        }
+        Ok(())
     }
 }
 
 /// A line for each span of the version: its index, format and text.
-pub fn lines_of(alloc: Global, version: &BlockVersion) -> Result<String, AllocError>
+pub fn lines_of(alloc: Global, version: &PieceVersion) -> Result<String, AllocError>
     ensures { IfOk result (λ lines. string_bytes lines ≡ span_lines (spans_in version.now)) }
 {
-    let mut out = String::new(alloc);
-    for span in spans_of(version) {
-        write!(out, "{}", SpanLine(&span))?;
-    }
-    Ok(out)
+    AllSpans(version).to_string(alloc)
 }
 
 /// `most` spans of a version, from the one of index `first` on, or as many as there are: a line for each, `span ` and
 /// what [`lines_of`] has.
 #[derive(Clone, Copy)]
 pub struct SomeSpans<'a> {
-    pub version: &'a BlockVersion,
+    pub version: &'a PieceVersion,
     pub first: usize,
     pub most: usize,
 }
@@ -205,13 +229,11 @@ impl fmt::Display for SomeSpans<'_> {
     ghost output = { λ some. Some (some_lines some.first some.most some.version.now) };
 
     fn fmt<W: fmt::Write>(&self, f: &mut fmt::Formatter<W>) -> fmt::Result {
-        let left = self.version.span_count().saturating_sub(self.first);
-        let end = self.first + left.min(self.most);
-        for index in self.first..end {
-            let Some(span) = view(self.version, index) else {
-                unreachable!()
-            };
-            write!(f, "span {}", SpanLine(&span))?;
+        let indices = self.first..self.version.span_count();
+        let spans = spans_from(self.version, self.first);
+        for (index, span) in indices.zip(spans).take(self.most) {
+            f.write_str("span ")?;
+            write_span(f, index, span)?;
         }
         Ok(())
     }

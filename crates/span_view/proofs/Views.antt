@@ -1,10 +1,10 @@
--- The spans that are left, one taken from the front or from the back.
-use Rattle.std.proofs.Common.{◌≡◌, ℕ, zero, suc, ◌+◌, ◌-◌, ◌<◌, ◌≤◌, List, [], ◌∷◌, ◌++◌, Option, Some, None, length, take, drop, get_or, refl, sym, ap, ◌∙◌, arith}
-use Rattle.std.specs.List.{slice_get, slice_range, enumerate_from}
+-- The spans of a version as they are lent, one by one and as they are left.
+use Rattle.std.proofs.Common.{◌≡◌, ℕ, zero, suc, ◌+◌, ◌-◌, ◌<◌, ◌≤◌, List, [], ◌∷◌, Option, Some, None, length, drop, refl, sym, ap, ◌∙◌, arith}
+use Rattle.std.specs.List.{slice_get, enumerate_from}
 use Rattle.std.specs.Option.{option_map}
-use Rattle.std.proofs.lemmas.Option.{none-some, same_Some, slice_get-get_or, get_or_from_slice_get, slice_get_within, slice_get-map}
-use Rattle.std.proofs.lemmas.List.{drop_more, take_more, length-drop, length-map, get_or-drop, take_all, length-take, length-take-le}
-use Rattle.std.proofs.lemmas.List.FromFn.{length-enumerate_from, get_or-enumerate_from}
+use Rattle.std.proofs.lemmas.Option.{none-some, same_Some, slice_get_within, slice_get-map}
+use Rattle.std.proofs.lemmas.List.{length-drop, length-map, length-take}
+use Rattle.std.proofs.lemmas.List.FromFn.{length-enumerate_from}
 use Rattle.mark_anchors.specs.Formatting.{Format}
 use Rattle.span_flatten.specs.declared.version.Row.{Row}
 use Rattle.span_flatten.specs.Spans.{Span}
@@ -16,47 +16,23 @@ length-views version =
     length-map (enumerate_from 0 version.rows) (λ indexed. view_of version indexed.0 indexed.1) ∙ length-enumerate_from 0 version.rows
 
 -- what stands at an index
-pub viewed : (version : Version) (i : ℕ) (row : Row) → slice_get version.rows i ≡ Some row → slice_get (views version) i ≡ Some (view_of version i row)
-viewed version i row g =
-    let rows : List Row = version.rows in
-    let within : i < length rows = slice_get_within rows i row g in
-    let d : ℕ × Row = (i, row) in
+pub views_at : (version : Version) (i : ℕ) → slice_get (views version) i ≡ view_at version i
+views_at version i =
     let see : (ℕ × Row) → SpanView = λ indexed. view_of version indexed.0 indexed.1 in
-    let same_index : 0 + i ≡ i = omega arith in
-    let here : get_or (enumerate_from 0 rows) i d ≡ (i, row) =
-    get_or-enumerate_from 0 rows i d within ∙ ap (λ n. (n, get_or rows i row)) same_index ∙ ap (λ r. (i, r)) (get_or_from_slice_get rows i row row g) in
-    slice_get-map see (enumerate_from 0 rows) i
-    ∙ ap (option_map see) (slice_get-get_or (enumerate_from 0 rows) i d (omega (arith, length-enumerate_from 0 rows)) ∙ ap Some here)
+    let same : 0 + i ≡ i = omega arith in
+    slice_get-map see (enumerate_from 0 version.rows) i ∙ from 0 version.rows i
+    ∙ ap (λ n. option_map (λ row. view_of version n row) (slice_get version.rows i)) same
+  where
+    from : (n : ℕ) (rows : List Row) (i : ℕ) → option_map (λ (indexed : ℕ × Row). view_of version indexed.0 indexed.1) (slice_get (enumerate_from n rows) i)
+        ≡ option_map (λ row. view_of version (n + i) row) (slice_get rows i)
+    from n [] i = refl
+    from n (row ∷ rows) zero = let same : n ≡ n + zero = omega arith in ap (λ m. Some (view_of version m row)) same
+    from n (row ∷ rows) (suc i) =
+        let same : (n + 1) + i ≡ n + suc i = omega arith in
+        from (n + 1) rows i ∙ ap (λ m. option_map (λ row. view_of version m row) (slice_get rows i)) same
 
-front_taken : {X : Type 0} (xs : List X) (a b : ℕ) (x : X) → slice_get xs a ≡ Some x → a < b → slice_range xs a b ≡ x ∷ slice_range xs (a + 1) b
-front_taken xs a b x g less =
-    let size : b - a ≡ suc (b - (a + 1)) = omega arith in
-    ap (λ l. take (b - a) l) (drop_more xs a x (slice_get_within xs a x g) ∙ ap (λ y. y ∷ drop (a + 1) xs) (get_or_from_slice_get xs a x x g))
-    ∙ ap (λ n. take n (x ∷ drop (a + 1) xs)) size
-
-pub back_taken : {X : Type 0} (xs : List X) (a b : ℕ) (x : X) → slice_get xs b ≡ Some x → a ≤ b → slice_range xs a (b + 1) ≡ slice_range xs a b ++ x ∷ []
-back_taken xs a b x g le =
-    let size : (b + 1) - a ≡ (b - a) + 1 = omega arith in
-    let same_index : a + (b - a) ≡ b = omega arith in
-    let within : b < length xs = slice_get_within xs b x g in
-    ap (λ n. take n (drop a xs)) size
-    ∙ take_more (drop a xs) (b - a) x (omega (arith, length-drop a xs))
-    ∙ ap (λ y. take (b - a) (drop a xs) ++ y ∷ []) (get_or-drop a xs (b - a) x ∙ ap (λ n. get_or xs n x) same_index ∙ get_or_from_slice_get xs b x x g)
-
-pub length_left : (version : Version) (a b : ℕ) → b ≤ length version.rows → length (slice_range (views version) a b) ≡ b - a
-length_left version a b le =
-    length-take-le (b - a) (drop a (views version)) (omega (arith, length-drop a (views version), length-views version))
-
-pub all_left : (version : Version) (n : ℕ) → n ≡ length version.rows → slice_range (views version) 0 n ≡ views version
-all_left version n e =
-    let size : n - 0 ≡ n = omega arith in
-    ap (λ k. take k (views version)) size ∙ take_all n (views version) (omega (arith, length-views version))
-
-none_left : {X : Type 0} (xs : List X) (a b : ℕ) → a ≡ b → slice_range xs a b ≡ []
-none_left xs a b e = let size : b - a ≡ 0 = omega arith in ap (λ n. take n (drop a xs)) size
-
-pub nothing_left : (version : Version) (a b : ℕ) (left : List SpanView) → slice_range (views version) a b ≡ left → a ≡ b → left ≡ []
-nothing_left version a b left view e = sym view ∙ none_left (views version) a b e
+pub viewed : (version : Version) (i : ℕ) (row : Row) → slice_get version.rows i ≡ Some row → slice_get (views version) i ≡ Some (view_of version i row)
+viewed version i row g = views_at version i ∙ ap (option_map (λ w. view_of version i w)) g
 
 pub row_at : (version : Version) (i : ℕ) → i < length version.rows → (row : Row) × (slice_get version.rows i ≡ Some row)
 row_at version i within = first version.rows i within
@@ -65,20 +41,6 @@ row_at version i within = first version.rows i within
     first [] i h = absurd (omega arith)
     first (x ∷ xs) zero h = (x, refl)
     first (x ∷ xs) (suc i) h = first xs i (omega arith)
-
--- a step from the front, and one from the back
-pub front_step : (version : Version) (a b : ℕ) (x : SpanView) (left : List SpanView) → view_at version a ≡ Some x → a < b → b ≤ length version.rows → slice_range (views version) a b ≡ left → left ≡ x ∷ slice_range (views version) (a + 1) b
-front_step version a b x left given less le view =
-    let row = row_at version a (omega arith) in
-    let there : slice_get (views version) a ≡ Some x = viewed version a row.0 row.1 ∙ sym (ap (option_map (λ w. view_of version a w)) row.1) ∙ given in
-    sym view ∙ front_taken (views version) a b x there less
-
-pub back_step : (version : Version) (a b : ℕ) (r : Option SpanView) (left : List SpanView) → r ≡ view_at version (b - 1) → a < b → b ≤ length version.rows → slice_range (views version) a b ≡ left → (x : SpanView) × (r ≡ Some x) × (left ≡ slice_range (views version) a (b - 1) ++ x ∷ [])
-back_step version a b r left given less le view =
-    let row = row_at version (b - 1) (omega arith) in
-    let x : SpanView = view_of version (b - 1) row.0 in
-    let end : b ≡ (b - 1) + 1 = omega arith in
-    (x, given ∙ ap (option_map (λ w. view_of version (b - 1) w)) row.1, sym view ∙ ap (λ n. slice_range (views version) a n) end ∙ back_taken (views version) a (b - 1) x (viewed version (b - 1) row.0 row.1) (omega arith))
 
 -- ---- a span as it is lent
 abbrev pub seen_as : Version → ℕ → Span → SpanView

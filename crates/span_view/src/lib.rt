@@ -2,5 +2,4 @@
 #![tactic(auto)]
 
 pub mod context;
-pub mod iter;
 pub mod view;

@@ -1,13 +1,12 @@
-ghost use Rattle.std.specs.Prelude.{◌≡◌, Some, slice_get};
+ghost use Rattle.std.specs.Prelude.{◌≡◌, IfOk, Some, slice_get};
 ghost use Rattle.span_flatten.specs.Version.{spans_of};
-ghost use Rattle.span_view.specs.Views.{view_at, views};
+ghost use Rattle.span_view.specs.Views.{view_at};
 
-use crate::iter::Spans;
 use mark_anchors::format::Format;
+use std::alloc::AllocError;
 use std::marker::Model;
-use version_blocks::iter::spans_from;
-use version_blocks::span_text::SpanText;
-use version_blocks::version::BlockVersion;
+use version_pieces::span_text::SpanText;
+use version_pieces::version::PieceVersion;
 
 /// A span of a version, lent from it.
 #[derive(Drop)]
@@ -43,37 +42,39 @@ impl<'a> Model for SpanView<'a> {
         × (v.characters ≡ length (chars v.text.now)) };
 }
 
-/// A span of the version, which has this index there.
-pub(crate) fn lent<'a>(version: &'a BlockVersion, index: usize, span: SpanText<'a>) -> SpanView<'a>
+/// A span of the version, which has this index there. Where its text lies in several pieces, it is put together in the
+/// buffer.
+pub fn lent<'a>(
+    version: &'a PieceVersion,
+    index: usize,
+    span: SpanText<'a>,
+    buffer: &'a mut String,
+) -> Result<SpanView<'a>, AllocError>
     requires { slice_get (spans_of version.now) index ≡ Some span }
-    ensures { view_at version.now index ≡ Some result }
+    ensures { IfOk result (λ view. view_at version.now index ≡ Some view) }
 {
-    SpanView {
-        text: span.text,
+    let text = span.text.joined(buffer)?;
+    Ok(SpanView {
+        text,
         characters: span.characters,
         format: span.format,
         index,
         count: version.span_count(),
         version: version.number(),
-    }
+    })
 }
 
-/// The span with this index in the version, if there is one.
-pub fn view<'a>(version: &'a BlockVersion, index: usize) -> Option<SpanView<'a>>
-    ensures { result ≡ view_at version.now index }
+/// The span with this index in the version, if there is one. Where its text lies in several pieces, it is put together
+/// in the buffer.
+pub fn view<'a>(
+    version: &'a PieceVersion,
+    index: usize,
+    buffer: &'a mut String,
+) -> Result<Option<SpanView<'a>>, AllocError>
+    ensures { IfOk result (λ view. view ≡ view_at version.now index) }
 {
-    let span = version.span(index)?;
-    Some(lent(version, index, span))
-}
-
-/// The spans of the version, in order.
-pub fn spans<'a>(version: &'a BlockVersion) -> Spans<'a>
-    ensures { result ≡ views version.now }
-{
-    Spans {
-        version,
-        texts: spans_from(version, 0),
-        front: 0,
-        back: version.span_count(),
-    }
+    let Some(span) = version.span(index) else {
+        return Ok(None);
+    };
+    Ok(Some(lent(version, index, span, buffer)?))
 }

@@ -20,8 +20,8 @@ use std::alloc::{AllocError, Global};
 use std::marker::Brand;
 use std::sync::Wait;
 use verifier::verify::Verified;
-use version_blocks::version::BlockVersion;
 use version_history::published::{Naming, ProgramToken, Published, VersionToken};
+use version_pieces::version::PieceVersion;
 
 type Asked<N> = Event<ProgramToken<N>, ListSink<N>>;
 
@@ -43,7 +43,7 @@ pub fn play_core<R: Wait>(
 fn on_lists<N: Naming, R: Wait>(
     rt: &R,
     alloc: Global,
-    versions: &boxcar::Vec<BlockVersion>,
+    versions: &boxcar::Vec<PieceVersion>,
     programs: &boxcar::Vec<Verified>,
     lines: String,
     told: &mut String,

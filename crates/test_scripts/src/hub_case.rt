@@ -23,8 +23,8 @@ use std::sync::{Mutex, Wait};
 use std::thread::Threads;
 use subscriber_queues::ends::Subscription;
 use verifier::verify::Verified;
-use version_blocks::version::BlockVersion;
 use version_history::published::{Naming, Published};
+use version_pieces::version::PieceVersion;
 
 /// The most workers that work at once, each with a share that no event names.
 const WORKERS: usize = 16;
@@ -103,7 +103,7 @@ fn on_lists<
     rt: R,
     alloc: Global,
     start: Start,
-    versions: &boxcar::Vec<BlockVersion>,
+    versions: &boxcar::Vec<PieceVersion>,
     programs: &boxcar::Vec<Verified>,
     shares: usize,
     lines: String,

@@ -15,8 +15,8 @@ use std::sync::Wait;
 use std::sync::ledger::Ledger;
 use std::thread::{Threads, join};
 use verifier::verify::Verified;
-use version_blocks::version::BlockVersion;
 use version_history::published::{Naming, Published};
+use version_pieces::version::PieceVersion;
 
 /// Has two threads, each with a share and a peer of its own, ingest `changes` changes on a new hub. It tells what each
 /// share counted, what the hub did, and the sum of the numbers that were answered.
@@ -101,7 +101,7 @@ fn on_lists<
     rt: &R,
     alloc: Global,
     start: Start,
-    versions: &'p boxcar::Vec<BlockVersion>,
+    versions: &'p boxcar::Vec<PieceVersion>,
     programs: &'p boxcar::Vec<Verified>,
     changes: u64,
     told: &mut String,

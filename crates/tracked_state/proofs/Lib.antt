@@ -3,3 +3,4 @@ pub mod Branches
 pub mod Parts
 pub mod Hearing
 pub mod Learned
+pub mod Along

@@ -1,6 +1,6 @@
 //! Comparisons: what is known on either edge, with what their sides tell their copies.
 ghost use Rattle.std.specs.Prelude.{◌≡◌, ◌≢◌, ◌↔◌, ℕ, ◌∷◌, ◌≤◌, true, false, Option, Some, None, Err};
-ghost use Rattle.std.specs.Prelude.{IfOk, IfErr, IfSome, option_map};
+ghost use Rattle.std.specs.Prelude.{IfOk, IfErr, IfSome, IsOk, option_map};
 ghost use Rattle.bpf_words.specs.declared.instruction.Width.TheVariants.{Full};
 ghost use Rattle.bpf_words.specs.Flow.{read_operand};
 ghost use Rattle.semantics.specs.State.{State};
@@ -15,26 +15,59 @@ ghost use Rattle.abstract_state.specs.Guard.{LengthensMemory};
 ghost use Rattle.abstract_state.specs.Kinds.{HasNumberAt, HasNumberIn};
 ghost use Rattle.abstract_state.specs.Unset.{HasUnset};
 ghost use Rattle.abstract_state.specs.Situation.{Situation, IsSituationIn, situation_of};
-ghost use Rattle.abstract_state.specs.Edges.{branched};
+ghost use Rattle.abstract_state.specs.Edges.{branched, edge};
+ghost use Rattle.abstract_state.specs.Steps.{after};
 ghost use Rattle.value_marks.specs.Copies.{Bear, LieBelow, kept};
 ghost use Rattle.tracked_state.specs.Tracked.{WithinTracked, LieBelowIn, IsTrackedIn, marking_in, tracked_of, state_in};
-ghost use Rattle.tracked_state.specs.Tracked.{with_copies};
+ghost use Rattle.tracked_state.specs.Tracked.{beside, with_copies};
+ghost use Rattle.tracked_state.specs.Along.{GoesAlong, unboxed};
 ghost use Rattle.tracked_state.specs.Learning.{LearnsFrom, LearnsSides, KeepsKinds};
-ghost use Rattle.tracked_state.specs.Tracking.{TrackedEdge, AnswersTrackedBranch};
+ghost use Rattle.tracked_state.specs.Tracking.{TrackedEdge, AnswersTrackedBranch, after_tracked};
 ghost use Rattle.tracked_state.specs.Rules as rules;
 
 use crate::state::TrackedState;
 use crate::stop::Stop;
+use abstract_state::refusal::Refusal;
 use abstract_state::state::AbsState;
+use abstract_state::step::Flow;
 use bpf_words::instruction::{Comparison, Operand, Width};
 use bpf_words::register::Register;
 use std::alloc::{AllocError, Global};
+use value_marks::copies::Copies;
 
 /// The states after a comparison, `None` where no run goes that way.
 #[derive(Drop)]
 pub struct TrackedEdges {
     pub taken: Option<TrackedState>,
     pub untaken: Option<TrackedState>,
+}
+
+/// Goes along an edge of a comparison in its place, part by part: what its sides learn they tell their copies.
+fn go_along(
+    state: &mut AbsState,
+    copies: &Copies,
+    width: Width,
+    comparison: Comparison,
+    left: Register,
+    right: &Operand,
+    taken: bool,
+) -> Result<Flow, Refusal>
+    ensures along { IfOk result (λ flow. GoesAlong (beside state.old copies.now) width comparison left right.now taken
+        (with_copies (after flow state.new) copies.now)) }
+    ensures regions { (r : ℕ) (p q : LentAddress) → right.now ≡ Operand.Source r → width ≡ Full → IsOrder comparison
+        → register_at state.old.registers left ≡ Set (Lent p) → register_at state.old.registers r ≡ Set (Lent q)
+        → p.region ≡ q.region → IsOk result }
+    ensures floor { HasNumberAt state.old left → HasNumberIn state.old right.now → IsOk result }
+    ensures unset { IfErr result (λ e. (e ≡ TheRefusal.UnsetRegister)
+        ↔ HasUnset state.old (left ∷ read_operand right.now)) }
+    ensures set { IfOk result (λ _. HasUnset state.old (left ∷ read_operand right.now) → ⊥) }
+    ensures refuses { (refusal : TheRefusal) → result ≡ Err refusal
+        → edge width comparison left right.now taken (situation_of state.old) ≡ Err refusal }
+{
+    match state.take_edge(width, comparison, left, right, taken)? {
+        Flow::Live => Ok(copies.tell(state, left, right)),
+        Flow::Dead => Ok(Flow::Dead),
+    }
 }
 
 impl TrackedState {
@@ -62,17 +95,81 @@ impl TrackedState {
         Ok(Some(TrackedState { state, copies }))
     }
 
-    /// The edge of a comparison learns in its place what the copies of its sides learn. The copies stay what they are.
-    pub fn tell(&self, edge: &mut Option<AbsState>, left: Register, right: &Operand)
-        ensures sound { (lengths : Lengths) (s : State) → Bear (kept self.now.copies) s
-            → WithinState edge.old lengths s → WithinTracked (with_copies edge.new self.now.copies) lengths s }
-        ensures rule { (was : Option Situation) → IsSituationIn edge.old was
-            → IsTrackedIn (with_copies edge.new self.now.copies)
-            (rules.told_edge left right.now (marking_in self.now) was) }
-        ensures learns { IfSome (with_copies edge.new self.now.copies) (λ b. LearnsFrom edge.old b.state) }
-        ensures untracked { kept self.now.copies ≡ None → edge.new ≡ edge.old }
+    /// Goes along the edge where the comparison holds, or along the other. The copies stay what they are.
+    pub fn take_edge(
+        &mut self,
+        width: Width,
+        comparison: Comparison,
+        left: Register,
+        right: &Operand,
+        taken: bool,
+    ) -> Result<Flow, Refusal>
+        ensures along { IfOk result (λ flow. GoesAlong self.old width comparison left right.now taken
+            (after_tracked flow self.new)) }
+        ensures regions { (r : ℕ) (p q : LentAddress) → right.now ≡ Operand.Source r → width ≡ Full → IsOrder comparison
+            → register_at self.old.state.registers left ≡ Set (Lent p)
+            → register_at self.old.state.registers r ≡ Set (Lent q) → p.region ≡ q.region → IsOk result }
+        ensures floor { HasNumberAt self.old.state left → HasNumberIn self.old.state right.now → IsOk result }
+        ensures unset { IfErr result (λ e. (e ≡ TheRefusal.UnsetRegister)
+            ↔ HasUnset self.old.state (left ∷ read_operand right.now)) }
+        ensures set { IfOk result (λ _. HasUnset self.old.state (left ∷ read_operand right.now) → ⊥) }
+        ensures refuses { (refusal : TheRefusal) → result ≡ Err refusal
+            → edge width comparison left right.now taken (situation_of self.old.state) ≡ Err refusal }
     {
-        self.copies.tell_edge_in(edge, left, right);
+        go_along(
+            &mut self.state,
+            &self.copies,
+            width,
+            comparison,
+            left,
+            right,
+            taken,
+        )
+    }
+
+    /// The state on an edge of a comparison, boxed. It is filled in its place, and not made where the sides alone tell
+    /// that no run goes there.
+    pub fn edge(
+        &self,
+        alloc: Global,
+        width: Width,
+        comparison: Comparison,
+        left: Register,
+        right: &Operand,
+        taken: bool,
+    ) -> Result<Option<Box<AbsState>>, Stop>
+        ensures along { IfOk result (λ edge. GoesAlong self.now width comparison left right.now taken
+            (with_copies (unboxed edge) self.now.copies)) }
+        ensures regions { (r : ℕ) (p q : LentAddress) → right.now ≡ Operand.Source r → width ≡ Full → IsOrder comparison
+            → register_at self.now.state.registers left ≡ Set (Lent p)
+            → register_at self.now.state.registers r ≡ Set (Lent q) → p.region ≡ q.region
+            → IfErr result (λ stop. stop ≡ Stop.OutOfMemory) }
+        ensures floor { HasNumberAt self.now.state left → HasNumberIn self.now.state right.now
+            → IfErr result (λ stop. stop ≡ Stop.OutOfMemory) }
+        ensures unset { (fault : TheRefusal) → result ≡ Err (Stop.Refused fault)
+            → (fault ≡ TheRefusal.UnsetRegister) ↔ HasUnset self.now.state (left ∷ read_operand right.now) }
+        ensures refuses { (fault : TheRefusal) → result ≡ Err (Stop.Refused fault)
+            → edge width comparison left right.now taken (situation_of self.now.state) ≡ Err fault }
+    {
+        let dead = self
+            .state
+            .is_dead_edge(width, comparison, left, right, taken);
+        if dead {
+            return Ok(None);
+        }
+        let mut edge = Box::new(alloc, self.state)?;
+        match go_along(
+            &mut edge,
+            &self.copies,
+            width,
+            comparison,
+            left,
+            right,
+            taken,
+        )? {
+            Flow::Live => Ok(Some(edge)),
+            Flow::Dead => Ok(None),
+        }
     }
 
     /// The states after a comparison that holds, and after one that doesn't.

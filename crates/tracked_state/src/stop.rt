@@ -2,7 +2,7 @@
 ghost use Rattle.std.specs.Prelude.{◌≡◌};
 
 use abstract_state::refusal::Refusal;
-use std::alloc::AllocError;
+use std::alloc::{AllocError, AllocFailed};
 
 /// Why a walk doesn't go past an instruction.
 #[derive(Clone, Copy)]
@@ -27,6 +27,16 @@ impl From<AllocError> for Stop {
     ghost from_gives = { λ _ stop. stop ≡ OutOfMemory };
 
     fn from(_e: AllocError) -> Stop {
+        Stop::OutOfMemory
+    }
+}
+
+impl<T: Drop> From<AllocFailed<T>> for Stop {
+    ghost use Rattle.tracked_state.specs.declared.stop.Stop.TheVariants.{OutOfMemory};
+
+    ghost from_gives = { λ _ stop. stop ≡ OutOfMemory };
+
+    fn from(_e: AllocFailed<T>) -> Stop {
         Stop::OutOfMemory
     }
 }

@@ -101,24 +101,6 @@ impl Copies {
         sides_tell(state, marks, left, right)
     }
 
-    /// The edge of a comparison learns in its place what the copies of its sides learn.
-    pub fn tell_edge_in(&self, edge: &mut Option<AbsState>, left: Register, right: &Operand)
-        ensures sound { (lengths : Lengths) (s : State) → Bear (rules.kept self.now) s
-            → WithinState edge.old lengths s → WithinState edge.new lengths s }
-        ensures rule { (was : Option Situation) → IsSituationIn edge.old was
-            → IsSituationIn edge.new
-            (option_and_then (rules.copies_tell left right.now (option_map marking_of (rules.kept self.now))) was) }
-        ensures untracked { rules.kept self.now ≡ None → edge.new ≡ edge.old }
-    {
-        let Some(state) = edge else {
-            return;
-        };
-        match self.tell(state, left, right) {
-            Flow::Live => {}
-            Flow::Dead => *edge = None,
-        }
-    }
-
     /// The edge of a comparison, with what the copies of its sides learn.
     pub fn tell_edge(
         &self,

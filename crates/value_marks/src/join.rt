@@ -21,8 +21,8 @@ fn same_width(a: Width, b: Width) -> bool
 }
 
 /// The mark of a place that either way may lead to: the one that both have.
-fn mark_of_both(a: Option<Mark>, b: Option<Mark>) -> Option<Mark>
-    ensures { result ≡ rules.mark_of_both a b }
+fn mark_of_both(a: &Option<Mark>, b: &Option<Mark>) -> Option<Mark>
+    ensures { result ≡ rules.mark_of_both a.now b.now }
 {
     let Some(m) = a else {
         return None;
@@ -31,7 +31,7 @@ fn mark_of_both(a: Option<Mark>, b: Option<Mark>) -> Option<Mark>
         return None;
     };
     if m.origin == n.origin && m.addend == n.addend && same_width(m.width, n.width) {
-        Some(m)
+        Some(*m)
     } else {
         None
     }
@@ -42,7 +42,7 @@ fn join_registers(a: &mut [Option<Mark>; 11], b: &[Option<Mark>; 11])
     ensures size { length a.new ≡ 11 }
 {
     for i in 0..11 {
-        a[i] = mark_of_both(a[i], b[i]);
+        a[i] = mark_of_both(&a[i], &b[i]);
     }
 }
 
@@ -51,7 +51,7 @@ fn join_slots(a: &mut [Option<Mark>; 64], b: &[Option<Mark>; 64])
     ensures size { length a.new ≡ 64 }
 {
     for i in 0..64 {
-        a[i] = mark_of_both(a[i], b[i]);
+        a[i] = mark_of_both(&a[i], &b[i]);
     }
 }
 

@@ -1,6 +1,6 @@
 //! What a comparison that tells of one value tells of all that bear a mark of its origin.
 ghost use Rattle.std.specs.Prelude.{◌≡◌, ◌≢◌, ℕ, ◌+◌, ◌*◌, ◌%◌, ◌^◌, ◌<◌, ◌≤◌, Option, Some, None, IfSome, option_map};
-ghost use Rattle.std.specs.Prelude.{option_and_then, slice_index_or};
+ghost use Rattle.std.specs.Prelude.{false, option_and_then, slice_index_or};
 ghost use Rattle.value_marks.specs.declared.mark.Mark.{Mark as TheMark};
 ghost use Rattle.semantics.specs.State.{State};
 ghost use Rattle.semantics.specs.Value.{bits_of, cut, value_of};
@@ -11,7 +11,7 @@ ghost use Rattle.abstract_state.specs.Known.{ContainsKnown, WithinKnown};
 ghost use Rattle.abstract_state.specs.State.{Contains, WithinState, bytes_of, HasNumber};
 ghost use Rattle.abstract_state.specs.Steps.{after};
 ghost use Rattle.abstract_state.specs.Estimate.{estimate_of};
-ghost use Rattle.abstract_state.specs.Addresses.{content_of, InRegion};
+ghost use Rattle.abstract_state.specs.Addresses.{Content, content_of, InRegion};
 ghost use Rattle.abstract_state.specs.Situation.{Situation, IsSituation, Flows, situation_of, put, lengthened};
 ghost use Rattle.abstract_state.specs.Edges.{raised};
 ghost use Rattle.value_marks.specs.Mark.{Agrees, mark_at};
@@ -120,6 +120,19 @@ impl Teller {
         let width = self.mark.common_width(mark);
         told_known(width, self.mark.distance_to(mark, width), self.known, known)
     }
+
+    /// Whether a place with a mark may learn: only one of the same origin does.
+    #[tactic(auto, unfolding(crate::specs::Telling::lesson))]
+    fn is_heard(&self, mark: &Option<Mark>) -> bool
+        ensures { result ≡ false → (content : Content)
+            → rules.lesson (rules.teller_of self.now) mark.now content ≡ Some None }
+    {
+        match mark {
+            Some(mark) => mark.origin == self.mark.origin,
+            None => false,
+        }
+    }
+
     /// What a place with a mark learns.
     #[tactic(auto, unfolding(crate::specs::Telling::lesson))]
     fn lesson(&self, mark: Option<Mark>, known: Known) -> Lesson
@@ -211,6 +224,9 @@ impl Teller {
         if register == self.register.index() {
             return Flow::Live;
         }
+        if !self.is_heard(&marks.registers[register]) {
+            return Flow::Live;
+        }
         let AbsReg::Set(known) = state.registers[register] else {
             return Flow::Live;
         };
@@ -231,6 +247,9 @@ impl Teller {
         ensures rule { (was : Situation) → IsSituation state.old was
             → Flows (rules.slot_hears (rules.teller_of self.now) (marking_of marks.now) slot was) result state.new }
     {
+        if !self.is_heard(&marks.slots[slot]) {
+            return Flow::Live;
+        }
         let Slot::Spilled(known) = state.stack[slot] else {
             return Flow::Live;
         };

@@ -29,10 +29,9 @@ use Rattle.value_marks.specs.declared.marks.Marks.{Marks as MarksOf}
 use Rattle.value_marks.specs.Mark.{mark_at}
 use Rattle.value_marks.specs.Marking.{Marking, marking_of}
 use Rattle.value_marks.specs.Copies.{AreMarking, kept, joined_copies}
-use Rattle.abstract_state.specs.Edges.{Ways, AnswersBranch}
 use Rattle.tracked_state.specs.Tracked.{TrackedSituation, IsTracked, IsTrackedIn, tracked, tracked_of}
 use Rattle.tracked_state.specs.Tracking.{after_tracked, FlowsTracked, AnswersTrackedStep}
-use Rattle.tracked_state.specs.Rules.{TrackedWays, told_ways, stepped, branched, joined, exit}
+use Rattle.tracked_state.specs.Rules.{TrackedWays, stepped, branched, joined, exit}
 use Rattle.verifier.specs.Waiting.{Waiting, waiting_at, as_tracked}
 use Rattle.verifier.specs.declared.waiting.Awaiting.{Awaiting}
 use Rattle.verifier.specs.Decides.{led, ways, jump_target, either_way, trimmed, trimmed_situation, trimmed_marking, Waits, with_jump, passed}
@@ -330,10 +329,6 @@ step_refused profile slot insn s answer fault a is bad answers =
     leads_straight profile slot insn s is ∙ ap (answer_of (ways None)) (refused_by (stepped profile slot insn s) answer fault a bad answers)
 
 -- ---- a comparison
-pub branch_refuses : (rule : Result Ways Refusal) (left : ℕ) (right : Operand) (marking : Option Marking) (fault : Refusal) → AnswersBranch rule (Err fault) → answer_of (told_ways left right marking) rule ≡ Err fault
-branch_refuses (Ok w) left right marks fault (e, is, one, other) = absurd (cc (is))
-branch_refuses (Err refusal) left right marks fault is = let same : refusal ≡ fault = cc in ap (λ (x : Refusal). Err x) same
-
 pub leads_branch : (profile : Profile) (slot : ℕ) (insn : Insn) (width : Width) (comparison : Comparison) (left : ℕ) (right : Operand) (distance : ℤ) (s : TrackedSituation) → insn ≡ Branch width comparison left right distance → led profile slot insn s ≡ branched width comparison left right s
 unfolding led
 leads_branch profile slot insn width comparison left right distance s is = rw is refl

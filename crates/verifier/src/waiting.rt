@@ -22,8 +22,7 @@ use tracked_state::join::join_parts;
 use tracked_state::state::TrackedState;
 use value_marks::copies::Copies;
 
-/// What waits at a slot. Only the state is boxed, and filled in its place: a local state that owns its marks would be
-/// cleared at each call.
+/// What waits at a slot. Only the state is boxed: a local state that owns its marks would be cleared at each call.
 #[derive(Drop)]
 pub struct Awaiting {
     state: Box<AbsState>,
@@ -45,30 +44,29 @@ impl Model for Waiting {
     ghost view = { λ w. w.states.items };
 }
 
-/// One more state beside what waits already.
+/// One more state beside what waits already. Where nothing does, it is moved there.
 fn join(
     alloc: Global,
     profile: Profile,
     waiting: Option<Awaiting>,
-    state: &AbsState,
+    state: Box<AbsState>,
     copies: &Copies,
 ) -> Result<Awaiting, AllocError>
     ensures kept { IfOk result (λ joined. (lengths : Lengths) (s : State) → WithinTracked (unboxed waiting) lengths s
         → ContainsTracked (as_tracked joined) lengths s) }
     ensures added { IfOk result (λ joined. (lengths : Lengths) (s : State)
-        → ContainsTracked (beside state.now copies.now) lengths s → ContainsTracked (as_tracked joined) lengths s) }
+        → ContainsTracked (beside state.value copies.now) lengths s → ContainsTracked (as_tracked joined) lengths s) }
     ensures below { (lent : TheProfile) (k : ℕ) → MarksBelowIn lent k (unboxed waiting)
-        → MarksBelow lent k (beside state.now copies.now)
+        → MarksBelow lent k (beside state.value copies.now)
         → IfOk result (λ joined. MarksBelow lent k (as_tracked joined)) }
     ensures arises { (lent : TheProfile) (program : Program) (slot : ℕ) → IsTarget program slot
-        → ArisesAt lent program slot (unboxed waiting) → Arises lent program slot state.now
+        → ArisesAt lent program slot (unboxed waiting) → Arises lent program slot state.value
         → IfOk result (λ joined. Arises lent program slot joined.state.value) }
     ensures rule { (o : Option TrackedSituation) (s : TrackedSituation) → IsTrackedIn (unboxed waiting) o
-        → IsTracked (beside state.now copies.now) s
+        → IsTracked (beside state.value copies.now) s
         → IfOk result (λ joined. IsTrackedIn (Some (as_tracked joined)) (either_way profile o (Some s))) }
 {
     let Some(mut earlier) = waiting else {
-        let state = Box::new(alloc, *state)?;
         let copies = copies.copy(alloc)?;
         return Ok(Awaiting { state, copies });
     };
@@ -76,13 +74,18 @@ fn join(
         profile,
         &mut earlier.state,
         &mut earlier.copies,
-        state,
+        &state,
         copies,
     );
     Ok(earlier)
 }
 
 impl Waiting {
+    /// Where the states that wait are allocated.
+    pub fn alloc(&self) -> Global {
+        self.alloc
+    }
+
     /// Nothing waits at any of the `slots`.
     pub fn new(alloc: Global, slots: usize) -> Result<Waiting, AllocError>
         ensures size { IfOk result (λ waiting. length waiting ≡ slots) }
@@ -116,6 +119,33 @@ impl Waiting {
             → IfOk result (λ _. AllArise lent program self.new) }
         ensures rule { (from : ℕ) (w : Waits) (s : TrackedSituation) → WaitsFrom from self.old w → from ≤ slot
             → IsTracked (beside state.now copies.now) s
+            → IfOk result (λ _. WaitsFrom from self.new (with_jump profile slot (Some s) w)) }
+    {
+        let state = Box::new(self.alloc, *state)?;
+        self.add_boxed(profile, slot, state, copies)
+    }
+
+    /// Joins a state to which a jump leads at a slot to what waits there.
+    pub fn add_boxed(
+        &mut self,
+        profile: Profile,
+        slot: usize,
+        state: Box<AbsState>,
+        copies: &Copies,
+    ) -> Result<(), AllocError>
+        requires { slot < length self.old }
+        ensures size { length self.new ≡ length self.old }
+        ensures kept { IfOk result (λ _. Keeps self.old self.new) }
+        ensures added { IfOk result (λ _. (lengths : Lengths) (s : State)
+            → ContainsTracked (beside state.value copies.now) lengths s
+            → WithinTracked (waiting_at self.new slot) lengths s) }
+        ensures below { (lent : TheProfile) → WaitBelow lent self.old
+            → MarksBelow lent slot (beside state.value copies.now) → IfOk result (λ _. WaitBelow lent self.new) }
+        ensures arises { (lent : TheProfile) (program : Program) → AllArise lent program self.old
+            → IsTarget program slot → Arises lent program slot state.value
+            → IfOk result (λ _. AllArise lent program self.new) }
+        ensures rule { (from : ℕ) (w : Waits) (s : TrackedSituation) → WaitsFrom from self.old w → from ≤ slot
+            → IsTracked (beside state.value copies.now) s
             → IfOk result (λ _. WaitsFrom from self.new (with_jump profile slot (Some s) w)) }
     {
         let joined = join(self.alloc, profile, self.states[slot].take(), state, copies)?;
@@ -162,7 +192,7 @@ impl Waiting {
             copies,
         } = waiting;
         let Flow::Live = flow else {
-            state.state = Box::into_inner(earlier);
+            state.state = *earlier;
             state.copies = copies;
             return Flow::Live;
         };

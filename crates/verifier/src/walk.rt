@@ -12,6 +12,7 @@ ghost use Rattle.tracked_state.specs.Tracked.{ContainsTracked, WithinTracked, wi
 ghost use Rattle.abstract_state.specs.Steps.{after};
 ghost use Rattle.tracked_state.specs.Tracked.{TrackedSituation, IsTracked, IsTrackedIn, tracked_of};
 ghost use Rattle.tracked_state.specs.Tracking.{after_tracked};
+ghost use Rattle.tracked_state.specs.Along.{unboxed as in_box};
 ghost use Rattle.abstract_state.specs.Unset.{HasUnset};
 ghost use Rattle.abstract_state.specs.declared.refusal.Refusal.{Refusal as TheRefusal};
 ghost use Rattle.verifier.specs.Structure.{IsOfState, IsStructured};
@@ -55,7 +56,7 @@ fn target(slot: usize, insn: &Insn) -> usize
 fn record(
     profile: Profile,
     target: usize,
-    edge: &Option<AbsState>,
+    edge: Option<Box<AbsState>>,
     copies: &Copies,
     waiting: &mut Waiting,
 ) -> Result<(), AllocError>
@@ -63,32 +64,22 @@ fn record(
     ensures size { length waiting.new ≡ length waiting.old }
     ensures kept { IfOk result (λ _. Keeps waiting.old waiting.new) }
     ensures added { IfOk result (λ _. (lengths : Lengths) (s : State)
-        → WithinTracked (with_copies edge.now copies.now) lengths s
+        → WithinTracked (with_copies (in_box edge) copies.now) lengths s
         → WithinTracked (waiting_at waiting.new target) lengths s) }
     ensures below { (lent : TheProfile) → WaitBelow lent waiting.old
-        → MarksBelowIn lent target (with_copies edge.now copies.now) → IfOk result (λ _. WaitBelow lent waiting.new) }
+        → MarksBelowIn lent target (with_copies (in_box edge) copies.now)
+        → IfOk result (λ _. WaitBelow lent waiting.new) }
     ensures arises { (lent : TheProfile) (program : Program) → AllArise lent program waiting.old
-        → IsTarget program target → ArisesAt lent program target (with_copies edge.now copies.now)
+        → IsTarget program target → ArisesAt lent program target (with_copies (in_box edge) copies.now)
         → IfOk result (λ _. AllArise lent program waiting.new) }
     ensures rule { (from : ℕ) (w : Waits) (o : Option TrackedSituation) → WaitsFrom from waiting.old w → from ≤ target
-        → IsTrackedIn (with_copies edge.now copies.now) o
+        → IsTrackedIn (with_copies (in_box edge) copies.now) o
         → IfOk result (λ _. WaitsFrom from waiting.new (with_jump profile target o w)) }
 {
     let Some(state) = edge else {
         return Ok(());
     };
-    waiting.add(profile, target, state, copies)
-}
-
-/// Goes on with what is known, if a run can come there.
-fn go_on(state: &mut AbsState, next: &Option<AbsState>) -> Flow
-    ensures { after result state.new ≡ next.now }
-{
-    let Some(next) = next else {
-        return Flow::Dead;
-    };
-    *state = *next;
-    Flow::Live
+    waiting.add_boxed(profile, target, state, copies)
 }
 
 /// What is known once more, if a run can come there.
@@ -134,9 +125,8 @@ fn is_whole(state: &TrackedState)
     }
 }
 
-/// Makes of what is known before a comparison what is known on its edges. The two edges are large: they stay out of the
-/// frame of `pass`, and are told in place beside the one `Copies` of both, so that no local of that size has a drop.
-#[inline(never)]
+/// Makes of what is known before a comparison what is known on its edges: where it holds in a box of its own, which is
+/// moved to what waits at its target, and else in place. So no state is a local, which would be cleared at each call.
 fn compare(
     profile: Profile,
     slot: usize,
@@ -178,17 +168,9 @@ fn compare(
         unreachable!()
     };
     is_state_whole(&state.state);
-    let mut edges = state.state.branch(width, comparison, left, &right)?;
-    state.tell(&mut edges.taken, left, &right);
-    state.tell(&mut edges.untaken, left, &right);
-    record(
-        profile,
-        target(slot, insn),
-        &edges.taken,
-        &state.copies,
-        waiting,
-    )?;
-    Ok(go_on(&mut state.state, &edges.untaken))
+    let taken = state.edge(waiting.alloc(), width, comparison, left, &right, true)?;
+    record(profile, target(slot, insn), taken, &state.copies, waiting)?;
+    Ok(state.take_edge(width, comparison, left, &right, false)?)
 }
 
 /// Makes of what is known before an instruction what is known on its edges: of a jump at its target, else in the state.

@@ -5,7 +5,7 @@ use change_ops::size::Size;
 use std::marker::{Brand, Model, PhantomData};
 use std::sync::Wait;
 use verifier::verify::Verified;
-use version_blocks::version::BlockVersion;
+use version_pieces::version::PieceVersion;
 
 /// Which two lists a hub publishes in, and how much its document may hold. A program picks them once for each hub.
 pub trait Naming {
@@ -32,7 +32,7 @@ impl Naming for Brand {
 
 /// Shows that a version is in the list of the hub `N`, at its index, for good.
 pub struct VersionToken<N: Naming> {
-    at: Pushed<BlockVersion>,
+    at: Pushed<PieceVersion>,
     of: PhantomData<N>,
 }
 
@@ -117,7 +117,7 @@ impl<N: Naming> ProgramToken<N> {
 #[derive(Drop)]
 pub struct Published<'p, N: Naming> {
     size: Size,
-    versions: &'p boxcar::Vec<BlockVersion>,
+    versions: &'p boxcar::Vec<PieceVersion>,
     programs: &'p boxcar::Vec<Verified>,
     of: PhantomData<N>,
     ghost named: { (size ≡ N.size) × (versions.now ≡ N.versions) × (programs.now ≡ N.programs) },
@@ -127,7 +127,7 @@ impl<'p, N: Naming> Published<'p, N> {
     /// Works on these two lists, which are those of `N`, at its size.
     pub fn new(
         size: Size,
-        versions: &'p boxcar::Vec<BlockVersion>,
+        versions: &'p boxcar::Vec<PieceVersion>,
         programs: &'p boxcar::Vec<Verified>,
     ) -> Published<'p, N>
         requires { (size ≡ N.size) × (versions.now ≡ N.versions) × (programs.now ≡ N.programs) }
@@ -161,8 +161,8 @@ impl<'p, N: Naming> Published<'p, N> {
     pub fn publish<R: Wait>(
         &self,
         rt: &R,
-        version: BlockVersion,
-    ) -> Result<VersionToken<N>, BlockVersion>
+        version: PieceVersion,
+    ) -> Result<VersionToken<N>, PieceVersion>
         ensures ok { IfOk result (λ t. t.value ≡ version) }
         ensures err { IfErr result (λ v. v ≡ version) }
     {
@@ -174,7 +174,7 @@ impl<'p, N: Naming> Published<'p, N> {
     }
 
     /// The version of a token.
-    pub fn look(&self, token: &VersionToken<N>) -> &BlockVersion
+    pub fn look(&self, token: &VersionToken<N>) -> &PieceVersion
         ensures { result.now ≡ token.now.value }
     {
         self.versions.value(&token.at)

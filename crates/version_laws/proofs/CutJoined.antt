@@ -7,8 +7,8 @@ use Rattle.std.proofs.lemmas.List.Elements.{All-head, All-contains}
 use Rattle.span_flatten.specs.Spans.{Shown, Span, IsRun, Cuts}
 use Rattle.span_flatten.proofs.Cutting.{cuts_nil}
 use Rattle.mark_anchors.proofs.Lists.{item_at}
-use Rattle.version_laws.specs.Joints.{Apart, CharactersApart, Parted, IsWindow}
-use Rattle.version_laws.proofs.Lists.{get_ahead, get_behind}
+use Rattle.version_laws.specs.Joints.{Apart, CharactersApart}
+use Rattle.version_laws.proofs.Lists.{get_behind}
 
 -- ---- the first character and the first span
 first_of_run : (front rest : List Shown) (span : Span) → IsRun front rest span → (s : Shown) × (slice_get (front ++ rest) 0 ≡ Some s) × (s.format ≡ span.format)
@@ -52,69 +52,7 @@ cuts_append first second (x ∷ xs) after c d apart =
     } in
     (c.0, (c.1.0 ++ second, ap (λ l. l ++ second) c.1.1 ∙ append_assoc c.0 c.1.0 second, run, cuts_append c.1.0 second xs after c.1.3 d (apart_later x xs after apart)))
 
--- ---- parted
-apart_none : (after : List Span) → Apart [] after
-apart_none after i x y last g h = absurd (none-some x g)
-
--- the first span and those behind it
-apart_first : (front rest : List Shown) (x : Span) (xs after : List Span) → IsRun front rest x → (p : Parted rest xs after) → Apart (x ∷ xs) after
-apart_first front rest x [] [] run p i y z last g h e = absurd (none-some z h)
-apart_first front rest x [] (a ∷ after) run p zero y z last g h e =
-    let none : p.first ≡ [] = p.cuts_first in
-    let all : rest ≡ p.second = p.whole ∙ ap (λ l. l ++ p.second) none in
-    let r = first_character p.second a after p.cuts_second in
-    let one : x ≡ y = same_Some x y g in
-    let two : a ≡ z = same_Some a z h in
-    run.longest r.0 (ap (λ l. slice_get l 0) all ∙ r.1) (r.2 ∙ ap (λ s. s.format) two ∙ sym e ∙ ap (λ s. s.format) (sym one))
-apart_first front rest x [] (a ∷ after) run p (suc i) y z last g h e = absurd (none-some y g)
-apart_first front rest x (w ∷ xs) after run p zero y z last g h e = absurd (omega arith)
-apart_first front rest x (w ∷ xs) after run p (suc i) y z last g h e = p.apart i y z (omega arith) g h e
-
--- Characters whose spans are in two parts fall into two parts too, each with its spans.
-pub cuts_parted : (shown : List Shown) (before after : List Span) → Cuts shown (before ++ after) → Parted shown before after
-cuts_parted shown [] after c = record {
-  first = [];
-  second = shown;
-  whole = refl;
-  cuts_first = refl;
-  cuts_second = c;
-  apart = apart_none after;
-}
-cuts_parted shown (x ∷ xs) after c =
-    let p : Parted c.1.0 xs after = cuts_parted c.1.0 xs after c.1.3 in
-    let run : IsRun c.0 p.first x = record {
-      some = c.1.2.some;
-      alike = c.1.2.alike;
-      longest = λ next g. c.1.2.longest next (ap (λ l. slice_get l 0) p.whole ∙ get_ahead p.first p.second 0 next g);
-      spelt = c.1.2.spelt;
-    } in
-    record {
-      first = c.0 ++ p.first;
-      second = p.second;
-      whole = c.1.1 ∙ ap (λ l. c.0 ++ l) p.whole ∙ sym (append_assoc c.0 p.first p.second);
-      cuts_first = (c.0, (p.first, refl, run, p.cuts_first));
-      cuts_second = p.cuts_second;
-      apart = apart_first c.0 c.1.0 x xs after c.1.2 p;
-    }
-
 -- ---- a window
--- Characters whose spans are those before a window, in it and behind it fall into three parts too.
-pub window_from_cuts : (shown : List Shown) (before within after : List Span) → Cuts shown (before ++ (within ++ after)) → IsWindow shown before within after
-window_from_cuts shown before within after c =
-    let p = cuts_parted shown before (within ++ after) c in
-    let q = cuts_parted p.second within after p.cuts_second in
-    record {
-      front = p.first;
-      middle = q.first;
-      back = q.second;
-      whole = p.whole ∙ ap (λ l. p.first ++ l) q.whole;
-      cuts_front = p.cuts_first;
-      cuts_middle = q.cuts_first;
-      cuts_back = q.cuts_second;
-      apart_before = p.apart;
-      apart_after = q.apart;
-    }
-
 -- Other characters in the window, with their spans: before it and behind it the spans stay, where formats differ at both of its sides.
 pub cut : (front middle back : List Shown) (before within after : List Span) → Cuts front before → Cuts middle within → Cuts back after → Apart before (within ++ after) → Apart within after → Cuts (front ++ (middle ++ back)) (before ++ (within ++ after))
 cut front middle back before within after c d e left right =
@@ -164,9 +102,3 @@ characters_from_apart first second (b ∷ before) after c d apart j s t last g h
     let one : r.1.0 ≡ s = same_Some r.1.0 s (sym r.1.2 ∙ ap (slice_get first) same ∙ g) in
     let f = first_format second after d t h in
     apart k at.0 f.0 end at.1 f.1 (sym r.1.3 ∙ ap (λ z. z.format) one ∙ e ∙ f.2)
-
--- The cut by characters: the formats differ where the window begins and where it ends.
-pub cut_characters : (front middle back : List Shown) (before within after : List Span) → Cuts front before → Cuts middle within → Cuts back after → CharactersApart front (middle ++ back) → CharactersApart middle back → Cuts (front ++ (middle ++ back)) (before ++ (within ++ after))
-cut_characters front middle back before within after c d e left right =
-    let inner : Cuts (middle ++ back) (within ++ after) = cuts_append middle back within after d e (apart_from_characters middle back within after d e right) in
-    cuts_append front (middle ++ back) before (within ++ after) c inner (apart_from_characters front (middle ++ back) before (within ++ after) c inner left)

@@ -1,6 +1,6 @@
 -- What is visible is what is drawn of the elements, and falls into parts as they do.
-use Rattle.std.proofs.Common.{◌≡◌, ℕ, zero, suc, true, false, cond, List, [], ◌∷◌, ◌++◌, Some, length, map, refl, sym, ap, subst, ◌∙◌, arith, ⊎_elim}
-use Rattle.std.specs.List.{slice_get, filter, count_by}
+use Rattle.std.proofs.Common.{◌≡◌, ℕ, zero, suc, true, false, cond, List, [], ◌∷◌, Some, map, sym, ap, subst, ◌∙◌, ⊎_elim}
+use Rattle.std.specs.List.{slice_get, filter}
 use Rattle.std.proofs.lemmas.Bool.{cases_Bool}
 use Rattle.std.proofs.lemmas.Option.{same_Some, none-some}
 use Rattle.std.proofs.lemmas.List.Kept.{AllPairs-filter}
@@ -11,11 +11,9 @@ use Rattle.char_sequence.specs.Order.{Before, Shows}
 use Rattle.char_sequence.proofs.Lists.{InOrder, MembersOf, same_in_order}
 use Rattle.char_sequence.proofs.TreeLaws.{before_asym}
 use Rattle.span_flatten.specs.Spans.{Shown, AreVisible}
-use Rattle.span_flatten.specs.Taken.{element_of, is_visible}
+use Rattle.span_flatten.specs.Taken.{AreDrawn, element_of, is_visible}
 use Rattle.span_flatten.proofs.Showing.{contains_at, at_contains, filter_from}
-use Rattle.version_laws.specs.Characters.{AreDrawn}
 use Rattle.version_laws.proofs.Inserted.{in_order_from_pairs, pairs_from_in_order}
-use Rattle.version_laws.proofs.DrawnKept.{drawn_parted, drawn_count}
 use Rattle.version_laws.proofs.Lists.{map_from, map_at}
 
 passes_first : (y x : Element) (zs : List Element) → y.visible ≡ true → ((j : ℕ) → slice_get zs j ≡ Some x → x.visible ≡ true) → (j : ℕ) → slice_get (y ∷ zs) j ≡ Some x → x.visible ≡ true
@@ -85,23 +83,3 @@ visible_drawn ops es shown shows v =
         let index = at_contains shown r.0 r.1 in
         let same : element_of r.0 ≡ x = same_elements (element_of r.0) x r.2 r.3 (sym visible) in
         (index.0, map_at element_of shown index.0 r.0 index.1 ∙ ap Some same)
-
--- ---- parts
-same_front : (a b c d : List Shown) → a ++ b ≡ c ++ d → length a ≡ length c → (a ≡ c) × (b ≡ d)
-same_front [] b [] d e size = (refl, e)
-same_front [] b (z ∷ c) d e size = absurd (omega arith)
-same_front (x ∷ a) b [] d e size = absurd (omega arith)
-same_front (x ∷ a) b (z ∷ c) d e size =
-    let tails : a ++ b ≡ c ++ d = cc in
-    let heads : x ≡ z = cc in
-    let r = same_front a b c d tails (omega arith) in
-    let first : a ≡ c = r.0 in
-    (cc, r.1)
-
--- Characters in two parts are those of elements in two parts, where as many are visible in the first part.
-pub drawn_split : (first second : List Element) (front back : List Shown) → AreDrawn (first ++ second) (front ++ back) → count_by is_visible first ≡ length front → AreDrawn first front × AreDrawn second back
-drawn_split first second front back drawn size =
-    let r = drawn_parted first second (front ++ back) drawn in
-    let count : length r.0 ≡ count_by is_visible first = drawn_count first r.0 r.1.2 in
-    let same = same_front front back r.0 r.1.0 r.1.1 (omega arith) in
-    (subst (λ l. AreDrawn first l) (sym same.0) r.1.2, subst (λ l. AreDrawn second l) (sym same.1) r.1.3)

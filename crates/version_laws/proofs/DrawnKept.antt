@@ -1,5 +1,5 @@
 -- The visible characters by the elements.
-use Rattle.std.proofs.Common.{◌≡◌, false, cond, List, [], ◌∷◌, ◌++◌, length, map, get_or, refl, sym, ap, ◌∙◌, All}
+use Rattle.std.proofs.Common.{◌≡◌, List, [], ◌∷◌, ◌++◌, length, map, get_or, refl, sym, ap, ◌∙◌, All}
 use Rattle.std.specs.List.{filter, Contains, count_by}
 use Rattle.std.proofs.lemmas.Option.{slice_get-get_or}
 use Rattle.std.proofs.lemmas.List.{map-append, length-map}
@@ -10,9 +10,8 @@ use Rattle.char_sequence.specs.declared.sequence.Element.{Element}
 use Rattle.char_sequence.specs.Order.{Shows}
 use Rattle.mark_anchors.specs.Format.{IsFormat}
 use Rattle.span_flatten.specs.Spans.{Shown, AreVisible}
-use Rattle.span_flatten.specs.Taken.{element_of, is_visible}
+use Rattle.span_flatten.specs.Taken.{AreDrawn, element_of, is_visible}
 use Rattle.span_flatten.proofs.Showing.{contains_at, shown_visible}
-use Rattle.version_laws.specs.Characters.{AreDrawn, SameCharacters}
 
 map_parted : {X Y : Type 0} (f : X → Y) (xs : List X) (ys zs : List Y) → map f xs ≡ ys ++ zs → (a : List X) × ((b : List X) × (xs ≡ a ++ b) × (map f a ≡ ys) × (map f b ≡ zs))
 map_parted f xs [] zs e = ([], (xs, refl, refl, e))
@@ -36,28 +35,6 @@ drawn_append first second front back one two =
 -- as many are shown as are visible
 pub drawn_count : (es : List Element) (shown : List Shown) → AreDrawn es shown → length shown ≡ count_by is_visible es
 drawn_count es shown drawn = sym (length-map shown element_of) ∙ ap length drawn ∙ length-filter is_visible es
-
--- an element that is shown
-pub drawn_one : (s : Shown) → AreDrawn (element_of s ∷ []) (s ∷ [])
-drawn_one s = refl
-
--- an element that is not
-pub drawn_hidden : (e : Element) → e.visible ≡ false → AreDrawn (e ∷ []) []
-drawn_hidden e hidden = sym (ap (λ b. cond b (e ∷ []) []) hidden)
-
--- A new element stands among the others as its character among the shown ones.
-pub drawn_insert : (first second : List Element) (front back : List Shown) (s : Shown) → AreDrawn first front → AreDrawn second back → AreDrawn (first ++ element_of s ∷ second) (front ++ s ∷ back)
-drawn_insert first second front back s one two =
-    drawn_append first (element_of s ∷ second) front (s ∷ back) one (drawn_append (element_of s ∷ []) second (s ∷ []) back (drawn_one s) two)
-
--- An element that is hidden changes nothing of what is shown.
-pub drawn_hide : (first second : List Element) (e : Element) (front back : List Shown) → e.visible ≡ false → AreDrawn first front → AreDrawn second back → AreDrawn (first ++ e ∷ second) (front ++ back)
-drawn_hide first second e front back hidden one two =
-    drawn_append first (e ∷ second) front back one (drawn_append (e ∷ []) second [] back (drawn_hidden e hidden) two)
-
--- Other formats leave which characters are shown.
-pub drawn_same : (es : List Element) (shown others : List Shown) → AreDrawn es shown → SameCharacters shown others → AreDrawn es others
-drawn_same es shown others drawn same = sym same ∙ drawn
 
 pub all_from_contains : {X : Type 0} (P : X → Type 0) (xs : List X) → ((x : X) → Contains xs x → P x) → All P xs
 all_from_contains P xs each k d h = each (get_or xs k d) (contains_at xs k (get_or xs k d) (slice_get-get_or xs k d h))

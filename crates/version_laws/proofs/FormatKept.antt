@@ -1,12 +1,11 @@
--- The format of a character that was there stays, but for the key of a mark over it.
-use Rattle.std.proofs.Common.{◌≡◌, ◌↔◌, ℕ, ◌<◌, ◌≤◌, ◌⊎◌, true, List, [], ◌∷◌, ◌++◌, Some, inl, inr, sym, ap, refl, ◌∙◌, subst, arith, ⊎_elim}
+-- The format of a character that was there stays where no operation touches it.
+use Rattle.std.proofs.Common.{◌≡◌, ◌↔◌, ℕ, ◌<◌, ◌≤◌, ◌⊎◌, true, List, [], ◌∷◌, ◌++◌, inl, inr, sym, refl, subst, arith, ⊎_elim}
 use Rattle.std.specs.List.{Contains}
 use Rattle.std.specs.List.Sorted.{IsStrictlyIncreasing}
 use Rattle.std.proofs.lemmas.Bool.{true≢false}
-use Rattle.std.proofs.lemmas.List.Elements.{Contains-append_left, Contains-push, Contains-push_cases}
+use Rattle.std.proofs.lemmas.List.Elements.{Contains-append_left, Contains-push_cases}
 use Rattle.change_ops.specs.declared.size.Size.{Size}
-use Rattle.change_ops.specs.Ids.{Less}
-use Rattle.change_ops.specs.Operations.{id_of, key_of, is_edit, AnchorNames, Names}
+use Rattle.change_ops.specs.Operations.{key_of, is_edit, AnchorNames, Names}
 use Rattle.change_ops.specs.declared.id.OpId.{OpId}
 use Rattle.change_ops.specs.declared.attribute.Key.{Key}
 use Rattle.change_ops.specs.declared.attribute.Attribute.{Attribute}
@@ -19,18 +18,15 @@ use Rattle.char_sequence.specs.declared.sequence.Element.{Element}
 use Rattle.char_sequence.specs.Tree.{Present, IsTree}
 use Rattle.char_sequence.specs.Order.{IsAt, Shows}
 use Rattle.char_sequence.specs.Acceptance.{Accepts}
-use Rattle.char_sequence.proofs.Ids.{less_irrefl, less_trans}
-use Rattle.char_sequence.proofs.Holding.{distinct_push}
 use Rattle.mark_anchors.specs.Anchors.{NotAfter, AtOrBefore}
-use Rattle.mark_anchors.specs.Format.{Touches, Decides, Bears, IsFormat, added}
+use Rattle.mark_anchors.specs.Format.{Touches, Decides, Bears, IsFormat}
 use Rattle.mark_anchors.specs.Formatting.{Format}
-use Rattle.mark_anchors.specs.Places.{IsOfKey, Lies}
+use Rattle.mark_anchors.specs.Places.{Lies}
 use Rattle.mark_anchors.proofs.FormatLaws.{touches_kept}
-use Rattle.mark_anchors.proofs.Deciding.{one_decides, place_from_touches, of_key_from_touches}
+use Rattle.mark_anchors.proofs.Deciding.{place_from_touches}
 use Rattle.version_laws.specs.Later.{Extends}
-use Rattle.version_laws.specs.Marked.{Holds, IsMarked}
+use Rattle.version_laws.specs.Marked.{Holds}
 use Rattle.version_laws.proofs.OrderKept.{before_same, extends_accepted}
-use Rattle.mark_places.proofs.KeyCases.{one_key, of_key_cases}
 
 -- ---- what a mark whose anchors name characters that were there covers
 not_after_back : (old new : List Op) → IsTree old → Extends old new → (x y : OpId) → Present old x → Present old y → NotAfter new x y → NotAfter old x y
@@ -139,10 +135,6 @@ module _ {size : Size} (ops : List Op) (es : List Element) (op : Op) (shows : Sh
       (λ (new : op ≡ o). absurd (not ((touches_pushed key).1 (subst (λ z. Touches (ops ++ op ∷ []) key e z) (sym new) touches))))
       (Contains-push_cases ops op o held)
 
-  -- What an attribute's key holds stays where the operation doesn't touch the character with that key.
-  pub bears_pushed : (b : Attribute) → (Touches ops (key_of b) e op → ⊥) → Bears ops e b ↔ Bears (ops ++ op ∷ []) e b
-  bears_pushed b not = bears_same ops (ops ++ op ∷ []) shows.tree shows.named (extends_accepted ops op a) pushed e at b (none_new (key_of b) not)
-
   -- A format stays where the operation doesn't touch the character.
   pub format_untouched : ((key : Key) → Touches ops key e op → ⊥) → (f : Format) → IsFormat ops e f ↔ IsFormat (ops ++ op ∷ []) e f
   format_untouched not = format_same ops (ops ++ op ∷ []) shows.tree shows.named (extends_accepted ops op a) pushed e at (λ key. none_new key (not key))
@@ -160,109 +152,3 @@ module _ {size : Size} (ops : List Op) (es : List Element) (op : Op) (shows : Sh
       let low : first ≤ place = within.0 in
       let high : place < last = within.1 in
       ⊎_elim (λ (u : place < first). absurd (omega arith)) (λ (u : last ≤ place). absurd (omega arith)) outside)
-
-  -- What another key holds stays.
-  pub bears_other : (b : Attribute) → (IsOfKey (key_of b) op → ⊥) → Bears ops e b ↔ Bears (ops ++ op ∷ []) e b
-  bears_other b not = bears_pushed b (λ touches. not (of_key_from_touches ops (key_of b) e op touches))
-
-  -- ---- its own key, where an operation with a greater id decides
-  module _ (key : Key) (d : Op) (decides : Decides ops key e d) (greater : Less (id_of op) (id_of d)) where
-    still_decides : Decides (ops ++ op ∷ []) key e d
-    still_decides = record {
-      held = pushed d decides.held;
-      touches = touches_kept ops (ops ++ op ∷ []) (extends_accepted ops op a).more key e d decides.touches;
-      greatest =
-          λ p held touches less.
-          ⊎_elim
-          (λ (old : Contains ops p).
-          decides.greatest p old (touches_back ops (ops ++ op ∷ []) shows.tree (extends_accepted ops op a) key e p (λ x. shows.named p x old) at touches) less)
-          (λ (new : op ≡ p). less_irrefl (id_of op) (less_trans (id_of op) (id_of d) (id_of op) greater (subst (λ z. Less (id_of d) (id_of z)) (sym new) less)))
-          (Contains-push_cases ops op p held);
-    }
-
-    -- What its key holds stays.
-    pub bears_beaten : (b : Attribute) → key_of b ≡ key → Bears ops e b ↔ Bears (ops ++ op ∷ []) e b
-    bears_beaten b of_key = (
-      λ was.
-          let one : was.0 ≡ d = one_decides ops shows.distinct key e was.0 d (subst (λ z. Decides ops z e was.0) of_key was.1) decides in
-          (d, subst (λ z. Decides (ops ++ op ∷ []) z e d) (sym of_key) still_decides, ap added (sym one) ∙ was.2),
-      λ now.
-          let one : now.0 ≡ d = one_decides (ops ++ op ∷ []) (distinct_push ops op a shows.distinct) key e now.0 d (subst (λ z. Decides (ops ++ op ∷ []) z e now.0) of_key now.1) still_decides in
-          (d, subst (λ z. Decides ops z e d) (sym of_key) decides, ap added (sym one) ∙ now.2),
-    )
-
-    bears_either : IsOfKey key op → (b : Attribute) → Bears ops e b ↔ Bears (ops ++ op ∷ []) e b
-    bears_either own b =
-        ⊎_elim
-        (λ (of_key : IsOfKey (key_of b) op). bears_beaten b (one_key op (key_of b) key of_key own))
-        (λ (not : IsOfKey (key_of b) op → ⊥). bears_other b not)
-        (of_key_cases op (key_of b))
-
-    -- The format stays.
-    pub format_beaten : IsOfKey key op → (f : Format) → IsFormat ops e f ↔ IsFormat (ops ++ op ∷ []) e f
-    format_beaten own f = (
-      format_moved ops (ops ++ op ∷ []) e f (λ b. (bears_either own b).0) (λ b. (bears_either own b).1),
-      format_moved (ops ++ op ∷ []) ops e f (λ b. (bears_either own b).1) (λ b. (bears_either own b).0),
-    )
-
-  -- ---- its own key, where it decides: no other that touches the character has a greater id
-  module _ (key : Key) (touches : Touches ops key e op) (greatest : (p : Op) → Contains ops p → Touches ops key e p → Less (id_of op) (id_of p) → ⊥) where
-    pub decides_pushed : Decides (ops ++ op ∷ []) key e op
-    decides_pushed = record {
-      held = Contains-push ops op;
-      touches = (touches_pushed key).0 touches;
-      greatest =
-          λ p held also less.
-          ⊎_elim
-          (λ (old : Contains ops p).
-          greatest p old (touches_back ops (ops ++ op ∷ []) shows.tree (extends_accepted ops op a) key e p (λ x. shows.named p x old) at also) less)
-          (λ (new : op ≡ p). less_irrefl (id_of op) (subst (λ z. Less (id_of op) (id_of z)) (sym new) less))
-          (Contains-push_cases ops op p held);
-    }
-
-    -- What its key holds is what it adds.
-    pub bears_decided : (b : Attribute) → key_of b ≡ key → Bears (ops ++ op ∷ []) e b ↔ (added op ≡ Some b)
-    bears_decided b of_key = (
-      λ now.
-          let one : now.0 ≡ op = one_decides (ops ++ op ∷ []) (distinct_push ops op a shows.distinct) key e now.0 op (subst (λ z. Decides (ops ++ op ∷ []) z e now.0) of_key now.1) decides_pushed in
-          ap added (sym one) ∙ now.2,
-      λ adds. (op, subst (λ z. Decides (ops ++ op ∷ []) z e op) (sym of_key) decides_pushed, adds),
-    )
-
-    own_key : IsOfKey key op
-    own_key = of_key_from_touches ops key e op touches
-
-    -- The format with what the operation says of its key is the new one.
-    pub format_marked : (f g : Format) → IsFormat ops e f → IsMarked op f g → IsFormat (ops ++ op ∷ []) e g
-    format_marked f g is marked =
-        format_from_holds (ops ++ op ∷ []) e g
-        (λ b.
-        ⊎_elim
-        (λ (of_key : IsOfKey (key_of b) op).
-        let bears = bears_decided b (one_key op (key_of b) key of_key own_key) in
-        let holds = marked.own b of_key in
-        (λ h. bears.1 (holds.0 h), λ n. holds.1 (bears.0 n)))
-        (λ (not : IsOfKey (key_of b) op → ⊥).
-        let bears = bears_other b not in
-        let holds = marked.others b not in
-        let was = format_holds ops e f is b in
-        (λ h. bears.0 (was.0 (holds.1 h)), λ n. holds.0 (was.1 (bears.1 n))))
-        (of_key_cases op (key_of b)))
-        marked.rising
-
-    -- The new format is the old one with what the operation says of its key.
-    pub marked_from_format : (f g : Format) → IsFormat ops e f → IsFormat (ops ++ op ∷ []) e g → IsMarked op f g
-    marked_from_format f g was is = record {
-      others =
-          λ b not.
-          let bears = bears_other b not in
-          let old = format_holds ops e f was b in
-          let new = format_holds (ops ++ op ∷ []) e g is b in
-          (λ h. new.1 (bears.0 (old.0 h)), λ h. old.1 (bears.1 (new.0 h)));
-      own =
-          λ b of_key.
-          let bears = bears_decided b (one_key op (key_of b) key of_key own_key) in
-          let new = format_holds (ops ++ op ∷ []) e g is b in
-          (λ h. bears.0 (new.0 h), λ n. new.1 (bears.1 n));
-      rising = is.rising;
-    }

@@ -4,16 +4,10 @@ pub mod FormatKept
 pub mod ChangeKept
 pub mod CutJoined
 pub mod Inserted
-pub mod VisibleKept
 pub mod DrawnKept
 pub mod DrawnBack
 pub mod WindowKept
 pub mod Counted
-pub mod Rows
-pub mod Replaced
-pub mod Blocks
-pub mod ReplacedByRows
-pub mod Room
 pub mod Rising
 pub mod Outside
 pub mod Ranging

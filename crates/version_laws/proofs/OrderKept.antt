@@ -34,9 +34,6 @@ extends_trans first second third h k = record {
   same = λ x p q i j. h.same x p q i (k.same x p q (h.more x p i) j);
 }
 
-pub present_later : (old new : List Op) → Extends old new → (x : OpId) → Present old x → Present new x
-present_later old new h x at = (at.0, h.more x at.0 at.1)
-
 -- ---- no path between two characters leads through a later one
 parent_there : (ops : List Op) → IsTree ops → (x : OpId) (p : Option OpId) → Inserts ops x p → (m : OpId) → p ≡ Some m → Present ops m
 parent_there ops t x p i m e =

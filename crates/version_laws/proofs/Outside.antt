@@ -1,9 +1,7 @@
 -- What operations leave of the elements outside the places that they touch.
-use Rattle.std.proofs.Common.{◌≡◌, ℕ, ◌+◌, ◌<◌, ◌≤◌, ◌⊎◌, Bool, true, false, List, ◌++◌, Option, Some, inl, inr, take, drop, refl, sym, ap, subst, ◌∙◌, arith, ⊎_elim}
-use Rattle.std.specs.List.{slice_get, slice_range, Contains}
+use Rattle.std.proofs.Common.{◌≡◌, ℕ, ◌<◌, ◌≤◌, ◌⊎◌, Bool, true, false, List, ◌++◌, Option, Some, refl, sym, ap, subst, ◌∙◌, arith, ⊎_elim}
+use Rattle.std.specs.List.{slice_get, Contains}
 use Rattle.std.proofs.lemmas.Bool.{cases_Bool}
-use Rattle.std.proofs.lemmas.List.{take-append-drop}
-use Rattle.std.proofs.lemmas.List.Folds.{drop_split}
 use Rattle.std.proofs.lemmas.List.Elements.{Contains-append_left, Contains-append_cases}
 use Rattle.change_ops.specs.declared.id.OpId.{OpId}
 use Rattle.change_ops.specs.declared.operation.Op.{Op}
@@ -13,18 +11,13 @@ use Rattle.char_sequence.specs.Tree.{Inserts, Removed}
 use Rattle.char_sequence.specs.Order.{Before, IsAt, Shows}
 use Rattle.char_sequence.proofs.TreeLaws.{before_asym, before_kept}
 use Rattle.mark_anchors.proofs.Places.{same_place}
-use Rattle.version_laws.specs.Touched.{StandsWithin, TouchesWithin, IsChangedWithin}
-pub use Rattle.version_laws.proofs.Rising.{get_drop, get_take}
-use Rattle.version_laws.proofs.Rising.{Has, Named, Rises, clash, has_cases, has_right, prefix, rises_across, rises_right, suffix}
+use Rattle.version_laws.specs.Touched.{StandsWithin}
+use Rattle.version_laws.proofs.Rising.{Has, Named, Rises}
 
 same_element : (a b : Element) → a.id ≡ b.id → a.character ≡ b.character → a.visible ≡ b.visible → a ≡ b
 same_element a b e f g =
     let mk : OpId → ℕ → Bool → Element = λ i c v. record { id = i; character = c; visible = v } in
     ap (λ i. mk i a.character a.visible) e ∙ ap (λ c. mk b.id c a.visible) f ∙ ap (λ v. mk b.id b.character v) g
-
--- the parts of a list at two places
-pub parted : (low high : ℕ) (xs : List Element) → low ≤ high → xs ≡ take low xs ++ (slice_range xs low high ++ drop high xs)
-parted low high xs le = sym (take-append-drop low xs) ∙ ap (λ l. take low xs ++ l) (drop_split xs low high le)
 
 -- one character stands before another
 abbrev pub Precedes : List Op → OpId → OpId → Type 0
@@ -96,38 +89,3 @@ module _ (ops added : List Op) (es later : List Element) (shows : Shows es ops) 
 
   pub rises_before : Rises (Precedes (ops ++ added)) es
   rises_before i j x y less g h = before_kept ops (ops ++ added) grows (Some x.id) y.id (shows.text.ordered i j x y less g h)
-
-module _ (ops added : List Op) (es later : List Element) (low high : ℕ) (shows : Shows es ops) (shown : Shows later (ops ++ added))
-    (touched : (o : Op) → Contains added o → TouchesWithin later low high o) where
-  -- an element outside was there
-  outside_there : (i : ℕ) (e : Element) → slice_get later i ≡ Some e → (i < low) ⊎ (high ≤ i) → Has es e
-  outside_there i e g out =
-      let none : StandsWithin later low high e.id → ⊥ = beside ops added es later shows shown low high e.id i (e, g, refl) out in
-      was_there ops added es later shows shown i e g (record {
-        fresh = λ p c held. none (touched (Insert e.id p c) held);
-        spared = λ r held. none (touched (Remove r e.id) held);
-      })
-
-  -- The elements before the places that the operations touch, and those behind them, are those that were there.
-  pub kept_outside : low ≤ high → IsChangedWithin es later low high
-  kept_outside le =
-      let first : List Element = take low later in
-      let changed : List Element = slice_range later low high in
-      let last : List Element = drop high later in
-      let whole : later ≡ first ++ (changed ++ last) = parted low high later le in
-      let R : OpId → OpId → Type 0 = Precedes (ops ++ added) in
-      let asym : (a b : OpId) → R a b → R b a → ⊥ = one_way ops added es later shows shown in
-      let now : Rises R (first ++ (changed ++ last)) = subst (Rises R) whole (rises_now ops added es later shows shown) in
-      let was : Rises R es = rises_before ops added es later shows shown in
-      let front = prefix R asym first (changed ++ last) es now was
-      (λ x h. subst (λ l. Named l x) whole (stays ops added es later shows shown x h))
-      (λ f h. let at = get_take low later h.0 f h.1 in outside_there h.0 f at.1 (inl at.0)) in
-      let tail : List Element = front.0 in
-      let split : es ≡ first ++ tail = front.1.0 in
-      let back = suffix R asym changed last tail (rises_right R asym first (changed ++ last) now) (rises_right R asym first tail (subst (Rises R) split was)) front.1.1
-      (λ l h.
-      ⊎_elim
-      (λ (u : Has first l). absurd (clash R asym l.id l.id refl (rises_across R asym first (changed ++ last) now l l u (has_right changed last l h))))
-      (λ (u : Has tail l). u)
-      (has_cases first tail l (subst (λ z. Has z l) split (outside_there (high + h.0) l (sym (get_drop high later h.0) ∙ h.1) (inr (omega arith)))))) in
-      record { middle = back.0; were = split ∙ ap (λ l. first ++ l) back.1 }

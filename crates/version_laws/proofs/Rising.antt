@@ -2,7 +2,6 @@
 use Rattle.std.proofs.Common.{◌≡◌, ℕ, zero, suc, ◌+◌, ◌<◌, ◌⊎◌, List, [], ◌∷◌, ◌++◌, Some, inl, inr, length, take, drop, refl, sym, ap, subst, ◌∙◌, arith, ⊎_elim}
 use Rattle.std.specs.List.{slice_get}
 use Rattle.std.proofs.lemmas.Option.{same_Some, none-some, slice_get_within}
-use Rattle.std.proofs.lemmas.List.{append-nil}
 use Rattle.change_ops.specs.declared.id.OpId.{OpId}
 use Rattle.char_sequence.specs.declared.sequence.Element.{Element}
 use Rattle.char_sequence.proofs.Lists.{InOrder}
@@ -25,11 +24,6 @@ has_cases (x ∷ xs) ys z (suc i, g) =
     (λ (h : Has xs z). inl (suc h.0, h.1))
     (λ (h : Has ys z). inr h)
     (has_cases xs ys z (i, g))
-
-has_split : (xs : List Element) (x : Element) → Has xs x → (a : List Element) × ((b : List Element) × (xs ≡ a ++ x ∷ b))
-has_split [] x (i, g) = absurd (none-some x g)
-has_split (y ∷ ys) x (zero, g) = ([], (ys, ap (λ z. z ∷ ys) (same_Some y x g)))
-has_split (y ∷ ys) x (suc i, g) = let r = has_split ys x (i, g) in (y ∷ r.0, (r.1.0, ap (λ l. y ∷ l) r.1.1))
 
 pub get_drop : (n : ℕ) (xs : List Element) (i : ℕ) → slice_get (drop n xs) i ≡ slice_get xs (n + i)
 get_drop zero xs i = let same : i ≡ zero + i = omega arith in ap (slice_get xs) same
@@ -121,56 +115,6 @@ module _ (R : OpId → OpId → Type 0) (asym : (a b : OpId) → R a b → R b a
           no : Named (f ∷ (first ++ rest)) x → ⊥
           no (y, (zero, h), e) = clash x.id f.id (sym (ap (λ w. w.id) (same_Some f y h) ∙ e)) before
           no (y, (suc j, h), e) = asym x.id f.id before (subst (λ z. R f.id z) e (rises_head f (first ++ rest) o y (j, h)))
-
-  -- and so are its last ones the last ones
-  pub suffix : (changed last xs : List Element) → Rises R (changed ++ last) → Rises R xs → ((x : Element) → Has xs x → Named (changed ++ last) x) → ((l : Element) → Has last l → Has xs l)
-      → (middle : List Element) × (xs ≡ middle ++ last)
-  suffix changed [] xs o p named held = (xs, sym (append-nil xs))
-  suffix changed (l ∷ last) xs o p named held = from (has_split xs l (held l (zero, refl)))
-    where
-      after : Rises R (l ∷ last)
-      after = rises_right changed (l ∷ last) o
-
-      from : (a : List Element) × ((b : List Element) × (xs ≡ a ++ l ∷ b)) → (middle : List Element) × (xs ≡ middle ++ l ∷ last)
-      from (a, (b, whole)) = done (prefix last [] b (subst (Rises R) (sym (append-nil last)) (rises_tail l last after)) (rises_tail l b behind) name hold)
-        where
-          order : Rises R (a ++ l ∷ b)
-          order = subst (Rises R) whole p
-
-          behind : Rises R (l ∷ b)
-          behind = rises_right a (l ∷ b) order
-
-          name : (x : Element) → Has b x → Named (last ++ []) x
-          name x at = told (named x (subst (λ l. Has l x) (sym whole) (has_right a (l ∷ b) x (suc at.0, at.1))))
-            where
-              later : R l.id x.id
-              later = rises_head l b behind x at
-
-              told : Named (changed ++ l ∷ last) x → Named (last ++ []) x
-              told (y, h, e) =
-                  ⊎_elim
-                  (λ (u : Has changed y). absurd (asym l.id x.id later (subst (λ z. R z l.id) e (rises_across changed (l ∷ last) o y l u (zero, refl)))))
-                  (λ (u : Has (l ∷ last) y). here u)
-                  (has_cases changed (l ∷ last) y h)
-                where
-                  here : Has (l ∷ last) y → Named (last ++ []) x
-                  here (zero, g) = absurd (clash l.id x.id (ap (λ w. w.id) (same_Some l y g) ∙ e) later)
-                  here (suc j, g) = (y, has_left last [] y (j, g), e)
-
-          hold : (z : Element) → Has last z → Has b z
-          hold z at =
-              ⊎_elim
-              (λ (u : Has a z). absurd (asym l.id z.id (rises_head l last after z at) (rises_across a (l ∷ b) order z l u (zero, refl))))
-              (λ (u : Has (l ∷ b) z). there u)
-              (has_cases a (l ∷ b) z (subst (λ l. Has l z) whole (held z (suc at.0, at.1))))
-            where
-              there : Has (l ∷ b) z → Has b z
-              there (zero, g) = absurd (clash l.id z.id (ap (λ w. w.id) (same_Some l z g)) (rises_head l last after z at))
-              there (suc j, g) = (j, g)
-
-          done : (tail : List Element) × ((b ≡ last ++ tail) × ((x : Element) → Has tail x → Named [] x)) → (middle : List Element) × (xs ≡ middle ++ l ∷ last)
-          done ([], (e, none)) = (a, whole ∙ ap (λ t. a ++ l ∷ t) (e ∙ append-nil last))
-          done (t ∷ tail, (e, none)) = let r = none t (zero, refl) in absurd (none-some r.0 r.1.1)
 
   -- a list falls into what the first part of another one has, and what its rest has
   pub divided : (changed rest xs : List Element) → Rises R (changed ++ rest) → Rises R xs → ((x : Element) → Has xs x → Named (changed ++ rest) x) → IsDivided changed rest xs

@@ -1,5 +1,5 @@
--- Which places of a text an operation touches, and a text that changed between two places alone.
-use Rattle.std.specs.Prelude.{◌≡◌, ℕ, ◌<◌, ◌≤◌, ◌⊎◌, List, ◌++◌, take, drop}
+-- Which places of a text an operation touches.
+use Rattle.std.specs.Prelude.{ℕ, ◌<◌, ◌≤◌, ◌⊎◌, List}
 use Rattle.change_ops.specs.declared.id.OpId.{OpId}
 use Rattle.change_ops.specs.declared.operation.Op.{Op}
 use Rattle.change_ops.specs.declared.operation.Op.TheVariants.{Insert, Remove, AddMark, RemoveMark}
@@ -24,8 +24,3 @@ TouchesWithin es low high (Remove id target) = StandsWithin es low high target
 TouchesWithin es low high (AddMark id attribute start end) =
     CoversWithin es low high (AddMark id attribute start end)
 TouchesWithin es low high (RemoveMark id key start end) = CoversWithin es low high (RemoveMark id key start end)
-
--- the old elements are the new ones up to `low`, some others, and the new ones from `high` on
-pub record IsChangedWithin (old new : List Element) (low high : ℕ) : Type 0 where
-  pub middle : List Element
-  pub were : old ≡ take low new ++ (middle ++ drop high new)

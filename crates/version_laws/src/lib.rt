@@ -19,7 +19,6 @@ ghost use Rattle.mark_places.specs.declared.range.PlaceRange.{PlaceRange};
 ghost use Rattle.span_flatten.specs.Spans.{Shown, Span, Cuts};
 ghost use Rattle.version_laws.specs.Joints.{Apart};
 ghost use Rattle.version_laws.specs.Ranges.{AreChangedWithin, TouchesOneOf};
-ghost use Rattle.version_laws.specs.Touched.{IsChangedWithin, TouchesWithin};
 
 /// Of two characters that were there, one stands before the other exactly if it did.
 pub fn order_stays()
@@ -47,13 +46,6 @@ pub fn window_keeps_spans()
         → Cuts front before → Cuts middle within → Cuts back after
         → Apart before (within ++ after) → Apart within after
         → Cuts (front ++ (middle ++ back)) (before ++ (within ++ after)) }
-{}
-
-/// Operations leave the elements outside the places that they touch.
-pub fn changes_keep_outside()
-    ensures { (ops added : List Op) (es later : List Element) (low high : ℕ) → Shows es ops → Shows later (ops ++ added)
-        → ((o : Op) → Contains added o → TouchesWithin later low high o) → low ≤ high
-        → IsChangedWithin es later low high }
 {}
 
 /// Operations that touch places of several ranges alone leave the elements before each range, and behind the last one.

@@ -5,8 +5,8 @@ use Rattle.change_ops.specs.declared.operation.Op.{Op}
 use Rattle.char_sequence.specs.declared.sequence.Element.{Element}
 use Rattle.mark_places.specs.declared.range.PlaceRange.{PlaceRange}
 use Rattle.span_flatten.specs.Window.{Window, IsFlattened}
-use Rattle.version_blocks.specs.Replacements.{AreReplacements}
-use Rattle.version_blocks.specs.declared.replacement.Replacement.{Replacement}
+use Rattle.version_glyphs.specs.Replacements.{AreReplacements}
+use Rattle.version_glyphs.specs.declared.replacement.Replacement.{Replacement}
 
 module _ (old new : List Element) where
   pub replaced_more : (marks : List Op) (os ns : List PlaceRange) (rs : List Replacement) (o n : PlaceRange) (r : Replacement)

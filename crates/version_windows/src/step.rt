@@ -12,21 +12,21 @@ use char_sequence::sequence::Sequence;
 use mark_anchors::marks::Marks;
 use mark_places::places::MarkPlaces;
 use std::alloc::{AllocError, Global};
-use version_blocks::laws::windows_are_version;
-use version_blocks::version::BlockVersion;
+use version_pieces::laws::windows_are_version;
+use version_pieces::version::PieceVersion;
 
 /// The version after a change, from the one before it: what the change touches is laid out anew, each range of places
-/// alone, and the blocks that it doesn't touch are shared.
+/// alone, and the pieces that it doesn't touch are shared.
 pub fn next_version(
     alloc: Global,
-    previous: &BlockVersion,
+    previous: &PieceVersion,
     before: &Sequence,
     sequence: &Sequence,
     marks: &Marks,
     places: &MarkPlaces,
     lines: &[Line],
     number: u64,
-) -> Result<BlockVersion, AllocError>
+) -> Result<PieceVersion, AllocError>
     requires step { (ops : List Op)
         × IsStep ops previous.now before.now.elements sequence.now.elements marks.now lines.now }
     requires places { AreMarkPlaces sequence.now.elements marks.now places.now }

@@ -6,7 +6,7 @@ ghost use Rattle.mark_anchors.specs.Marks.{AreMarks};
 ghost use Rattle.mark_places.specs.PlaceRanges.{AreApart};
 ghost use Rattle.mark_places.specs.Places.{AreMarkPlaces};
 ghost use Rattle.mark_places.specs.declared.range.PlaceRange.{PlaceRange as TheRange};
-ghost use Rattle.version_blocks.specs.Replacements.{AreReplacements};
+ghost use Rattle.version_glyphs.specs.Replacements.{AreReplacements};
 ghost use Rattle.version_laws.specs.Ranges.{AreChangedWithin, AreGapped};
 ghost use Rattle.version_windows.specs.Places.{IsSamePlace};
 
@@ -19,7 +19,7 @@ use mark_places::places::MarkPlaces;
 use mark_places::range::PlaceRange;
 use span_flatten::flatten::flatten_window;
 use std::alloc::{AllocError, Global};
-use version_blocks::replacement::Replacement;
+use version_glyphs::replacement::Replacement;
 
 /// Where in the old text the character stands that stands at a place of the new one; the end, where there is none.
 fn place_before(before: &Sequence, sequence: &Sequence, place: usize) -> usize

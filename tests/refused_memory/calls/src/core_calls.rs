@@ -22,7 +22,7 @@ use std::marker::Brand;
 use std::sync::Wait;
 use std::thread::Threads;
 use verifier::verify::Verified;
-use version_blocks::version::BlockVersion;
+use version_pieces::version::PieceVersion;
 use version_history::published::{Naming, ProgramToken, Published};
 
 /// Makes a call of a core, or on a job of one.
@@ -34,7 +34,7 @@ pub fn play<R: Print + Threads + Wait + Sync>(stage: &Stage<'_, R>) -> Result<bo
 
 fn on_lists<N: Naming, R: Print + Threads + Wait + Sync>(
     stage: &Stage<'_, R>,
-    versions: &boxcar::Vec<BlockVersion>,
+    versions: &boxcar::Vec<PieceVersion>,
     programs: &boxcar::Vec<Verified>,
 ) -> Result<bool, Fault>
     requires named { (Small ≡ N.size) × (versions.now ≡ N.versions) × (programs.now ≡ N.programs) }

@@ -9,7 +9,7 @@ use span_context::profile::Profile;
 use std::alloc::{AllocError, Global};
 use std::sync::Wait;
 use verifier::verify::{Verified, verify};
-use version_blocks::version::BlockVersion;
+use version_pieces::version::PieceVersion;
 use version_history::published::{Naming, ProgramToken, Published};
 
 /// The first change of each scene.
@@ -29,7 +29,7 @@ pub const ROOM: usize = 64;
 #[derive(Drop)]
 pub struct Board<'p, N: Naming> {
     pub published: Published<'p, N>,
-    pub versions: &'p boxcar::Vec<BlockVersion>,
+    pub versions: &'p boxcar::Vec<PieceVersion>,
     pub programs: &'p boxcar::Vec<Verified>,
 }
 

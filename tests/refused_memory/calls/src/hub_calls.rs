@@ -20,7 +20,7 @@ use std::sync::ledger::{Blank, Ledger};
 use std::thread::Threads;
 use subscriber_queues::ends::{Subscription, queue};
 use verifier::verify::Verified;
-use version_blocks::version::BlockVersion;
+use version_pieces::version::PieceVersion;
 use version_history::published::{Naming, Published};
 
 /// A hub with what its callers hold.
@@ -43,7 +43,7 @@ pub fn play<R: Print + Threads + Wait + Copy + Sync>(stage: &Stage<'_, R>) -> Re
 fn on_lists<N: Naming + Ledger, R: Print + Threads + Wait + Copy + Sync>(
     stage: &Stage<'_, R>,
     blank: Blank,
-    versions: &boxcar::Vec<BlockVersion>,
+    versions: &boxcar::Vec<PieceVersion>,
     programs: &boxcar::Vec<Verified>,
 ) -> Result<bool, Fault>
     requires named { (Small ≡ N.size) × (versions.now ≡ N.versions) × (programs.now ≡ N.programs) }

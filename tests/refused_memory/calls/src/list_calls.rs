@@ -14,7 +14,7 @@ use std::marker::Brand;
 use std::sync::Wait;
 use subscriber_queues::ends::{QueueError, QueueSink, Subscription, queue};
 use verifier::verify::Verified;
-use version_blocks::version::BlockVersion;
+use version_pieces::version::PieceVersion;
 use version_history::published::{Naming, Published};
 
 /// Makes a call on a hub's lists, or one that begins a core or a queue.
@@ -26,7 +26,7 @@ pub fn play<R: Print + Wait + Copy>(stage: &Stage<'_, R>) -> Result<bool, Fault>
 
 fn on_lists<N: Naming, R: Print + Wait + Copy>(
     stage: &Stage<'_, R>,
-    versions: &boxcar::Vec<BlockVersion>,
+    versions: &boxcar::Vec<PieceVersion>,
     programs: &boxcar::Vec<Verified>,
 ) -> Result<bool, Fault>
     requires named { (Small ≡ N.size) × (versions.now ≡ N.versions) × (programs.now ≡ N.programs) }
@@ -53,7 +53,7 @@ fn state<N: Naming>(alloc: Global, board: &Board<'_, N>) -> Result<String, Alloc
     )
 }
 
-fn new_version(alloc: Global) -> Result<BlockVersion, Fault> {
+fn new_version(alloc: Global) -> Result<PieceVersion, Fault> {
     let mut history = History::new(alloc, Size::Small);
     let change = change_of(alloc, FIRST).ok_or(Fault::Scene)?;
     history.accept(change).ok().ok_or(Fault::Scene)?;
@@ -80,8 +80,8 @@ fn version_published<N: Naming, R: Print + Wait>(
 fn publish_once<N: Naming, R: Print + Wait>(
     stage: &Stage<'_, R>,
     board: &Board<'_, N>,
-    version: BlockVersion,
-) -> Result<Option<BlockVersion>, Fault> {
+    version: PieceVersion,
+) -> Result<Option<PieceVersion>, Fault> {
     let before = state(stage.alloc, board)?;
     stage.begin()?;
     let outcome = board.published.publish(stage.rt, version);

@@ -2,10 +2,10 @@ use change_ops::change::{Change, read_change};
 use change_ops::writing::write_change;
 use feeds::item::{Finding, Item};
 use mark_anchors::format::Format;
-use span_view::view::spans;
+use span_view::view::view;
 use std::alloc::{AllocError, Global};
 use verifier::verify::Verified;
-use version_blocks::version::BlockVersion;
+use version_pieces::version::PieceVersion;
 use version_history::published::Naming;
 
 /// The change that a text is of.
@@ -40,9 +40,13 @@ fn push_format(alloc: Global, text: &mut String, format: &Format) -> Result<(), 
 }
 
 /// A version's number, and its spans.
-pub fn version_text(alloc: Global, version: &BlockVersion) -> Result<String, AllocError> {
+pub fn version_text(alloc: Global, version: &PieceVersion) -> Result<String, AllocError> {
     let mut text = format!(in alloc; "version {}:", version.number())?;
-    for span in spans(version) {
+    let mut buffer = String::new(alloc);
+    for index in 0..version.span_count() {
+        let Some(span) = view(version, index, &mut buffer)? else {
+            break;
+        };
         text.push_str(" (")?;
         push_format(alloc, &mut text, span.format)?;
         text.push_str(span.text)?;

@@ -1,4 +1,4 @@
-use Rattle.std.proofs.Common.{◌≡◌, ◌≤◌, ◌++◌, ℕ, List, length, sym, ap, subst, ◌∙◌}
+use Rattle.std.proofs.Common.{◌≡◌, ◌≤◌, ◌++◌, ℕ, List, All, length, sym, ap, subst, ◌∙◌}
 use Rattle.std.specs.List.{Contains}
 use Rattle.std.proofs.lemmas.List.Elements.{Contains-append_right}
 use Rattle.change_ops.specs.Lines.{ops_of_lines}
@@ -6,13 +6,13 @@ use Rattle.change_ops.specs.declared.operation.Op.{Op}
 use Rattle.char_sequence.specs.declared.sequence.Element.{Element}
 use Rattle.mark_places.specs.PlaceRanges.{AreApart}
 use Rattle.mark_places.specs.declared.range.PlaceRange.{PlaceRange}
-use Rattle.version_blocks.specs.declared.replacement.Replacement.{Replacement}
+use Rattle.version_glyphs.specs.declared.replacement.Replacement.{Replacement}
 use Rattle.span_flatten.specs.Spans.{Span}
 use Rattle.span_flatten.specs.Version.{IsVersion, spans_of}
-use Rattle.version_blocks.specs.Glyphs.{glyphs, text_of}
-use Rattle.version_blocks.specs.Replacements.{AreInOrder, put_all}
+use Rattle.version_glyphs.specs.Glyphs.{glyphs, text_of}
+use Rattle.version_glyphs.specs.Replacements.{AreInOrder, HasMaximalSpans, put_all}
 use Rattle.version_laws.specs.Ranges.{AreGapped, TouchesOneOf}
-use Rattle.version_blocks.proofs.WindowsMet.{windows_in_order, text_put}
+use Rattle.version_glyphs.proofs.WindowsMet.{windows_in_order, windows_maximal, text_put}
 use Rattle.version_laws.proofs.Ranging.{kept_between}
 use Rattle.version_windows.proofs.step.next_version.Goals as goal
 
@@ -73,6 +73,7 @@ with_windows-requires c =
     let text = text_put ops added old es changed.0 read windows c.args.marks.now step.shows_before step.accepted step.shows step.marks apart touched changed.1 are now c.keeps.ensures.maximal step.version.1.spans in
     record {
       order = subst (λ (l : List Replacement). AreInOrder l 0 (length (glyphs now))) (sym c.as_slice.ensures.value) order;
+      windows = subst (All HasMaximalSpans) (sym c.as_slice.ensures.value) (windows_maximal old es c.args.marks.now changed.0 read windows are);
       short =
           subst (λ (l : List Replacement). length (text_of (put_all l (glyphs now))) ≤ 131072) (sym c.as_slice.ensures.value)
           (subst (λ (t : List ℕ). length t ≤ 131072) (sym text) c.len-count.ensures.bytes);

@@ -4,8 +4,8 @@ use Rattle.change_ops.specs.declared.operation.Op.{Op}
 use Rattle.char_sequence.specs.declared.sequence.Element.{Element}
 use Rattle.mark_places.specs.PlaceRanges.{AreApart}
 use Rattle.mark_places.specs.declared.range.PlaceRange.{PlaceRange}
-use Rattle.version_blocks.specs.Replacements.{AreReplacements}
-use Rattle.version_blocks.specs.declared.replacement.Replacement.{Replacement}
+use Rattle.version_glyphs.specs.Replacements.{AreReplacements}
+use Rattle.version_glyphs.specs.declared.replacement.Replacement.{Replacement}
 use Rattle.version_laws.proofs.Ranging.{within_apart}
 use Rattle.version_laws.specs.Ranges.{AreChangedWithin, AreGapped}
 use Rattle.version_windows.proofs.Changing.{next_range, none_left, left_apart, left_gapped}

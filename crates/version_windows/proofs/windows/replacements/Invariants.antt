@@ -1,7 +1,7 @@
 use Rattle.std.proofs.Common.{ℕ, List, length, take, drop}
 use Rattle.mark_places.specs.PlaceRanges.{AreApart}
 use Rattle.mark_places.specs.declared.range.PlaceRange.{PlaceRange}
-use Rattle.version_blocks.specs.Replacements.{AreReplacements}
+use Rattle.version_glyphs.specs.Replacements.{AreReplacements}
 use Rattle.version_laws.specs.Ranges.{AreChangedWithin, AreGapped}
 use Rattle.version_windows.proofs.windows.replacements.Given as goal
 

@@ -9,8 +9,8 @@ use Rattle.mark_places.specs.Chosen.{AreChosen}
 use Rattle.mark_places.specs.PlaceRanges.{AreApart}
 use Rattle.mark_places.specs.Places.{AreMarkPlaces}
 use Rattle.mark_places.specs.declared.range.PlaceRange.{PlaceRange}
-use Rattle.version_blocks.specs.Replacements.{AreReplacements}
-use Rattle.version_blocks.specs.declared.replacement.Replacement.{Replacement}
+use Rattle.version_glyphs.specs.Replacements.{AreReplacements}
+use Rattle.version_glyphs.specs.declared.replacement.Replacement.{Replacement}
 use Rattle.version_laws.specs.Ranges.{AreChangedWithin}
 use Rattle.version_windows.proofs.Choosing.{flattened_by_all}
 use Rattle.version_windows.proofs.Replaced.{replaced_by_all}

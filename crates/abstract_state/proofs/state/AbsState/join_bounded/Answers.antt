@@ -1,26 +1,28 @@
-use Rattle.std.proofs.Common.{◌≡◌, min, ap, ◌∙◌}
-use Rattle.abstract_state.specs.declared.bounds.Bounds.{Bounds}
+use Rattle.std.proofs.Common.{◌≡◌, min}
+use Rattle.abstract_state.specs.declared.region.Region.{Region}
 use Rattle.abstract_state.specs.Lent.{bound_of}
-use Rattle.abstract_state.proofs.BoundTails.{register_joins, slot_joins, either_is}
+use Rattle.abstract_state.proofs.Regions.{each}
 use Rattle.abstract_state.proofs.state.AbsState.join_bounded.Goals as goal
 
 pub returns-clause-left : goal.returns-clause-left
-returns-clause-left c = λ lengths s a. c.take_in.ensures.left lengths s (c.bounded.ensures.contains lengths s a)
+returns-clause-left c = λ lengths s a. record {
+  eleven = a.eleven;
+  long = a.long;
+  bounds = c.join-self.ensures.left lengths a.bounds;
+  registers = λ i h. c.join_bounded_registers.ensures.left i lengths _ a.bounds h (a.registers i h);
+  stack = λ i h. c.join_bounded_slots.ensures.left i lengths _ a.bounds h (a.stack i h);
+}
 
 pub returns-clause-right : goal.returns-clause-right
-returns-clause-right c = λ lengths s b. c.take_in.ensures.right lengths s (c.bounded-other.ensures.contains lengths s b)
-
-pub returns-clause-kinds : goal.returns-clause-kinds
-returns-clause-kinds c = λ i less. register_joins _ _ _ _ _ (c.bounded.ensures.registers i less) (c.bounded-other.ensures.registers i less) (c.take_in.ensures.kinds i less)
-
-pub returns-clause-slots : goal.returns-clause-slots
-returns-clause-slots c = λ i less. slot_joins _ _ _ _ _ (c.bounded.ensures.slots i less) (c.bounded-other.ensures.slots i less) (c.take_in.ensures.slots i less)
+returns-clause-right c = λ lengths s b. record {
+  eleven = b.eleven;
+  long = b.long;
+  bounds = c.join-self.ensures.right lengths b.bounds;
+  registers = λ i h. c.join_bounded_registers.ensures.right i lengths _ b.bounds h (b.registers i h);
+  stack = λ i h. c.join_bounded_slots.ensures.right i lengths _ b.bounds h (b.stack i h);
+}
 
 pub returns-clause-bounds : goal.returns-clause-bounds
-returns-clause-bounds c = λ region.
-    c.take_in.ensures.bounds region
-    ∙ ap (λ (b : Bounds). min (bound_of b region) (bound_of c.bounded-other.result.bounds region)) c.bounded.ensures.bounds
-    ∙ ap (λ (b : Bounds). min (bound_of c.args.self.now.bounds region) (bound_of b region)) c.bounded-other.ensures.bounds
-
-pub returns-clause-rule : goal.returns-clause-rule
-returns-clause-rule c = either_is _ _ _ _ _ c.bounded.ensures.rule c.bounded-other.ensures.rule c.take_in.ensures.rule
+returns-clause-bounds c = each
+    (λ (r : Region). bound_of c.join-self.result r ≡ min (bound_of c.args.self.now.bounds r) (bound_of c.args.other.now.bounds r))
+    c.join-self.ensures.text c.join-self.ensures.link

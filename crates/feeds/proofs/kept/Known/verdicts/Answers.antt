@@ -1,5 +1,4 @@
-use Rattle.std.proofs.Common.{rules, ◌≡◌, ◌+◌, ◌-◌, ◌≤◌, ◌++◌, ◌∙◌, IfOk, ℕ, List, length, take, drop, sym, ap, subst, arith, vec_len}
-use Rattle.feeds.specs.Verdicts.{verdicts_of}
+use Rattle.std.proofs.Common.{rules, ◌≡◌, ◌+◌, ◌-◌, ◌++◌, ◌∙◌, IfOk, ℕ, List, length, take, drop, ap, subst, arith, vec_len}
 use Rattle.feeds.proofs.Reuse.{counted, reused_of}
 use Rattle.feeds.proofs.kept.Known.verdicts.Goals as goal
 

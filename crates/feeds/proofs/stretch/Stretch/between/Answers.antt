@@ -1,4 +1,4 @@
-use Rattle.std.proofs.Common.{rules, ◌≤◌, ◌∙◌, sym, ap, arith}
+use Rattle.std.proofs.Common.{rules, ◌≤◌, ◌∙◌, sym, ap}
 use Rattle.span_flatten.specs.Version.{Version}
 use Rattle.version_history.specs.Tokens.{Token}
 use Rattle.feeds.proofs.Reuse.{stretch_of}

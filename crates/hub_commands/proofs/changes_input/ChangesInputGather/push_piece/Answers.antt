@@ -11,6 +11,6 @@ returns c =
     let P : List ℕ → Type 0 = λ l. Holds self.history.size (input ++ piece) self.history.changes l self.fault in
     step size (input ++ piece) (record {
       of = kept.of;
-      front = c.in_ok-keep_front.ensures input kept.front;
+      front = c.in_ok-keep.ensures input kept.front;
       held = subst P (sym c.in_ok-append.ensures) (pushed self.history.size input self.left.items piece self.history.changes self.fault kept.held);
     }))

@@ -12,5 +12,5 @@ returns-then-self c = λ digits kept.
 
 pub returns : goal.returns
 returns c =
-    bytes_found (λ bytes. bytes.items) c.args.self.now c.deref.result.now c.decode_hex.result c.deref.ensures.value c.decode_hex.ensures c.if-self.false
+    bytes_found (λ bytes. bytes.items) c.args.self.now c.deref.result.now c.decode.result c.deref.ensures.value c.decode.ensures c.if-self.false
     c.if-not-self.false

@@ -1,8 +1,12 @@
-use Rattle.std.proofs.Common.{◌+◌, refl, ◌<◌, ◌≤◌, get_or, length, sym, ap, ◌∙◌, arith}
+use Rattle.std.proofs.Common.{◌≡◌, ℕ, ◌+◌, ◌^◌, ◌<◌, ◌≤◌, Some, get_or, length, ap, ◌∙◌, arith}
 use Rattle.std.specs.List.{slice_get}
-use Rattle.mark_anchors.proofs.Lists.{read_at}
+use Rattle.std.specs.Option.{option_map}
+use Rattle.std.proofs.lemmas.Option.{slice_get-map}
 use Rattle.mark_places.specs.Blocks.{named}
-use Rattle.mark_places.proofs.Blocks.{ranked_size, ranked_read, starts_low, ends_low}
+use Rattle.mark_places.specs.Ranks.{raised, mark_raised, placed, IsBelow}
+use Rattle.mark_places.specs.declared.ranked.RankedMark.{RankedMark}
+use Rattle.mark_places.proofs.Raising.{all_read}
+use Rattle.mark_places.proofs.Blocks.{ranked_size, block_read, starts_low, ends_low}
 use Rattle.mark_places.proofs.block.PlaceBlock.mark.Goals as goal
 
 pub index-name-requires : goal.index-name-requires
@@ -23,8 +27,8 @@ index-requires-2 c =
     let size = ranked_size b.offset b.names.items b.starts.items b.ends.items c.self.invariant.starts_sized c.self.invariant.ends_sized in
     omega (arith, size, ap length c.self.view_is, c.self.invariant.ends_sized)
 
-pub overflow_add-result : goal.overflow_add-result
-overflow_add-result c =
+pub overflow_add-start : goal.overflow_add-start
+overflow_add-start c =
     let b = c.self.inside in
     let i = c.args.at in
     let s = c.index.result.now in
@@ -35,8 +39,8 @@ overflow_add-result c =
     let is = c.index.ensures in
     omega (arith, low, below, is)
 
-pub overflow_add-result-2 : goal.overflow_add-result-2
-overflow_add-result-2 c =
+pub overflow_add-end : goal.overflow_add-end
+overflow_add-end c =
     let b = c.self.inside in
     let i = c.args.at in
     let e = c.index-2.result.now in
@@ -47,20 +51,32 @@ overflow_add-result-2 c =
     let is = c.index-2.ensures in
     omega (arith, low, below, is)
 
+pub raised-requires : goal.raised-requires
+raised-requires c =
+    let b = c.self.inside in
+    let i = c.args.at in
+    let below = all_read (λ m. IsBelow (2 ^ 31) (mark_raised c.args.shift.from c.args.shift.by m)) c.args.self.now i _ c.requires.below
+    (block_read b.offset b.least b.greatest b.names.items b.starts.items b.ends.items i _ _ _ c.args.self.now c.self.invariant c.self.view_is c.requires.within c.index-name.ensures c.index.ensures c.index-2.ensures) in
+    omega (arith, below.0)
+
+pub raised-requires-2 : goal.raised-requires-2
+raised-requires-2 c =
+    let b = c.self.inside in
+    let i = c.args.at in
+    let below = all_read (λ m. IsBelow (2 ^ 31) (mark_raised c.args.shift.from c.args.shift.by m)) c.args.self.now i _ c.requires.below
+    (block_read b.offset b.least b.greatest b.names.items b.starts.items b.ends.items i _ _ _ c.args.self.now c.self.invariant c.self.view_is c.requires.within c.index-name.ensures c.index.ensures c.index-2.ensures) in
+    omega (arith, below.1)
+
 pub returns : goal.returns
 returns c =
     let b = c.self.inside in
     let i = c.args.at in
-    let n = c.index-name.result.now in
-    let s = c.index.result.now in
-    let e = c.index-2.result.now in
-    let size = ranked_size b.offset b.names.items b.starts.items b.ends.items c.self.invariant.starts_sized c.self.invariant.ends_sized in
-    let names_within : i < length b.names.items = omega (arith, size, ap length c.self.view_is) in
-    let starts_within : i < length b.starts.items = omega (arith, size, ap length c.self.view_is, c.self.invariant.starts_sized) in
-    let ends_within : i < length b.ends.items = omega (arith, size, ap length c.self.view_is, c.self.invariant.ends_sized) in (
-      named n (b.offset + s) (b.offset + e),
-      ap (λ ms. slice_get ms i) (sym c.self.view_is)
-          ∙ ranked_read b.offset b.names.items b.starts.items b.ends.items i n s e
-          (read_at b.names.items i n c.index-name.ensures names_within) (read_at b.starts.items i s c.index.ensures starts_within) (read_at b.ends.items i e c.index-2.ensures ends_within),
-      refl,
+    let f = mark_raised c.args.shift.from c.args.shift.by in
+    let m : RankedMark = named c.index-name.result.now (b.offset + c.index.result.now) (b.offset + c.index-2.result.now) in
+    let at : slice_get c.args.self.now i ≡ Some m =
+    block_read b.offset b.least b.greatest b.names.items b.starts.items b.ends.items i _ _ _ c.args.self.now c.self.invariant c.self.view_is c.requires.within c.index-name.ensures c.index.ensures c.index-2.ensures in (
+      f m,
+      slice_get-map f c.args.self.now i ∙ ap (option_map f) at,
+      ap (λ (x : ℕ). placed c.args.index (record m { start = x; end = c.raised-2.result })) c.raised.ensures
+          ∙ ap (λ (x : ℕ). placed c.args.index (record m { start = raised c.args.shift.from c.args.shift.by m.start; end = x })) c.raised-2.ensures,
     )

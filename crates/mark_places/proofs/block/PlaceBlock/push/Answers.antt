@@ -40,8 +40,8 @@ invariant_of-self-2 c =
     let high = c.max-self-inside.ensures ∙ ap (λ l. max l mark.end) c.max.ensures in
     (block_push b.offset b.least b.greatest _ _ b.names.items b.starts.items b.ends.items name mark.start mark.end _ _ _ low high c.requires.0 c.requires.1 names starts ends c.self.invariant).0
 
-pub returns : goal.returns
-returns c =
+pub returns-clause-ok : goal.returns-clause-ok
+returns-clause-ok c =
     let mark = c.args.mark.now in
     let name : MarkName = record { id = mark.id; key = mark.key } in
     let b = c.self.inside in

@@ -1,9 +1,15 @@
-use Rattle.std.specs.List.{flat_map, slice_range}
+use Rattle.std.proofs.Common.{◌≡◌, ◌++◌, ℕ, ◌-◌, ◌≤◌, List, length, take}
 use Rattle.std.specs.Fmt.{HasWritten, IsPlainFormatter}
-use Rattle.span_view.specs.Views.{views}
-use Rattle.span_lines.specs.SpanLines.{named_line}
+use Rattle.std.specs.Iterator.Adapters.{take_source, take_count, zip_first, zip_second}
+use Rattle.span_lines.proofs.Numbered.{numbered}
+use Rattle.span_lines.proofs.Some.{named, some_named}
 use Rattle.span_lines.proofs.printing.SomeSpansDisplay.fmt.Given as goal
 
 abbrev pub invariant-loop-index : goal.invariant-loop-index
 invariant-loop-index g l =
-    IsPlainFormatter l.initial.f → HasWritten g.W.Write.write_str_gives l.initial.f (flat_map named_line (slice_range (views l.self.version.now) l.self.first l.index)) l.f
+    let pairs = take_source l.index-iterator in
+    record {
+      written : IsPlainFormatter l.initial.f → (done : List ℕ) × HasWritten g.W.Write.write_str_gives l.initial.f done l.f
+          × (done ++ numbered named (zip_first pairs).start (take (take_count l.index-iterator) (zip_second pairs)) ≡ some_named l.fn.self.first l.fn.self.most l.fn.self.version.now);
+      left : length (zip_second pairs) ≤ (zip_first pairs).end - (zip_first pairs).start;
+    }

@@ -23,7 +23,7 @@ returns-clause-arrives c = λ lengths s waits.
     let found : ContainsTracked (as_tracked c.in-Some.waiting) lengths s =
     waited c.self.inside.states.items c.args.slot c.index_mut.result.now c.take.result c.in-Some.waiting lengths s within c.index_mut.ensures.value c.take.ensures.value c.in-Some.is
     (subst (λ v. WithinTracked (waiting_at v c.args.slot) lengths s) (sym c.self.view_is) waits) in
-    (beside c.join_parts.new.state c.join_parts.new.copies, refl, c.join_parts.ensures.right lengths s (subst (λ (a : AbsState). ContainsTracked (beside a c.in-Some.waiting.copies) lengths s) (sym c.deref.ensures) found))
+    (beside c.join_parts.new.state c.join_parts.new.copies, refl, c.join_parts.ensures.right lengths s (subst (λ (a : AbsState). ContainsTracked (beside a c.in-Some.waiting.copies) lengths s) (sym c.deref-2.ensures) found))
 
 pub returns-in_default-flow-clause-arrives : goal.returns-in_default-flow-clause-arrives
 returns-in_default-flow-clause-arrives c = λ lengths s waits.
@@ -31,7 +31,7 @@ returns-in_default-flow-clause-arrives c = λ lengths s waits.
     let found : ContainsTracked (as_tracked c.in-Some.waiting) lengths s =
     waited c.self.inside.states.items c.args.slot c.index_mut.result.now c.take.result c.in-Some.waiting lengths s within c.index_mut.ensures.value c.take.ensures.value c.in-Some.is
     (subst (λ v. WithinTracked (waiting_at v c.args.slot) lengths s) (sym c.self.view_is) waits) in
-    (beside c.into_inner-state.result c.in-Some.waiting.copies, refl, subst (λ (a : AbsState). ContainsTracked (beside a c.in-Some.waiting.copies) lengths s) (sym c.into_inner-state.ensures) found)
+    (beside c.deref.result.now c.in-Some.waiting.copies, refl, subst (λ (a : AbsState). ContainsTracked (beside a c.in-Some.waiting.copies) lengths s) (sym c.deref.ensures) found)
 
 pub returns-clause-arises : goal.returns-clause-arises
 returns-clause-arises c = λ profile program all falls.
@@ -40,7 +40,7 @@ returns-clause-arises c = λ profile program all falls.
     let waits = read_arises profile program c.self.inside.states.items c.args.slot c.index_mut.result.now c.take.result (as_tracked c.in-Some.waiting) within c.index_mut.ensures.value c.take.ensures.value every (ap unboxed c.in-Some.is) in
     let fell = falls c.args.state.now (ap (λ f. after_tracked f c.args.state.now) c.in-Live.is) in (
       arise_taken profile program c.self.inside.states.items c.args.slot c.take.new.self within c.take.ensures.after every,
-      at_one profile program c.args.slot (beside c.join_parts.new.state c.join_parts.new.copies) (joined waits.0 fell (subst (λ (a : AbsState). Arises profile program c.args.slot a) (sym c.deref.ensures) waits.1) (record { registers = c.join_parts.ensures.kinds; slots = c.join_parts.ensures.slots; bounds = c.join_parts.ensures.bounds })),
+      at_one profile program c.args.slot (beside c.join_parts.new.state c.join_parts.new.copies) (joined waits.0 fell (subst (λ (a : AbsState). Arises profile program c.args.slot a) (sym c.deref-2.ensures) waits.1) (record { registers = c.join_parts.ensures.kinds; slots = c.join_parts.ensures.slots; bounds = c.join_parts.ensures.bounds })),
     )
 
 pub returns-in_default-flow-clause-arises : goal.returns-in_default-flow-clause-arises
@@ -49,7 +49,7 @@ returns-in_default-flow-clause-arises c = λ profile program all falls.
     let every = subst (λ v. AllArise profile program v) (sym c.self.view_is) all in
     let waits = read_arises profile program c.self.inside.states.items c.args.slot c.index_mut.result.now c.take.result (as_tracked c.in-Some.waiting) within c.index_mut.ensures.value c.take.ensures.value every (ap unboxed c.in-Some.is) in (
       arise_taken profile program c.self.inside.states.items c.args.slot c.take.new.self within c.take.ensures.after every,
-      at_one profile program c.args.slot (beside c.into_inner-state.result c.in-Some.waiting.copies) (subst (λ (a : AbsState). Arises profile program c.args.slot a) (sym c.into_inner-state.ensures) waits.1),
+      at_one profile program c.args.slot (beside c.deref.result.now c.in-Some.waiting.copies) (subst (λ (a : AbsState). Arises profile program c.args.slot a) (sym c.deref.ensures) waits.1),
     )
 
 pub returns-in_default-clause-arises : goal.returns-in_default-clause-arises
@@ -91,14 +91,14 @@ returns-clause-rule c = λ falling here falls waits.
     let every = subst (λ v. IsTrackedIn (waiting_at v c.args.slot) here) (sym c.self.view_is) waits in
     let there = read_waiting c.self.inside.states.items c.args.slot c.index_mut.result.now c.take.result within c.index_mut.ensures.value c.take.ensures.value ∙ ap unboxed c.in-Some.is in
     arrives_both c.args.profile (waiting_at c.self.inside.states.items c.args.slot) (after_tracked c.args.flow c.args.state.now) c.args.state.now (as_tracked c.in-Some.waiting) (beside c.join_parts.new.state c.join_parts.new.copies) falling here there (ap (λ f. after_tracked f c.args.state.now) c.in-Live.is) every falls
-    (subst (λ (a : AbsState). IsTracked (beside c.join_parts.new.state c.join_parts.new.copies) (joined_tracked c.args.profile (tracked_of c.args.state.now) (tracked_of (beside a c.in-Some.waiting.copies)))) c.deref.ensures c.join_parts.ensures.rule)
+    (subst (λ (a : AbsState). IsTracked (beside c.join_parts.new.state c.join_parts.new.copies) (joined_tracked c.args.profile (tracked_of c.args.state.now) (tracked_of (beside a c.in-Some.waiting.copies)))) c.deref-2.ensures c.join_parts.ensures.rule)
 
 pub returns-in_default-flow-clause-rule : goal.returns-in_default-flow-clause-rule
 returns-in_default-flow-clause-rule c = λ falling here falls waits.
     let within : c.args.slot < length c.self.inside.states.items = search rules in
     let every = subst (λ v. IsTrackedIn (waiting_at v c.args.slot) here) (sym c.self.view_is) waits in
     let there = read_waiting c.self.inside.states.items c.args.slot c.index_mut.result.now c.take.result within c.index_mut.ensures.value c.take.ensures.value ∙ ap unboxed c.in-Some.is in
-    arrives_alone c.args.profile (waiting_at c.self.inside.states.items c.args.slot) (after_tracked c.args.flow c.args.state.now) (as_tracked c.in-Some.waiting) (beside c.into_inner-state.result c.in-Some.waiting.copies) falling here there (search rules) (ap (λ (a : AbsState). beside a c.in-Some.waiting.copies) c.into_inner-state.ensures) every falls
+    arrives_alone c.args.profile (waiting_at c.self.inside.states.items c.args.slot) (after_tracked c.args.flow c.args.state.now) (as_tracked c.in-Some.waiting) (beside c.deref.result.now c.in-Some.waiting.copies) falling here there (search rules) (ap (λ (a : AbsState). beside a c.in-Some.waiting.copies) c.deref.ensures) every falls
 
 pub returns-in_default-clause-rule : goal.returns-in_default-clause-rule
 returns-in_default-clause-rule c = λ falling here falls waits.

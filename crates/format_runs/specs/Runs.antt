@@ -1,0 +1,62 @@
+-- Runs of characters that have one format.
+use Rattle.std.specs.Prelude.{◌≡◌, ◌≢◌, ◌<◌, ◌+◌, ℕ, List, [], ◌∷◌, Some, All, flat_map, length, map, replicate}
+use Rattle.std.specs.Prelude.{slice_get, sum_by, take}
+use Rattle.mark_anchors.specs.Formatting.{Format}
+use Rattle.span_flatten.specs.declared.version.Row.{Row}
+use Rattle.piece_tree.specs.Nodes.{pieces_of}
+use Rattle.piece_tree.specs.declared.piece.Measure.{Measure}
+use Rattle.piece_tree.specs.declared.piece.Measure.TheVariants.{Parts, Characters}
+
+-- so many characters of a format
+pub record Run : Type 0 where
+  pub format : Format
+  pub characters : ℕ
+
+-- how many characters the runs have
+abbrev pub character_count : List Run → ℕ
+character_count runs = sum_by (λ run. run.characters) runs
+
+-- runs are so many, and have so many characters
+abbrev pub run_size : Measure → List Run → ℕ
+run_size Parts runs = length runs
+run_size Characters runs = character_count runs
+
+-- the format of each character, in order
+abbrev pub formats_of : List Run → List Format
+formats_of runs = flat_map (λ run. replicate run.characters run.format) runs
+
+-- a run for each row
+abbrev pub runs_in : List Row → List Run
+runs_in rows = map (λ row. record { format = row.format; characters = row.characters }) rows
+
+-- the format of each of the rows' characters, in order
+abbrev pub formats_in : List Row → List Format
+formats_in rows = flat_map (λ row. replicate row.characters row.format) rows
+
+-- the first of the runs has another format
+abbrev pub IsApart : Format → List Run → Type 0
+IsApart format runs = (next : Run) → slice_get runs 0 ≡ Some next → format ≢ next.format
+
+-- runs of which each has a character and another format than the next
+abbrev pub AreMaximal : List Run → Type 0
+AreMaximal [] = Unit {0}
+AreMaximal (run ∷ runs) = (0 < run.characters) × IsApart run.format runs × AreMaximal runs
+
+-- the last of the first formats is another one than the first of the second ones, where there are both
+abbrev pub AreApart : List Format → List Format → Type 0
+AreApart before after =
+    (i : ℕ) (x y : Format) → i + 1 ≡ length before → slice_get before i ≡ Some x → slice_get after 0 ≡ Some y → x ≢ y
+
+-- how many characters the rows have
+abbrev pub row_count : List Row → ℕ
+row_count rows = sum_by (λ row. row.characters) rows
+
+-- what a list of runs in pieces keeps: each piece has a run, and all runs are maximal
+pub record AreRuns (pieces : List (List Run)) : Type 0 where
+  pub filled : All (λ piece. 0 < length piece) pieces
+  pub maximal : AreMaximal (pieces_of pieces)
+
+-- the run of an index, before which so many characters stand
+pub record IsPlaced (runs : List Run) (index : ℕ) (run : Run) (start : ℕ) : Type 0 where
+  pub is : slice_get runs index ≡ Some run
+  pub starts : start ≡ character_count (take index runs)

@@ -1,0 +1,75 @@
+//! Characters that have one format.
+ghost use Rattle.std.specs.Prelude.{◌≡◌, ◌<◌, ◌+◌, ◌^◌, IfOk};
+
+use mark_anchors::format::Format;
+use std::alloc::{AllocError, Global};
+use std::marker::Model;
+use std::sync::Arc;
+
+/// So many characters of a format, which runs share. Contracts see the format and the number.
+pub struct Run {
+    format: Arc<Format, Global>,
+    characters: usize,
+}
+
+impl Drop for Run {
+    fn drop(self) {
+        let Run {
+            format: _,
+            characters: _,
+        } = self;
+    }
+}
+
+impl Model for Run {
+    ghost use Rattle.std.specs.Arc.{arc_value};
+    ghost use Rattle.format_runs.specs.Runs.{Run as RunValue};
+
+    ghost Value = { RunValue };
+
+    ghost view = { λ r. record { format = arc_value r.format; characters = r.characters } };
+}
+
+impl Run {
+    /// So many characters of a format.
+    pub(crate) fn new(alloc: Global, format: &Format, characters: usize) -> Result<Run, AllocError>
+        ensures { IfOk result (λ run. run ≡ record { format = format.now; characters = characters }) }
+    {
+        let format = Arc::new(alloc, format.clone()?)?;
+        Ok(Run { format, characters })
+    }
+
+    /// So many characters of the same format, which isn't copied.
+    pub(crate) fn of_size(&self, characters: usize) -> Result<Run, AllocError>
+        ensures { IfOk result (λ run. run ≡ record { format = self.now.format; characters = characters }) }
+    {
+        let format = Arc::try_clone(&self.format)?;
+        Ok(Run { format, characters })
+    }
+
+    /// The characters' format.
+    pub fn format(&self) -> &Format
+        ensures { result.now ≡ self.now.format }
+    {
+        &self.format
+    }
+
+    /// How many characters there are.
+    pub fn characters(&self) -> usize
+        ensures { result ≡ self.now.characters }
+    {
+        self.characters
+    }
+
+    /// The run with so many characters more.
+    pub(crate) fn longer(self, more: usize) -> Run
+        requires { self.characters + more < 2 ^ 63 }
+        ensures { result ≡ record { format = self.format; characters = self.characters + more } }
+    {
+        let Run { format, characters } = self;
+        Run {
+            format,
+            characters: characters + more,
+        }
+    }
+}

@@ -1,0 +1,273 @@
+//! The runs of a text.
+ghost use Rattle.std.specs.Prelude.{◌≡◌, ◌<◌, ◌≤◌, ◌+◌, ◌^◌, ◌++◌, [], IfOk, IfSome, IsTrue, MatchOption, drop, get_or};
+ghost use Rattle.std.specs.Prelude.{All, length, replicate, slice_range, take};
+ghost use Rattle.piece_tree.specs.Nodes.{pieces_of};
+ghost use Rattle.format_runs.specs.Runs.{AreMaximal, IsPlaced, character_count, formats_in, formats_of, row_count};
+ghost use Rattle.format_runs.specs.Runs.{runs_in};
+
+use crate::cut::cut;
+use crate::draft::{add_rows, add_runs, between, share_all};
+use crate::iter::RunsFrom;
+use crate::piece::{HALF, RunPiece, characters_of};
+use crate::run::Run;
+use piece_tree::piece::Measure;
+use piece_tree::tree::PieceTree;
+use span_flatten::version::Row;
+use std::alloc::{AllocError, Global};
+use std::marker::Model;
+
+/// Runs in pieces that versions share: the formats of a text's characters. Contracts see the runs.
+pub struct SharedRuns {
+    pieces: PieceTree<RunPiece>,
+}
+
+impl Drop for SharedRuns {
+    fn drop(self) {
+        let SharedRuns { pieces: _ } = self;
+    }
+}
+
+impl Model for SharedRuns {
+    ghost use Rattle.std.specs.Prelude.{List};
+    ghost use Rattle.piece_tree.specs.Nodes.{pieces_of};
+    ghost use Rattle.format_runs.specs.Runs.{AreRuns, Run};
+
+    ghost Value = { List Run };
+
+    ghost view = { λ r. pieces_of r.pieces };
+
+    ghost invariant = { λ r. AreRuns r.pieces };
+}
+
+/// A run of a list, and how many characters stand before it.
+#[derive(Drop)]
+pub struct Placed<'a> {
+    pub run: &'a Run,
+    pub start: usize,
+}
+
+impl SharedRuns {
+    /// No run.
+    pub fn new(alloc: Global) -> Result<SharedRuns, AllocError>
+        ensures { IfOk result (λ runs. runs ≡ []) }
+    {
+        let pieces = PieceTree::new(alloc)?;
+        Ok(SharedRuns { pieces })
+    }
+
+    /// The same runs once more: nothing of them is copied.
+    pub fn shared(&self) -> Result<SharedRuns, AllocError>
+        ensures { IfOk result (λ again. again ≡ self.now) }
+    {
+        let pieces = self.pieces.shared()?;
+        Ok(SharedRuns { pieces })
+    }
+
+    /// The law that the runs are maximal, and short together.
+    pub fn keeps(&self)
+        ensures maximal { AreMaximal self.now }
+        ensures short { character_count self.now ≤ 2097152 }
+    {
+        self.pieces.keeps();
+    }
+
+    /// How many runs there are.
+    pub fn count(&self) -> usize
+        ensures { result ≡ length self.now }
+    {
+        self.pieces.size(Measure::Parts)
+    }
+
+    /// How many characters they have.
+    pub fn character_count(&self) -> usize
+        ensures { result ≡ character_count self.now }
+    {
+        self.pieces.size(Measure::Characters)
+    }
+
+    /// The run with this index, if there is one.
+    pub fn run(&self, index: usize) -> Option<Placed<'_>>
+        ensures { MatchOption result (length self.now ≤ index)
+            (λ placed. IsPlaced self.now index placed.run.now placed.start) }
+    {
+        let (mut runs, start) = self.runs_from(index);
+        let Some(run) = runs.next() else {
+            return None;
+        };
+        Some(Placed { run, start })
+    }
+
+    /// The runs from one on, and how many characters stand before them. There is none from beyond the last one.
+    pub fn runs_from(&self, index: usize) -> (RunsFrom<'_>, usize)
+        ensures runs { result.0 ≡ drop index self.now }
+        ensures start { result.1 ≡ character_count (take index self.now) }
+    {
+        // How many runs and characters there are, which the proof needs.
+        self.pieces.keeps();
+        if index >= self.count() {
+            let none = RunsFrom {
+                pieces: &self.pieces,
+                index: self.pieces.len(),
+                rest: &[],
+            };
+            return (none, self.character_count());
+        }
+        let spot = self.pieces.spot(Measure::Parts, index + 1);
+        let runs = self.pieces.piece(spot.index).runs();
+        let (before, rest) = runs.split_at(index - spot.parts);
+        let left = RunsFrom {
+            pieces: &self.pieces,
+            index: spot.index + 1,
+            rest,
+        };
+        (left, spot.characters + characters_of(before))
+    }
+
+    /// The runs with those of the rows in place of the characters from `from` up to `to`. A run joins its neighbor
+    /// where formats are equal: the first row is compared with what stands before it, what stands behind the rows with
+    /// the last one, and no other formats are. Pieces that the window doesn't touch are shared. Where what is made is
+    /// too small for a piece, it joins the piece behind it.
+    pub fn with_window(
+        &self,
+        alloc: Global,
+        from: usize,
+        to: usize,
+        rows: &[Row],
+    ) -> Result<SharedRuns, AllocError>
+        requires order { from ≤ to }
+        requires within { to ≤ character_count self.now }
+        requires short { character_count self.now + row_count rows.now ≤ 2097152 }
+        requires maximal { AreMaximal (runs_in rows.now) }
+        ensures formats { IfOk result (λ next. formats_of next
+            ≡ take from (formats_of self.now) ++ (formats_in rows.now ++ drop to (formats_of self.now))) }
+    {
+        // How many runs and characters there are, which the proof needs.
+        self.pieces.keeps();
+        let first = self.pieces.spot(Measure::Characters, from);
+        let last = self.pieces.spot(Measure::Characters, to + 1);
+        let front = runs_at(&self.pieces, first.index);
+        let back = runs_at(&self.pieces, last.index);
+        let mut runs = between(alloc, front, 0, from - first.characters)?;
+        add_rows(alloc, &mut runs, rows)?;
+        let behind = between(alloc, back, to - last.characters, self.character_count())?;
+        add_runs(&mut runs, behind.as_slice())?;
+        let end = self.pieces.len().min(last.index + 1);
+        let end = fill(&self.pieces, &mut runs, end)?;
+        put(alloc, &self.pieces, first.index, end, runs.as_slice())
+    }
+
+    /// Whether the rows are the runs' characters from `from` up to `to`. They are not said to be where more comments
+    /// would be compared than `comments`, which falls by those that were.
+    pub fn shows(&self, from: usize, to: usize, rows: &[Row], comments: &mut u32) -> bool
+        requires { to ≤ character_count self.now }
+        ensures { IsTrue result → slice_range (formats_of self.now) from to ≡ formats_in rows.now }
+    {
+        // How many characters there are, which the proof needs.
+        self.keeps();
+        let mut place = from;
+        for row in rows {
+            if place >= to || !self.shows_at(place, row, comments) {
+                return false;
+            }
+            place += row.characters;
+        }
+        place == to
+    }
+
+    /// Whether the characters from the place on are the row's.
+    fn shows_at(&self, place: usize, row: &Row, comments: &mut u32) -> bool
+        requires { place < character_count self.now }
+        ensures within { IsTrue result → place + row.now.characters ≤ character_count self.now }
+        ensures shown { IsTrue result → slice_range (formats_of self.now) place (place + row.now.characters)
+            ≡ replicate row.now.characters row.now.format }
+    {
+        // How many characters there are, which the proof needs.
+        self.pieces.keeps();
+        let spot = self.pieces.spot(Measure::Characters, place + 1);
+        let runs = self.pieces.piece(spot.index).runs();
+        let Some(run) = run_over(runs, place - spot.characters, row.characters) else {
+            return false;
+        };
+        let count = run.format().comment_count();
+        if count > *comments {
+            return false;
+        }
+        *comments -= count;
+        *run.format() == row.format
+    }
+}
+
+/// The runs of the piece with this index, and none behind the last piece.
+fn runs_at(pieces: &PieceTree<RunPiece>, index: usize) -> &[Run]
+    ensures { result.now ≡ get_or pieces.now index [] }
+{
+    if index < pieces.len() {
+        pieces.piece(index).runs()
+    } else {
+        &[]
+    }
+}
+
+/// Adds the runs of the piece with this index, where there are too few for a piece of their own. It gives the index of
+/// the first piece that is behind the runs then.
+fn fill(
+    pieces: &PieceTree<RunPiece>,
+    runs: &mut Vec<Run>,
+    index: usize,
+) -> Result<usize, AllocError>
+    requires { index ≤ length pieces.now }
+    ensures order { IfOk result (λ end. index ≤ end) }
+    ensures within { IfOk result (λ end. end ≤ length pieces.now) }
+    ensures same { IfOk result (λ end. runs.new.items ++ pieces_of (drop end pieces.now)
+        ≡ runs.old.items ++ pieces_of (drop index pieces.now)) }
+{
+    if runs.len() >= HALF || index >= pieces.len() {
+        return Ok(index);
+    }
+    share_all(runs, pieces.piece(index).runs())?;
+    Ok(index + 1)
+}
+
+/// The runs with others in place of the pieces from one index up to another.
+fn put(
+    alloc: Global,
+    pieces: &PieceTree<RunPiece>,
+    from: usize,
+    to: usize,
+    runs: &[Run],
+) -> Result<SharedRuns, AllocError>
+    requires order { from ≤ to }
+    requires within { to ≤ length pieces.now }
+    requires filled { All (λ piece. 0 < length piece) pieces.now }
+    requires maximal { AreMaximal (pieces_of (take from pieces.now) ++ (runs.now ++ pieces_of (drop to pieces.now))) }
+    requires short { character_count (pieces_of (take from pieces.now) ++ (runs.now ++ pieces_of (drop to pieces.now)))
+        ≤ 2097152 }
+    ensures { IfOk result (λ next. next
+        ≡ pieces_of (take from pieces.now) ++ (runs.now ++ pieces_of (drop to pieces.now))) }
+{
+    let made = cut(alloc, runs)?;
+    let pieces = pieces.with_window(alloc, from, to, made.as_slice())?;
+    Ok(SharedRuns { pieces })
+}
+
+/// The run that has so many characters from a place on, if there is one.
+fn run_over(runs: &[Run], place: usize, count: usize) -> Option<&Run>
+    requires { character_count runs.now < 2 ^ 62 }
+    ensures within { IfSome result (λ run. place + count ≤ character_count runs.now) }
+    ensures shown { IfSome result (λ run. slice_range (formats_of runs.now) place (place + count)
+        ≡ replicate count run.now.format) }
+{
+    let mut start: usize = 0;
+    for run in runs {
+        let end = start + run.characters();
+        if place < end {
+            return if count <= end - place {
+                Some(run)
+            } else {
+                None
+            };
+        }
+        start = end;
+    }
+    None
+}

@@ -1,9 +1,0 @@
-use Rattle.std.proofs.Common.{◌≡◌, length, take}
-use Rattle.version_laws.specs.Blocked.{in_blocks}
-use Rattle.version_blocks.specs.Glyphs.{glyphs}
-use Rattle.version_blocks.proofs.reach.block_past.Given as goal
-
-abbrev pub invariant-loop-index : goal.invariant-loop-index
-invariant-loop-index l = record {
-  end : l.end ≡ length (glyphs (in_blocks (take l.index l.blocks)));
-}

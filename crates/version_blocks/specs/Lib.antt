@@ -1,8 +1,0 @@
-pub mod Glyphs
-pub mod Contents
-pub mod Blocks
-pub mod Blocked
-pub mod Made
-pub mod Replacements
-pub mod Putting
-pub mod Parts

@@ -1,0 +1,9 @@
+pub mod Glyphs
+pub mod Contents
+pub mod Spelling
+pub mod Laid
+pub mod Putting
+pub mod Wholes
+pub mod Meeting
+pub mod WindowsMet
+pub mod Made

@@ -1,0 +1,4 @@
+pub mod Glyphs
+pub mod Laid
+pub mod Made
+pub mod Replacements

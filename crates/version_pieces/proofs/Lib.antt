@@ -1,0 +1,4 @@
+pub mod Rows
+pub mod Along
+pub mod Putting
+pub mod Walking

@@ -1,0 +1,139 @@
+use Rattle.std.proofs.Common.{◌≡◌, ◌≤◌, ◌++◌, ℕ, List, length, take, drop, sym, subst, ap, ◌∙◌, arith}
+use Rattle.std.specs.Str.{chars}
+use Rattle.span_flatten.specs.declared.version.Row.{Row}
+use Rattle.span_flatten.specs.Spans.{Span}
+use Rattle.span_flatten.specs.Version.{IsWhole, spans_in}
+use Rattle.format_runs.specs.Runs.{Run, formats_in}
+use Rattle.format_runs.proofs.Formats.{length_rows}
+use Rattle.version_glyphs.specs.declared.replacement.Replacement.{Replacement}
+use Rattle.version_glyphs.specs.Glyphs.{AreMaximal, Glyph, glyphs}
+use Rattle.version_pieces.proofs.Rows.{rows_maximal}
+use Rattle.version_pieces.specs.Along.{IsAlong, paired}
+use Rattle.version_glyphs.specs.Replacements.{glyphs_in}
+use Rattle.version_pieces.proofs.Along.{AreShown, bytes_after, count_along, length_paired, shown, whole_after, window_glyphs}
+use Rattle.version_pieces.proofs.spans.Spans.with_window.Goals as goal
+
+pub text_with-requires-clause-within : goal.text_with-requires-clause-within
+text_with-requires-clause-within c =
+    omega (
+      arith,
+      c.requires.within,
+      ap (λ (l : List Span). length (glyphs l)) c.self.view_is,
+      count_along c.self.inside.text c.self.inside.runs c.self.invariant,
+    )
+
+pub text_with-requires-clause-short : goal.text_with-requires-clause-short
+text_with-requires-clause-short c =
+    let cs : List ℕ = c.self.inside.text in
+    let rs : List Run = c.self.inside.runs in
+    let a : IsAlong cs rs = c.self.invariant in
+    let r : Replacement = c.args.window.now in
+    let new : List ℕ = chars c.text-new.result.now in
+    let rows : List Row = c.rows-rows.result.now in
+    let whole : IsWhole c.text-new.result.now rows =
+    subst (λ (t : List ℕ). IsWhole t rows) (sym c.text-new.ensures) (subst (λ (l : List Row). IsWhole r.window.text l) (sym c.rows-rows.ensures.value) c.rows-rows.ensures.whole) in
+    let told : AreShown c.text-new.result.now rows = shown c.text-new.result.now rows c.text-new.utf8 whole in
+    let brought : glyphs_in r ≡ paired new (formats_in rows) =
+    ap (λ (t : List ℕ). glyphs (spans_in t r.window.rows)) (sym c.text-new.ensures) ∙ ap (λ (l : List Row). glyphs (spans_in c.text-new.result.now l)) (sym c.rows-rows.ensures.value)
+    ∙ told.glyphs_are in
+    let many : length (glyphs_in r) ≡ length new = ap length brought ∙ length_paired new (formats_in rows) told.fits in
+    let size : length (glyphs c.args.self.now) ≡ length cs = ap (λ (l : List Span). length (glyphs l)) (sym c.self.view_is) ∙ count_along cs rs a in
+    let within : r.to ≤ length cs = omega (arith, c.requires.within) in
+    bytes_after cs new r.from r.to c.requires.order within (omega (arith, c.requires.few))
+
+pub runs_with-requires-clause-within : goal.runs_with-requires-clause-within
+runs_with-requires-clause-within c =
+    let cs : List ℕ = c.self.inside.text in
+    let rs : List Run = c.self.inside.runs in
+    let a : IsAlong cs rs = c.self.invariant in
+    let r : Replacement = c.args.window.now in
+    let new : List ℕ = chars c.text-new.result.now in
+    let rows : List Row = c.rows-rows.result.now in
+    let whole : IsWhole c.text-new.result.now rows =
+    subst (λ (t : List ℕ). IsWhole t rows) (sym c.text-new.ensures) (subst (λ (l : List Row). IsWhole r.window.text l) (sym c.rows-rows.ensures.value) c.rows-rows.ensures.whole) in
+    let told : AreShown c.text-new.result.now rows = shown c.text-new.result.now rows c.text-new.utf8 whole in
+    let brought : glyphs_in r ≡ paired new (formats_in rows) =
+    ap (λ (t : List ℕ). glyphs (spans_in t r.window.rows)) (sym c.text-new.ensures) ∙ ap (λ (l : List Row). glyphs (spans_in c.text-new.result.now l)) (sym c.rows-rows.ensures.value)
+    ∙ told.glyphs_are in
+    let many : length (glyphs_in r) ≡ length new = ap length brought ∙ length_paired new (formats_in rows) told.fits in
+    let size : length (glyphs c.args.self.now) ≡ length cs = ap (λ (l : List Span). length (glyphs l)) (sym c.self.view_is) ∙ count_along cs rs a in
+    let within : r.to ≤ length cs = omega (arith, c.requires.within) in
+    omega (arith, a.whole)
+
+pub runs_with-requires-clause-short : goal.runs_with-requires-clause-short
+runs_with-requires-clause-short c =
+    let cs : List ℕ = c.self.inside.text in
+    let rs : List Run = c.self.inside.runs in
+    let a : IsAlong cs rs = c.self.invariant in
+    let r : Replacement = c.args.window.now in
+    let new : List ℕ = chars c.text-new.result.now in
+    let rows : List Row = c.rows-rows.result.now in
+    let whole : IsWhole c.text-new.result.now rows =
+    subst (λ (t : List ℕ). IsWhole t rows) (sym c.text-new.ensures) (subst (λ (l : List Row). IsWhole r.window.text l) (sym c.rows-rows.ensures.value) c.rows-rows.ensures.whole) in
+    let told : AreShown c.text-new.result.now rows = shown c.text-new.result.now rows c.text-new.utf8 whole in
+    let brought : glyphs_in r ≡ paired new (formats_in rows) =
+    ap (λ (t : List ℕ). glyphs (spans_in t r.window.rows)) (sym c.text-new.ensures) ∙ ap (λ (l : List Row). glyphs (spans_in c.text-new.result.now l)) (sym c.rows-rows.ensures.value)
+    ∙ told.glyphs_are in
+    let many : length (glyphs_in r) ≡ length new = ap length brought ∙ length_paired new (formats_in rows) told.fits in
+    let size : length (glyphs c.args.self.now) ≡ length cs = ap (λ (l : List Span). length (glyphs l)) (sym c.self.view_is) ∙ count_along cs rs a in
+    let within : r.to ≤ length cs = omega (arith, c.requires.within) in
+    omega (arith, a.whole, c.requires.few, length_rows rows, told.fits)
+
+pub runs_with-requires-clause-maximal : goal.runs_with-requires-clause-maximal
+runs_with-requires-clause-maximal c =
+    let r : Replacement = c.args.window.now in
+    let rows : List Row = c.rows-rows.result.now in
+    let same : spans_in r.window.text r.window.rows ≡ spans_in c.text-new.result.now rows =
+    ap (λ (t : List ℕ). spans_in t r.window.rows) (sym c.text-new.ensures) ∙ ap (λ (l : List Row). spans_in c.text-new.result.now l) (sym c.rows-rows.ensures.value) in
+    let whole : IsWhole c.text-new.result.now rows =
+    subst (λ (t : List ℕ). IsWhole t rows) (sym c.text-new.ensures) (subst (λ (l : List Row). IsWhole r.window.text l) (sym c.rows-rows.ensures.value) c.rows-rows.ensures.whole) in
+    rows_maximal c.text-new.result.now rows whole (subst AreMaximal same c.requires.maximal)
+
+pub invariant_of-result : goal.invariant_of-result
+invariant_of-result c =
+    let cs : List ℕ = c.self.inside.text in
+    let rs : List Run = c.self.inside.runs in
+    let a : IsAlong cs rs = c.self.invariant in
+    let r : Replacement = c.args.window.now in
+    let new : List ℕ = chars c.text-new.result.now in
+    let rows : List Row = c.rows-rows.result.now in
+    let whole : IsWhole c.text-new.result.now rows =
+    subst (λ (t : List ℕ). IsWhole t rows) (sym c.text-new.ensures) (subst (λ (l : List Row). IsWhole r.window.text l) (sym c.rows-rows.ensures.value) c.rows-rows.ensures.whole) in
+    let told : AreShown c.text-new.result.now rows = shown c.text-new.result.now rows c.text-new.utf8 whole in
+    let brought : glyphs_in r ≡ paired new (formats_in rows) =
+    ap (λ (t : List ℕ). glyphs (spans_in t r.window.rows)) (sym c.text-new.ensures) ∙ ap (λ (l : List Row). glyphs (spans_in c.text-new.result.now l)) (sym c.rows-rows.ensures.value)
+    ∙ told.glyphs_are in
+    let many : length (glyphs_in r) ≡ length new = ap length brought ∙ length_paired new (formats_in rows) told.fits in
+    let size : length (glyphs c.args.self.now) ≡ length cs = ap (λ (l : List Span). length (glyphs l)) (sym c.self.view_is) ∙ count_along cs rs a in
+    let within : r.to ≤ length cs = omega (arith, c.requires.within) in
+    record {
+      spelt = c.keeps.ensures.spelt;
+      maximal = c.keeps-2.ensures.maximal;
+      whole = whole_after cs c.in_ok-text.text new rs c.in_ok-runs.runs (formats_in rows) r.from r.to a.whole c.requires.order within told.fits c.in_ok-text.ensures c.in_ok-runs.ensures;
+    }
+
+pub returns : goal.returns
+returns c =
+    let cs : List ℕ = c.self.inside.text in
+    let rs : List Run = c.self.inside.runs in
+    let a : IsAlong cs rs = c.self.invariant in
+    let r : Replacement = c.args.window.now in
+    let new : List ℕ = chars c.text-new.result.now in
+    let rows : List Row = c.rows-rows.result.now in
+    let whole : IsWhole c.text-new.result.now rows =
+    subst (λ (t : List ℕ). IsWhole t rows) (sym c.text-new.ensures) (subst (λ (l : List Row). IsWhole r.window.text l) (sym c.rows-rows.ensures.value) c.rows-rows.ensures.whole) in
+    let told : AreShown c.text-new.result.now rows = shown c.text-new.result.now rows c.text-new.utf8 whole in
+    let brought : glyphs_in r ≡ paired new (formats_in rows) =
+    ap (λ (t : List ℕ). glyphs (spans_in t r.window.rows)) (sym c.text-new.ensures) ∙ ap (λ (l : List Row). glyphs (spans_in c.text-new.result.now l)) (sym c.rows-rows.ensures.value)
+    ∙ told.glyphs_are in
+    let many : length (glyphs_in r) ≡ length new = ap length brought ∙ length_paired new (formats_in rows) told.fits in
+    let size : length (glyphs c.args.self.now) ≡ length cs = ap (λ (l : List Span). length (glyphs l)) (sym c.self.view_is) ∙ count_along cs rs a in
+    let within : r.to ≤ length cs = omega (arith, c.requires.within) in
+    let b : IsAlong c.in_ok-text.text c.in_ok-runs.runs = record {
+      spelt = c.keeps.ensures.spelt;
+      maximal = c.keeps-2.ensures.maximal;
+      whole = whole_after cs c.in_ok-text.text new rs c.in_ok-runs.runs (formats_in rows) r.from r.to a.whole c.requires.order within told.fits c.in_ok-text.ensures c.in_ok-runs.ensures;
+    } in
+    window_glyphs cs c.in_ok-text.text new rs c.in_ok-runs.runs (formats_in rows) r.from r.to a b told.fits c.in_ok-text.ensures c.in_ok-runs.ensures
+    ∙ ap (λ (l : List Span). take r.from (glyphs l) ++ (paired new (formats_in rows) ++ drop r.to (glyphs l))) c.self.view_is
+    ∙ ap (λ (l : List Glyph). take r.from (glyphs c.args.self.now) ++ (l ++ drop r.to (glyphs c.args.self.now))) (sym brought)

@@ -1,0 +1,200 @@
+//! Spans as a text and the runs of its formats.
+ghost use Rattle.std.specs.Prelude.{◌≡◌, ◌≤◌, ◌+◌, ◌++◌, IfOk, chars, drop, encode_utf8_all, length, slice_get, take};
+ghost use Rattle.format_runs.specs.Runs.{AreMaximal as AreMaximalRuns, character_count, formats_in, formats_of};
+ghost use Rattle.format_runs.specs.Runs.{row_count, runs_in};
+ghost use Rattle.span_flatten.specs.Version.{IsWhole, joined, spans_in};
+ghost use Rattle.version_glyphs.specs.Glyphs.{AreMaximal, glyphs};
+ghost use Rattle.version_pieces.specs.Putting.{CanTake};
+ghost use Rattle.version_glyphs.specs.Replacements.{HasMaximalSpans, glyphs_in, put, put_all};
+
+use crate::span_text::SpanText;
+use format_runs::runs::SharedRuns;
+use span_flatten::version::Row;
+use std::alloc::{AllocError, Global};
+use std::marker::Model;
+use text_pieces::text::SharedText;
+use version_glyphs::replacement::Replacement;
+
+/// Spans, as the characters of a text and the runs of their formats. Contracts see the spans.
+pub struct Spans {
+    pub(crate) text: SharedText,
+    pub(crate) runs: SharedRuns,
+}
+
+impl Drop for Spans {
+    fn drop(self) {
+        let Spans { text: _, runs: _ } = self;
+    }
+}
+
+impl Model for Spans {
+    ghost use Rattle.std.specs.Prelude.{List};
+    ghost use Rattle.span_flatten.specs.Spans.{Span};
+    ghost use Rattle.version_pieces.specs.Along.{IsAlong, spans_along};
+
+    ghost Value = { List Span };
+
+    ghost view = { λ s. spans_along s.runs s.text };
+
+    ghost invariant = { λ s. IsAlong s.text s.runs };
+}
+
+/// How many comments' numbers are compared for the windows of a change: formats with many of them are dear to compare.
+pub const COMPARED_LIMIT: u32 = 65_536;
+
+/// The text with `new` in place of the characters from `from` up to `to`. It is shared as a whole where it has that
+/// there already.
+fn text_with(
+    alloc: Global,
+    text: &SharedText,
+    from: usize,
+    to: usize,
+    new: &str,
+) -> Result<SharedText, AllocError>
+    requires order { from ≤ to }
+    requires within { to ≤ length text.now }
+    requires short { length (encode_utf8_all (take from text.now ++ (chars new.now ++ drop to text.now))) ≤ 2097152 }
+    ensures { IfOk result (λ next. next ≡ take from text.now ++ (chars new.now ++ drop to text.now)) }
+{
+    if text.between(from, to).is(new) {
+        let same = text.shared()?;
+        return Ok(same);
+    }
+    let next = text.with_window(alloc, from, to, new)?;
+    Ok(next)
+}
+
+/// The runs with those of the rows in place of the characters from `from` up to `to`. They are shared as a whole where
+/// they have those there already.
+fn runs_with(
+    alloc: Global,
+    runs: &SharedRuns,
+    from: usize,
+    to: usize,
+    rows: &[Row],
+    comments: &mut u32,
+) -> Result<SharedRuns, AllocError>
+    requires order { from ≤ to }
+    requires within { to ≤ character_count runs.now }
+    requires short { character_count runs.now + row_count rows.now ≤ 2097152 }
+    requires maximal { AreMaximalRuns (runs_in rows.now) }
+    ensures { IfOk result (λ next. formats_of next
+        ≡ take from (formats_of runs.now) ++ (formats_in rows.now ++ drop to (formats_of runs.now))) }
+{
+    if runs.shows(from, to, rows, comments) {
+        let same = runs.shared()?;
+        return Ok(same);
+    }
+    let next = runs.with_window(alloc, from, to, rows)?;
+    Ok(next)
+}
+
+impl Spans {
+    /// The spans of a text with its rows.
+    pub fn new(alloc: Global, text: &str, rows: &[Row]) -> Result<Spans, AllocError>
+        requires whole { IsWhole text.now rows.now }
+        requires maximal { AreMaximal (spans_in text.now rows.now) }
+        ensures { IfOk result (λ spans. glyphs spans ≡ glyphs (spans_in text.now rows.now)) }
+    {
+        let no_text = SharedText::new(alloc)?;
+        let own = no_text.with_window(alloc, 0, 0, text)?;
+        let no_runs = SharedRuns::new(alloc)?;
+        let runs = no_runs.with_window(alloc, 0, 0, rows)?;
+        // What their types keep, which the proof needs.
+        own.keeps();
+        runs.keeps();
+        Ok(Spans { text: own, runs })
+    }
+
+    /// The same spans once more: nothing of them is copied.
+    pub fn shared(&self) -> Result<Spans, AllocError>
+        ensures { IfOk result (λ again. again ≡ self.now) }
+    {
+        let text = self.text.shared()?;
+        let runs = self.runs.shared()?;
+        Ok(Spans { text, runs })
+    }
+
+    /// The law that the spans are maximal.
+    pub fn keeps(&self)
+        ensures { AreMaximal self.now }
+    {
+        let _text = &self.text;
+    }
+
+    /// How many spans there are.
+    pub fn count(&self) -> usize
+        ensures { result ≡ length self.now }
+    {
+        self.runs.count()
+    }
+
+    /// How many characters they have.
+    pub fn character_count(&self) -> usize
+        ensures { result ≡ length (glyphs self.now) }
+    {
+        self.text.character_count()
+    }
+
+    /// How many bytes their text has.
+    pub fn byte_count(&self) -> usize
+        ensures { result ≡ length (joined self.now) }
+    {
+        self.text.byte_count()
+    }
+
+    /// The span with this index, if there is one.
+    pub fn span(&self, index: usize) -> Option<SpanText<'_>>
+        ensures { result ≡ slice_get self.now index }
+    {
+        // How short the runs are, which the proof needs.
+        self.runs.keeps();
+        let Some(placed) = self.runs.run(index) else {
+            return None;
+        };
+        let characters = placed.run.characters();
+        Some(SpanText {
+            text: self.text.between(placed.start, placed.start + characters),
+            characters,
+            format: placed.run.format(),
+        })
+    }
+
+    /// The spans with the window put in place. A text or runs that it shows already are shared as a whole.
+    fn with_window(
+        &self,
+        alloc: Global,
+        window: &Replacement,
+        comments: &mut u32,
+    ) -> Result<Spans, AllocError>
+        requires order { window.now.from ≤ window.now.to }
+        requires within { window.now.to ≤ length (glyphs self.now) }
+        requires maximal { HasMaximalSpans window.now }
+        requires few { length (glyphs self.now) + length (glyphs_in window.now) ≤ 262144 }
+        ensures { IfOk result (λ next. glyphs next ≡ put window.now (glyphs self.now)) }
+    {
+        let new = window.window.text();
+        let rows = window.window.rows();
+        let text = text_with(alloc, &self.text, window.from, window.to, new)?;
+        let runs = runs_with(alloc, &self.runs, window.from, window.to, rows, comments)?;
+        // What their types keep, which the proof needs.
+        text.keeps();
+        runs.keeps();
+        Ok(Spans { text, runs })
+    }
+
+    /// The spans with the windows put in place, the last one first, so that none moves the place of another.
+    pub fn with_windows(&self, alloc: Global, windows: &[Replacement]) -> Result<Spans, AllocError>
+        requires { CanTake (glyphs self.now) windows.now }
+        ensures { IfOk result (λ next. glyphs next ≡ put_all windows.now (glyphs self.now)) }
+    {
+        let mut comments = COMPARED_LIMIT;
+        let mut all = self.shared()?;
+        let mut rest = windows;
+        while let Some((window, before)) = rest.split_last() {
+            all = all.with_window(alloc, window, &mut comments)?;
+            rest = before;
+        }
+        Ok(all)
+    }
+}
