@@ -13,8 +13,8 @@ MOST_TIMES, MOST = 10, 60
 A_KEY, KEY_TIMES = 130000, 1.5
 KIB = 1024
 SPANS = 1024
-# So many changes that show nothing follow one that does not count: what the first needs for a while is not kept.
-SILENT = 64
+# So many changes that show nothing follow one that does not count: what the text and the first need for a while is less than what these keep.
+SILENT = 3072
 
 
 class Wide(NamedTuple):
@@ -32,8 +32,9 @@ class Wide(NamedTuple):
         """The text without its last mark, as it has all that a hub takes."""
         return cls.of(text._replace(marks=text.marks[:-1]))
 
-    def bold(self):
-        return f"change 1 1\nm {self.counter}@1 strong - ^ $\n"
+    def marked(self, key):
+        """One mark over all of the text."""
+        return f"change 1 1\nm {self.counter}@1 {key} - ^ $\n"
 
     def removal_of_ends(self, times=1):
         """The first and the last character are removed; the second time, and each later one, shows nothing."""
@@ -96,33 +97,45 @@ def counted_after(hub, size, text, before, requests):
     return count / MILLION
 
 
+BOLD = "bold over all of it"
 # What is sent over all of a text: its name, what comes before it, and the change itself.
 CHANGES = {
-    "bold over all of it": lambda wide: ([], [wide.bold()]),
+    BOLD: lambda wide: ([], [wide.marked("strong")]),
     "removals at both ends that show nothing": lambda wide: (wide.removal_of_ends(2)[:1], wide.removal_of_ends(2)[1:]),
     "a character at 256 places": lambda wide: ([], [wide.typed_at(wide.places(256))]),
 }
+# The same over strong marks. Those are one span once all of the text is bold: so it is emphasized, and has as many spans as the others have.
+BESIDE = CHANGES | {BOLD: lambda wide: ([], [wide.marked("em")])}
+# Texts, each by the key of its marks and where these lie.
+LAYOUTS = {
+    "that touch": lambda key, times: inputs.side_by_side(key, 7, times),
+    "apart": spaced,
+    "nested": inputs.nested,
+    "in windows of 512 characters": lambda key, times: inputs.windows(key, 512, times),
+    "at one anchor": at_one_anchor,
+}
 TEXTS = {
-    "comments that touch": lambda times: inputs.side_by_side(inputs.comment, 7, times),
-    "comments apart": lambda times: spaced(inputs.comment, times),
-    "nested comments": lambda times: inputs.nested(inputs.comment, times),
-    "comments in windows of 512 characters": lambda times: inputs.windows(inputs.comment, 512, times),
-    "colors that touch": lambda times: inputs.side_by_side(inputs.color, 7, times),
-    "nested colors": lambda times: inputs.nested(inputs.color, times),
-    "colors at one anchor": lambda times: at_one_anchor(inputs.color, times),
-    "comments at one anchor": lambda times: at_one_anchor(inputs.comment, times),
+    f"{name} {layout}": (key, LAYOUTS[layout])
+    for name, key, layouts in (
+        ("comments", inputs.comment, LAYOUTS),
+        ("colors", inputs.color, ("that touch", "nested", "at one anchor")),
+    )
+    for layout in layouts
 }
 
 
 def wide_changes(hub):
     for size, times in (("small", 1), ("large", inputs.LARGE)):
         for what, sent in CHANGES.items():
-            wide = Wide.with_room(spaced(inputs.strong, times))
-            other = counted_after(hub, size, wide.text, *sent(wide))
-            for name, make in TEXTS.items():
-                wide = Wide.with_room(make(times))
+            others = {}
+            for layout in LAYOUTS.values():
+                wide = Wide.with_room(layout(inputs.strong, times))
+                others[layout] = counted_after(hub, size, wide.text, *BESIDE[what](wide))
+            for name, (key, layout) in TEXTS.items():
+                wide = Wide.with_room(layout(key, times))
                 count = counted_after(hub, size, wide.text, *sent(wide))
-                figure = beside("12", f"{size}, {times * inputs.MARKS:,} {name}, {what}", count, other, "million", MOST_TIMES, 1)
+                title = f"{size}, {times * inputs.MARKS:,} {name}, {what}, beside strong marks"
+                figure = beside("12", title, count, others[layout], "million", MOST_TIMES, 1)
                 yield figure._replace(limit=min(figure.limit, MOST), aim=f"{figure.aim}, and {MOST} million")
 
 
@@ -183,11 +196,11 @@ def keys(hub):
 
 
 def shown_after(hub):
-    for name, make in TEXTS.items():
-        wide = Wide.with_room(make(inputs.LARGE))
+    for name, (key, layout) in TEXTS.items():
+        wide = Wide.with_room(layout(key, inputs.LARGE))
         newest = len(wide.text.changes())
         before = counted_after(hub, "large", wide.text, [], [f"show {newest} 0 {SPANS}\n"])
-        after = counted_after(hub, "large", wide.text, [wide.bold()], [f"show {newest + 1} 0 {SPANS}\n"])
+        after = counted_after(hub, "large", wide.text, [wide.marked("strong")], [f"show {newest + 1} 0 {SPANS}\n"])
         yield beside("17", f"large, {name}: `show` of {SPANS:,} spans after a wide change, beside before it", after, before, "million", 1.5, 1)
 
 

@@ -33,13 +33,12 @@ places_put es later place count operations old new put shifted places =
 pub places_hidden : (es later : List Element) (operations : List Op) (places : List MarkPlace) → IsHidden es later → AreMarkPlaces es operations places → AreMarkPlaces later operations places
 places_hidden es later operations places hidden held = subst (λ l. AreMarkPlaces l operations places) hidden.are (record {
   sized = held.sized;
-  each = λ i p g.
-      let r = held.each i p g in
+  each = λ p there.
+      let r = held.each p there in
       let is = r.2 in (
         r.0,
         r.1,
         record {
-          indexed = is.indexed;
           placed = record {
             of_key = is.placed.of_key;
             id = is.placed.id;
@@ -49,6 +48,7 @@ places_hidden es later operations places hidden held = subst (λ l. AreMarkPlace
           end = is.end;
         },
       );
+  listed = held.listed;
 })
 
 -- ---- the characters that are put in

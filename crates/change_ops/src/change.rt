@@ -24,7 +24,7 @@ use std::marker::Model;
 pub struct Change {
     form: Form,
     node: u16,
-    lines: SmallVec<Line, 4>,
+    lines: SmallVec<Line, 1>,
 }
 
 impl Drop for Change {
@@ -117,13 +117,13 @@ fn lines_of(
     peer: u16,
     count: usize,
     text: &str,
-) -> Result<(SmallVec<Line, 4>, &str), ChangeError>
+) -> Result<(SmallVec<Line, 1>, &str), ChangeError>
     requires { count ≤ 256 }
     ensures read { Gives (λ x. (x.0.items, x.1.now)) result (lines_at form peer 256 2 count text.now) }
     ensures kept { IfOk result (λ x. OwnLines form peer 256 count x.0.items) }
     ensures text { IfOk result (λ x. IsUtf8 x.1.now) }
 {
-    let mut lines: SmallVec<Line, 4> = SmallVec::new(alloc);
+    let mut lines: SmallVec<Line, 1> = SmallVec::new(alloc);
     let mut rest: &str = text;
     let mut room = 256;
     for index in 0..count {

@@ -28,7 +28,7 @@ lengths_sum : (cs : List (List Element)) → sum (map length cs) ≡ length (joi
 lengths_sum [] = refl
 lengths_sum (c ∷ cs) = sum_by-cons (λ n. n) (length c) (map length cs) ∙ ap (λ n. length c + n) (lengths_sum cs) ∙ sym (length-append c (joined cs))
 
-shown_sum : (cs : List (List Element)) → sum (map visible_count cs) ≡ visible_count (joined cs)
+pub shown_sum : (cs : List (List Element)) → sum (map visible_count cs) ≡ visible_count (joined cs)
 shown_sum [] = refl
 shown_sum (c ∷ cs) = sum_by-cons (λ n. n) (visible_count c) (map visible_count cs) ∙ ap (λ n. visible_count c + n) (shown_sum cs) ∙ sym (sum_by-append (λ e. cond e.visible 1 0) c (joined cs))
 
@@ -103,19 +103,23 @@ chunk_at cs counts place at are before ahead =
     }
 
 -- what is visible before a place: what is in the chunks before its own, and what is in front of it there
-pub visible_to : (cs : List (List Element)) (p place : ℕ) (c : List Element) → slice_get cs p ≡ Some c → start_of cs p ≤ place → place < start_of cs (p + 1) → visible_count (take place (joined cs)) ≡ visible_count (joined (take p cs)) + visible_count (take (place - start_of cs p) c)
-visible_to cs p place c here low high =
+pub visible_upto : (cs : List (List Element)) (p place : ℕ) (c : List Element) → slice_get cs p ≡ Some c → start_of cs p ≤ place → place ≤ start_of cs (p + 1) → visible_count (take place (joined cs)) ≡ visible_count (joined (take p cs)) + visible_count (take (place - start_of cs p) c)
+visible_upto cs p place c here low high =
     let start = start_of cs p in
     let none : 0 - start ≡ 0 = omega arith in
     let same : place - 0 ≡ place = omega arith in
     let whole : slice_range (joined (take p cs)) 0 place ≡ joined (take p cs) = ap (λ n. take n (joined (take p cs))) same ∙ take_all place (joined (take p cs)) low in
     let front : (place - start) - 0 ≡ place - start = omega arith in
     ap (λ n. visible_count (take n (joined cs))) (sym same)
-    ∙ sym (ap visible_count (range_within cs (p + 1) 0 place (omega arith) (omega (arith, high))))
+    ∙ sym (ap visible_count (range_within cs (p + 1) 0 place (omega arith) high))
     ∙ count_more cs p 0 place c here (omega arith)
     ∙ ap (λ es. visible_count es + visible_count (slice_range c (0 - start) (place - start))) whole
     ∙ ap (λ n. visible_count (joined (take p cs)) + visible_count (slice_range c n (place - start))) none
     ∙ ap (λ n. visible_count (joined (take p cs)) + visible_count (take n c)) front
+
+-- the same of a place within the chunk
+pub visible_to : (cs : List (List Element)) (p place : ℕ) (c : List Element) → slice_get cs p ≡ Some c → start_of cs p ≤ place → place < start_of cs (p + 1) → visible_count (take place (joined cs)) ≡ visible_count (joined (take p cs)) + visible_count (take (place - start_of cs p) c)
+visible_to cs p place c here low high = visible_upto cs p place c here low (omega arith)
 
 -- the same where there is no chunk behind it
 pub visible_all : (cs : List (List Element)) (p place : ℕ) → length cs ≤ p → start_of cs p ≤ place → visible_count (take place (joined cs)) ≡ visible_count (joined (take p cs))

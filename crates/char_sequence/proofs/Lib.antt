@@ -24,5 +24,6 @@ pub mod Renaming
 pub mod PlaceTables
 pub mod Ranges
 pub mod Counts
+pub mod Nearest
 pub mod Names
 pub mod Boundaries

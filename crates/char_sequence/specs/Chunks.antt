@@ -1,6 +1,6 @@
 -- Elements in chunks, and the index from ids to the chunks' names.
 use Rattle.std.specs.Prelude.{◌≡◌, ◌⊎◌, ℕ, ◌+◌, ◌<◌, ◌≤◌, List, [], ◌∷◌, ◌++◌, Option, Some, None, length, take}
-use Rattle.std.specs.Prelude.{slice_get, map, sum, cond, nat_lt}
+use Rattle.std.specs.Prelude.{slice_get, slice_index, slice_range, map, sum, cond, nat_lt}
 use Rattle.change_ops.specs.Ids.{Less}
 use Rattle.change_ops.specs.declared.id.OpId.{OpId}
 use Rattle.char_sequence.specs.declared.sequence.Element.{Element}
@@ -94,6 +94,18 @@ pub record IsSumBefore (lengths : List ℕ) (place : ℕ) (at : ChunkStart) : Ty
   pub within : at.position ≤ length lengths
   pub start : at.start ≡ sum (take at.position lengths)
   pub reached : at.start ≤ place
+
+-- the number there is not 0, and all behind it are, up to the end
+pub record IsLastSome (numbers : List ℕ) (end at : ℕ) : Type 0 where
+  pub before : at < end
+  pub some : 0 < slice_index numbers at
+  pub none : sum (slice_range numbers (at + 1) end) ≡ 0
+
+-- the number there is not 0, and all before it are, from the start on
+pub record IsFirstSome (numbers : List ℕ) (start at : ℕ) : Type 0 where
+  pub reached : start ≤ at
+  pub some : 0 < slice_index numbers at
+  pub none : sum (slice_range numbers start at) ≡ 0
 
 -- the element of this id is in a chunk
 pub record IsSpotOf (chunks : List (List Element)) (id : OpId) (position at : ℕ) : Type 0 where

@@ -1,5 +1,5 @@
 -- The visible text of elements (Peritext, CSCW 2022).
-use Rattle.std.specs.Prelude.{ℕ, List, map, encode_utf8_all}
+use Rattle.std.specs.Prelude.{◌≡◌, ℕ, ◌+◌, ◌<◌, ◌≤◌, true, List, Some, map, encode_utf8_all, slice_get, slice_range}
 use Rattle.std.specs.List.{filter, count_by}
 use Rattle.char_sequence.specs.declared.sequence.Element.{Element}
 
@@ -10,3 +10,19 @@ visible_text es = encode_utf8_all (map (λ e. e.character) (filter (λ e. e.visi
 -- how many of the characters are not removed
 abbrev pub visible_count : List Element → ℕ
 visible_count es = count_by (λ e. e.visible) es
+
+-- at the place stands a character that is not removed
+abbrev pub IsVisibleAt : List Element → ℕ → Type 0
+IsVisibleAt es place = (e : Element) × (slice_get es place ≡ Some e) × (e.visible ≡ true)
+
+-- a visible character stands there, before the place, and none between them
+pub record IsLastVisible (es : List Element) (place at : ℕ) : Type 0 where
+  pub before : at < place
+  pub visible : IsVisibleAt es at
+  pub none : visible_count (slice_range es (at + 1) place) ≡ 0
+
+-- a visible character stands there, at the place or behind it, and none between them
+pub record IsFirstVisible (es : List Element) (place at : ℕ) : Type 0 where
+  pub reached : place ≤ at
+  pub visible : IsVisibleAt es at
+  pub none : visible_count (slice_range es place at) ≡ 0

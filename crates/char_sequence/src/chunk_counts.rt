@@ -1,8 +1,9 @@
 //! How many elements each chunk has, and how many of them are visible. They stand apart from the chunks, close
 //! together, since each key takes sums over most of them.
 ghost use Rattle.std.specs.Prelude.{◌≡◌, ◌+◌, ◌<◌, ◌≤◌, ◌++◌, ◌∷◌, [], List, OnOk, length, set, insert, sum, take};
+ghost use Rattle.std.specs.Prelude.{MatchOption, drop, slice_range};
 ghost use Rattle.char_sequence.specs.declared.sequence.Element.{Element};
-ghost use Rattle.char_sequence.specs.Chunks.{joined, start_of, AreCounts, IsSumBefore};
+ghost use Rattle.char_sequence.specs.Chunks.{joined, start_of, AreCounts, IsFirstSome, IsLastSome, IsSumBefore};
 ghost use Rattle.char_sequence.specs.PlaceTables.{IsChunkAt};
 ghost use Rattle.char_sequence.specs.Visible.{visible_count};
 
@@ -66,6 +67,32 @@ fn chunk_from(lengths: &[u32], first: ChunkStart, place: usize) -> ChunkStart
         position: lengths.len(),
         start,
     }
+}
+
+/// The index of the last number before an index that is not 0.
+fn last_nonzero(numbers: &[u32], end: usize) -> Option<usize>
+    requires { end ≤ length numbers.now }
+    ensures { MatchOption result (sum (take end numbers.now) ≡ 0) (λ at. IsLastSome numbers.now end at) }
+{
+    for index in (0..end).rev() {
+        if numbers[index] != 0 {
+            return Some(index);
+        }
+    }
+    None
+}
+
+/// The index of the first number from an index on that is not 0.
+fn first_nonzero(numbers: &[u32], start: usize) -> Option<usize>
+    requires { start ≤ length numbers.now }
+    ensures { MatchOption result (sum (drop start numbers.now) ≡ 0) (λ at. IsFirstSome numbers.now start at) }
+{
+    for index in start..numbers.len() {
+        if numbers[index] != 0 {
+            return Some(index);
+        }
+    }
+    None
 }
 
 /// The counts of each chunk, in the chunks' order.
@@ -165,6 +192,33 @@ impl ChunkCounts {
     {
         let (before, _) = self.shown.split_at(position);
         sum_of(before)
+    }
+
+    /// How many elements the chunks from a position up to another one have.
+    pub(crate) fn length_between(&self, from: usize, to: usize) -> usize
+        requires order { (from ≤ to) × (to ≤ length self.now.lengths) }
+        requires few { sum self.now.lengths ≤ CHARACTER_LIMIT }
+        ensures { result ≡ sum (slice_range self.now.lengths from to) }
+    {
+        sum_of(&self.lengths[from..to])
+    }
+
+    /// The last chunk before a position of which something is visible.
+    pub(crate) fn last_shown(&self, position: usize) -> Option<usize>
+        requires { position ≤ length self.now.shown }
+        ensures { MatchOption result (sum (take position self.now.shown) ≡ 0)
+            (λ at. IsLastSome self.now.shown position at) }
+    {
+        last_nonzero(&self.shown, position)
+    }
+
+    /// The first chunk from a position on of which something is visible.
+    pub(crate) fn first_shown(&self, position: usize) -> Option<usize>
+        requires { position ≤ length self.now.shown }
+        ensures { MatchOption result (sum (drop position self.now.shown) ≡ 0)
+            (λ at. IsFirstSome self.now.shown position at) }
+    {
+        first_nonzero(&self.shown, position)
     }
 
     /// The chunk that a place is in, or the end of the chunks.

@@ -11,7 +11,7 @@ ghost use Rattle.char_sequence.specs.Newest.{IsNewest};
 ghost use Rattle.char_sequence.specs.Index.{same_id, HasId};
 ghost use Rattle.char_sequence.specs.Places.{IsPast, IsAfter};
 ghost use Rattle.char_sequence.specs.Chunks.{joined, start_of};
-ghost use Rattle.char_sequence.specs.Visible.{visible_text, visible_count};
+ghost use Rattle.char_sequence.specs.Visible.{visible_text, visible_count, IsFirstVisible, IsLastVisible};
 ghost use Rattle.char_sequence.specs.Named.{name_of, IsAboveAll};
 ghost use Rattle.char_sequence.specs.RunElements.{elements_from, insert_all, AreEntered};
 
@@ -21,10 +21,11 @@ use crate::chunk_names::ChunkNames;
 use crate::counting::count_visible;
 use crate::index::Index;
 use crate::newest::Newest;
-use crate::place_table::PlaceTable;
+use crate::place_table::{ChunkStart, PlaceTable};
 use crate::runs::{later, push_run};
 use crate::sequence::Element;
 use crate::visible_cursor::VisibleCursor;
+use crate::visible_places::{first_visible, last_visible};
 use change_ops::character::Character;
 use change_ops::id::OpId;
 use std::alloc::{AllocError, Global};
@@ -332,6 +333,68 @@ impl ChunkList {
             .as_slice()
             .split_at(place - last.start);
         shown + count_visible(before)
+    }
+
+    /// The place of the last visible element of the chunks before one.
+    fn last_visible_before(&self, chunk: ChunkStart) -> Option<usize>
+        requires { (chunk.position ≤ length self.now.chunks) × (chunk.start ≡ start_of self.now.chunks chunk.position) }
+        ensures { MatchOption result (visible_count (take chunk.start (joined self.now.chunks)) ≡ 0)
+            (λ at. IsLastVisible (joined self.now.chunks) chunk.start at) }
+    {
+        let position = self.counts.last_shown(chunk.position)?;
+        let start = chunk.start - self.counts.length_between(position, chunk.position);
+        let elements = self.chunks[position].as_slice();
+        let at = last_visible(elements, elements.len()).unwrap();
+        Some(start + at)
+    }
+
+    /// The place of the last visible element before a place, if there is one.
+    pub(crate) fn visible_place_before(&self, place: usize) -> Option<usize>
+        requires { place ≤ length (joined self.now.chunks) }
+        ensures { MatchOption result (visible_count (take place (joined self.now.chunks)) ≡ 0)
+            (λ at. IsLastVisible (joined self.now.chunks) place at) }
+    {
+        let chunk = self.counts.chunk_at(place);
+        if chunk.position < self.chunks.len() {
+            let elements = self.chunks[chunk.position].as_slice();
+            if let Some(at) = last_visible(elements, place - chunk.start) {
+                return Some(chunk.start + at);
+            }
+        }
+        self.last_visible_before(chunk)
+    }
+
+    /// The place of the first visible element of the chunks from one on.
+    fn first_visible_from(&self, chunk: ChunkStart) -> Option<usize>
+        requires { (chunk.position ≤ length self.now.chunks) × (chunk.start ≡ start_of self.now.chunks chunk.position) }
+        ensures { MatchOption result (visible_count (drop chunk.start (joined self.now.chunks)) ≡ 0)
+            (λ at. IsFirstVisible (joined self.now.chunks) chunk.start at) }
+    {
+        let position = self.counts.first_shown(chunk.position)?;
+        let start = chunk.start + self.counts.length_between(chunk.position, position);
+        let elements = self.chunks[position].as_slice();
+        let at = first_visible(elements, 0).unwrap();
+        Some(start + at)
+    }
+
+    /// The place of the first visible element from a place on, if there is one.
+    pub(crate) fn visible_place_from(&self, place: usize) -> Option<usize>
+        requires { place ≤ length (joined self.now.chunks) }
+        ensures { MatchOption result (visible_count (drop place (joined self.now.chunks)) ≡ 0)
+            (λ at. IsFirstVisible (joined self.now.chunks) place at) }
+    {
+        let chunk = self.counts.chunk_at(place);
+        if chunk.position == self.chunks.len() {
+            return None;
+        }
+        let elements = self.chunks[chunk.position].as_slice();
+        if let Some(at) = first_visible(elements, place - chunk.start) {
+            return Some(chunk.start + at);
+        }
+        self.first_visible_from(ChunkStart {
+            position: chunk.position + 1,
+            start: chunk.start + elements.len(),
+        })
     }
 
     /// The places of all elements by their ids.

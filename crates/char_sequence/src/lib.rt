@@ -14,3 +14,4 @@ pub mod runs;
 pub mod sequence;
 mod visible;
 pub mod visible_cursor;
+mod visible_places;

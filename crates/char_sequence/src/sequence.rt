@@ -85,7 +85,7 @@ ghost use Rattle.char_sequence.specs.Newest.{IsNewest};
 ghost use Rattle.char_sequence.specs.Held.{Holds};
 ghost use Rattle.char_sequence.specs.Index.{HasId};
 ghost use Rattle.char_sequence.specs.Chunks.{joined, AreInChunks};
-ghost use Rattle.char_sequence.specs.Visible.{visible_text, visible_count};
+ghost use Rattle.char_sequence.specs.Visible.{visible_text, visible_count, IsFirstVisible, IsLastVisible};
 ghost use Rattle.char_sequence.specs.RunElements.{AcceptsRun};
 
 /// Whether the counter of a named character, if there is one, is below this one's.
@@ -357,6 +357,24 @@ impl Sequence {
         ensures { result ≡ visible_count (take place self.now.elements) }
     {
         self.elements.visible_before(place)
+    }
+
+    /// The place of the last visible character before a place, if there is one.
+    pub fn visible_place_before(&self, place: usize) -> Option<usize>
+        requires { place ≤ length self.now.elements }
+        ensures { MatchOption result (visible_count (take place self.now.elements) ≡ 0)
+            (λ at. IsLastVisible self.now.elements place at) }
+    {
+        self.elements.visible_place_before(place)
+    }
+
+    /// The place of the first visible character from a place on, if there is one.
+    pub fn visible_place_from(&self, place: usize) -> Option<usize>
+        requires { place ≤ length self.now.elements }
+        ensures { MatchOption result (visible_count (drop place self.now.elements) ≡ 0)
+            (λ at. IsFirstVisible self.now.elements place at) }
+    {
+        self.elements.visible_place_from(place)
     }
 
     /// The number of chunks that the characters are kept in, and the length of the longest.

@@ -7,7 +7,7 @@ ghost use Rattle.char_sequence.specs.Chunks.{joined};
 ghost use Rattle.char_sequence.specs.Visible.{visible_text, visible_count};
 
 use crate::chunk::Chunk;
-use crate::counting::count_of_range;
+use crate::counting::{count_of_range, count_visible};
 use crate::sequence::{CHARACTER_LIMIT, Element};
 use std::alloc::AllocError;
 
@@ -60,6 +60,19 @@ pub(crate) fn push_with_room(elements: &[Element], text: &mut String)
             text.push(element.character.value()).unwrap();
         }
     }
+}
+
+/// Appends the visible text of some elements of a chunk, and says how many characters it has; the error is want of
+/// memory, and changes nothing.
+pub(crate) fn push_some(elements: &[Element], text: &mut String) -> Result<usize, AllocError>
+    requires { length elements.now ≤ 64 }
+    ensures ok { OnOk result (string_bytes text.new ≡ string_bytes text.old ++ visible_text elements.now) }
+    ensures count { IfOk result (λ count. count ≡ visible_count elements.now) }
+    ensures err { OnErr result (string_bytes text.new ≡ string_bytes text.old) }
+{
+    text.reserve(4 * elements.len())?;
+    push_with_room(elements, text);
+    Ok(count_visible(elements))
 }
 
 /// Those of a chunk's elements that stand at the places from `from` up to `to`, where the chunk starts at `start`.

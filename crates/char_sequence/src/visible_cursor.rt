@@ -7,7 +7,7 @@ ghost use Rattle.char_sequence.specs.Visible.{visible_text, visible_count};
 use crate::chunk::Chunk;
 use crate::place_table::ChunkStart;
 use crate::sequence::CHARACTER_LIMIT;
-use crate::visible::push_visible;
+use crate::visible::{part, push_some, push_visible};
 use std::alloc::AllocError;
 use std::marker::Model;
 
@@ -67,9 +67,8 @@ impl<'a> VisibleCursor<'a> {
 }
 
 impl VisibleCursor<'_> {
-    /// Reads `count` characters, removed ones too, appends those of them that are visible, and returns the number of
-    /// these; the error is want of memory, and changes nothing.
-    pub fn push_next(&mut self, count: usize, text: &mut String) -> Result<usize, AllocError>
+    /// The same as `push_next`, for a piece that may end in any of the chunks.
+    fn push_through(&mut self, count: usize, text: &mut String) -> Result<usize, AllocError>
         requires { count ≤ length self.old }
         ensures text { OnOk result (string_bytes text.new ≡ string_bytes text.old
             ++ visible_text (take count self.old)) }
@@ -87,5 +86,28 @@ impl VisibleCursor<'_> {
         self.chunks = rest;
         self.read = to - last.start;
         Ok(characters)
+    }
+
+    /// Reads `count` characters, removed ones too, appends those of them that are visible, and returns the number of
+    /// these; the error is want of memory, and changes nothing.
+    pub fn push_next(&mut self, count: usize, text: &mut String) -> Result<usize, AllocError>
+        requires { count ≤ length self.old }
+        ensures text { OnOk result (string_bytes text.new ≡ string_bytes text.old
+            ++ visible_text (take count self.old)) }
+        ensures characters { IfOk result (λ characters. characters ≡ visible_count (take count self.old)) }
+        ensures left { OnOk result (self.new ≡ drop count self.old) }
+        ensures err { OnErr result ((string_bytes text.new ≡ string_bytes text.old) × (self.new ≡ self.old)) }
+    {
+        let chunks = self.chunks;
+        let to = self.read + count;
+        if let Some(first) = chunks.first() {
+            // Most pieces lie in one chunk: then the others are not looked at.
+            if to < first.len() {
+                let characters = push_some(part(first.as_slice(), 0, self.read, to), text)?;
+                self.read = to;
+                return Ok(characters);
+            }
+        }
+        self.push_through(count, text)
     }
 }

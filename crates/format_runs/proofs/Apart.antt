@@ -1,14 +1,14 @@
 -- Where formats meet, and maximal runs.
-use Rattle.std.proofs.Common.{◌≡◌, ◌≢◌, ℕ, zero, suc, ◌+◌, ◌-◌, ◌<◌, ◌≤◌, List, [], ◌∷◌, ◌++◌, Some, length, take, drop, replicate, refl, sym, ap, subst, ◌∙◌, arith, length-append, append_assoc}
+use Rattle.std.proofs.Common.{◌≡◌, ℕ, zero, suc, ◌+◌, ◌-◌, ◌<◌, ◌≤◌, List, [], ◌∷◌, ◌++◌, Some, length, take, drop, replicate, refl, sym, ap, subst, ◌∙◌, arith, length-append, append_assoc}
 use Rattle.std.specs.List.{slice_get}
 use Rattle.std.proofs.lemmas.Option.{none-some, same_Some, slice_get-get_or}
 use Rattle.std.proofs.lemmas.List.{append-nil, get_or-replicate, length-drop, length-replicate, length-take-le, take-append-drop}
 use Rattle.std.proofs.lemmas.List.Sums.{sum_by-cons}
 use Rattle.mark_anchors.specs.Formatting.{Format}
-use Rattle.format_runs.specs.Runs.{AreApart, AreMaximal, IsApart, Run, character_count, formats_of}
+use Rattle.format_runs.specs.Runs.{AreAlike, AreApart, AreMaximal, IsApart, IsLast, Run, character_count, formats_of}
 use Rattle.format_runs.proofs.Formats.{formats_append, formats_push, longer}
 
-get_behind : (front rest : List Format) (j : ℕ) → slice_get (front ++ rest) (length front + j) ≡ slice_get rest j
+pub get_behind : (front rest : List Format) (j : ℕ) → slice_get (front ++ rest) (length front + j) ≡ slice_get rest j
 get_behind [] rest j = let same : zero + j ≡ j = omega arith in ap (slice_get rest) same
 get_behind (x ∷ front) rest j =
     let same : length (x ∷ front) + j ≡ suc (length front + j) = omega arith in
@@ -53,7 +53,7 @@ in_replicate f zero i g e = absurd (none-some g e)
 in_replicate f (suc n) zero g e = same_Some f g e
 in_replicate f (suc n) (suc i) g e = in_replicate f n i g e
 
-head_at : (f : Format) (n : ℕ) (rest : List Format) → 0 < n → slice_get (replicate n f ++ rest) 0 ≡ Some f
+pub head_at : (f : Format) (n : ℕ) (rest : List Format) → 0 < n → slice_get (replicate n f ++ rest) 0 ≡ Some f
 head_at f zero rest some = absurd (omega arith)
 head_at f (suc n) rest some = refl
 
@@ -122,12 +122,17 @@ maximal_one r some = (some, (λ next g. absurd (none-some next g)), tt)
 pub maximal_push : (runs : List Run) (r : Run) → AreMaximal runs → 0 < r.characters → AreApart (formats_of runs) (r.format ∷ []) → AreMaximal (runs ++ r ∷ [])
 maximal_push runs r m some apart = maximal_joined runs (r ∷ []) m (maximal_one r some) (first_apart (formats_of runs) r some apart)
 
--- the last run's format is that of the last character
-pub apart_last : (front : List Run) (last : Run) (f : Format) → 0 < last.characters → last.format ≢ f → AreApart (formats_of (front ++ last ∷ [])) (f ∷ [])
-apart_last front last f some other =
-    subst (λ (l : List Format). AreApart l (f ∷ [])) (sym (formats_push front last))
-    (apart_behind (formats_of front) (replicate last.characters last.format) (f ∷ []) (omega (arith, length-replicate last.characters last.format))
-    (λ i x y end g h same. other (in_replicate last.format last.characters i x g ∙ same ∙ sym (same_Some f y h))))
+-- the last format is that of the last run
+pub last_format : (front : List Run) (last : Run) (f : Format) → 0 < last.characters → IsLast (formats_of (front ++ last ∷ [])) f → last.format ≡ f
+last_format front last f some is =
+    let n : ℕ = last.characters in
+    let before : List Format = formats_of front in
+    let own : List Format = replicate n last.format in
+    let whole : List Format = formats_of (front ++ last ∷ []) in
+    let parts : whole ≡ before ++ own = formats_push front last in
+    let at : length whole - 1 ≡ length before + (n - 1) = omega (arith, some, ap length parts, length-append before own, length-replicate n last.format) in
+    in_replicate last.format n (n - 1) f
+    (sym (get_behind before own (n - 1)) ∙ ap (slice_get (before ++ own)) (sym at) ∙ ap (λ l. slice_get l (length whole - 1)) (sym parts) ∙ is)
 
 -- a last run that is lengthened stays apart from the one before it
 pub maximal_longer : (front : List Run) (last : Run) (n : ℕ) → AreMaximal (front ++ last ∷ []) → AreMaximal (front ++ longer last n ∷ [])
@@ -146,6 +151,10 @@ pub added_formats : (old new rest : List Run) (r : Run) → formats_of new ≡ f
     → formats_of (new ++ rest) ≡ formats_of old ++ formats_of (r ∷ rest)
 added_formats old new rest r e =
     formats_append new rest ∙ ap (λ l. l ++ formats_of rest) e ∙ append_assoc (formats_of old) (replicate r.characters r.format) (formats_of rest)
+
+-- runs that have the format of the last one go on it
+pub alike_format : (before : List Format) (r : Run) (rest : List Run) → 0 < r.characters → (alike : AreAlike before (formats_of (r ∷ rest))) → alike.format ≡ r.format
+alike_format before r rest some alike = same_Some alike.format r.format (sym alike.first ∙ head_at r.format r.characters (formats_of rest) some)
 
 pub added_maximal : (old new rest : List Run) (r : Run) → formats_of new ≡ formats_of old ++ replicate r.characters r.format
     → AreMaximal new → AreMaximal (r ∷ rest) → AreMaximal (new ++ rest)

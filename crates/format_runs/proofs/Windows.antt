@@ -83,13 +83,13 @@ spot_inside ps place spot less r = elim (cases_lt spot.index (length ps)) [
 ]
 
 -- ---- the formats before a place and behind it
-formats_around : (ps : List (List Run)) (k : ℕ)
+pub formats_around : (ps : List (List Run)) (k : ℕ)
     → formats_of (pieces_of ps) ≡ formats_of (pieces_of (take k ps)) ++ (formats_of (get_or ps k []) ++ formats_of (pieces_of (drop (k + 1) ps)))
 formats_around ps k =
     ap formats_of (all_around ps k) ∙ formats_append (pieces_of (take k ps)) (get_or ps k [] ++ pieces_of (drop (k + 1) ps))
     ∙ ap (λ l. formats_of (pieces_of (take k ps)) ++ l) (formats_append (get_or ps k []) (pieces_of (drop (k + 1) ps)))
 
-taken : (ps : List (List Run)) (k a place : ℕ) → IsAt ps k a place
+pub taken : (ps : List (List Run)) (k a place : ℕ) → IsAt ps k a place
     → take place (formats_of (pieces_of ps)) ≡ formats_of (pieces_of (take k ps)) ++ take (place - a) (formats_of (get_or ps k []))
 taken ps k a place at =
     let before : List Format = formats_of (pieces_of (take k ps)) in
@@ -102,7 +102,7 @@ taken ps k a place at =
     ∙ take-append-add before (own ++ rest) (place - a)
     ∙ ap (λ l. before ++ l) (take-append-le (place - a) own rest (omega (arith, at.reached)))
 
-dropped : (ps : List (List Run)) (k a place : ℕ) → IsAt ps k a place
+pub dropped : (ps : List (List Run)) (k a place : ℕ) → IsAt ps k a place
     → drop place (formats_of (pieces_of ps)) ≡ drop (place - a) (formats_of (get_or ps k [])) ++ formats_of (pieces_of (drop (k + 1) ps))
 dropped ps k a place at =
     let before : List Format = formats_of (pieces_of (take k ps)) in

@@ -1,5 +1,5 @@
 -- Runs of characters that have one format.
-use Rattle.std.specs.Prelude.{◌≡◌, ◌≢◌, ◌<◌, ◌+◌, ℕ, List, [], ◌∷◌, Some, All, flat_map, length, map, replicate}
+use Rattle.std.specs.Prelude.{◌≡◌, ◌≢◌, ◌<◌, ◌+◌, ◌-◌, ℕ, List, [], ◌∷◌, Some, All, flat_map, length, map, replicate}
 use Rattle.std.specs.Prelude.{slice_get, sum_by, take}
 use Rattle.mark_anchors.specs.Formatting.{Format}
 use Rattle.span_flatten.specs.declared.version.Row.{Row}
@@ -46,6 +46,29 @@ AreMaximal (run ∷ runs) = (0 < run.characters) × IsApart run.format runs × A
 abbrev pub AreApart : List Format → List Format → Type 0
 AreApart before after =
     (i : ℕ) (x y : Format) → i + 1 ≡ length before → slice_get before i ≡ Some x → slice_get after 0 ≡ Some y → x ≢ y
+
+-- the format is the last of them
+abbrev pub IsLast : List Format → Format → Type 0
+IsLast formats format = slice_get formats (length formats - 1) ≡ Some format
+
+-- the last of the first formats is the first of the second ones
+pub record AreAlike (before after : List Format) : Type 0 where
+  pub format : Format
+  pub last : IsLast before format
+  pub first : slice_get after 0 ≡ Some format
+
+-- the place lies inside a run
+pub record IsInside (runs : List Run) (place : ℕ) : Type 0 where
+  pub index : ℕ
+  pub run : Run
+  pub is : slice_get runs index ≡ Some run
+  pub begun : character_count (take index runs) < place
+  pub unended : place < character_count (take index runs) + run.characters
+
+-- a run begins at the place, or the last one ends there
+pub record IsBetween (runs : List Run) (place : ℕ) : Type 0 where
+  pub index : ℕ
+  pub starts : place ≡ character_count (take index runs)
 
 -- how many characters the rows have
 abbrev pub row_count : List Row → ℕ

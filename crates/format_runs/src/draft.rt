@@ -1,14 +1,14 @@
 //! Runs in the making.
-ghost use Rattle.std.specs.Prelude.{◌≡◌, ◌<◌, ◌+◌, ◌^◌, ◌++◌, ◌∷◌, [], IfOk, replicate, slice_range};
-ghost use Rattle.format_runs.specs.Runs.{AreApart, AreMaximal, character_count, formats_in, formats_of, row_count};
-ghost use Rattle.format_runs.specs.Runs.{runs_in};
+ghost use Rattle.std.specs.Prelude.{◌≡◌, ◌<◌, ◌≤◌, ◌+◌, ◌^◌, ◌++◌, ◌∷◌, [], IfOk, IfSome, IsFalse, IsTrue};
+ghost use Rattle.std.specs.Prelude.{List, replicate, slice_range};
+ghost use Rattle.mark_anchors.specs.Formatting.{Format};
+ghost use Rattle.span_flatten.specs.declared.version.Row.{Row};
+ghost use Rattle.format_runs.specs.Runs.{AreAlike, AreApart, AreMaximal, IsBetween, IsInside, IsLast, character_count};
+ghost use Rattle.format_runs.specs.Runs.{formats_of, runs_in};
 
 use crate::run::Run;
 use span_flatten::version::Row;
 use std::alloc::{AllocError, Global};
-
-/// The most comments that a format has which is compared so that runs share it: more of them are dear to compare.
-const COMPARED_LIMIT: u32 = 8;
 
 /// Adds a run.
 fn push(runs: &mut Vec<Run>, run: Run) -> Result<(), AllocError>
@@ -28,40 +28,38 @@ pub fn share_all(runs: &mut Vec<Run>, more: &[Run]) -> Result<(), AllocError>
     Ok(())
 }
 
-/// Adds a run, which joins the last one where that has its format.
-fn add(runs: &mut Vec<Run>, run: Run) -> Result<(), AllocError>
-    requires some { 0 < run.characters }
-    requires few { character_count runs.old.items + run.characters < 2 ^ 62 }
+/// Makes the last run so many characters longer.
+fn lengthen(runs: &mut Vec<Run>, characters: usize) -> Result<(), AllocError>
+    requires few { character_count runs.old.items + characters < 2 ^ 62 }
     requires maximal { AreMaximal runs.old.items }
-    ensures formats { IfOk result (λ _. formats_of runs.new.items
-        ≡ formats_of runs.old.items ++ replicate run.characters run.format) }
+    ensures formats { (format : Format) → IsLast (formats_of runs.old.items) format → IfOk result (λ _.
+        formats_of runs.new.items ≡ formats_of runs.old.items ++ replicate characters format) }
     ensures maximal { IfOk result (λ _. AreMaximal runs.new.items) }
 {
     match runs.pop() {
-        None => push(runs, run),
-        Some(last) => {
-            if *last.format() == *run.format() {
-                return push(runs, last.longer(run.characters()));
-            }
-            push(runs, last)?;
-            push(runs, run)
-        }
+        None => Ok(()),
+        Some(last) => push(runs, last.longer(characters)),
     }
 }
 
-/// Adds runs that are maximal. So only the first of them can have the format of the last one that is there: the others
-/// are not compared, which is dear where a character has many comments.
-pub fn add_runs(runs: &mut Vec<Run>, more: &[Run]) -> Result<(), AllocError>
+/// Adds runs that are maximal. The last run that is there is lengthened by the first of them where they join, which
+/// only runs of one format do. So no formats are compared, which is dear where a character has many comments.
+pub fn add_runs(runs: &mut Vec<Run>, more: &[Run], join: bool) -> Result<(), AllocError>
     requires few { character_count runs.old.items + character_count more.now < 2 ^ 62 }
     requires maximal { AreMaximal runs.old.items }
     requires maximal_more { AreMaximal more.now }
+    requires alike { IsTrue join → AreAlike (formats_of runs.old.items) (formats_of more.now) }
+    requires apart { IsFalse join → AreApart (formats_of runs.old.items) (formats_of more.now) }
     ensures formats { IfOk result (λ _. formats_of runs.new.items ≡ formats_of runs.old.items ++ formats_of more.now) }
     ensures maximal { IfOk result (λ _. AreMaximal runs.new.items) }
 {
+    if !join {
+        return share_all(runs, more);
+    }
     let Some((first, others)) = more.split_first() else {
         return Ok(());
     };
-    add(runs, first.of_size(first.characters())?)?;
+    lengthen(runs, first.characters())?;
     share_all(runs, others)
 }
 
@@ -98,12 +96,37 @@ pub fn between(alloc: Global, runs: &[Run], from: usize, to: usize) -> Result<Ve
     Ok(part)
 }
 
-/// The run of a row. It shares the format of the run before the last one where that is cheap to compare and equal: so
-/// the formats of marks that come and go are kept once.
-fn run_of(alloc: Global, runs: &[Run], row: &Row) -> Result<Run, AllocError>
+/// Whether the place lies inside a run, so that the characters before it and at it have one format. Otherwise a run
+/// begins there, or the last one ends there.
+pub fn is_inside(runs: &[Run], place: usize) -> bool
+    requires short { character_count runs.now < 2 ^ 62 }
+    requires within { place ≤ character_count runs.now }
+    ensures inside { IsTrue result → IsInside runs.now place }
+    ensures between { IsFalse result → IsBetween runs.now place }
+{
+    let mut start: usize = 0;
+    for run in runs {
+        let end = start + run.characters();
+        if place < end {
+            return start < place;
+        }
+        start = end;
+    }
+    false
+}
+
+/// The run of a row. It shares the format of a run that is known to have the same one. Otherwise it shares that of the
+/// run before the last one where that is cheap to compare and equal: so the formats of marks that come and go are kept
+/// once.
+fn run_of(alloc: Global, runs: &[Run], row: &Row, known: Option<&Run>) -> Result<Run, AllocError>
+    requires { IfSome known (λ run. run.now.format ≡ row.now.format) }
     ensures { IfOk result (λ run. run ≡ record { format = row.now.format; characters = row.now.characters }) }
 {
-    if row.format.comment_count() <= COMPARED_LIMIT && runs.len() >= 2 {
+    if let Some(run) = known {
+        return run.of_size(row.characters);
+    }
+    // Comments are mostly others, and dear to compare.
+    if row.format.comment_count() == 0 && runs.len() >= 2 {
         let earlier = &runs[runs.len() - 2];
         if *earlier.format() == row.format {
             return earlier.of_size(row.characters);
@@ -112,30 +135,54 @@ fn run_of(alloc: Global, runs: &[Run], row: &Row) -> Result<Run, AllocError>
     Run::new(alloc, &row.format, row.characters)
 }
 
+/// Adds the run of a row.
+fn push_row(
+    alloc: Global,
+    runs: &mut Vec<Run>,
+    row: &Row,
+    known: Option<&Run>,
+) -> Result<(), AllocError>
+    requires { IfSome known (λ run. run.now.format ≡ row.now.format) }
+    ensures { IfOk result (λ _. runs.new.items
+        ≡ runs.old.items ++ record { format = row.now.format; characters = row.now.characters } ∷ []) }
+{
+    let run = run_of(alloc, runs.as_slice(), row, known)?;
+    push(runs, run)
+}
+
 /// Adds a run for each row.
 fn push_rows(alloc: Global, runs: &mut Vec<Run>, rows: &[Row]) -> Result<(), AllocError>
     ensures { IfOk result (λ _. runs.new.items ≡ runs.old.items ++ runs_in rows.now) }
 {
     for row in rows {
-        let run = run_of(alloc, runs.as_slice(), row)?;
-        push(runs, run)?;
+        push_row(alloc, runs, row, None)?;
     }
     Ok(())
 }
 
-/// Adds a run for each row, of which the first joins the last run where that has its format. The rows are maximal, so
-/// that the others are not compared.
-pub fn add_rows(alloc: Global, runs: &mut Vec<Run>, rows: &[Row]) -> Result<(), AllocError>
-    requires few { character_count runs.old.items + row_count rows.now < 2 ^ 62 }
-    requires maximal { AreMaximal runs.old.items }
-    requires maximal_rows { AreMaximal (runs_in rows.now) }
-    ensures formats { IfOk result (λ _. formats_of runs.new.items ≡ formats_of runs.old.items ++ formats_in rows.now) }
-    ensures maximal { IfOk result (λ _. AreMaximal runs.new.items) }
+/// A run for each row. The first and the last one share the formats of the runs that are known to have theirs.
+pub fn runs_of(
+    alloc: Global,
+    rows: &[Row],
+    begin: Option<&Run>,
+    end: Option<&Run>,
+) -> Result<Vec<Run>, AllocError>
+    requires begin { IfSome begin (λ run. (row : Row) (others : List Row) → rows.now ≡ row ∷ others
+        → run.now.format ≡ row.format) }
+    requires end { IfSome end (λ run. (others : List Row) (row : Row) → rows.now ≡ others ++ row ∷ []
+        → run.now.format ≡ row.format) }
+    ensures { IfOk result (λ runs. runs.items ≡ runs_in rows.now) }
 {
+    let mut runs = Vec::with_capacity(alloc, rows.len())?;
     let Some((first, others)) = rows.split_first() else {
-        return Ok(());
+        return Ok(runs);
     };
-    let run = run_of(alloc, runs.as_slice(), first)?;
-    add(runs, run)?;
-    push_rows(alloc, runs, others)
+    let Some((last, middle)) = others.split_last() else {
+        push_row(alloc, &mut runs, first, begin.or(end))?;
+        return Ok(runs);
+    };
+    push_row(alloc, &mut runs, first, begin)?;
+    push_rows(alloc, &mut runs, middle)?;
+    push_row(alloc, &mut runs, last, end)?;
+    Ok(runs)
 }

@@ -1,12 +1,13 @@
 //! The runs of a text.
-ghost use Rattle.std.specs.Prelude.{◌≡◌, ◌<◌, ◌≤◌, ◌+◌, ◌^◌, ◌++◌, [], IfOk, IfSome, IsTrue, MatchOption, drop, get_or};
-ghost use Rattle.std.specs.Prelude.{All, length, replicate, slice_range, take};
+ghost use Rattle.std.specs.Prelude.{◌≡◌, ◌<◌, ◌≤◌, ◌+◌, ◌^◌, ◌++◌, [], ◌-◌, IfOk, IfSome, IsTrue, MatchOption};
+ghost use Rattle.std.specs.Prelude.{All, Some, drop, get_or, length, replicate, slice_get, slice_range, take};
 ghost use Rattle.piece_tree.specs.Nodes.{pieces_of};
+ghost use Rattle.span_flatten.specs.Edges.{KeepEdges};
 ghost use Rattle.format_runs.specs.Runs.{AreMaximal, IsPlaced, character_count, formats_in, formats_of, row_count};
 ghost use Rattle.format_runs.specs.Runs.{runs_in};
 
 use crate::cut::cut;
-use crate::draft::{add_rows, add_runs, between, share_all};
+use crate::draft::{add_runs, between, is_inside, runs_of, share_all};
 use crate::iter::RunsFrom;
 use crate::piece::{HALF, RunPiece, characters_of};
 use crate::run::Run;
@@ -123,10 +124,11 @@ impl SharedRuns {
         (left, spot.characters + characters_of(before))
     }
 
-    /// The runs with those of the rows in place of the characters from `from` up to `to`. A run joins its neighbor
-    /// where formats are equal: the first row is compared with what stands before it, what stands behind the rows with
-    /// the last one, and no other formats are. Pieces that the window doesn't touch are shared. Where what is made is
-    /// too small for a piece, it joins the piece behind it.
+    /// The runs with those of the rows in place of the characters from `from` up to `to`. The rows begin and end with
+    /// formats that stand there. So what is left of a run that is cut has the row's format and joins it, and where a
+    /// run begins the one before it has another format. Places tell which of these holds, and no formats are compared
+    /// for it. The first and the last row share the formats that stand there, and pieces that the window doesn't touch
+    /// are shared. Where what is made is too small for a piece, it joins the piece behind it.
     pub fn with_window(
         &self,
         alloc: Global,
@@ -138,6 +140,7 @@ impl SharedRuns {
         requires within { to ≤ character_count self.now }
         requires short { character_count self.now + row_count rows.now ≤ 2097152 }
         requires maximal { AreMaximal (runs_in rows.now) }
+        requires edges { KeepEdges (formats_of self.now) from to (formats_in rows.now) }
         ensures formats { IfOk result (λ next. formats_of next
             ≡ take from (formats_of self.now) ++ (formats_in rows.now ++ drop to (formats_of self.now))) }
     {
@@ -147,13 +150,52 @@ impl SharedRuns {
         let last = self.pieces.spot(Measure::Characters, to + 1);
         let front = runs_at(&self.pieces, first.index);
         let back = runs_at(&self.pieces, last.index);
+        let fresh = runs_of(alloc, rows, self.run_behind(from), self.run_before(to))?;
         let mut runs = between(alloc, front, 0, from - first.characters)?;
-        add_rows(alloc, &mut runs, rows)?;
+        let cuts_front = is_inside(front, from - first.characters);
+        add_runs(&mut runs, fresh.as_slice(), cuts_front)?;
         let behind = between(alloc, back, to - last.characters, self.character_count())?;
-        add_runs(&mut runs, behind.as_slice())?;
+        let cuts_back = is_inside(back, to - last.characters);
+        add_runs(&mut runs, behind.as_slice(), cuts_back)?;
         let end = self.pieces.len().min(last.index + 1);
         let end = fill(&self.pieces, &mut runs, end)?;
         put(alloc, &self.pieces, first.index, end, runs.as_slice())
+    }
+
+    /// The run of the character at a place, if there is one.
+    fn run_at(&self, place: usize) -> Option<&Run>
+        ensures { IfSome result (λ run. slice_get (formats_of self.now) place ≡ Some run.now.format) }
+    {
+        // How many characters there are, which the proof needs.
+        self.pieces.keeps();
+        if place >= self.character_count() {
+            return None;
+        }
+        let spot = self.pieces.spot(Measure::Characters, place + 1);
+        let runs = self.pieces.piece(spot.index).runs();
+        run_over(runs, place - spot.characters, 1)
+    }
+
+    /// The run of the character behind a place, unless nothing stands before that.
+    fn run_behind(&self, place: usize) -> Option<&Run>
+        ensures { IfSome result (λ run. (0 < place)
+            × (slice_get (formats_of self.now) place ≡ Some run.now.format)) }
+    {
+        if place == 0 {
+            return None;
+        }
+        self.run_at(place)
+    }
+
+    /// The run of the character before a place, unless nothing stands behind that.
+    fn run_before(&self, place: usize) -> Option<&Run>
+        ensures { IfSome result (λ run. (place < character_count self.now)
+            × (slice_get (formats_of self.now) (place - 1) ≡ Some run.now.format)) }
+    {
+        if place == 0 || place >= self.character_count() {
+            return None;
+        }
+        self.run_at(place - 1)
     }
 
     /// Whether the rows are the runs' characters from `from` up to `to`. They are not said to be where more comments

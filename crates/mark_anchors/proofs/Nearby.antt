@@ -5,7 +5,7 @@ use Rattle.std.specs.List.Sorted.{IsNonDecreasingBy, IsStrictlyIncreasing}
 use Rattle.std.proofs.lemmas.Bool.{cases_lt, le-leb, lt-leb}
 use Rattle.std.proofs.lemmas.Option.{slice_get_within, slice_get-get_or, get_or_from_slice_get}
 use Rattle.mark_anchors.specs.CommentLists.{count_up_to}
-use Rattle.mark_anchors.specs.KeyMarks.{IsCountUpTo}
+use Rattle.mark_anchors.specs.KeyMarks.{IsCountBelow, IsCountUpTo}
 use Rattle.mark_anchors.specs.declared.comment_runs.CommentRun.{CommentRun}
 use Rattle.mark_anchors.proofs.Counting.{count_from_point}
 use Rattle.mark_anchors.proofs.Painting.{ascending}
@@ -27,6 +27,27 @@ places_counted xs rising x n within before behind j y at =
           ⊎_elim
           (λ (all : n ≡ length xs). absurd (omega arith))
           (λ (less : x < get_or xs n 0). let high : get_or xs n 0 ≤ get_or xs j 0 = ascending xs rising n j ge inside in absurd (omega arith))
+          behind)
+          (cases_lt j n),
+    )
+
+-- the place before the count is none or before, and the one at it is none or not before
+pub places_below : (xs : List ℕ) → IsStrictlyIncreasing xs → (x n : ℕ) → n ≤ length xs → ((n ≡ 0) ⊎ (get_or xs (n - 1) 0 < x)) → ((n ≡ length xs) ⊎ (x ≤ get_or xs n 0)) → IsCountBelow xs x n
+places_below xs rising x n within before behind j y at =
+    let here : get_or xs j 0 ≡ y = get_or_from_slice_get xs j y 0 at in
+    let inside : j < length xs = slice_get_within xs j y at in (
+      λ less.
+          ⊎_elim
+          (λ (none : n ≡ 0). absurd (omega arith))
+          (λ (lt : get_or xs (n - 1) 0 < x). let low : get_or xs j 0 ≤ get_or xs (n - 1) 0 = ascending xs rising j (n - 1) (omega arith) (omega arith) in omega arith)
+          before,
+      λ lt.
+          ⊎_elim
+          (λ (l : j < n). l)
+          (λ (ge : n ≤ j).
+          ⊎_elim
+          (λ (all : n ≡ length xs). absurd (omega arith))
+          (λ (le : x ≤ get_or xs n 0). let high : get_or xs n 0 ≤ get_or xs j 0 = ascending xs rising n j ge inside in absurd (omega arith))
           behind)
           (cases_lt j n),
     )

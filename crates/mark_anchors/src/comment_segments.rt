@@ -9,7 +9,7 @@ ghost use Rattle.mark_anchors.specs.declared.comment_runs.CommentRun.{CommentRun
 
 use crate::comment_runs::CommentRun;
 use crate::comment_table::{begun_up_to, ended_up_to};
-use crate::key_marks::{count_below, count_up_to};
+use crate::key_marks::{count_below_near, count_near};
 use std::alloc::{AllocError, Global};
 use std::sync::ArcSlice;
 
@@ -17,15 +17,22 @@ use std::sync::ArcSlice;
 const LEAST_CHANGES: usize = 8;
 
 /// The places at which the runs begin and end, each as often, in order.
-fn changes(alloc: Global, runs: &[CommentRun]) -> Result<Vec<usize>, AllocError>
+fn changes(
+    alloc: Global,
+    begins: &[CommentRun],
+    ends: &[CommentRun],
+) -> Result<Vec<usize>, AllocError>
     ensures { IfOk result (λ changes. IsNonDecreasing changes.items) }
 {
-    let mut changes = Vec::with_capacity(alloc, 2 * runs.len())?;
-    for run in runs {
+    let mut changes = Vec::with_capacity(alloc, begins.len() + ends.len())?;
+    for run in begins {
         changes.push(run.from)?;
+    }
+    for run in ends {
         changes.push(run.to)?;
     }
-    changes.sort_unstable();
+    // Two rising halves: a stable sort merges them.
+    changes.sort()?;
     Ok(changes)
 }
 
@@ -66,7 +73,7 @@ pub(crate) fn segment_cuts(
     requires { (runs : List CommentRun) × IsTable runs begins.now ends.now }
     ensures { IfOk result (λ cuts. IsStrictlyIncreasing cuts.items) }
 {
-    let changes = changes(alloc, begins)?;
+    let changes = changes(alloc, begins, ends)?;
     let mut cuts = Vec::new(alloc);
     let mut from = 0;
     while let Some(cut) = next_cut(&changes, from, most_changes(begins, ends, from)) {
@@ -88,11 +95,12 @@ fn empty_lists(alloc: Global, count: usize) -> Result<Vec<Vec<CommentRun>>, Allo
     Ok(lists)
 }
 
-/// Adds the run to the segments of which it has a place.
+/// Adds the run to the segments of which it has a place. `near` is where the last look-up ended.
 fn add_run(
     cuts: &[usize],
     segments: &mut Vec<Vec<CommentRun>>,
     run: &CommentRun,
+    near: &mut usize,
 ) -> Result<(), AllocError>
     requires rising { IsStrictlyIncreasing cuts.now }
     requires sized { length segments.old.items ≡ length cuts.now + 1 }
@@ -100,8 +108,8 @@ fn add_run(
     ensures more { OnOk result ((runs : List CommentRun) → AreSegments vec_runs runs cuts.now segments.old.items
         → AreSegments vec_runs (runs ++ run.now ∷ []) cuts.now segments.new.items) }
 {
-    let first = count_up_to(cuts, run.from);
-    let last = count_below(cuts, run.to);
+    let first = count_near(cuts, run.from, near);
+    let last = count_below_near(cuts, run.to, first);
     for segment in first..last + 1 {
         segments[segment].push(*run)?;
     }
@@ -133,8 +141,9 @@ pub(crate) fn segments(
     ensures { IfOk result (λ segments. AreSegments arc_slice_items runs.now cuts.now segments.items) }
 {
     let mut segments = empty_lists(alloc, cuts.len() + 1)?;
+    let mut near = 0;
     for run in runs {
-        add_run(cuts, &mut segments, run)?;
+        add_run(cuts, &mut segments, run, &mut near)?;
     }
     shared(alloc, &segments)
 }

@@ -178,8 +178,10 @@ fn begun_between<'a>(
 ) -> &'a [CommentRun]
     requires sorted { IsNonDecreasingBy begin_of begins.now }
     requires order { first ≤ second }
-    ensures { (run : CommentRun) → Contains begins.now run → first < run.from → run.from ≤ second
+    ensures between { (run : CommentRun) → Contains begins.now run → first < run.from → run.from ≤ second
         → Contains result.now run }
+    ensures among { (run : CommentRun) → Contains result.now run → Contains begins.now run }
+    ensures inside { (run : CommentRun) → Contains result.now run → (first < run.from) × (run.from ≤ second) }
 {
     let from = begun_near(begins, first, near);
     let to = begun_near(begins, second, near);
@@ -195,7 +197,10 @@ fn ended_between<'a>(
 ) -> &'a [CommentRun]
     requires sorted { IsNonDecreasingBy end_of ends.now }
     requires order { first ≤ second }
-    ensures { (run : CommentRun) → Contains ends.now run → first < run.to → run.to ≤ second → Contains result.now run }
+    ensures between { (run : CommentRun) → Contains ends.now run → first < run.to → run.to ≤ second
+        → Contains result.now run }
+    ensures among { (run : CommentRun) → Contains result.now run → Contains ends.now run }
+    ensures inside { (run : CommentRun) → Contains result.now run → (first < run.to) × (run.to ≤ second) }
 {
     let from = ended_near(ends, first, near);
     let to = ended_near(ends, second, near);
@@ -217,21 +222,32 @@ fn holds(runs: &[CommentRun], number: CommentNumber, place: usize) -> bool
     }
 }
 
-/// Whether the comment of the number holds at both places or at neither.
-fn is_steady(runs: &[CommentRun], number: CommentNumber, first: usize, second: usize) -> bool
-    requires { AreOrderly runs.now }
-    ensures { IsTrue result ↔ IsSteady runs.now number first second }
+/// The same of the comment of one of the runs, which mostly has the place itself, so that no other is searched for.
+fn holds_of(runs: &[CommentRun], run: &CommentRun, place: usize) -> bool
+    requires orderly { AreOrderly runs.now }
+    requires among { Contains runs.now run.now }
+    ensures { IsTrue result ↔ HasRun runs.now run.now.number place }
 {
-    holds(runs, number, first) == holds(runs, number, second)
+    run.has(place) || holds(runs, run.number, place)
 }
 
-/// Whether the comment of each of the changed runs holds at both places or at neither.
+/// Whether the comment of one of the runs holds at both places or at neither.
+fn is_steady(runs: &[CommentRun], run: &CommentRun, first: usize, second: usize) -> bool
+    requires orderly { AreOrderly runs.now }
+    requires among { Contains runs.now run.now }
+    ensures { IsTrue result ↔ IsSteady runs.now run.now.number first second }
+{
+    holds_of(runs, run, first) == holds_of(runs, run, second)
+}
+
+/// Whether the comment of each of the changed ones of the runs holds at both places or at neither.
 fn are_steady(runs: &[CommentRun], changed: &[CommentRun], first: usize, second: usize) -> bool
-    requires { AreOrderly runs.now }
+    requires orderly { AreOrderly runs.now }
+    requires among { (run : CommentRun) → Contains changed.now run → Contains runs.now run }
     ensures { IsTrue result ↔ All (λ run. IsSteady runs.now run.number first second) changed.now }
 {
     for run in changed {
-        if !is_steady(runs, run.number, first, second) {
+        if !is_steady(runs, run, first, second) {
             return false;
         }
     }
@@ -273,6 +289,10 @@ impl CommentTable {
     {
         let begun = begun_between(&self.begins, first, second, &mut near.begun);
         let ended = ended_between(&self.ends, first, second, &mut near.ended);
+        if begun.is_empty() != ended.is_empty() {
+            // A comment that begins without another run of it that ends is new at the second place.
+            return false;
+        }
         are_steady(&self.runs, begun, first, second) && are_steady(&self.runs, ended, first, second)
     }
 

@@ -40,7 +40,7 @@ fn comment_number(mark: &PlacedMark) -> Option<CommentNumber>
 fn numbered(alloc: Global, marks: &[PlacedMark]) -> Result<Vec<CommentMark>, AllocError>
     ensures { IfOk result (λ comments. AreNumbered marks.now comments.items) }
 {
-    let mut comments = Vec::new(alloc);
+    let mut comments = Vec::with_capacity(alloc, marks.len())?;
     for mark in marks {
         if let Some(number) = comment_number(mark) {
             comments.push(CommentMark {

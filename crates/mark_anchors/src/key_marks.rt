@@ -54,6 +54,29 @@ pub(crate) fn count_below(places: &[usize], place: usize) -> usize
     }
 }
 
+/// Whether `count` of the places are before this one.
+fn is_count_below(places: &[usize], count: usize, place: usize) -> bool
+    requires { IsStrictlyIncreasing places.now }
+    ensures below { IsTrue result → IsCountBelow places.now place count }
+    ensures within { IsTrue result → count ≤ length places.now }
+{
+    count <= places.len()
+        && (count == 0 || places[count - 1] < place)
+        && (count == places.len() || place <= places[count])
+}
+
+/// How many of the places are before this one. What was found for another one, `near`, is tried first.
+pub(crate) fn count_below_near(places: &[usize], place: usize, near: usize) -> usize
+    requires { IsStrictlyIncreasing places.now }
+    ensures below { IsCountBelow places.now place result }
+    ensures within { result ≤ length places.now }
+{
+    if is_count_below(places, near, place) {
+        return near;
+    }
+    count_below(places, place)
+}
+
 /// The jumps over the indices of places none of which is painted: each to itself, and one behind all.
 fn jumps_over(alloc: Global, places: &[usize]) -> Result<Vec<usize>, AllocError>
     ensures sized { IfOk result (λ jumps. length jumps.items ≡ length places.now + 1) }
@@ -149,17 +172,17 @@ pub(crate) fn count_near(places: &[usize], place: usize, near: &mut usize) -> us
     *near
 }
 
-/// The places, rising, each once.
-pub(crate) fn in_order(mut places: Vec<usize>) -> Vec<usize>
-    ensures rising { IsStrictlyIncreasing result.items }
-    ensures members { (c : ℕ) → Contains result.items c ↔ Contains places.items c }
+/// The places, rising, each once. A stable sort is cheap where some of them stand in order already.
+pub(crate) fn in_order(mut places: Vec<usize>) -> Result<Vec<usize>, AllocError>
+    ensures rising { IfOk result (λ all. IsStrictlyIncreasing all.items) }
+    ensures members { IfOk result (λ all. (c : ℕ) → Contains all.items c ↔ Contains places.items c) }
 {
-    places.sort_unstable();
+    places.sort()?;
     places.dedup();
-    places
+    Ok(places)
 }
 
-/// The places at which the marks begin and end.
+/// The places at which the marks begin, and behind them those at which they end.
 pub(crate) fn places_of(alloc: Global, marks: &[PlacedMark]) -> Result<Vec<usize>, AllocError>
     ensures begins { IfOk result (λ places. (m : PlacedMark) → Contains marks.now m → Contains places.items m.start) }
     ensures ends { IfOk result (λ places. (m : PlacedMark) → Contains marks.now m → Contains places.items m.end) }
@@ -168,6 +191,8 @@ pub(crate) fn places_of(alloc: Global, marks: &[PlacedMark]) -> Result<Vec<usize
     let mut places = Vec::with_capacity(alloc, 2 * marks.len())?;
     for mark in marks {
         places.push(mark.start)?;
+    }
+    for mark in marks {
         places.push(mark.end)?;
     }
     Ok(places)
@@ -197,7 +222,7 @@ impl KeyMarks {
         ensures { IfOk result (λ key_marks. IsPermutation marks.items key_marks) }
     {
         let marks = by_id(marks);
-        let places = in_order(places_of(alloc, &marks)?);
+        let places = in_order(places_of(alloc, &marks)?)?;
         let numbers = painted(alloc, &places, &marks)?;
         Ok(KeyMarks {
             marks,

@@ -134,7 +134,7 @@ pub fn resolve_placed<'a>(
     Ok(ResolvedMarks {
         sequence,
         operations,
-        places: in_order(places_of(alloc, &marks)?),
+        places: in_order(places_of(alloc, &marks)?)?,
         strong: marks_of(alloc, &marks, &Key::Strong)?,
         em: marks_of(alloc, &marks, &Key::Em)?,
         code: marks_of(alloc, &marks, &Key::Code)?,

@@ -1,17 +1,22 @@
 -- The marks of a block, by its lists.
-use Rattle.std.proofs.Common.{◌≡◌, ℕ, zero, suc, ◌*◌, Some, get_or, ◌+◌, ◌-◌, ◌<◌, ◌≤◌, ◌^◌, ◌++◌, ◌↔◌, List, [], ◌∷◌, min, max, map, length, refl, sym, ap, subst, ◌∙◌, arith, ◌⊎◌, inl, inr, ⊎_elim, All}
-use Rattle.std.specs.List.{Contains, slice_get}
+use Rattle.std.proofs.Common.{◌≡◌, ℕ, zero, suc, ◌*◌, ◌/◌, Option, Some, get_or, ◌+◌, ◌-◌, ◌<◌, ◌≤◌, ◌^◌, ◌↔◌, List, [], ◌∷◌, min, max, map, take, drop, length, refl, sym, ap, subst, ◌∙◌, arith, ◌⊎◌, inl, inr, ⊎_elim, All}
+use Rattle.std.specs.List.{Contains, slice_get, insert}
 use Rattle.std.proofs.lemmas.Bool.{cases_lt}
-use Rattle.std.proofs.lemmas.Option.{same_Some, none-some}
-use Rattle.std.proofs.lemmas.List.{length-map, length_push}
-use Rattle.std.proofs.lemmas.List.Elements.{All-nil, All-cons, All-head, All-tail, All-map, All-push, All-weaker, All-contains, Contains-append_left, Contains-push}
-use Rattle.mark_anchors.proofs.Lists.{read_at}
+use Rattle.std.proofs.lemmas.Option.{same_Some, none-some, slice_get_within}
+use Rattle.std.proofs.lemmas.List.{length-map}
+use Rattle.std.proofs.lemmas.List.Edits.{length-insert}
+use Rattle.std.proofs.lemmas.List.Sorted.{All-permutation, Contains-permutation, IsPermutation-insert}
+use Rattle.std.proofs.lemmas.List.Elements.{All-nil, All-cons, All-head, All-tail, All-map, All-weaker, All-contains, All-contains_itself}
+use Rattle.mark_anchors.proofs.Lists.{read_at, contains_at, contains_from, item_at}
+use Rattle.mark_anchors.specs.declared.placed.PlacedMark.{PlacedMark}
 use Rattle.mark_places.specs.declared.block.MarkName.{MarkName}
 use Rattle.mark_places.specs.declared.ranked.RankedMark.{RankedMark}
-use Rattle.mark_places.specs.Ranks.{raised, mark_raised, IsBelow}
+use Rattle.mark_places.specs.Ranks.{raised, mark_raised, placed, IsBelow}
+use Rattle.mark_places.specs.PlaceRanges.{CoversSome, CoversAny}
+use Rattle.mark_places.specs.declared.range.PlaceRange.{PlaceRange}
 use Rattle.mark_places.specs.Touching.{IsApart}
 use Rattle.mark_places.specs.Blocks.{named, ranked, IsWithin, AreBounded, IsBlock}
-use Rattle.mark_places.proofs.Raising.{raised_from, raised_between, raised_all, raised_within, contains_map, none_raised}
+use Rattle.mark_places.proofs.Raising.{raised_from, raised_below, raised_between, raised_all, raised_within, contains_map, none_raised, here, there}
 
 pub ranked_size : (offset : ℕ) (names : List MarkName) (starts ends : List ℕ) → length starts ≡ length names → length ends ≡ length names → length (ranked offset names starts ends) ≡ length names
 ranked_size offset [] starts ends s e = refl
@@ -22,15 +27,35 @@ ranked_size offset (n ∷ names) (x ∷ starts) (y ∷ ends) s e = ap suc (ranke
 named_as : (n : MarkName) (s s' e e' : ℕ) → s ≡ s' → e ≡ e' → named n s e ≡ named n s' e'
 named_as n s s' e e' same also = ap (λ (x : ℕ). named n x e) same ∙ ap (λ (x : ℕ). named n s' x) also
 
-pub ranked_push : (offset : ℕ) (names : List MarkName) (starts ends : List ℕ) (n : MarkName) (s e : ℕ) → length starts ≡ length names → length ends ≡ length names
-    → ranked offset (names ++ n ∷ []) (starts ++ s ∷ []) (ends ++ e ∷ []) ≡ ranked offset names starts ends ++ named n (offset + s) (offset + e) ∷ []
-ranked_push offset [] [] [] n s e p q = refl
-ranked_push offset [] (x ∷ starts) ends n s e p q = absurd (omega arith)
-ranked_push offset [] [] (y ∷ ends) n s e p q = absurd (omega arith)
-ranked_push offset (m ∷ names) [] ends n s e p q = absurd (omega arith)
-ranked_push offset (m ∷ names) (x ∷ starts) [] n s e p q = absurd (omega arith)
-ranked_push offset (m ∷ names) (x ∷ starts) (y ∷ ends) n s e p q =
-    ap (λ ms. named m (offset + x) (offset + y) ∷ ms) (ranked_push offset names starts ends n s e (omega arith) (omega arith))
+pub ranked_insert : (offset : ℕ) (names : List MarkName) (starts ends : List ℕ) (at : ℕ) (n : MarkName) (s e : ℕ) → at ≤ length names → length starts ≡ length names → length ends ≡ length names
+    → ranked offset (insert names at n) (insert starts at s) (insert ends at e) ≡ insert (ranked offset names starts ends) at (named n (offset + s) (offset + e))
+ranked_insert offset names starts ends zero n s e low p q = refl
+ranked_insert offset [] starts ends (suc at) n s e low p q = absurd (omega arith)
+ranked_insert offset (m ∷ names) [] ends (suc at) n s e low p q = absurd (omega arith)
+ranked_insert offset (m ∷ names) (x ∷ starts) [] (suc at) n s e low p q = absurd (omega arith)
+ranked_insert offset (m ∷ names) (x ∷ starts) (y ∷ ends) (suc at) n s e low p q =
+    ap (λ ms. named m (offset + x) (offset + y) ∷ ms) (ranked_insert offset names starts ends at n s e (omega arith) (omega arith) (omega arith))
+
+-- some of the marks
+ranked_take : (offset : ℕ) (names : List MarkName) (starts ends : List ℕ) (k : ℕ) → ranked offset (take k names) (take k starts) (take k ends) ≡ take k (ranked offset names starts ends)
+ranked_take offset names starts ends zero = refl
+ranked_take offset [] starts ends (suc k) = refl
+ranked_take offset (n ∷ names) [] ends (suc k) = refl
+ranked_take offset (n ∷ names) (x ∷ starts) [] (suc k) = refl
+ranked_take offset (n ∷ names) (x ∷ starts) (y ∷ ends) (suc k) = ap (λ ms. named n (offset + x) (offset + y) ∷ ms) (ranked_take offset names starts ends k)
+
+ranked_drop : (offset : ℕ) (names : List MarkName) (starts ends : List ℕ) (k : ℕ) → length starts ≡ length names → length ends ≡ length names
+    → ranked offset (drop k names) (drop k starts) (drop k ends) ≡ drop k (ranked offset names starts ends)
+ranked_drop offset names starts ends zero s e = refl
+ranked_drop offset [] starts ends (suc k) s e = refl
+ranked_drop offset (n ∷ names) [] ends (suc k) s e = absurd (omega arith)
+ranked_drop offset (n ∷ names) (x ∷ starts) [] (suc k) s e = absurd (omega arith)
+ranked_drop offset (n ∷ names) (x ∷ starts) (y ∷ ends) (suc k) s e = ranked_drop offset names starts ends k (omega arith) (omega arith)
+
+pub ranked_part : (offset : ℕ) (names : List MarkName) (starts ends : List ℕ) (first count : ℕ) → length starts ≡ length names → length ends ≡ length names
+    → ranked offset (take count (drop first names)) (take count (drop first starts)) (take count (drop first ends)) ≡ take count (drop first (ranked offset names starts ends))
+ranked_part offset names starts ends first count s e =
+    ranked_take offset (drop first names) (drop first starts) (drop first ends) count ∙ ap (take count) (ranked_drop offset names starts ends first s e)
 
 -- the offset may be added to each rank
 pub settled : (offset : ℕ) (names : List MarkName) (starts ends : List ℕ) → ranked 0 names (map (raised 0 offset) starts) (map (raised 0 offset) ends) ≡ ranked offset names starts ends
@@ -92,51 +117,35 @@ ends_low offset least greatest (n ∷ names) (x ∷ starts) (y ∷ ends) s e all
     (ends_low offset least greatest names starts ends (omega arith) (omega arith) (All-tail (IsWithin least greatest) m (ranked offset names starts ends) all))
 
 -- ---- bounds
-pub one_bounded : (least greatest : ℕ) (mark : RankedMark) → least ≡ min mark.start mark.end → greatest ≡ max mark.start mark.end → IsBelow (2 ^ 31) mark → AreBounded 0 least greatest (mark ∷ [])
-one_bounded least greatest mark low high below =
-    let start = below.0 in
-    let end = below.1 in
-    record {
-      from = omega arith;
-      below = omega arith;
-      within = All-cons (IsWithin least greatest) mark [] ((omega arith, omega arith), (omega arith, omega arith)) (All-nil (IsWithin least greatest));
-      reached = (
-        mark,
-        Contains-push [] mark,
-        ⊎_elim
-            (λ (l : mark.start < mark.end). inr (omega arith))
-            (λ (r : mark.end ≤ mark.start). inl (omega arith))
-            (cases_lt mark.start mark.end),
-      );
-    }
-
-pub push_bounded : (offset least greatest least' greatest' : ℕ) (marks : List RankedMark) (mark : RankedMark) → least' ≡ min (min least mark.start) mark.end → greatest' ≡ max (max greatest mark.start) mark.end
-    → IsBelow (2 ^ 31) mark → AreBounded offset least greatest marks → AreBounded 0 least' greatest' (marks ++ mark ∷ [])
-push_bounded offset least greatest least' greatest' marks mark low high below are =
+pub insert_bounded : (offset least greatest least' greatest' : ℕ) (marks : List RankedMark) (at : ℕ) (mark : RankedMark) → least' ≡ min (min least mark.start) mark.end → greatest' ≡ max (max greatest mark.start) mark.end
+    → IsBelow (2 ^ 31) mark → AreBounded offset least greatest marks → AreBounded 0 least' greatest' (insert marks at mark)
+insert_bounded offset least greatest least' greatest' marks at mark low high below are =
     let start = below.0 in
     let end = below.1 in
     let was = are.below in
+    let same = IsPermutation-insert marks at mark in
     record {
       from = omega arith;
       below = omega arith;
       within =
-          All-push (IsWithin least' greatest') marks mark
+          All-permutation (IsWithin least' greatest') (mark ∷ marks) (insert marks at mark) same
+          (All-cons (IsWithin least' greatest') mark marks
+          ((omega arith, omega arith), (omega arith, omega arith))
           (All-weaker (IsWithin least greatest) (IsWithin least' greatest') (λ m w.
           let a = w.0.0 in
           let b = w.0.1 in
           let c = w.1.0 in
           let d = w.1.1 in
-          ((omega arith, omega arith), (omega arith, omega arith))) marks are.within)
-          ((omega arith, omega arith), (omega arith, omega arith));
+          ((omega arith, omega arith), (omega arith, omega arith))) marks are.within));
       reached =
           ⊎_elim
-          (λ (same : greatest ≡ greatest').
+          (λ (same_greatest : greatest ≡ greatest').
           let r = are.reached in (
             r.0,
-            Contains-append_left marks (mark ∷ []) r.0 r.1,
-            ⊎_elim (λ (s : r.0.start ≡ greatest). inl (s ∙ same)) (λ (e : r.0.end ≡ greatest). inr (e ∙ same)) r.2,
+            Contains-permutation (mark ∷ marks) (insert marks at mark) r.0 same (there mark marks r.0 r.1),
+            ⊎_elim (λ (s : r.0.start ≡ greatest). inl (s ∙ same_greatest)) (λ (e : r.0.end ≡ greatest). inr (e ∙ same_greatest)) r.2,
           ))
-          (λ (new : (mark.start ≡ greatest') ⊎ (mark.end ≡ greatest')). (mark, Contains-push marks mark, new))
+          (λ (new : (mark.start ≡ greatest') ⊎ (mark.end ≡ greatest')). (mark, Contains-permutation (mark ∷ marks) (insert marks at mark) mark same (here mark marks), new))
           (⊎_elim
           (λ (l : greatest < greatest').
           inr (⊎_elim (λ (s : mark.start < greatest'). inr (omega arith)) (λ (s : greatest' ≤ mark.start). inl (omega arith)) (cases_lt mark.start greatest')))
@@ -198,21 +207,6 @@ some_bounded offset least greatest from by marks high fits are =
     (λ rank above. omega (arith, (raised_between from by rank).0)) are
 
 -- ---- blocks
-pub block_of : (name : MarkName) (least greatest start end : ℕ) (names : List MarkName) (starts ends : List ℕ) → least ≡ min start end → greatest ≡ max start end → start < 2 ^ 31 → end < 2 ^ 31
-    → names ≡ name ∷ [] → starts ≡ start ∷ [] → ends ≡ end ∷ []
-    → IsBlock 0 least greatest names starts ends × (ranked 0 names starts ends ≡ named name start end ∷ [])
-block_of name least greatest start end names starts ends low high s e one first last =
-    let same : ranked 0 names starts ends ≡ named name start end ∷ [] =
-    ap (λ ns. ranked 0 ns starts ends) one ∙ ap (λ ss. ranked 0 (name ∷ []) ss ends) first ∙ ap (λ es. ranked 0 (name ∷ []) (start ∷ []) es) last
-    ∙ ap (λ (m : RankedMark). m ∷ []) (named_as name (0 + start) start (0 + end) end (omega arith) (omega arith)) in (
-      record {
-        starts_sized = ap length first ∙ sym (ap length one);
-        ends_sized = ap length last ∙ sym (ap length one);
-        bounded = subst (AreBounded 0 least greatest) (sym same) (one_bounded least greatest (named name start end) low high (s, e));
-      },
-      same,
-    )
-
 pub block_all : (offset least greatest from by : ℕ) (names : List MarkName) (starts ends : List ℕ) → from ≤ least → from ≤ greatest → greatest + by < 2 ^ 31
     → IsBlock offset least greatest names starts ends
     → IsBlock (offset + by) (least + by) (greatest + by) names starts ends × (ranked (offset + by) names starts ends ≡ map (mark_raised from by) (ranked offset names starts ends))
@@ -256,25 +250,27 @@ block_none offset least greatest from by names starts ends high is =
     let d = w.1.1 in
     (omega arith, omega arith)) (ranked offset names starts ends) is.bounded.within)
 
-pub block_push : (offset least greatest least' greatest' : ℕ) (names : List MarkName) (starts ends : List ℕ) (name : MarkName) (start end : ℕ) (names' : List MarkName) (starts' ends' : List ℕ)
-    → least' ≡ min (min least start) end → greatest' ≡ max (max greatest start) end → start < 2 ^ 31 → end < 2 ^ 31
-    → names' ≡ names ++ name ∷ [] → starts' ≡ map (raised 0 offset) starts ++ start ∷ [] → ends' ≡ map (raised 0 offset) ends ++ end ∷ []
+pub block_insert : (offset least greatest least' greatest' : ℕ) (names : List MarkName) (starts ends : List ℕ) (at : ℕ) (name : MarkName) (start end : ℕ) (names' : List MarkName) (starts' ends' : List ℕ)
+    → at ≤ length names → least' ≡ min (min least start) end → greatest' ≡ max (max greatest start) end → start < 2 ^ 31 → end < 2 ^ 31
+    → names' ≡ insert names at name → starts' ≡ insert (map (raised 0 offset) starts) at start → ends' ≡ insert (map (raised 0 offset) ends) at end
     → IsBlock offset least greatest names starts ends
-    → IsBlock 0 least' greatest' names' starts' ends' × (ranked 0 names' starts' ends' ≡ ranked offset names starts ends ++ named name start end ∷ [])
-block_push offset least greatest least' greatest' names starts ends name start end names' starts' ends' low high s e one first last is =
+    → IsBlock 0 least' greatest' names' starts' ends' × (ranked 0 names' starts' ends' ≡ insert (ranked offset names starts ends) at (named name start end))
+block_insert offset least greatest least' greatest' names starts ends at name start end names' starts' ends' within low high s e one first last is =
     let marks = ranked offset names starts ends in
     let f = raised 0 offset in
     let starts_sized : length (map f starts) ≡ length names = length-map starts f ∙ is.starts_sized in
     let ends_sized : length (map f ends) ≡ length names = length-map ends f ∙ is.ends_sized in
-    let same : ranked 0 names' starts' ends' ≡ marks ++ named name start end ∷ [] =
-    ap (λ ns. ranked 0 ns starts' ends') one ∙ ap (λ ss. ranked 0 (names ++ name ∷ []) ss ends') first ∙ ap (λ es. ranked 0 (names ++ name ∷ []) (map f starts ++ start ∷ []) es) last
-    ∙ ranked_push 0 names (map f starts) (map f ends) name start end starts_sized ends_sized
-    ∙ ap (λ (m : RankedMark). ranked 0 names (map f starts) (map f ends) ++ m ∷ []) (named_as name (0 + start) start (0 + end) end (omega arith) (omega arith))
-    ∙ ap (λ ms. ms ++ named name start end ∷ []) (settled offset names starts ends) in (
+    let same : ranked 0 names' starts' ends' ≡ insert marks at (named name start end) =
+    ap (λ ns. ranked 0 ns starts' ends') one ∙ ap (λ ss. ranked 0 (insert names at name) ss ends') first ∙ ap (λ es. ranked 0 (insert names at name) (insert (map f starts) at start) es) last
+    ∙ ranked_insert 0 names (map f starts) (map f ends) at name start end within starts_sized ends_sized
+    ∙ ap (λ (m : RankedMark). insert (ranked 0 names (map f starts) (map f ends)) at m) (named_as name (0 + start) start (0 + end) end (omega arith) (omega arith))
+    ∙ ap (λ ms. insert ms at (named name start end)) (settled offset names starts ends) in (
       record {
-        starts_sized = omega (arith, ap length first, ap length one, length_push (map f starts) start, length_push names name, starts_sized);
-        ends_sized = omega (arith, ap length last, ap length one, length_push (map f ends) end, length_push names name, ends_sized);
-        bounded = subst (AreBounded 0 least' greatest') (sym same) (push_bounded offset least greatest least' greatest' marks (named name start end) low high (s, e) is.bounded);
+        starts_sized =
+            ap length first ∙ length-insert (map f starts) at start (omega (arith, starts_sized)) ∙ omega (arith, ap length one, length-insert names at name within, starts_sized);
+        ends_sized =
+            ap length last ∙ length-insert (map f ends) at end (omega (arith, ends_sized)) ∙ omega (arith, ap length one, length-insert names at name within, ends_sized);
+        bounded = subst (AreBounded 0 least' greatest') (sym same) (insert_bounded offset least greatest least' greatest' marks at (named name start end) low high (s, e) is.bounded);
       },
       same,
     )
@@ -334,19 +330,6 @@ module _ (from by low high first last below behind : ℕ) (first_is : first ≡ 
       (λ less. let at : y < behind - offset = each 0 (omega arith) (omega (arith, less)) in omega (arith, at))
       (ranked_between offset names starts ends (λ k less. each (suc k) (omega arith)))
 
-  pub block_apart : (offset least greatest : ℕ) (names : List MarkName) (starts ends : List ℕ) (marks : List RankedMark) → ranked offset names starts ends ≡ marks
-      → All (λ m. IsBelow (2 ^ 31) (mark_raised from by m)) marks → IsBlock offset least greatest names starts ends
-      → ((greatest < behind) ⊎ (below ≤ least)) → All (IsApart low high) (map (mark_raised from by) marks)
-  block_apart offset least greatest names starts ends marks is fits block side =
-      marks_apart marks fits (subst (All (λ m. m.start < below → m.end < behind)) is (All-weaker (IsWithin least greatest) (λ m. m.start < below → m.end < behind) (λ m w.
-      let a = w.0.0 in
-      let d = w.1.1 in
-      λ begins.
-      ⊎_elim
-      (λ (l : greatest < behind). omega arith)
-      (λ (r : below ≤ least). absurd (omega arith))
-      side) (ranked offset names starts ends) block.bounded.within))
-
   pub block_between : (offset below' behind' : ℕ) (names : List MarkName) (starts ends firsts lasts : List ℕ) (marks : List RankedMark) → ranked offset names starts ends ≡ marks
       → All (λ m. IsBelow (2 ^ 31) (mark_raised from by m)) marks → below' ≡ below - offset → behind' ≡ behind - offset
       → firsts ≡ starts → lasts ≡ ends → ((k : ℕ) → k < length firsts → get_or firsts k 0 < below' → get_or lasts k 0 < behind')
@@ -356,3 +339,153 @@ module _ (from by low high first last below behind : ℕ) (first_is : first ≡ 
       let both = subst (λ ys. (k : ℕ) → k < length starts → get_or starts k 0 < below' → get_or ys k 0 < behind') also read in
       marks_apart marks fits (subst (All (λ m. m.start < below → m.end < behind)) is (ranked_between offset names starts ends
       (λ k less before. let at = both k less (omega (arith, before, few)) in omega (arith, at, many))))
+
+-- ---- a block of lists
+ranked_within : (offset low high : ℕ) (names : List MarkName) (starts ends : List ℕ) → All (λ r. (low ≤ r) × (r ≤ high)) starts → All (λ r. (low ≤ r) × (r ≤ high)) ends
+    → All (IsWithin (offset + low) (offset + high)) (ranked offset names starts ends)
+ranked_within offset low high [] starts ends s e = All-nil (IsWithin (offset + low) (offset + high))
+ranked_within offset low high (n ∷ names) [] ends s e = All-nil (IsWithin (offset + low) (offset + high))
+ranked_within offset low high (n ∷ names) (x ∷ starts) [] s e = All-nil (IsWithin (offset + low) (offset + high))
+ranked_within offset low high (n ∷ names) (x ∷ starts) (y ∷ ends) s e =
+    let P : ℕ → Type 0 = λ r. (low ≤ r) × (r ≤ high) in
+    let a = All-head P x starts s in
+    let b = All-head P y ends e in
+    let a0 = a.0 in
+    let a1 = a.1 in
+    let b0 = b.0 in
+    let b1 = b.1 in
+    All-cons (IsWithin (offset + low) (offset + high)) (named n (offset + x) (offset + y)) (ranked offset names starts ends)
+    ((omega arith, omega arith), (omega arith, omega arith))
+    (ranked_within offset low high names starts ends (All-tail P x starts s) (All-tail P y ends e))
+
+module _ (offset : ℕ) (names : List MarkName) (starts ends : List ℕ) (s : length starts ≡ length names) (e : length ends ≡ length names) where
+  start_reached : (rank : ℕ) → Contains starts rank → (mark : RankedMark) × Contains (ranked offset names starts ends) mark × (mark.start ≡ offset + rank)
+  start_reached rank held =
+      let i = contains_at starts rank held in
+      let within : i.0 < length starts = slice_get_within starts i.0 rank i.1 in
+      let n = item_at names i.0 (omega arith) in
+      let y = item_at ends i.0 (omega arith) in
+      let m : RankedMark = named n.0 (offset + rank) (offset + y.0) in
+      (m, contains_from (ranked offset names starts ends) i.0 m (ranked_read offset names starts ends i.0 n.0 rank y.0 n.1 i.1 y.1), refl)
+
+  end_reached : (rank : ℕ) → Contains ends rank → (mark : RankedMark) × Contains (ranked offset names starts ends) mark × (mark.end ≡ offset + rank)
+  end_reached rank held =
+      let i = contains_at ends rank held in
+      let within : i.0 < length ends = slice_get_within ends i.0 rank i.1 in
+      let n = item_at names i.0 (omega arith) in
+      let x = item_at starts i.0 (omega arith) in
+      let m : RankedMark = named n.0 (offset + x.0) (offset + rank) in
+      (m, contains_from (ranked offset names starts ends) i.0 m (ranked_read offset names starts ends i.0 n.0 x.0 rank n.1 x.1 i.1), refl)
+
+  -- the greatest of each list is that of some mark
+  pub greatest_low : (rank : ℕ) → All (IsBelow (2 ^ 31)) (ranked offset names starts ends) → Contains starts rank ⊎ Contains ends rank → offset + rank < 2 ^ 31
+  greatest_low rank below held =
+      ⊎_elim
+      (λ (start : Contains starts rank). let r = start_reached rank start in let low = (All-contains (IsBelow (2 ^ 31)) (ranked offset names starts ends) r.0 below r.1).0 in omega (arith, low, r.2))
+      (λ (end : Contains ends rank). let r = end_reached rank end in let low = (All-contains (IsBelow (2 ^ 31)) (ranked offset names starts ends) r.0 below r.1).1 in omega (arith, low, r.2))
+      held
+
+  pub lists_block : (a b c d least greatest : ℕ) → All (λ r. a ≤ r) starts → All (λ r. b ≤ r) ends → All (λ r. r ≤ c) starts → All (λ r. r ≤ d) ends → Contains starts c → Contains ends d
+      → least ≡ offset + min a b → greatest ≡ offset + max c d → All (IsBelow (2 ^ 31)) (ranked offset names starts ends) → IsBlock offset least greatest names starts ends
+  lists_block a b c d least greatest sa sb sc sd hc hd low high below =
+      let first = greatest_low c below (inl hc) in
+      let last = greatest_low d below (inr hd) in
+      record {
+        starts_sized = s;
+        ends_sized = e;
+        bounded = record {
+          from = omega arith;
+          below = ⊎_elim (λ (l : c < d). omega arith) (λ (r : d ≤ c). omega arith) (cases_lt c d);
+          within =
+              All-weaker (IsWithin (offset + min a b) (offset + max c d)) (IsWithin least greatest) (λ m w.
+              let w00 = w.0.0 in
+              let w01 = w.0.1 in
+              let w10 = w.1.0 in
+              let w11 = w.1.1 in
+              ((subst (λ l. l ≤ m.start) (sym low) w00, subst (λ g. m.start ≤ g) (sym high) w01), (subst (λ l. l ≤ m.end) (sym low) w10, subst (λ g. m.end ≤ g) (sym high) w11)))
+              (ranked offset names starts ends)
+              (ranked_within offset (min a b) (max c d) names starts ends
+              (λ i x less. let l = sa i x less in let g = sc i x less in (omega (arith, l), omega (arith, g)))
+              (λ i x less. let l = sb i x less in let g = sd i x less in (omega (arith, l), omega (arith, g))));
+          reached =
+              ⊎_elim
+              (λ (l : c < d). let r = end_reached d hd in (r.0, r.1, inr (omega (arith, r.2))))
+              (λ (l : d ≤ c). let r = start_reached c hc in (r.0, r.1, inl (omega (arith, r.2))))
+              (cases_lt c d);
+        };
+      }
+
+-- the lists may be copies
+pub copied_block : (offset least greatest : ℕ) (names names' : List MarkName) (starts starts' ends ends' : List ℕ) → names' ≡ names → starts' ≡ starts → ends' ≡ ends → IsBlock offset least greatest names starts ends
+    → IsBlock offset least greatest names' starts' ends'
+copied_block offset least greatest names names' starts starts' ends ends' n s e is =
+    subst (λ x. IsBlock offset least greatest x starts' ends') (sym n) (subst (λ x. IsBlock offset least greatest names x ends') (sym s) (subst (IsBlock offset least greatest names starts) (sym e) is))
+
+pub copied_marks : (offset : ℕ) (names names' : List MarkName) (starts starts' ends ends' : List ℕ) → names' ≡ names → starts' ≡ starts → ends' ≡ ends → ranked offset names' starts' ends' ≡ ranked offset names starts ends
+copied_marks offset names names' starts starts' ends ends' n s e =
+    ap (λ x. ranked offset x starts' ends') n ∙ ap (λ x. ranked offset names x ends') s ∙ ap (ranked offset names starts) e
+
+pub one_mark : (mark : RankedMark) (name : MarkName) → name ≡ record { index = mark.index; id = mark.id; key = mark.key } → ranked 0 (name ∷ []) (mark.start ∷ []) (mark.end ∷ []) ≡ mark ∷ []
+one_mark mark name is =
+    ap (λ (n : MarkName). named n (0 + mark.start) (0 + mark.end) ∷ []) is
+    ∙ ap (λ (m : RankedMark). m ∷ []) (named_as (record { index = mark.index; id = mark.id; key = mark.key }) (0 + mark.start) mark.start (0 + mark.end) mark.end (omega arith) (omega arith))
+
+-- ranks of some of the marks are below the limit as well
+all_take : (P : RankedMark → Type 0) (xs : List RankedMark) (k : ℕ) → All P xs → All P (take k xs)
+all_take P xs zero all = All-nil P
+all_take P [] (suc k) all = All-nil P
+all_take P (x ∷ xs) (suc k) all = All-cons P x (take k xs) (All-head P x xs all) (all_take P xs k (All-tail P x xs all))
+
+all_drop : (P : RankedMark → Type 0) (xs : List RankedMark) (k : ℕ) → All P xs → All P (drop k xs)
+all_drop P xs zero all = all
+all_drop P [] (suc k) all = All-nil P
+all_drop P (x ∷ xs) (suc k) all = all_drop P xs k (All-tail P x xs all)
+
+pub part_below : (offset least greatest : ℕ) (names : List MarkName) (starts ends : List ℕ) (first count : ℕ) → IsBlock offset least greatest names starts ends
+    → All (IsBelow (2 ^ 31)) (ranked offset (take count (drop first names)) (take count (drop first starts)) (take count (drop first ends)))
+part_below offset least greatest names starts ends first count is =
+    let marks = ranked offset names starts ends in
+    let limit = is.bounded.below in
+    subst (All (IsBelow (2 ^ 31))) (sym (ranked_part offset names starts ends first count is.starts_sized is.ends_sized))
+    (all_take (IsBelow (2 ^ 31)) (drop first marks) count (all_drop (IsBelow (2 ^ 31)) marks first
+    (All-weaker (IsWithin least greatest) (IsBelow (2 ^ 31)) (λ m w.
+    let b = w.0.1 in
+    let d = w.1.1 in
+    (omega arith, omega arith)) marks is.bounded.within)))
+
+-- ---- the places of a block's marks
+both_all : {X : Type 0} (P Q : X → Type 0) (xs : List X) → All P xs → All Q xs → All (λ x. P x × Q x) xs
+both_all P Q xs p q i x less = (p i x less, q i x less)
+
+raised_order : (from by a b : ℕ) → a ≤ b → raised from by a ≤ raised from by b
+raised_order from by a b low =
+    ⊎_elim
+    (λ (below : a < from). omega (arith, raised_below from by a below, (raised_between from by b).0))
+    (λ (high : from ≤ a). omega (arith, raised_from from by a high, raised_from from by b (omega arith)))
+    (cases_lt a from)
+
+module _ (from by : ℕ) (ranges : List PlaceRange) (offset least greatest : ℕ) (names : List MarkName) (starts ends : List ℕ) (marks : List RankedMark)
+    (is : ranked offset names starts ends ≡ marks) (block : IsBlock offset least greatest names starts ends) where
+  within_places : All (λ m. ((raised from by least / 2 ≤ raised from by m.start / 2) × (raised from by m.end / 2 ≤ raised from by greatest / 2))) marks
+  within_places =
+      All-weaker (IsWithin least greatest) (λ m. ((raised from by least / 2 ≤ raised from by m.start / 2) × (raised from by m.end / 2 ≤ raised from by greatest / 2))) (λ m w.
+      let low = raised_order from by least m.start w.0.0 in
+      let high = raised_order from by m.end greatest w.1.1 in
+      (omega (arith, low), omega (arith, high))) marks (subst (All (IsWithin least greatest)) is block.bounded.within)
+
+  -- no mark covers a place of the ranges if none covers one of the hull of those that matter
+  pub ranges_apart : (hull : Option PlaceRange) (low high : ℕ) → low ≡ raised from by least / 2 → high ≡ raised from by greatest / 2
+      → ((mark : PlacedMark) → low ≤ mark.start → mark.end ≤ high → CoversAny ranges mark → (h : PlaceRange) × (hull ≡ Some h) × CoversSome h mark)
+      → ((h : PlaceRange) → hull ≡ Some h → All (IsApart h.low h.high) (map (mark_raised from by) marks))
+      → All (λ m. CoversAny ranges (placed m) → ⊥) (map (mark_raised from by) marks)
+  ranges_apart hull low high l g matter apart =
+      All-map (λ m. CoversAny ranges (placed m) → ⊥) (mark_raised from by) marks
+      (All-weaker (λ m. Contains marks m × ((raised from by least / 2 ≤ raised from by m.start / 2) × (raised from by m.end / 2 ≤ raised from by greatest / 2)))
+      (λ m. CoversAny ranges (placed (mark_raised from by m)) → ⊥)
+      (λ m w covers.
+      let w0 = w.1.0 in
+      let w1 = w.1.1 in
+      let r = matter (placed (mark_raised from by m)) (omega (arith, l, w0)) (omega (arith, g, w1)) covers in
+      All-contains (IsApart r.0.low r.0.high) (map (mark_raised from by) marks) (mark_raised from by m) (apart r.0 r.1) (contains_map (mark_raised from by) marks m w.0)
+      r.2.before r.2.behind)
+      marks (both_all (Contains marks) (λ m. ((raised from by least / 2 ≤ raised from by m.start / 2) × (raised from by m.end / 2 ≤ raised from by greatest / 2))) marks (All-contains_itself marks) within_places))

@@ -1,8 +1,7 @@
 -- The kept marks are chosen ones.
-use Rattle.std.proofs.Common.{true, false, map, ◌∷◌, ◌≡◌, ℕ, ◌<◌, ◌≤◌, List, [], Some, length, get_or, refl, sym, ap, subst, ◌∙◌, arith, ⊎_elim, ◌⊎◌, inl, inr}
-use Rattle.std.specs.List.{slice_get, Contains}
-use Rattle.std.proofs.lemmas.Bool.{cases_Bool, cases_lt}
-use Rattle.std.proofs.lemmas.List.Elements.{Contains-append_cases, Contains-append_left, Contains-append_right, Contains-push, Contains-push_cases}
+use Rattle.std.proofs.Common.{true, false, map, ◌≡◌, ℕ, ◌<◌, ◌≤◌, List, [], Some, length, get_or, refl, sym, ap, subst, ◌∙◌, arith, ⊎_elim, ◌⊎◌, inl, inr}
+use Rattle.std.specs.List.{slice_get, list_any, Contains}
+use Rattle.std.proofs.lemmas.Bool.{cases_Bool, false≢true}
 use Rattle.std.proofs.lemmas.Option.{same_Some, none-some, slice_get_within}
 use Rattle.change_ops.specs.Ids.{Less}
 use Rattle.change_ops.specs.Operations.{id_of}
@@ -21,70 +20,47 @@ use Rattle.mark_places.specs.Chosen.{AreChosen, IsOutside, IsOverruled}
 use Rattle.mark_places.specs.declared.floors.Floors.{Floors}
 use Rattle.mark_places.proofs.Keeping.{IsBelow, IsBeside, beside, kept_cases, floor_kept}
 use Rattle.mark_places.proofs.Filters.{kept_was, is_kept}
-use Rattle.mark_places.proofs.Raising.{contains_map}
-
--- each place is that of the operation of its index
-operation_of : (es : List Element) (operations : List Op) (places : List MarkPlace) → AreMarkPlaces es operations places → (place : MarkPlace) → Contains places place → (i : ℕ) × ((o : Op) × (slice_get places i ≡ Some place) × (slice_get operations place.mark.index ≡ Some o) × IsPlaced es place.mark.key o place.mark)
-operation_of es operations places are place held =
-    let i = contains_at places place held in
-    let r = are.each i.0 place i.1 in
-    (i.0, (r.0, i.1, ap (slice_get operations) r.2.indexed ∙ r.1, r.2.placed))
-
--- and each operation has its place
-place_at : (es : List Element) (operations : List Op) (places : List MarkPlace) → AreMarkPlaces es operations places → (o : Op) → Contains operations o → (place : MarkPlace) × Contains places place × (slice_get operations place.mark.index ≡ Some o) × IsPlaced es place.mark.key o place.mark
-place_at es operations places are o held =
-    let i = contains_at operations o held in
-    let within : i.0 < length operations = slice_get_within operations i.0 o i.1 in
-    let size : length places ≡ length operations = are.sized in
-    let p = item_at places i.0 (omega arith) in
-    let r = are.each i.0 p.0 p.1 in
-    let one : r.0 ≡ o = same_Some r.0 o (sym r.1 ∙ i.1) in
-    (p.0, contains_from places i.0 p.0 p.1, ap (slice_get operations) r.2.indexed ∙ i.1, subst (λ z. IsPlaced es p.0.mark.key z p.0.mark) one r.2.placed)
+use Rattle.mark_places.proofs.Raising.{contains_map, of_map}
+use Rattle.mark_places.proofs.Touching.{covered_passes}
 
 -- the mark of each of them, and each of those is one of theirs
 mark_held : (places : List MarkPlace) (place : MarkPlace) → Contains places place → Contains (map (λ (p : MarkPlace). p.mark) places) place.mark
 mark_held places place held = contains_map (λ (p : MarkPlace). p.mark) places place held
 
-of_mark : (places : List MarkPlace) (mark : PlacedMark) → Contains (map (λ (p : MarkPlace). p.mark) places) mark → (place : MarkPlace) × Contains places place × (place.mark ≡ mark)
-of_mark [] mark held = let i = contains_at [] mark held in absurd (none-some mark i.1)
-of_mark (p ∷ places) mark held =
-    ⊎_elim
-    (λ (one : Contains (p.mark ∷ []) mark). (
-      p,
-      Contains-append_left (p ∷ []) places p (Contains-push [] p),
-      ⊎_elim
-          (λ (none : Contains [] mark). let i = contains_at [] mark none in absurd (none-some mark i.1))
-          (λ (is : p.mark ≡ mark). is)
-          (Contains-push_cases [] p.mark mark one),
-    ))
-    (λ (more : Contains (map (λ (p : MarkPlace). p.mark) places) mark).
-    let r = of_mark places mark more in
-    (r.0, Contains-append_right (p ∷ []) places r.0 r.1, r.2))
-    (Contains-append_cases (p.mark ∷ []) (map (λ (p : MarkPlace). p.mark) places) mark held)
-
 -- what touches is one of them
-from_touching : (low high : ℕ) (places : List MarkPlace) (mark : PlacedMark) → Contains (touching low high places) mark → (place : MarkPlace) × Contains places place × (place.mark ≡ mark)
-from_touching low high places mark held = of_mark places mark (kept_was (touches low high) (map (λ (p : MarkPlace). p.mark) places) mark held)
+from_touching : (ranges : List PlaceRange) (places : List MarkPlace) (mark : PlacedMark) → Contains (touching ranges places) mark → (place : MarkPlace) × Contains places place × (place.mark ≡ mark)
+from_touching ranges places mark held =
+    of_map (λ (p : MarkPlace). p.mark) places mark (kept_was (λ m. list_any (touches m) ranges) (map (λ (p : MarkPlace). p.mark) places) mark held)
 
--- each of them touches, or covers no such place
-touching_cases : (low high : ℕ) (places : List MarkPlace) (place : MarkPlace) → Contains places place → Contains (touching low high places) place.mark ⊎ IsBeside low high place.mark
-touching_cases low high places place held =
+-- each of them touches, or covers no place of the range
+touching_cases : (ranges : List PlaceRange) (range : PlaceRange) (places : List MarkPlace) (place : MarkPlace) → Contains ranges range → Contains places place
+    → Contains (touching ranges places) place.mark ⊎ IsBeside range.low range.high place.mark
+touching_cases ranges range places place there held =
     ⊎_elim
-    (λ (yes : touches low high place.mark ≡ true). inl (is_kept (touches low high) (map (λ (p : MarkPlace). p.mark) places) place.mark yes (mark_held places place held)))
-    (λ (no : touches low high place.mark ≡ false). inr (beside low high place.mark no))
-    (cases_Bool (touches low high place.mark))
+    (λ (yes : list_any (touches place.mark) ranges ≡ true). inl (is_kept (λ m. list_any (touches m) ranges) (map (λ (p : MarkPlace). p.mark) places) place.mark yes (mark_held places place held)))
+    (λ (no : list_any (touches place.mark) ranges ≡ false). inr (beside place.mark range (λ covers. false≢true (sym no ∙ covered_passes place.mark ranges (range, there, covers)))))
+    (cases_Bool (list_any (touches place.mark) ranges))
 
-module _ (es : List Element) (operations : List Op) (places : List MarkPlace) (are : AreMarkPlaces es operations places) (low high : ℕ) where
+module _ (es : List Element) (operations : List Op) (places : List MarkPlace) (are : AreMarkPlaces es operations places) (ranges : List PlaceRange) where
   -- each candidate is that of the operation of its index
-  candidate_of : (mark : PlacedMark) → Contains (touching low high places) mark → (o : Op) × (slice_get operations mark.index ≡ Some o) × IsPlaced es mark.key o mark
+  candidate_of : (mark : PlacedMark) → Contains (touching ranges places) mark → (o : Op) × (slice_get operations mark.index ≡ Some o) × IsPlaced es mark.key o mark
   candidate_of mark held =
-      let from = from_touching low high places mark held in
-      let r = operation_of es operations places are from.0 from.1 in
-      subst (λ (m : PlacedMark). (o : Op) × (slice_get operations m.index ≡ Some o) × IsPlaced es m.key o m) from.2 (r.1.0, r.1.2, r.1.3)
+      let from = from_touching ranges places mark held in
+      let r = are.each from.0 from.1 in
+      subst (λ (m : PlacedMark). (o : Op) × (slice_get operations m.index ≡ Some o) × IsPlaced es m.key o m) from.2 (r.0, r.1, r.2.placed)
 
-  pub candidate_within : (k : ℕ) (mark : PlacedMark) → slice_get (touching low high places) k ≡ Some mark → mark.index < length operations
+  -- and each operation has its place
+  place_at : (o : Op) → Contains operations o → (place : MarkPlace) × Contains places place × (slice_get operations place.mark.index ≡ Some o) × IsPlaced es place.mark.key o place.mark
+  place_at o held =
+      let i = contains_at operations o held in
+      let p = are.listed i.0 (slice_get_within operations i.0 o i.1) in
+      let r = are.each p.0 p.1 in
+      let one : r.0 ≡ o = same_Some r.0 o (sym r.1 ∙ ap (slice_get operations) p.2 ∙ i.1) in
+      (p.0, p.1, ap (slice_get operations) p.2 ∙ i.1, subst (λ z. IsPlaced es p.0.mark.key z p.0.mark) one r.2.placed)
+
+  pub candidate_within : (k : ℕ) (mark : PlacedMark) → slice_get (touching ranges places) k ≡ Some mark → mark.index < length operations
   candidate_within k mark at =
-      let r = candidate_of mark (contains_from (touching low high places) k mark at) in
+      let r = candidate_of mark (contains_from (touching ranges places) k mark at) in
       slice_get_within operations mark.index r.0 r.1
 
   numbered_placed : (o : Op) (mark p : PlacedMark) (i : ℕ) → p ≡ numbered mark i → IsPlaced es mark.key o mark → IsPlaced es p.key o p
@@ -92,7 +68,7 @@ module _ (es : List Element) (operations : List Op) (places : List MarkPlace) (a
       let new : IsPlaced es mark.key o (numbered mark i) = record { of_key = placed.of_key; id = placed.id; lies = placed.lies } in
       subst (λ (z : PlacedMark). IsPlaced es z.key o z) (sym is) new
 
-  module _ (floors : Floors) (ranges : List PlaceRange) (done : ℕ) (chosen : List Op) (marks : List PlacedMark) (kept : AreKept (touching low high places) operations floors ranges done chosen marks) where
+  module _ (floors : Floors) (done : ℕ) (chosen : List Op) (marks : List PlacedMark) (kept : AreKept (touching ranges places) operations floors done chosen marks) where
     pub kept_placed : AreAllPlaced es chosen marks
     kept_placed = record {
       sized = kept.sized;
@@ -118,16 +94,16 @@ module _ (es : List Element) (operations : List Op) (places : List MarkPlace) (a
     outside : (range : PlaceRange) (mark : PlacedMark) (o : Op) → IsPlaced es mark.key o mark → IsBeside range.low range.high mark → IsOutside es range.low range.high o
     outside range mark o placed beside = record { first = mark.start; last = mark.end; lies = placed.lies; apart = beside.apart }
 
-    module _ (all : length (touching low high places) ≤ done) (floors_found : AreFloors (touching low high places) low high floors)
+    module _ (low high : ℕ) (all : length (touching ranges places) ≤ done) (floors_found : AreFloors (touching ranges places) low high floors)
         (range : PlaceRange) (there : Contains ranges range) (inside : (low ≤ range.low) × (range.high ≤ high)) where
-      kept_held : (mark : PlacedMark) (o : Op) → Contains (touching low high places) mark → slice_get operations mark.index ≡ Some o → IsKept floors ranges mark → Contains chosen o
+      kept_held : (mark : PlacedMark) (o : Op) → Contains (touching ranges places) mark → slice_get operations mark.index ≡ Some o → IsKept floors mark → Contains chosen o
       kept_held mark o held at is =
-          let i = contains_at (touching low high places) mark held in
-          let within : i.0 < length (touching low high places) = slice_get_within (touching low high places) i.0 mark i.1 in
+          let i = contains_at (touching ranges places) mark held in
+          let within : i.0 < length (touching ranges places) = slice_get_within (touching ranges places) i.0 mark i.1 in
           kept.listed i.0 mark o (omega arith) i.1 at is
 
-      overruled : (mark : PlacedMark) (o : Op) → range.low < range.high → IsPlaced es mark.key o mark → IsBelow (floor_of floors mark.key) mark.id → IsOverruled es range.low range.high chosen o
-      overruled mark o some placed below =
+      overruled : (mark : PlacedMark) (o : Op) → IsPlaced es mark.key o mark → IsBelow (floor_of floors mark.key) mark.id → IsOverruled es range.low range.high chosen o
+      overruled mark o placed below =
           let f = floors_found.found mark.key below.by below.is in
           let by : PlacedMark = f.0 in
           let r = candidate_of by f.1 in
@@ -141,7 +117,7 @@ module _ (es : List Element) (operations : List Op) (places : List MarkPlace) (a
           let b = r.0 in
           record {
             by = b;
-            among = kept_held by b f.1 r.1 (floor_kept floors ranges range by there some (omega arith, omega arith) whole);
+            among = kept_held by b f.1 r.1 (floor_kept floors by whole);
             key = mark.key;
             of_key = placed.of_key;
             by_key = subst (λ k. IsOfKey k b) same_key r.2.of_key;
@@ -152,34 +128,20 @@ module _ (es : List Element) (operations : List Op) (places : List MarkPlace) (a
             covers = (omega arith, omega arith);
           }
 
-      narrower : (mark : PlacedMark) → IsBeside low high mark → IsBeside range.low range.high mark
-      narrower mark beside =
-          let from : low ≤ range.low = inside.0 in
-          let to : range.high ≤ high = inside.1 in
-          record { apart = λ at first last. beside.apart at (omega arith) (omega arith) }
-
       pub kept_chosen : AreChosen es range.low range.high operations chosen
       kept_chosen = record {
         held = kept_from;
         others =
             λ o held.
-            let p = place_at es operations places are o held in
+            let p = place_at o held in
             ⊎_elim
-            (λ (some : range.low < range.high).
+            (λ (touches : Contains (touching ranges places) p.0.mark).
             ⊎_elim
-            (λ (touches : Contains (touching low high places) p.0.mark).
-            ⊎_elim
-            (λ (is : IsKept floors ranges p.0.mark). inl (kept_held p.0.mark o touches p.2 is))
-            (λ (r : IsBeside range.low range.high p.0.mark ⊎ IsBelow (floor_of floors p.0.mark.key) p.0.mark.id).
-            ⊎_elim
+            (λ (is : IsKept floors p.0.mark). inl (kept_held p.0.mark o touches p.2 is))
+            (λ (below : IsBelow (floor_of floors p.0.mark.key) p.0.mark.id). inr (inr (overruled p.0.mark o p.3 below)))
+            (kept_cases floors p.0.mark))
             (λ (beside : IsBeside range.low range.high p.0.mark). inr (inl (outside range p.0.mark o p.3 beside)))
-            (λ (below : IsBelow (floor_of floors p.0.mark.key) p.0.mark.id). inr (inr (overruled p.0.mark o some p.3 below)))
-            r)
-            (kept_cases floors ranges range p.0.mark there))
-            (λ (beside : IsBeside low high p.0.mark). inr (inl (outside range p.0.mark o p.3 (narrower p.0.mark beside))))
-            (touching_cases low high places p.0 p.1))
-            (λ (none : range.high ≤ range.low). inr (inl (outside range p.0.mark o p.3 (record { apart = λ at from to. absurd (omega arith) }))))
-            (cases_lt range.low range.high);
+            (touching_cases ranges range places p.0 there p.1);
       }
 
 pub none_placed : (es : List Element) → AreAllPlaced es [] []

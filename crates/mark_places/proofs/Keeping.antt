@@ -1,9 +1,9 @@
 -- Which marks are kept for a window.
-use Rattle.std.proofs.Common.{◌≡◌, ℕ, ◌+◌, ◌<◌, ◌≤◌, true, false, List, [], ◌∷◌, ◌++◌, Option, Some, None, length, refl, sym, ap, subst, ◌∙◌, arith, ⊎_elim, ◌⊎◌, inl, inr}
+use Rattle.std.proofs.Common.{◌≡◌, ℕ, ◌+◌, ◌<◌, ◌≤◌, true, List, [], ◌∷◌, ◌++◌, Option, Some, None, length, refl, sym, ap, subst, ◌∙◌, arith, ⊎_elim, ◌⊎◌, inl, inr}
 use Rattle.std.specs.List.{slice_get, Contains}
 use Rattle.std.proofs.lemmas.List.{length_push}
 use Rattle.std.proofs.lemmas.List.Elements.{Contains-append_left}
-use Rattle.std.proofs.lemmas.Bool.{cases_lt, and_from, lt-ltb, false≢true}
+use Rattle.std.proofs.lemmas.Bool.{cases_lt}
 use Rattle.std.proofs.lemmas.Option.{same_Some, none-some}
 use Rattle.change_ops.specs.Ids.{Less}
 use Rattle.change_ops.specs.declared.id.OpId.{OpId}
@@ -13,7 +13,7 @@ use Rattle.change_ops.specs.declared.operation.Op.{Op}
 use Rattle.char_sequence.proofs.Ids.{less_irrefl, less_trans, less_cases, lower_floor}
 use Rattle.mark_anchors.specs.declared.placed.PlacedMark.{PlacedMark}
 use Rattle.mark_anchors.proofs.Lists.{contains_from, first_or_last, pushed_at, pushed_here, pushed_still}
-use Rattle.mark_places.specs.Touching.{touches}
+use Rattle.mark_places.specs.PlaceRanges.{CoversSome}
 use Rattle.mark_places.specs.declared.range.PlaceRange.{PlaceRange}
 use Rattle.mark_places.specs.Floors.{floor_of, has_floor, IsGreaterOf, IsRaised, IsFloored, CoversAll, AreFirstFloors, IsKept, AreKept, numbered}
 use Rattle.mark_places.specs.declared.floors.Floors.{Floors}
@@ -120,59 +120,34 @@ floor_cases (Some found) id =
 pub record IsBeside (low high : ℕ) (place : PlacedMark) : Type 0 where
   pub apart : (at : ℕ) → low ≤ at → at < high → (at < place.start) ⊎ (place.end ≤ at)
 
--- a mark that doesn't touch the window covers none
-pub beside : (low high : ℕ) (mark : PlacedMark) → touches low high mark ≡ false → IsBeside low high mark
-beside low high mark apart =
-    ⊎_elim
-    (λ (begins : mark.start < high).
-    ⊎_elim
-    (λ (ongoing : low < mark.end).
-    ⊎_elim
-    (λ (some : mark.start < mark.end).
-    absurd (false≢true (sym apart ∙ and_from _ _ (and_from _ _ (lt-ltb mark.start high begins) (lt-ltb low mark.end ongoing)) (lt-ltb mark.start mark.end some))))
-    (λ (none : mark.end ≤ mark.start). record { apart = λ at from to. ⊎_elim (λ (l : at < mark.start). inl l) (λ (r : mark.start ≤ at). inr (omega arith)) (cases_lt at mark.start) })
-    (cases_lt mark.start mark.end))
-    (λ (ended : mark.end ≤ low). record { apart = λ at from to. inr (omega arith) })
-    (cases_lt low mark.end))
-    (λ (later : high ≤ mark.start). record { apart = λ at from to. inl (omega arith) })
-    (cases_lt mark.start high)
+-- a mark that doesn't touch a range covers none of its places
+pub beside : (mark : PlacedMark) (range : PlaceRange) → (CoversSome range mark → ⊥) → IsBeside range.low range.high mark
+beside mark range none = record {
+  apart =
+      λ at from to.
+      ⊎_elim
+      (λ (before : at < mark.start). inl before)
+      (λ (begun : mark.start ≤ at).
+      ⊎_elim
+      (λ (within : at < mark.end). absurd (none (record { before = omega arith; behind = omega arith; some = omega arith })))
+      (λ (ended : mark.end ≤ at). inr ended)
+      (cases_lt at mark.end))
+      (cases_lt at mark.start);
+}
 
-pub kept_cases : (floors : Floors) (ranges : List PlaceRange) (range : PlaceRange) (place : PlacedMark) → Contains ranges range → IsKept floors ranges place ⊎ (IsBeside range.low range.high place ⊎ IsBelow (floor_of floors place.key) place.id)
-kept_cases floors ranges range place held =
-    ⊎_elim
-    (λ (before : place.start < range.high).
-    ⊎_elim
-    (λ (behind : range.low < place.end).
-    ⊎_elim
-    (λ (some : place.start < place.end).
-    ⊎_elim
-    (λ (reaches : (x : OpId) → floor_of floors place.key ≡ Some x → Less place.id x → ⊥).
-    inl (record { covers = (range, held, record { before = before; behind = behind; some = some }); reaches = reaches }))
-    (λ (below : IsBelow (floor_of floors place.key) place.id). inr (inr below))
-    (floor_cases (floor_of floors place.key) place.id))
-    (λ (none : place.end ≤ place.start). inr (inl (record { apart = λ at from to. ⊎_elim (λ (l : at < place.start). inl l) (λ (r : place.start ≤ at). inr (omega arith)) (cases_lt at place.start) })))
-    (cases_lt place.start place.end))
-    (λ (ended : place.end ≤ range.low). inr (inl (record { apart = λ at from to. inr (omega arith) })))
-    (cases_lt range.low place.end))
-    (λ (later : range.high ≤ place.start). inr (inl (record { apart = λ at from to. inl (omega arith) })))
-    (cases_lt place.start range.high)
+pub kept_cases : (floors : Floors) (place : PlacedMark) → IsKept floors place ⊎ IsBelow (floor_of floors place.key) place.id
+kept_cases floors place = floor_cases (floor_of floors place.key) place.id
 
--- a mark that covers a whole range and whose id is the floor is kept
-pub floor_kept : (floors : Floors) (ranges : List PlaceRange) (range : PlaceRange) (place : PlacedMark) → Contains ranges range → range.low < range.high → CoversAll range.low range.high place → floor_of floors place.key ≡ Some place.id → IsKept floors ranges place
-floor_kept floors ranges range place held some covers is =
-    let begun : place.start ≤ range.low = covers.0 in
-    let ongoing : range.high ≤ place.end = covers.1 in
-    record {
-      covers = (range, held, record { before = omega arith; behind = omega arith; some = omega arith });
-      reaches = λ x at less. less_irrefl place.id (subst (Less place.id) (same_Some x place.id (sym at ∙ is)) less);
-    }
+-- a mark whose id is the floor is kept
+pub floor_kept : (floors : Floors) (place : PlacedMark) → floor_of floors place.key ≡ Some place.id → IsKept floors place
+floor_kept floors place is = λ x at less. less_irrefl place.id (subst (Less place.id) (same_Some x place.id (sym at ∙ is)) less)
 
 -- ---- the kept ones, one after another
-module _ (places : List PlacedMark) (operations : List Op) (floors : Floors) (ranges : List PlaceRange) where
-  pub kept_none : AreKept places operations floors ranges 0 [] []
+module _ (places : List PlacedMark) (operations : List Op) (floors : Floors) where
+  pub kept_none : AreKept places operations floors 0 [] []
   kept_none = record { sized = refl; held = λ i p g. absurd (none-some p g); listed = λ i place o less g at kept. absurd (omega arith) }
 
-  pub kept_more : (k : ℕ) (place : PlacedMark) (o : Op) (chosen : List Op) (marks : List PlacedMark) → slice_get places k ≡ Some place → slice_get operations place.index ≡ Some o → AreKept places operations floors ranges k chosen marks → AreKept places operations floors ranges (k + 1) (chosen ++ o ∷ []) (marks ++ numbered place (length chosen) ∷ [])
+  pub kept_more : (k : ℕ) (place : PlacedMark) (o : Op) (chosen : List Op) (marks : List PlacedMark) → slice_get places k ≡ Some place → slice_get operations place.index ≡ Some o → AreKept places operations floors k chosen marks → AreKept places operations floors (k + 1) (chosen ++ o ∷ []) (marks ++ numbered place (length chosen) ∷ [])
   kept_more k place o chosen marks here at are =
       let size : length marks ≡ length chosen = are.sized in
       let mark : PlacedMark = numbered place (length chosen) in
@@ -202,7 +177,7 @@ module _ (places : List PlacedMark) (operations : List Op) (floors : Floors) (ra
             (first_or_last places k i place q less here g);
       }
 
-  pub kept_skipped : (k : ℕ) (place : PlacedMark) (chosen : List Op) (marks : List PlacedMark) → slice_get places k ≡ Some place → (IsKept floors ranges place → ⊥) → AreKept places operations floors ranges k chosen marks → AreKept places operations floors ranges (k + 1) chosen marks
+  pub kept_skipped : (k : ℕ) (place : PlacedMark) (chosen : List Op) (marks : List PlacedMark) → slice_get places k ≡ Some place → (IsKept floors place → ⊥) → AreKept places operations floors k chosen marks → AreKept places operations floors (k + 1) chosen marks
   kept_skipped k place chosen marks here not are = record {
     sized = are.sized;
     held = are.held;
@@ -210,10 +185,10 @@ module _ (places : List PlacedMark) (operations : List Op) (floors : Floors) (ra
         λ i q x less g h kept.
         ⊎_elim
         (λ (before : i < k). are.listed i q x before g h kept)
-        (λ (last : (i ≡ k) × (place ≡ q)). absurd (not (subst (IsKept floors ranges) (sym last.1) kept)))
+        (λ (last : (i ≡ k) × (place ≡ q)). absurd (not (subst (IsKept floors) (sym last.1) kept)))
         (first_or_last places k i place q less here g);
   }
 
-  pub kept_as : (k : ℕ) (chosen chosen' : List Op) (marks marks' : List PlacedMark) → chosen' ≡ chosen → marks' ≡ marks → AreKept places operations floors ranges k chosen marks → AreKept places operations floors ranges k chosen' marks'
+  pub kept_as : (k : ℕ) (chosen chosen' : List Op) (marks marks' : List PlacedMark) → chosen' ≡ chosen → marks' ≡ marks → AreKept places operations floors k chosen marks → AreKept places operations floors k chosen' marks'
   kept_as k chosen chosen' marks marks' same also are =
-      subst (λ c. AreKept places operations floors ranges k c marks') (sym same) (subst (AreKept places operations floors ranges k chosen) (sym also) are)
+      subst (λ c. AreKept places operations floors k c marks') (sym same) (subst (AreKept places operations floors k chosen) (sym also) are)

@@ -1,9 +1,11 @@
 pub mod KeyCases
 pub mod Boundaries
-pub mod Placing
 pub mod Raising
+pub mod Placing
 pub mod Blocks
 pub mod Ranks
+pub mod Joined
+pub mod Touching
 pub mod Ranges
 pub mod Keeping
 pub mod Filters

@@ -1,10 +1,9 @@
 -- Ranks that are moved.
-use Rattle.std.proofs.Common.{◌≡◌, ℕ, ◌+◌, ◌-◌, ◌<◌, ◌≤◌, Some, List, [], ◌∷◌, ◌++◌, length, take, map, cond, refl, ap, subst, ◌∙◌, arith, ⊎_elim, All}
-use Rattle.std.specs.List.{Contains, slice_get}
+use Rattle.std.proofs.Common.{◌≡◌, ℕ, ◌+◌, ◌-◌, ◌<◌, ◌≤◌, List, [], ◌∷◌, ◌++◌, length, take, map, cond, refl, ap, ◌∙◌, arith, ◌⊎◌, inl, inr, ⊎_elim, All}
+use Rattle.std.specs.List.{Contains}
 use Rattle.std.proofs.lemmas.Bool.{cases_lt, le-leb, lt-leb}
 use Rattle.std.proofs.lemmas.Grind.{common_steps}
-use Rattle.std.proofs.lemmas.Option.{slice_get_within, get_or_from_slice_get}
-use Rattle.std.proofs.lemmas.List.Elements.{All-nil, All-cons, All-head, All-tail, All-contains, All-contains_itself}
+use Rattle.std.proofs.lemmas.List.Elements.{All-nil, All-cons, All-head, All-tail, All-contains, All-contains_itself, Contains-append_cases, Contains-append_left, Contains-append_right, Contains-push, Contains-push_cases}
 use Rattle.mark_places.specs.declared.ranked.RankedMark.{RankedMark}
 use Rattle.mark_places.specs.Ranks.{raised, mark_raised, IsBelow}
 
@@ -55,16 +54,35 @@ marks_same f b same (m ∷ ms) =
     ∙ ap (λ (e : ℕ). record m { end = e } ∷ map (mark_raised f b) ms) (same m.end)
     ∙ ap (λ xs. m ∷ xs) (marks_same f b same ms)
 
--- ---- what is true of each moved element
-pub all_read : {X : Type 0} (P : X → Type 0) (xs : List X) (i : ℕ) (x : X) → All P xs → slice_get xs i ≡ Some x → P x
-all_read P xs i x all at = subst P (get_or_from_slice_get xs i x x at) (all i x (slice_get_within xs i x at))
+-- ---- what is in a list
+pub here : {X : Type 0} (x : X) (xs : List X) → Contains (x ∷ xs) x
+here x xs = Contains-append_left (x ∷ []) xs x (Contains-push [] x)
 
+pub there : {X : Type 0} (x : X) (xs : List X) (y : X) → Contains xs y → Contains (x ∷ xs) y
+there x xs y held = Contains-append_right (x ∷ []) xs y held
+
+pub cons_cases : {X : Type 0} (x : X) (xs : List X) (y : X) → Contains (x ∷ xs) y → (x ≡ y) ⊎ Contains xs y
+cons_cases x xs y held =
+    ⊎_elim
+    (λ (one : Contains (x ∷ []) y). ⊎_elim (λ (none : Contains [] y). absurd (omega (arith, none.1))) (λ (is : x ≡ y). inl is) (Contains-push_cases [] x y one))
+    (λ (more : Contains xs y). inr more)
+    (Contains-append_cases (x ∷ []) xs y held)
+
+-- ---- what is true of each moved element
 pub all_of_map : {X Y : Type 0} (P : Y → Type 0) (f : X → Y) (xs : List X) → All P (map f xs) → All (λ x. P (f x)) xs
 all_of_map P f [] all = All-nil (λ x. P (f x))
 all_of_map P f (x ∷ xs) all = All-cons (λ x. P (f x)) x xs (All-head P (f x) (map f xs) all) (all_of_map P f xs (All-tail P (f x) (map f xs) all))
 
 pub contains_map : {X Y : Type 0} (f : X → Y) (xs : List X) (x : X) → Contains xs x → Contains (map f xs) (f x)
 contains_map f xs x held = All-contains (λ y. Contains (map f xs) (f y)) xs x (all_of_map (Contains (map f xs)) f xs (All-contains_itself (map f xs))) held
+
+pub of_map : {X Y : Type 0} (f : X → Y) (xs : List X) (y : Y) → Contains (map f xs) y → (x : X) × Contains xs x × (f x ≡ y)
+of_map f [] y held = absurd (omega (arith, held.1))
+of_map f (x ∷ xs) y held =
+    ⊎_elim
+    (λ (is : f x ≡ y). (x, here x xs, is))
+    (λ (more : Contains (map f xs) y). let r = of_map f xs y more in (r.0, there x xs r.0 r.1, r.2))
+    (cons_cases (f x) (map f xs) y held)
 
 -- marks whose ranks are below are not moved
 pub none_raised : (from by : ℕ) (marks : List RankedMark) → All (IsBelow from) marks → map (mark_raised from by) marks ≡ marks

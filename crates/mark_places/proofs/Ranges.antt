@@ -45,6 +45,25 @@ highs_rise ranges at end apart i j d low within =
     let first : i < length ranges = omega arith in
     apart_highs ranges at end i j (get_or ranges i d) (get_or ranges j d) apart low (slice_get-get_or ranges i d first) (slice_get-get_or ranges j d within)
 
+-- and none begins before an earlier one
+apart_lows : (ranges : List PlaceRange) (at end i j : ℕ) (r s : PlaceRange) → AreApart ranges at end → i ≤ j → slice_get ranges i ≡ Some r → slice_get ranges j ≡ Some s → r.low ≤ s.low
+apart_lows ranges at end i j r s apart low g h =
+    ⊎_elim
+    (λ (less : i < j).
+    let order = apart_order ranges at end i j r s apart less g h in
+    let own = (apart_at ranges at end i r apart g).1 in
+    omega arith)
+    (λ (same : j ≤ i).
+    let one : i ≡ j = omega arith in
+    let is : r ≡ s = same_Some r s (sym g ∙ ap (slice_get ranges) one ∙ h) in
+    omega (arith, ap (λ (z : PlaceRange). z.low) is))
+    (cases_lt i j)
+
+pub lows_rise : (ranges : List PlaceRange) (at end : ℕ) → AreApart ranges at end → IsNonDecreasingBy (λ (r : PlaceRange). r.low) ranges
+lows_rise ranges at end apart i j d low within =
+    let first : i < length ranges = omega arith in
+    apart_lows ranges at end i j (get_or ranges i d) (get_or ranges j d) apart low (slice_get-get_or ranges i d first) (slice_get-get_or ranges j d within)
+
 -- each range is within the hull
 pub in_hull : (ranges : List PlaceRange) (at end : ℕ) (hull range : PlaceRange) → AreApart ranges at end → IsHull ranges hull → Contains ranges range → (hull.low ≤ range.low) × (range.high ≤ hull.high)
 in_hull ranges at end hull range apart is held =
@@ -111,3 +130,45 @@ module _ (ranges : List PlaceRange) (at end : ℕ) (apart : AreApart ranges at e
       let one : range ≡ other = same_Some range other (sym g ∙ ap (slice_get ranges) same_index ∙ i.1) in
       omega (arith, ap (λ (z : PlaceRange). z.low) one))
       (cases_lt index i.0)
+
+-- ---- those of the ranges that marks between two places can cover some of
+module _ (ranges : List PlaceRange) (at end : ℕ) (apart : AreApart ranges at end) (low high first last : ℕ)
+    (ended : (k : ℕ) (d : PlaceRange) → k < first → (get_or ranges k d).high ≤ low)
+    (begun : (k : ℕ) (d : PlaceRange) → last ≤ k → k < length ranges → high ≤ (get_or ranges k d).low)
+    (mark : PlacedMark) (from : low ≤ mark.start) (to : mark.end ≤ high) where
+  -- a range that the mark covers some of is one of them
+  between : (range : PlaceRange) (i : ℕ) → slice_get ranges i ≡ Some range → CoversSome range mark → (first ≤ i) × (i < last)
+  between range i g covers =
+      let within : i < length ranges = slice_get_within ranges i range g in
+      let before = covers.before in
+      let behind = covers.behind in
+      let is = get_or_from_slice_get ranges i range range g in (
+        ⊎_elim
+            (λ (less : i < first). let e = ended i range less in let same = ap (λ (z : PlaceRange). z.high) is in absurd (omega arith))
+            (λ (yes : first ≤ i). yes)
+            (cases_lt i first),
+        ⊎_elim
+            (λ (yes : i < last). yes)
+            (λ (later : last ≤ i). let b = begun i range later within in let same = ap (λ (z : PlaceRange). z.low) is in absurd (omega arith))
+            (cases_lt i last),
+      )
+
+  pub some_between : CoversAny ranges mark → first < last
+  some_between (range, held, covers) =
+      let i = contains_at ranges range held in
+      let r = between range i.0 i.1 covers in
+      let a = r.0 in
+      let b = r.1 in
+      omega arith
+
+  pub hull_covered : (one other hull : PlaceRange) → slice_get ranges first ≡ Some one → slice_get ranges (last - 1) ≡ Some other → hull.low ≡ one.low → hull.high ≡ other.high → CoversAny ranges mark → CoversSome hull mark
+  hull_covered one other hull g h l u (range, held, covers) =
+      let i = contains_at ranges range held in
+      let r = between range i.0 i.1 covers in
+      let a = r.0 in
+      let b = r.1 in
+      let before = covers.before in
+      let behind = covers.behind in
+      let lows = apart_lows ranges at end first i.0 one range apart a g i.1 in
+      let highs = apart_highs ranges at end i.0 (last - 1) range other apart (omega arith) i.1 h in
+      record { before = omega arith; behind = omega arith; some = covers.some }

@@ -5,7 +5,7 @@ use Rattle.mark_places.specs.declared.block.MarkName.{MarkName}
 
 -- the mark of the name, with these ranks
 abbrev pub named : MarkName → ℕ → ℕ → RankedMark
-named name start end = record { id = name.id; key = name.key; start = start; end = end }
+named name start end = record { index = name.index; id = name.id; key = name.key; start = start; end = end }
 
 -- the marks of the names, with the ranks of their ends, to which the offset belongs
 abbrev pub ranked : ℕ → List MarkName → List ℕ → List ℕ → List RankedMark

@@ -7,8 +7,6 @@ use Rattle.change_ops.specs.declared.attribute.Key.{Key}
 use Rattle.change_ops.specs.declared.attribute.Key.TheVariants as key
 use Rattle.change_ops.specs.declared.operation.Op.{Op}
 use Rattle.mark_anchors.specs.declared.placed.PlacedMark.{PlacedMark}
-use Rattle.mark_places.specs.PlaceRanges.{CoversAny}
-use Rattle.mark_places.specs.declared.range.PlaceRange.{PlaceRange}
 use Rattle.mark_places.specs.declared.floors.Floors.{Floors}
 
 -- what was found for the key; nothing for comments
@@ -61,21 +59,20 @@ pub record AreFirstFloors (places : List PlacedMark) (low high done : ℕ) (floo
 abbrev pub AreFloors : List PlacedMark → ℕ → ℕ → Floors → Type 0
 AreFloors places low high floors = AreFirstFloors places low high (length places) floors
 
--- the mark covers a place of the ranges, and isn't below its key's floor
-pub record IsKept (floors : Floors) (ranges : List PlaceRange) (place : PlacedMark) : Type 0 where
-  pub covers : CoversAny ranges place
-  pub reaches : (floor : OpId) → floor_of floors place.key ≡ Some floor → Less place.id floor → ⊥
+-- the mark isn't below its key's floor
+abbrev pub IsKept : Floors → PlacedMark → Type 0
+IsKept floors place = (floor : OpId) → floor_of floors place.key ≡ Some floor → Less place.id floor → ⊥
 
 -- the mark with its number among the chosen ones
 abbrev pub numbered : PlacedMark → ℕ → PlacedMark
 numbered mark index = record mark { index = index }
 
 -- those of the first `done` marks that are kept, with their operations, numbered anew
-pub record AreKept (places : List PlacedMark) (operations : List Op) (floors : Floors)
-    (ranges : List PlaceRange) (done : ℕ) (chosen : List Op) (marks : List PlacedMark) : Type 0 where
+pub record AreKept (places : List PlacedMark) (operations : List Op) (floors : Floors) (done : ℕ)
+    (chosen : List Op) (marks : List PlacedMark) : Type 0 where
   pub sized : length marks ≡ length chosen
   pub held : (i : ℕ) (p : PlacedMark) → slice_get marks i ≡ Some p
       → (place : PlacedMark) × Contains places place × (p ≡ numbered place i)
       × ((o : Op) × (slice_get operations place.index ≡ Some o) × (slice_get chosen i ≡ Some o))
   pub listed : (i : ℕ) (place : PlacedMark) (o : Op) → i < done → slice_get places i ≡ Some place
-      → slice_get operations place.index ≡ Some o → IsKept floors ranges place → Contains chosen o
+      → slice_get operations place.index ≡ Some o → IsKept floors place → Contains chosen o

@@ -1,5 +1,5 @@
 -- The ranks of the ends of marks: twice the place, and one more where the end gives way.
-use Rattle.std.specs.Prelude.{ℕ, ◌+◌, ◌/◌, ◌%◌, ◌==◌, ◌<◌, Bool, List, [], ◌∷◌, cond, leb}
+use Rattle.std.specs.Prelude.{ℕ, ◌+◌, ◌/◌, ◌%◌, ◌==◌, ◌<◌, Bool, cond, leb}
 use Rattle.mark_anchors.specs.declared.placed.PlacedMark.{PlacedMark}
 use Rattle.mark_places.specs.MarkPlace.{MarkPlace}
 use Rattle.mark_places.specs.declared.ranked.RankedMark.{RankedMark}
@@ -8,19 +8,15 @@ use Rattle.mark_places.specs.declared.ranked.RankedMark.{RankedMark}
 abbrev pub is_odd : ℕ → Bool
 is_odd rank = rank % 2 == 1
 
--- the mark with its number and its places
-abbrev pub placed : ℕ → RankedMark → PlacedMark
-placed index mark = record { index = index; id = mark.id; key = mark.key; start = mark.start / 2; end = mark.end / 2 }
+-- the mark with its places
+abbrev pub placed : RankedMark → PlacedMark
+placed mark =
+    record { index = mark.index; id = mark.id; key = mark.key; start = mark.start / 2; end = mark.end / 2 }
 
 -- and whether its ends give way
-abbrev pub place_of : ℕ → RankedMark → MarkPlace
-place_of index mark =
-    record { mark = placed index mark; start_gives_way = is_odd mark.start; end_gives_way = is_odd mark.end }
-
--- the marks, numbered from `index` on
-abbrev pub places_from : ℕ → List RankedMark → List MarkPlace
-places_from index [] = []
-places_from index (mark ∷ marks) = place_of index mark ∷ places_from (index + 1) marks
+abbrev pub place_of : RankedMark → MarkPlace
+place_of mark =
+    record { mark = placed mark; start_gives_way = is_odd mark.start; end_gives_way = is_odd mark.end }
 
 -- a rank from `from` on is moved
 abbrev pub raised : ℕ → ℕ → ℕ → ℕ

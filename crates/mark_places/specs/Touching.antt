@@ -1,16 +1,19 @@
--- Marks that cover some of the places from one up to another.
+-- Marks that cover some of the places of ranges.
 use Rattle.std.specs.Prelude.{ℕ, ◌/◌, ◌<◌, ◌&&◌, Bool, List, ltb, map, filter}
+use Rattle.std.specs.List.{list_any}
 use Rattle.mark_anchors.specs.declared.placed.PlacedMark.{PlacedMark}
 use Rattle.mark_places.specs.MarkPlace.{MarkPlace}
+use Rattle.mark_places.specs.declared.range.PlaceRange.{PlaceRange}
 use Rattle.mark_places.specs.declared.ranked.RankedMark.{RankedMark}
 
--- the mark covers a place from `low` up to `high`, if that is above `low`
-abbrev pub touches : ℕ → ℕ → PlacedMark → Bool
-touches low high mark = (ltb mark.start high && ltb low mark.end) && ltb mark.start mark.end
+-- the mark covers a place of the range, if that has one
+abbrev pub touches : PlacedMark → PlaceRange → Bool
+touches mark range = (ltb mark.start range.high && ltb range.low mark.end) && ltb mark.start mark.end
 
--- the marks that do, in their order
-abbrev pub touching : ℕ → ℕ → List MarkPlace → List PlacedMark
-touching low high places = filter (touches low high) (map (λ (place : MarkPlace). place.mark) places)
+-- the marks that cover a place of some range, in their order
+abbrev pub touching : List PlaceRange → List MarkPlace → List PlacedMark
+touching ranges places =
+    filter (λ mark. list_any (touches mark) ranges) (map (λ (place : MarkPlace). place.mark) places)
 
 -- the mark begins behind the places or ends before them
 abbrev pub IsApart : ℕ → ℕ → RankedMark → Type 0

@@ -1,11 +1,15 @@
-//! Marks that follow one another, with the ranks of their ends: the characters that are put into a text mostly move all
-//! of them or none, so that they are gone through only where the characters come between their ends.
-ghost use Rattle.std.specs.Prelude.{◌≡◌, ◌+◌, ◌/◌, ◌<◌, ◌≤◌, ◌^◌, ◌++◌, ◌∷◌, [], ℕ, IfOk, OnOk, OnErr, Some, false};
-ghost use Rattle.std.specs.Prelude.{length, map, All, slice_get, slice_index};
-ghost use Rattle.mark_places.specs.Ranks.{raised, mark_raised, placed, places_from, IsBelow};
-ghost use Rattle.mark_places.specs.Touching.{touches, touching, IsApart};
+//! Some marks with the ranks of their ends: the characters that are put into a text mostly move all of them or none, so
+//! that they are gone through only where the characters come between their ends.
+ghost use Rattle.std.specs.Prelude.{◌≡◌, ◌↔◌, ◌+◌, ◌-◌, ◌<◌, ◌≤◌, ◌^◌, ◌++◌, ◌∷◌, [], ℕ, IfOk, OnOk, OnErr, IsTrue};
+ghost use Rattle.std.specs.Prelude.{Some, false, length, map, take, drop, All, Contains, slice_get, slice_index};
+ghost use Rattle.std.specs.List.Sorted.{IsPermutation};
+ghost use Rattle.mark_places.specs.Blocks.{ranked};
+ghost use Rattle.mark_places.specs.PlaceRanges.{AreApart, CoversAny};
+ghost use Rattle.mark_places.specs.Ranks.{raised, mark_raised, placed, place_of, IsBelow};
+ghost use Rattle.mark_places.specs.Touching.{touching, IsApart};
 ghost use Rattle.mark_places.specs.declared.ranked.RankedMark.{RankedMark as TheRankedMark};
 
+use crate::range::{PlaceRange, covers_any, overlapping};
 use crate::ranked::RankedMark;
 use crate::shift::RankShift;
 use change_ops::attribute::Key;
@@ -20,14 +24,15 @@ const BLOCK_LIMIT: usize = 256;
 /// No end of a mark has so many characters before it.
 pub(crate) const PLACE_LIMIT: usize = 1 << 30;
 
-/// The id and the key of a mark.
+/// A mark without its ranks.
 #[derive(Clone, Copy)]
 pub(crate) struct MarkName {
+    index: usize,
     id: OpId,
     key: Key,
 }
 
-/// Some marks, in their order.
+/// Some marks. Those that begin earlier stand before the others, so that a full block is split where its marks are.
 #[derive(Drop)]
 pub(crate) struct PlaceBlock {
     /// Belongs to each rank of `starts` and `ends`.
@@ -91,49 +96,123 @@ fn is_any_between(starts: &[u32], ends: &[u32], starts_below: u32, ends_from: u3
     found
 }
 
-/// Whether the mark covers a place from `low` up to `high`.
-fn touches(mark: &PlacedMark, low: usize, high: usize) -> bool
-    ensures { result ≡ touches low high mark.now }
+/// The least of the ranks.
+fn least_of(ranks: &[u32]) -> u32
+    requires { 0 < length ranks.now }
+    ensures bound { All (λ rank. result ≤ rank) ranks.now }
+    ensures reached { Contains ranks.now result }
 {
-    mark.start < high && low < mark.end && mark.start < mark.end
+    let mut least = ranks[0];
+    for rank in ranks {
+        least = least.min(*rank);
+    }
+    least
+}
+
+/// The greatest of the ranks.
+fn greatest_of(ranks: &[u32]) -> u32
+    requires { 0 < length ranks.now }
+    ensures bound { All (λ rank. rank ≤ result) ranks.now }
+    ensures reached { Contains ranks.now result }
+{
+    let mut greatest = ranks[0];
+    for rank in ranks {
+        greatest = greatest.max(*rank);
+    }
+    greatest
 }
 
 impl PlaceBlock {
-    /// Of one mark.
-    pub(crate) fn of(alloc: Global, mark: &RankedMark) -> Result<PlaceBlock, AllocError>
-        requires { IsBelow (2 ^ 31) mark.now }
-        ensures { IfOk result (λ block. block ≡ mark.now ∷ []) }
+    /// Of marks by their lists: the ranks are those of the names, without the offset.
+    fn of_lists(
+        alloc: Global,
+        offset: u32,
+        names: &[MarkName],
+        starts: &[u32],
+        ends: &[u32],
+    ) -> Result<PlaceBlock, AllocError>
+        requires some { 0 < length names.now }
+        requires sized { (length starts.now ≡ length names.now) × (length ends.now ≡ length names.now) }
+        requires below { All (IsBelow (2 ^ 31)) (ranked offset names.now starts.now ends.now) }
+        ensures { IfOk result (λ block. block ≡ ranked offset names.now starts.now ends.now) }
     {
-        let mut names = Vec::new(alloc);
-        let mut starts = Vec::new(alloc);
-        let mut ends = Vec::new(alloc);
-        names.extend_from_slice(&[MarkName {
-            id: mark.id,
-            key: mark.key,
-        }])?;
-        starts.push(mark.start)?;
-        ends.push(mark.end)?;
+        let greatest = offset + greatest_of(starts).max(greatest_of(ends));
+        let least = offset + least_of(starts).min(least_of(ends));
+        let names = Vec::from_slice(alloc, names)?;
+        let starts = Vec::from_slice(alloc, starts)?;
+        let ends = Vec::from_slice(alloc, ends)?;
         Ok(PlaceBlock {
-            offset: 0,
-            least: mark.start.min(mark.end),
-            greatest: mark.start.max(mark.end),
+            offset,
+            least,
+            greatest,
             names,
             starts,
             ends,
         })
     }
 
-    /// Whether it takes one more mark.
-    pub(crate) fn has_room(&self) -> bool {
-        self.names.len() < BLOCK_LIMIT
+    /// Of one mark.
+    pub(crate) fn of(alloc: Global, mark: &RankedMark) -> Result<PlaceBlock, AllocError>
+        requires { IsBelow (2 ^ 31) mark.now }
+        ensures { IfOk result (λ block. block ≡ mark.now ∷ []) }
+    {
+        let name = MarkName {
+            index: mark.index,
+            id: mark.id,
+            key: mark.key,
+        };
+        PlaceBlock::of_lists(alloc, 0, &[name], &[mark.start], &[mark.end])
     }
 
-    /// Adds a mark behind the others.
-    pub(crate) fn push(&mut self, mark: &RankedMark) -> Result<(), AllocError>
+    /// The marks from `first` up to `last`, as a block.
+    pub(crate) fn part(
+        &self,
+        alloc: Global,
+        first: usize,
+        last: usize,
+    ) -> Result<PlaceBlock, AllocError>
+        requires { (first < last) × (last ≤ length self.now) }
+        ensures { IfOk result (λ part. part ≡ take (last - first) (drop first self.now)) }
+    {
+        let names = &self.names[first..last];
+        let starts = &self.starts[first..last];
+        let ends = &self.ends[first..last];
+        PlaceBlock::of_lists(alloc, self.offset, names, starts, ends)
+    }
+
+    /// Whether it takes no more marks.
+    pub(crate) fn is_full(&self) -> bool
+        ensures { IsTrue result ↔ 256 ≤ length self.now }
+    {
+        self.len() >= BLOCK_LIMIT
+    }
+
+    /// Whether its first mark begins at the rank or before it.
+    pub(crate) fn begins_by(&self, rank: u32) -> bool {
+        match self.starts.first() {
+            Some(first) => rank >= self.offset && *first <= rank - self.offset,
+            None => true,
+        }
+    }
+
+    /// How many of the marks begin at the rank or before it.
+    fn begun_by(&self, rank: u32) -> usize
+        ensures { result ≤ length self.now }
+    {
+        if rank < self.offset {
+            return 0;
+        }
+        let limit = rank - self.offset;
+        self.starts.partition_point(|start| *start <= limit)
+    }
+
+    /// Adds a mark, before those that begin later.
+    pub(crate) fn insert(&mut self, mark: &RankedMark) -> Result<(), AllocError>
         requires { IsBelow (2 ^ 31) mark.now }
-        ensures ok { OnOk result (self.new ≡ self.old ++ mark.now ∷ []) }
+        ensures ok { OnOk result (IsPermutation (mark.now ∷ self.old) self.new) }
         ensures err { OnErr result (self.new ≡ self.old) }
     {
+        let at = self.begun_by(mark.start);
         self.names.reserve(1)?;
         self.starts.reserve(1)?;
         self.ends.reserve(1)?;
@@ -144,12 +223,14 @@ impl PlaceBlock {
         self.offset = 0;
         self.least = self.least.min(mark.start).min(mark.end);
         self.greatest = self.greatest.max(mark.start).max(mark.end);
-        self.names.push_reserved(MarkName {
+        let name = MarkName {
+            index: mark.index,
             id: mark.id,
             key: mark.key,
-        });
-        self.starts.push_reserved(mark.start);
-        self.ends.push_reserved(mark.end);
+        };
+        self.names.insert(at, name).unwrap();
+        self.starts.insert(at, mark.start).unwrap();
+        self.ends.insert(at, mark.end).unwrap();
         Ok(())
     }
 
@@ -182,60 +263,66 @@ impl PlaceBlock {
     }
 
     /// Whether some mark may cover a place from `low` up to `high` behind the shift.
-    fn may_touch(&self, shift: RankShift, low: usize, high: usize) -> bool
+    fn may_touch_between(&self, shift: RankShift, low: usize, high: usize) -> bool
         requires { All (λ mark. IsBelow (2 ^ 31) (mark_raised shift.from shift.by mark)) self.now }
         ensures { result ≡ false → All (IsApart low high) (map (mark_raised shift.from shift.by) self.now) }
     {
         let ends_from = shift.lowered(2 * low.min(PLACE_LIMIT) as u32 + 2);
         let starts_below = shift.lowered(2 * high.min(PLACE_LIMIT) as u32);
-        if self.greatest < ends_from || starts_below <= self.least {
-            return false;
-        }
-        let offset = self.offset;
-        let ends_from = ends_from.saturating_sub(offset);
-        is_any_between(&self.starts, &self.ends, starts_below - offset, ends_from)
+        let ends_from = ends_from.saturating_sub(self.offset);
+        let starts_below = starts_below.saturating_sub(self.offset);
+        is_any_between(&self.starts, &self.ends, starts_below, ends_from)
     }
 
-    /// A mark with its number and its places behind the shift.
-    fn mark(&self, shift: RankShift, at: usize, index: usize) -> PlacedMark
-        requires within { at < length self.now }
+    /// Whether some mark may cover a place of the ranges behind the shift.
+    fn may_touch(&self, shift: RankShift, ranges: &[PlaceRange]) -> bool
+        requires apart { (end : ℕ) × AreApart ranges.now 0 end }
         requires below { All (λ mark. IsBelow (2 ^ 31) (mark_raised shift.from shift.by mark)) self.now }
+        ensures { result ≡ false → All (λ mark. CoversAny ranges.now (placed mark) → ⊥)
+            (map (mark_raised shift.from shift.by) self.now) }
+    {
+        let low = shift.place_of(self.least);
+        let high = shift.place_of(self.greatest);
+        match overlapping(ranges, low, high) {
+            Some(hull) => self.may_touch_between(shift, hull.low, hull.high),
+            None => false,
+        }
+    }
+
+    /// A mark with its places behind the shift.
+    fn mark(&self, shift: RankShift, at: usize) -> PlacedMark
+        requires { at < length self.now }
         ensures { (mark : TheRankedMark) × (slice_get (map (mark_raised shift.from shift.by) self.now) at ≡ Some mark)
-            × (result ≡ placed index mark) }
+            × (result ≡ placed mark) }
     {
         let name = &self.names[at];
-        let start = self.offset + self.starts[at];
-        let end = self.offset + self.ends[at];
         PlacedMark {
-            index,
+            index: name.index,
             id: name.id,
             key: name.key,
-            start: (raised(start, shift.from, shift.by) / 2) as usize,
-            end: (raised(end, shift.from, shift.by) / 2) as usize,
+            start: shift.place_of(self.offset + self.starts[at]),
+            end: shift.place_of(self.offset + self.ends[at]),
         }
     }
 
-    /// Adds the marks that cover a place from `low` up to `high` behind the shift to those that were found. Its first
-    /// one has the number `first`.
+    /// Adds the marks that cover a place of the ranges behind the shift to those that were found.
     pub(crate) fn gather(
         &self,
         shift: RankShift,
-        first: usize,
-        low: usize,
-        high: usize,
+        ranges: &[PlaceRange],
         found: &mut Vec<PlacedMark>,
     ) -> Result<(), AllocError>
-        requires count { first + length self.now < 2 ^ 64 }
+        requires apart { (end : ℕ) × AreApart ranges.now 0 end }
         requires below { All (λ mark. IsBelow (2 ^ 31) (mark_raised shift.from shift.by mark)) self.now }
         ensures { OnOk result (found.new.items ≡ found.old.items
-            ++ touching low high (places_from first (map (mark_raised shift.from shift.by) self.now))) }
+            ++ touching ranges.now (map place_of (map (mark_raised shift.from shift.by) self.now))) }
     {
-        if !self.may_touch(shift, low, high) {
+        if !self.may_touch(shift, ranges) {
             return Ok(());
         }
         for i in 0..self.len() {
-            let mark = self.mark(shift, i, first + i);
-            if touches(&mark, low, high) {
+            let mark = self.mark(shift, i);
+            if covers_any(ranges, &mark) {
                 found.extend_from_slice(&[mark])?;
             }
         }

@@ -64,10 +64,10 @@ impl MarkPlaces {
         let Some(hull) = hull(ranges) else {
             return Ok(chosen);
         };
-        let marks = self.touching(alloc, hull.low, hull.high)?;
+        let marks = self.touching(alloc, ranges)?;
         let floors = Floors::of(&marks, hull.low, hull.high);
         for mark in &marks {
-            if floors.keeps(mark, ranges) {
+            if floors.keeps(mark) {
                 chosen.push(mark, &operations[mark.index])?;
             }
         }

@@ -1,10 +1,8 @@
 //! The greatest of the marks that cover a whole window, by key: lesser ones decide nothing there.
-ghost use Rattle.std.specs.Prelude.{◌≡◌, ◌↔◌, ℕ, None, IsTrue};
+ghost use Rattle.std.specs.Prelude.{◌≡◌, ◌↔◌, None, IsTrue};
 ghost use Rattle.change_ops.specs.declared.attribute.Key.{Key};
-ghost use Rattle.mark_places.specs.PlaceRanges.{AreApart};
 ghost use Rattle.mark_places.specs.Floors.{AreFloors, CoversAll, IsGreaterOf, IsKept, IsRaised, floor_of};
 
-use crate::range::{PlaceRange, covers_any};
 use change_ops::attribute::Key;
 use change_ops::id::OpId;
 use mark_anchors::placed::PlacedMark;
@@ -91,15 +89,10 @@ impl Floors {
         }
     }
 
-    /// Whether the mark decides at some place of the ranges, as far as is known: it covers one of them, and its id
-    /// isn't below the floor.
-    pub(crate) fn keeps(&self, mark: &PlacedMark, ranges: &[PlaceRange]) -> bool
-        requires { (end : ℕ) × AreApart ranges.now 0 end }
-        ensures { IsTrue result ↔ IsKept self.now ranges.now mark.now }
+    /// Whether the mark decides at some place that it covers, as far as is known: its id isn't below the floor.
+    pub(crate) fn keeps(&self, mark: &PlacedMark) -> bool
+        ensures { IsTrue result ↔ IsKept self.now mark.now }
     {
-        if !covers_any(ranges, mark) {
-            return false;
-        }
         match self.of_key(&mark.key) {
             Some(floor) => !mark.id.is_below(floor),
             None => true,

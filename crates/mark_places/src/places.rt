@@ -1,18 +1,21 @@
 //! Where marks begin and end, kept from change to change: characters that are put into the text shift the places, so
 //! that no anchor is looked up twice.
 ghost use Rattle.std.specs.Prelude.{◌≡◌, ◌==◌, ◌+◌, ◌/◌, ◌%◌, ◌<◌, ◌^◌, ◌++◌, ◌∷◌, [], ℕ, true, List};
-ghost use Rattle.std.specs.Prelude.{IfOk, OnOk, OnErr, length, map, All};
+ghost use Rattle.std.specs.Prelude.{◌≤◌, IfOk, OnOk, OnErr, length, map, All};
 ghost use Rattle.std.specs.List.{flat_map};
+ghost use Rattle.std.specs.List.Sorted.{IsPermutation};
 ghost use Rattle.change_ops.specs.Operations.{is_mark, Names};
 ghost use Rattle.char_sequence.specs.declared.sequence.Element.{Element};
 ghost use Rattle.char_sequence.specs.Order.{Shows};
 ghost use Rattle.char_sequence.specs.Tree.{Present};
+ghost use Rattle.mark_places.specs.PlaceRanges.{AreApart};
 ghost use Rattle.mark_places.specs.Places.{AreMarkPlaces, IsMarkPlace, gives_way};
 ghost use Rattle.mark_places.specs.Ranks.{mark_raised, place_of, IsBelow};
 ghost use Rattle.mark_places.specs.Touching.{touching};
 
 use crate::block::{PLACE_LIMIT, PlaceBlock};
 use crate::boundary::characters_before;
+use crate::range::PlaceRange;
 use crate::ranked::RankedMark;
 use crate::shift::RankShift;
 use change_ops::id::OpId;
@@ -40,12 +43,13 @@ fn rank(before: usize, gives_way: bool) -> u32
     2 * before as u32 + u32::from(gives_way)
 }
 
-/// The mark operation with the ranks of its anchors, which are looked up.
-fn ranked_mark(sequence: &Sequence, operation: &Op) -> RankedMark
+/// The mark operation with its index and the ranks of its anchors, which are looked up.
+fn ranked_mark(sequence: &Sequence, operation: &Op, index: usize) -> RankedMark
     requires mark { is_mark operation.now ≡ true }
     requires there { (ops : List Op) × Shows sequence.now.elements ops
         × ((x : OpId) → Names operation.now x → Present ops x) }
-    ensures place { (index : ℕ) → IsMarkPlace sequence.now.elements operation.now index (place_of index result) }
+    ensures place { IsMarkPlace sequence.now.elements operation.now (place_of result) }
+    ensures index { result.index ≡ index }
     ensures below { IsBelow (2 ^ 31) result }
 {
     let Some(range) = mark_range(operation) else {
@@ -56,6 +60,7 @@ fn ranked_mark(sequence: &Sequence, operation: &Op) -> RankedMark
     let start = characters_before(sequence, range.start);
     let end = characters_before(sequence, range.end);
     RankedMark {
+        index,
         id: operation.id(),
         key: range.key,
         start: rank(start, gives_way(range.start)),
@@ -75,45 +80,77 @@ fn raise(blocks: &mut [PlaceBlock], shift: RankShift)
     }
 }
 
-/// Adds a mark behind the others.
-fn push(blocks: &mut Vec<PlaceBlock>, mark: &RankedMark) -> Result<(), AllocError>
-    requires { IsBelow (2 ^ 31) mark.now }
-    ensures ok { OnOk result (flat_map (λ block. block) blocks.new.items
-        ≡ flat_map (λ block. block) blocks.old.items ++ mark.now ∷ []) }
-    ensures err { OnErr result (flat_map (λ block. block) blocks.new.items
-        ≡ flat_map (λ block. block) blocks.old.items) }
+/// The last block that begins at the rank or before it, or the first one.
+fn block_at(blocks: &[PlaceBlock], start: u32) -> usize
+    requires { 0 < length blocks.now }
+    ensures { result < length blocks.now }
 {
-    let count = blocks.len();
-    if count > 0 && blocks[count - 1].has_room() {
-        blocks[count - 1].push(mark)?;
+    let begun = blocks.partition_point(|block| block.begins_by(start));
+    begun.saturating_sub(1)
+}
+
+/// Splits the block in two if it is full.
+fn make_room(blocks: &mut Vec<PlaceBlock>, at: usize) -> Result<(), AllocError>
+    requires { at < length blocks.old.items }
+    ensures same { flat_map (λ block. block) blocks.new.items ≡ flat_map (λ block. block) blocks.old.items }
+    ensures count { length blocks.old.items ≤ length blocks.new.items }
+{
+    if !blocks[at].is_full() {
         return Ok(());
     }
-    blocks.reserve(1)?;
-    let block = PlaceBlock::of(*blocks.allocator(), mark)?;
-    blocks.push_reserved(block);
+    let alloc = *blocks.allocator();
+    let count = blocks[at].len();
+    let front = blocks[at].part(alloc, 0, count / 2)?;
+    let back = blocks[at].part(alloc, count / 2, count)?;
+    blocks.insert(at + 1, back)?;
+    blocks[at] = front;
     Ok(())
 }
 
-/// Where the marks of a text begin and end, in the order of the marks.
+/// Adds a mark to the block that it belongs in.
+fn add(blocks: &mut Vec<PlaceBlock>, mark: &RankedMark) -> Result<(), AllocError>
+    requires { IsBelow (2 ^ 31) mark.now }
+    ensures ok { OnOk result (IsPermutation (mark.now ∷ flat_map (λ block. block) blocks.old.items)
+        (flat_map (λ block. block) blocks.new.items)) }
+    ensures err { OnErr result (flat_map (λ block. block) blocks.new.items
+        ≡ flat_map (λ block. block) blocks.old.items) }
+{
+    if blocks.is_empty() {
+        let block = PlaceBlock::of(*blocks.allocator(), mark)?;
+        blocks.push(block)?;
+        return Ok(());
+    }
+    let at = block_at(blocks, mark.start);
+    make_room(blocks, at)?;
+    let at = block_at(blocks, mark.start);
+    blocks[at].insert(mark)?;
+    Ok(())
+}
+
+/// Where the marks of a text begin and end. Each block begins where the one before it does or behind that, so that most
+/// characters come between the ends of few blocks, and most places are covered by the marks of few blocks.
 #[derive(Drop)]
 pub struct MarkPlaces {
     blocks: Vec<PlaceBlock>,
+    /// The number of marks.
+    mark_count: usize,
     /// Belongs to the ranks of all blocks. As each key follows the last one, a run of keys is one shift.
     pending: RankShift,
 }
 
 impl Model for MarkPlaces {
-    ghost use Rattle.std.specs.Prelude.{◌^◌, List, map, All};
+    ghost use Rattle.std.specs.Prelude.{◌≡◌, ◌^◌, List, map, All, length};
     ghost use Rattle.std.specs.List.{flat_map};
     ghost use Rattle.mark_places.specs.MarkPlace.{MarkPlace};
-    ghost use Rattle.mark_places.specs.Ranks.{mark_raised, places_from, IsBelow};
+    ghost use Rattle.mark_places.specs.Ranks.{mark_raised, place_of, IsBelow};
 
     ghost Value = { List MarkPlace };
 
-    ghost view = { λ p. places_from 0
+    ghost view = { λ p. map place_of
         (map (mark_raised p.pending.from p.pending.by) (flat_map (λ block. block) p.blocks.items)) };
 
-    ghost invariant = { λ p. All (λ mark. IsBelow (2 ^ 31) (mark_raised p.pending.from p.pending.by mark))
+    ghost invariant = { λ p. (p.mark_count ≡ length (flat_map (λ block. block) p.blocks.items))
+        × All (λ mark. IsBelow (2 ^ 31) (mark_raised p.pending.from p.pending.by mark))
         (flat_map (λ block. block) p.blocks.items) };
 }
 
@@ -124,6 +161,7 @@ impl MarkPlaces {
     {
         MarkPlaces {
             blocks: Vec::new(alloc),
+            mark_count: 0,
             pending: RankShift::none(),
         }
     }
@@ -136,10 +174,15 @@ impl MarkPlaces {
         ensures { (operations : List Op) → AreMarkPlaces sequence.now.elements operations self.old
             → IfOk result (λ _. AreMarkPlaces sequence.now.elements (operations ++ operation.now ∷ []) self.new) }
     {
-        let mark = ranked_mark(sequence, operation);
+        // No memory holds as many marks as there are numbers.
+        let Some(mark_count) = self.mark_count.checked_add(1) else {
+            return Err(AllocError);
+        };
+        let mark = ranked_mark(sequence, operation, self.mark_count);
         raise(&mut self.blocks, self.pending);
         self.pending = RankShift::none();
-        push(&mut self.blocks, &mark)?;
+        add(&mut self.blocks, &mark)?;
+        self.mark_count = mark_count;
         Ok(())
     }
 
@@ -166,23 +209,20 @@ impl MarkPlaces {
         self.pending = next;
     }
 
-    /// The marks that cover a place from `low` up to `high`.
+    /// The marks that cover a place of the ranges.
     ///
     /// `alloc` is for the list of the result.
     pub(crate) fn touching(
         &self,
         alloc: Global,
-        low: usize,
-        high: usize,
+        ranges: &[PlaceRange],
     ) -> Result<Vec<PlacedMark>, AllocError>
-        requires { length self.now < 2 ^ 64 }
-        ensures { IfOk result (λ marks. marks.items ≡ touching low high self.now) }
+        requires { (end : ℕ) × AreApart ranges.now 0 end }
+        ensures { IfOk result (λ marks. marks.items ≡ touching ranges.now self.now) }
     {
         let mut marks = Vec::new(alloc);
-        let mut first = 0;
         for block in &self.blocks {
-            block.gather(self.pending, first, low, high, &mut marks)?;
-            first += block.len();
+            block.gather(self.pending, ranges, &mut marks)?;
         }
         Ok(marks)
     }

@@ -1,5 +1,5 @@
 //! Shifts of ranks: those of characters that are typed one behind the other are one shift.
-ghost use Rattle.std.specs.Prelude.{◌≡◌, ◌↔◌, ◌<◌, ℕ, IfSome};
+ghost use Rattle.std.specs.Prelude.{◌≡◌, ◌↔◌, ◌/◌, ◌<◌, ℕ, IfSome};
 ghost use Rattle.mark_places.specs.Ranks.{raised};
 
 /// Moves the ranks from `from` on.
@@ -34,5 +34,13 @@ impl RankShift {
         ensures { (other : ℕ) → (raised self.from self.by other < rank) ↔ (other < result) }
     {
         rank.min(self.from).max(rank.saturating_sub(self.by))
+    }
+
+    /// The place of an end with the rank, behind the shift.
+    pub(crate) fn place_of(self, rank: u32) -> usize
+        ensures { result ≡ raised self.from self.by rank / 2 }
+    {
+        let moved = if rank >= self.from { self.by } else { 0 };
+        (rank as usize + moved as usize) / 2
     }
 }

@@ -36,7 +36,8 @@ fn in_order<T: Piece>(
 ) -> Result<Vec<Node<T>>, AllocError>
     ensures { IfOk result (λ all. all.items ≡ before.now ++ (made.now ++ behind.now)) }
 {
-    let mut all = Vec::new(alloc);
+    let count = before.len() + made.len() + behind.len();
+    let mut all = Vec::with_capacity(alloc, count)?;
     share_nodes(before, &mut all)?;
     share_nodes(made, &mut all)?;
     share_nodes(behind, &mut all)?;

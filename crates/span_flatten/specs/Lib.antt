@@ -2,3 +2,4 @@ pub mod Spans
 pub mod Version
 pub mod Taken
 pub mod Window
+pub mod Edges

@@ -148,7 +148,7 @@ pub fn flatten_window(
 {
     let cuts = resolved.cuts(alloc, low, high)?;
     let mut text = String::new(alloc);
-    let mut rows = Vec::new(alloc);
+    let mut rows = Vec::with_capacity(alloc, cuts.len())?;
     let mut cursor = sequence.visible_from(low);
     // Its contract bounds the visible text, and so the spans, which the proof needs.
     let _count = sequence.len();

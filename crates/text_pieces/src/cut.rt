@@ -10,7 +10,7 @@ use std::alloc::{AllocError, Global};
 
 /// How many bytes a piece gets where the text goes on: so many that both this piece and the rest of one that is just
 /// full have room for more.
-const CUT: usize = 384;
+const CUT: usize = 192;
 
 /// The text cut in two at the last character's edge up to a place, which is a number of bytes; uncut, where that is its
 /// start.

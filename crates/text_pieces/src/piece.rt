@@ -7,10 +7,10 @@ use std::marker::Model;
 use std::sync::Arc;
 
 /// The most bytes that a piece has.
-pub const FULL: usize = 512;
+pub const FULL: usize = 256;
 
 /// The least that it has, if it isn't the last one, as far as characters allow.
-pub const LEAST: usize = 128;
+pub const LEAST: usize = 64;
 
 /// A text, with how many characters it has. Contracts see the characters.
 struct Content {

@@ -7,3 +7,4 @@ pub mod Wholes
 pub mod Meeting
 pub mod WindowsMet
 pub mod Made
+pub mod Edged

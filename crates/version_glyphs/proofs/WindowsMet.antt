@@ -24,7 +24,8 @@ use Rattle.span_flatten.specs.Window.{IsFlattened}
 use Rattle.version_laws.specs.Ranges.{AreChangedWithin, TouchesOneOf}
 use Rattle.version_laws.proofs.DrawnKept.{drawn_append, drawn_count, drawn_visible}
 use Rattle.version_laws.proofs.DrawnBack.{visible_drawn}
-use Rattle.version_laws.proofs.Ranging.{LiesOutside, before_all, format_between}
+use Rattle.version_laws.specs.Ranges.{LiesOutside}
+use Rattle.version_laws.proofs.Ranging.{before_all, format_between}
 use Rattle.version_laws.proofs.Rising.{get_drop, get_take}
 use Rattle.version_laws.proofs.WindowKept.{drawn_at}
 use Rattle.version_glyphs.specs.declared.replacement.Replacement.{Replacement}

@@ -1,9 +1,11 @@
 -- Windows of a version's characters, put in place.
-use Rattle.std.specs.Prelude.{◌≡◌, ◌≤◌, ◌+◌, ℕ, List, [], ◌∷◌, ◌++◌, count_by, drop, length, take}
+use Rattle.std.specs.Prelude.{◌≡◌, ◌<◌, ◌≤◌, ◌+◌, ℕ, List, [], ◌∷◌, ◌++◌, count_by, drop, length, map, take}
 use Rattle.std.specs.Str.{IsUtf8}
 use Rattle.change_ops.specs.declared.operation.Op.{Op}
 use Rattle.char_sequence.specs.declared.sequence.Element.{Element}
 use Rattle.mark_places.specs.declared.range.PlaceRange.{PlaceRange}
+use Rattle.mark_anchors.specs.Formatting.{Format}
+use Rattle.span_flatten.specs.Edges.{KeepEdges}
 use Rattle.span_flatten.specs.Taken.{is_visible}
 use Rattle.span_flatten.specs.Version.{IsWhole, spans_in}
 use Rattle.span_flatten.specs.Window.{IsFlattened}
@@ -31,6 +33,21 @@ put_all (r ∷ rs) characters = put r (put_all rs characters)
 abbrev pub AreInOrder : List Replacement → ℕ → ℕ → Type 0
 AreInOrder [] at end = at ≤ end
 AreInOrder (r ∷ rs) at end = (at ≤ r.from) × (r.from ≤ r.to) × AreInOrder rs r.to end
+
+-- the format of each character
+abbrev pub formats : List Glyph → List Format
+formats characters = map (λ g. g.format) characters
+
+-- the window begins and ends with what stands where it is put
+abbrev pub IsEdged : List Glyph → Replacement → Type 0
+IsEdged characters r = KeepEdges (formats characters) r.from r.to (formats (glyphs_in r))
+
+-- each window does, and something stands behind each but the last one
+abbrev pub AreEdged : List Glyph → List Replacement → Type 0
+AreEdged characters [] = Unit {0}
+AreEdged characters (r ∷ []) = IsEdged characters r
+AreEdged characters (r ∷ next ∷ rs) =
+    IsEdged characters r × (r.to < length characters) × AreEdged characters (next ∷ rs)
 
 -- each window shows a range of the new elements, and stands in place of what was visible in that of the old ones
 abbrev pub AreReplacements : List Element → List Element → List Op → List PlaceRange → List PlaceRange

@@ -13,3 +13,4 @@ pub mod Outside
 pub mod Ranging
 pub mod OldRanges
 pub mod Put
+pub mod Staying

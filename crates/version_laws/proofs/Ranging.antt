@@ -15,7 +15,7 @@ use Rattle.mark_anchors.specs.Format.{IsFormat}
 use Rattle.mark_anchors.specs.Formatting.{Format}
 use Rattle.mark_places.specs.declared.range.PlaceRange.{PlaceRange}
 use Rattle.mark_places.specs.PlaceRanges.{AreApart}
-use Rattle.version_laws.specs.Ranges.{AreChangedWithin, TouchesOneOf}
+use Rattle.version_laws.specs.Ranges.{AreChangedWithin, LiesOutside, TouchesOneOf}
 use Rattle.version_laws.specs.Touched.{TouchesWithin}
 use Rattle.version_laws.specs.Windows.{IsWithinWindow}
 use Rattle.version_laws.proofs.ChangeKept.{format_all}
@@ -24,11 +24,7 @@ use Rattle.version_laws.proofs.Rising.{Has, Named, Rises, IsDivided, clash, divi
 use Rattle.version_laws.proofs.WindowKept.{outside, there}
 
 -- ---- places outside ranges
-abbrev pub LiesOutside : List PlaceRange → ℕ → Type 0
-LiesOutside [] i = Unit {0}
-LiesOutside (r ∷ rs) i = ((i < r.low) ⊎ (r.high ≤ i)) × LiesOutside rs i
-
-outside_one : (rs : List PlaceRange) (i : ℕ) → LiesOutside rs i → (r : PlaceRange) → Contains rs r → (i < r.low) ⊎ (r.high ≤ i)
+pub outside_one : (rs : List PlaceRange) (i : ℕ) → LiesOutside rs i → (r : PlaceRange) → Contains rs r → (i < r.low) ⊎ (r.high ≤ i)
 outside_one [] i out r (k, lt, e) = absurd (omega arith)
 outside_one (x ∷ rs) i out r (zero, lt, e) = subst (λ (z : PlaceRange). (i < z.low) ⊎ (z.high ≤ i)) e out.0
 outside_one (x ∷ rs) i out r (suc k, lt, e) = outside_one rs i out.1 r (k, omega arith, e)

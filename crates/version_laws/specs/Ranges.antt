@@ -1,5 +1,5 @@
 -- Texts that changed in several ranges of places.
-use Rattle.std.specs.Prelude.{◌≡◌, ◌<◌, ◌≤◌, ℕ, List, [], ◌∷◌, Contains, drop, length, slice_range}
+use Rattle.std.specs.Prelude.{◌≡◌, ◌<◌, ◌≤◌, ◌⊎◌, ℕ, List, [], ◌∷◌, Contains, drop, length, slice_range}
 use Rattle.change_ops.specs.declared.operation.Op.{Op}
 use Rattle.char_sequence.specs.declared.sequence.Element.{Element}
 use Rattle.mark_places.specs.declared.range.PlaceRange.{PlaceRange}
@@ -8,6 +8,11 @@ use Rattle.version_laws.specs.Touched.{TouchesWithin}
 -- the operation touches places of one of the ranges alone
 abbrev pub TouchesOneOf : List Element → List PlaceRange → Op → Type 0
 TouchesOneOf es ranges o = (r : PlaceRange) × Contains ranges r × TouchesWithin es r.low r.high o
+
+-- the place is in none of the ranges
+abbrev pub LiesOutside : List PlaceRange → ℕ → Type 0
+LiesOutside [] place = Unit {0}
+LiesOutside (r ∷ rs) place = ((place < r.low) ⊎ (r.high ≤ place)) × LiesOutside rs place
 
 -- a place lies between each two of them
 abbrev pub AreGapped : List PlaceRange → Type 0

@@ -18,6 +18,7 @@ use Rattle.format_runs.proofs.Formats.{length_formats}
 use Rattle.text_pieces.specs.Texts.{AreCharacters}
 use Rattle.version_laws.proofs.Counted.{scalars_left, scalars_right}
 use Rattle.version_glyphs.specs.Glyphs.{Glyph, AreMaximal, glyphs, with_format}
+use Rattle.version_glyphs.specs.Replacements.{formats}
 use Rattle.version_pieces.specs.Along.{IsAlong, paired, spans_along}
 use Rattle.version_glyphs.proofs.Made.{texts_in}
 use Rattle.text_pieces.proofs.Texts.{scalars_of}
@@ -39,6 +40,12 @@ pub length_paired : (cs : List ℕ) (fs : List Format) → length cs ≡ length 
 length_paired [] fs e = refl
 length_paired (c ∷ cs) [] e = absurd (omega arith)
 length_paired (c ∷ cs) (f ∷ fs) e = omega (arith, length_paired cs fs (omega arith))
+
+pub formats_paired : (cs : List ℕ) (fs : List Format) → length cs ≡ length fs → formats (paired cs fs) ≡ fs
+formats_paired [] [] fits = refl
+formats_paired [] (f ∷ fs) fits = absurd (omega arith)
+formats_paired (c ∷ cs) [] fits = absurd (omega arith)
+formats_paired (c ∷ cs) (f ∷ fs) fits = ap (λ l. f ∷ l) (formats_paired cs fs (omega arith))
 
 pub take_paired : (n : ℕ) (cs : List ℕ) (fs : List Format) → take n (paired cs fs) ≡ paired (take n cs) (take n fs)
 take_paired zero cs fs = refl
@@ -203,6 +210,11 @@ window_glyphs cs ds new rs qs more from to a b fits is formats =
 pub count_along : (cs : List ℕ) (rs : List Run) → IsAlong cs rs → length (glyphs (spans_along rs cs)) ≡ length cs
 count_along cs rs a =
     ap length (glyphs_along rs cs (scalars_are cs a.spelt) a.whole) ∙ length_paired cs (formats_of rs) (sym (length_formats rs ∙ a.whole))
+
+-- the formats of the characters
+pub formats_along : (cs : List ℕ) (rs : List Run) → IsAlong cs rs → formats (glyphs (spans_along rs cs)) ≡ formats_of rs
+formats_along cs rs a =
+    ap formats (glyphs_along rs cs (scalars_are cs a.spelt) a.whole) ∙ formats_paired cs (formats_of rs) (omega (arith, a.whole, length_formats rs))
 
 -- the span of an index
 pub get_along : (rs : List Run) (cs : List ℕ) (i : ℕ) (r : Run) → slice_get rs i ≡ Some r

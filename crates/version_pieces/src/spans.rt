@@ -2,10 +2,11 @@
 ghost use Rattle.std.specs.Prelude.{◌≡◌, ◌≤◌, ◌+◌, ◌++◌, IfOk, chars, drop, encode_utf8_all, length, slice_get, take};
 ghost use Rattle.format_runs.specs.Runs.{AreMaximal as AreMaximalRuns, character_count, formats_in, formats_of};
 ghost use Rattle.format_runs.specs.Runs.{row_count, runs_in};
+ghost use Rattle.span_flatten.specs.Edges.{KeepEdges};
 ghost use Rattle.span_flatten.specs.Version.{IsWhole, joined, spans_in};
 ghost use Rattle.version_glyphs.specs.Glyphs.{AreMaximal, glyphs};
 ghost use Rattle.version_pieces.specs.Putting.{CanTake};
-ghost use Rattle.version_glyphs.specs.Replacements.{HasMaximalSpans, glyphs_in, put, put_all};
+ghost use Rattle.version_glyphs.specs.Replacements.{HasMaximalSpans, IsEdged, glyphs_in, put, put_all};
 
 use crate::span_text::SpanText;
 use format_runs::runs::SharedRuns;
@@ -78,6 +79,7 @@ fn runs_with(
     requires within { to ≤ character_count runs.now }
     requires short { character_count runs.now + row_count rows.now ≤ 2097152 }
     requires maximal { AreMaximalRuns (runs_in rows.now) }
+    requires edges { KeepEdges (formats_of runs.now) from to (formats_in rows.now) }
     ensures { IfOk result (λ next. formats_of next
         ≡ take from (formats_of runs.now) ++ (formats_in rows.now ++ drop to (formats_of runs.now))) }
 {
@@ -170,6 +172,7 @@ impl Spans {
         requires order { window.now.from ≤ window.now.to }
         requires within { window.now.to ≤ length (glyphs self.now) }
         requires maximal { HasMaximalSpans window.now }
+        requires edged { IsEdged (glyphs self.now) window.now }
         requires few { length (glyphs self.now) + length (glyphs_in window.now) ≤ 262144 }
         ensures { IfOk result (λ next. glyphs next ≡ put window.now (glyphs self.now)) }
     {

@@ -4,7 +4,7 @@ ghost use Rattle.span_flatten.specs.Version.{IsWhole, spans_of};
 ghost use Rattle.version_glyphs.specs.Laid.{laid};
 ghost use Rattle.version_glyphs.specs.Glyphs.{AreMaximal, glyphs, text_of};
 ghost use Rattle.version_glyphs.specs.Made.{IsMade};
-ghost use Rattle.version_glyphs.specs.Replacements.{AreInOrder, HasMaximalSpans, put_all};
+ghost use Rattle.version_glyphs.specs.Replacements.{AreEdged, AreInOrder, HasMaximalSpans, put_all};
 
 use crate::span_text::SpanText;
 use crate::spans::Spans;
@@ -118,6 +118,7 @@ impl PieceVersion {
     ) -> Result<PieceVersion, AllocError>
         requires order { AreInOrder windows.now 0 (length (glyphs (spans_of self.now))) }
         requires windows { All HasMaximalSpans windows.now }
+        requires edged { AreEdged (glyphs (spans_of self.now)) windows.now }
         requires short { length (text_of (put_all windows.now (glyphs (spans_of self.now)))) ≤ 131072 }
         ensures number { IfOk result (λ next. next.number ≡ number) }
         ensures glyphs { IfOk result (λ next. glyphs (spans_of next)

@@ -13,7 +13,7 @@ use Rattle.version_windows.specs.Places.{IsSamePlace}
 first_dropped : (k : ℕ) (es : List Element) → slice_get (drop k es) 0 ≡ slice_get es k
 first_dropped k es = let same : k + 0 ≡ k = omega arith in get_drop k es 0 ∙ ap (slice_get es) same
 
-gapped_rest : (range : PlaceRange) (ranges : List PlaceRange) → AreGapped (range ∷ ranges) → AreGapped ranges
+pub gapped_rest : (range : PlaceRange) (ranges : List PlaceRange) → AreGapped (range ∷ ranges) → AreGapped ranges
 gapped_rest range [] gapped = tt
 gapped_rest range (next ∷ ranges) gapped = gapped.1
 
@@ -28,7 +28,7 @@ opened xs ys i x is =
 
 module _ (old new : List Element) where
   -- what stands behind a range stood behind it before
-  ended : (os ns : List PlaceRange) (n : PlaceRange) (a : ℕ) → AreChangedWithin old new os ns a n.high
+  pub ended : (os ns : List PlaceRange) (n : PlaceRange) (a : ℕ) → AreChangedWithin old new os ns a n.high
       → AreApart ns n.high (length new) → AreGapped (n ∷ ns) → IsSamePlace old new a n.high
   ended [] [] n a (within, same) apart gapped =
       (within, sym (first_dropped a old) ∙ ap (λ (l : List Element). slice_get l 0) same ∙ first_dropped n.high new)

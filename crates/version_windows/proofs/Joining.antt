@@ -3,12 +3,12 @@ use Rattle.std.proofs.Common.{◌≡◌, ℕ, zero, suc, ◌+◌, ◌<◌, ◌�
 use Rattle.std.specs.List.{slice_get, Contains}
 use Rattle.std.specs.List.Sorted.{IsNonDecreasingBy}
 use Rattle.std.proofs.lemmas.Bool.{cases_lt}
-use Rattle.std.proofs.lemmas.List.Elements.{All-contains, Contains-append_left, Contains-append_cases, Contains-push, Contains-push_cases}
+use Rattle.std.proofs.lemmas.List.Elements.{All-contains, All-push, Contains-append_left, Contains-append_cases, Contains-push, Contains-push_cases}
 use Rattle.std.proofs.lemmas.Option.{same_Some, slice_get_within, slice_get-get_or, get_or_from_slice_get}
 use Rattle.mark_places.specs.PlaceRanges.{AreApart}
 use Rattle.mark_places.specs.declared.range.PlaceRange.{PlaceRange}
 use Rattle.version_laws.specs.Ranges.{AreGapped}
-use Rattle.version_windows.specs.Joined.{IsCovered, low_of}
+use Rattle.version_windows.specs.Joined.{HasEndsOf, IsCovered, low_of}
 
 -- the ranges up to an index are joined: `all`, and a last one, which the next one may join
 pub record AreJoined (ranges : List PlaceRange) (index : ℕ) (all : List PlaceRange) (last : PlaceRange) : Type 0 where
@@ -16,6 +16,8 @@ pub record AreJoined (ranges : List PlaceRange) (index : ℕ) (all : List PlaceR
   pub apart : AreApart (all ++ last ∷ []) 0 last.high
   pub gapped : AreGapped (all ++ last ∷ [])
   pub ahead : (k : ℕ) (r : PlaceRange) → index ≤ k → slice_get ranges k ≡ Some r → last.low ≤ r.low
+  pub ends : All (HasEndsOf ranges) all
+  pub last_ends : HasEndsOf ranges last
   pub below : (end : ℕ) → All (λ r. r.high ≤ end) ranges → last.high ≤ end
   pub covered : (k : ℕ) (r : PlaceRange) → k < index → slice_get ranges k ≡ Some r → IsCovered (all ++ last ∷ []) r
 
@@ -83,6 +85,12 @@ module _ (ranges : List PlaceRange) (sorted : IsNonDecreasingBy low_of ranges)
   below_at : (k : ℕ) (r : PlaceRange) → slice_get ranges k ≡ Some r → (end : ℕ) → All (λ x. x.high ≤ end) ranges → r.high ≤ end
   below_at k r g end all = All-contains (λ (x : PlaceRange). x.high ≤ end) ranges r all (held_at ranges k r g)
 
+  ends_of : (k : ℕ) (r : PlaceRange) → slice_get ranges k ≡ Some r → HasEndsOf ranges r
+  ends_of k r g = record {
+    first = (r, held_at ranges k r g, refl);
+    last = (r, held_at ranges k r g, refl);
+  }
+
   pub started : (first : PlaceRange) → slice_get ranges 0 ≡ Some first → AreJoined ranges 1 [] first
   started first g =
       let order = order_at 0 first g in
@@ -90,6 +98,8 @@ module _ (ranges : List PlaceRange) (sorted : IsNonDecreasingBy low_of ranges)
         order = order;
         apart = (omega arith, order, omega arith);
         gapped = tt;
+        ends = λ k d h. absurd (omega arith);
+        last_ends = ends_of 0 first g;
         ahead = λ k r le h. in_order ranges 0 k first r sorted (omega arith) g h;
         below = λ end all. below_at 0 first g end all;
         covered =
@@ -111,6 +121,20 @@ module _ (ranges : List PlaceRange) (sorted : IsNonDecreasingBy low_of ranges)
         order = wide;
         apart = apart_widened all 0 last.high last wider joined.apart same wide;
         gapped = gapped_widened all last wider joined.gapped same;
+        ends = joined.ends;
+        last_ends = record {
+          first = (joined.last_ends.first.0, joined.last_ends.first.1, same ∙ joined.last_ends.first.2);
+          last =
+              ⊎_elim
+              (λ (further : last.high < r.high).
+              let most = least r.high (omega arith) (omega arith) in
+              (r, held_at ranges index r g, omega arith))
+              (λ (nearer : r.high ≤ last.high).
+              let most = least last.high (omega arith) nearer in
+              let e : wider.high ≡ last.high = omega arith in
+              (joined.last_ends.last.0, joined.last_ends.last.1, e ∙ joined.last_ends.last.2))
+              (cases_lt last.high r.high);
+        };
         ahead = λ k s le h. let before = joined.ahead k s (omega arith) h in omega arith;
         below = λ end every. least end (joined.below end every) (below_at index r g end every);
         covered =
@@ -135,6 +159,8 @@ module _ (ranges : List PlaceRange) (sorted : IsNonDecreasingBy low_of ranges)
         order = order;
         apart = apart_pushed (all ++ last ∷ []) 0 last.high r joined.apart (omega arith) order;
         gapped = gapped_pushed all last r joined.gapped far;
+        ends = All-push (HasEndsOf ranges) all last joined.ends joined.last_ends;
+        last_ends = ends_of index r g;
         ahead = λ k s le h. in_order ranges index k r s sorted (omega arith) g h;
         below = λ end every. below_at index r g end every;
         covered =

@@ -5,3 +5,4 @@ pub mod Touching
 pub mod Changing
 pub mod Choosing
 pub mod Replaced
+pub mod Edging

@@ -1,3 +1,4 @@
 pub mod Joined
 pub mod Step
 pub mod Places
+pub mod Edges

@@ -4,7 +4,7 @@ ghost use Rattle.std.specs.List.Sorted.{IsNonDecreasingBy, IsPermutation};
 ghost use Rattle.mark_places.specs.PlaceRanges.{AreApart};
 ghost use Rattle.mark_places.specs.declared.range.PlaceRange.{PlaceRange as TheRange};
 ghost use Rattle.version_laws.specs.Ranges.{AreGapped};
-ghost use Rattle.version_windows.specs.Joined.{IsCovered, low_of};
+ghost use Rattle.version_windows.specs.Joined.{HasEndsOf, IsCovered, low_of};
 
 use mark_places::range::PlaceRange;
 use std::alloc::{AllocError, Global};
@@ -25,6 +25,7 @@ pub(crate) fn joined(alloc: Global, ranges: &[PlaceRange]) -> Result<Vec<PlaceRa
     ensures apart { IfOk result (λ all. (end : ℕ) → All (λ range. range.high ≤ end) ranges.now
         → AreApart all.items 0 end) }
     ensures gapped { IfOk result (λ all. AreGapped all.items) }
+    ensures ends { IfOk result (λ all. All (HasEndsOf ranges.now) all.items) }
     ensures covered { IfOk result (λ all. (range : TheRange) → Contains ranges.now range
         → IsCovered all.items range) }
 {

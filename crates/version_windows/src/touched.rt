@@ -8,8 +8,10 @@ ghost use Rattle.char_sequence.specs.Tree.{Present};
 ghost use Rattle.char_sequence.specs.declared.sequence.Element.{Element};
 ghost use Rattle.mark_anchors.specs.Places.{IsBoundary};
 ghost use Rattle.mark_places.specs.PlaceRanges.{AreApart};
+ghost use Rattle.mark_places.specs.declared.range.PlaceRange.{PlaceRange as TheRange};
 ghost use Rattle.version_laws.specs.Ranges.{AreGapped, TouchesOneOf};
 ghost use Rattle.version_laws.specs.Touched.{TouchesWithin};
+ghost use Rattle.version_windows.specs.Edges.{AreWidened, HasKeptEdges, IsWidened};
 
 use crate::ranges::{by_low, joined};
 use change_ops::id::OpId;
@@ -118,7 +120,37 @@ fn touched_by_each(
     Ok(ranges)
 }
 
-/// The ranges that the operations of the lines touch, joined where no place lies between them.
+/// The range with the last visible character before it and the first one behind it; where there is none, from the
+/// start of the text or up to its end.
+fn widened(sequence: &Sequence, range: PlaceRange) -> PlaceRange
+    requires { (range.low ≤ range.high) × (range.high ≤ length sequence.now.elements) }
+    ensures { IsWidened sequence.now.elements range result }
+{
+    // Its contract bounds the places, which the proof needs.
+    let end = sequence.len();
+    let high = match sequence.visible_place_from(range.high) {
+        Some(last) => last + 1,
+        None => end,
+    };
+    PlaceRange {
+        low: sequence.visible_place_before(range.low).unwrap_or(0),
+        high,
+    }
+}
+
+/// Widens each of the ranges.
+fn widen(sequence: &Sequence, ranges: &mut [PlaceRange])
+    requires order { All (λ range. range.low ≤ range.high) ranges.old }
+    requires within { All (λ range. range.high ≤ length sequence.now.elements) ranges.old }
+    ensures { AreWidened sequence.now.elements ranges.old ranges.new }
+{
+    for range in ranges.iter_mut() {
+        *range = widened(sequence, *range);
+    }
+}
+
+/// The ranges that the operations of the lines touch, each with a visible character on both sides that the lines leave
+/// as it was, joined where no place lies between them.
 pub(crate) fn touched(
     alloc: Global,
     sequence: &Sequence,
@@ -130,8 +162,12 @@ pub(crate) fn touched(
     ensures gapped { IfOk result (λ ranges. AreGapped ranges.items) }
     ensures touched { IfOk result (λ ranges. (o : Op) → Contains (ops_of_lines lines.now) o
         → TouchesOneOf sequence.now.elements ranges.items o) }
+    ensures edges { IfOk result (λ ranges. (inner : List TheRange)
+        × ((o : Op) → Contains (ops_of_lines lines.now) o → TouchesOneOf sequence.now.elements inner o)
+        × All (HasKeptEdges sequence.now.elements inner) ranges.items) }
 {
-    let each = touched_by_each(alloc, sequence, lines)?;
+    let mut each = touched_by_each(alloc, sequence, lines)?;
+    widen(sequence, &mut each);
     let each = by_low(each);
     let ranges = joined(alloc, each.as_slice())?;
     Ok(ranges)

@@ -10,8 +10,8 @@ loop-segment-init c = record {
   sized = c.requires.sized;
   added =
       λ runs are.
-      added_none runs c.args.run.now c.args.cuts.now c.args.segments.now.items c.count_up_to-first.result
-      c.count_up_to-first.ensures.up_to c.count_up_to-first.ensures.within are;
+      added_none runs c.args.run.now c.args.cuts.now c.args.segments.now.items c.count_near-first.result
+      c.count_near-first.ensures.up_to c.count_near-first.ensures.within are;
 }
 
 pub loop-segment-preserved : goal.loop-segment-preserved
@@ -33,6 +33,6 @@ loop-segment-preserved c =
 pub returns-clause-more : goal.returns-clause-more
 returns-clause-more c =
     λ runs are.
-    added_all runs c.args.run.now c.args.cuts.now c.loop-segment.segments.items c.count_below-last.result c.loop-segment.segment
-    c.count_below-last.ensures.below c.loop-segment-test.false c.requires.rising c.loop-segment.invariant.sized
+    added_all runs c.args.run.now c.args.cuts.now c.loop-segment.segments.items c.count_below_near-last.result c.loop-segment.segment
+    c.count_below_near-last.ensures.below c.loop-segment-test.false c.requires.rising c.loop-segment.invariant.sized
     (c.loop-segment.invariant.added runs are)

@@ -7,7 +7,7 @@ use Rattle.mark_anchors.proofs.comments.numbered.Goals.{in-Some+in_ok-push, in_d
 use Rattle.mark_anchors.proofs.comments.numbered.Goals as goal
 
 pub loop-mark-init : goal.loop-mark-init
-loop-mark-init c = subst (AreFirstNumbered c.args.marks.now 0) (sym c.new-comments.ensures.items) (numbered_none c.args.marks.now)
+loop-mark-init c = subst (AreFirstNumbered c.args.marks.now 0) (sym c.in_ok-comments.ensures.items) (numbered_none c.args.marks.now)
 
 pub loop-mark-preserved : goal.loop-mark-preserved
 loop-mark-preserved c =

@@ -9,15 +9,15 @@ use Rattle.mark_anchors.proofs.key_marks.in_order.Goals as goal
 
 pub returns-clause-rising : goal.returns-clause-rising
 returns-clause-rising c =
-    let sorted = c.sort_unstable.new.self.items in
-    subst IsStrictlyIncreasing (sym (dedup_is eqb sorted c.dedup.new.self.items c.dedup.ensures.filtered)) (IsStrictlyIncreasing-dedup sorted c.sort_unstable.ensures.sorted)
+    let sorted = c.sort.new.self.items in
+    subst IsStrictlyIncreasing (sym (dedup_is eqb sorted c.dedup.new.self.items c.dedup.ensures.filtered)) (IsStrictlyIncreasing-dedup sorted c.in_ok-sort.ensures.sorted)
 
 pub returns-clause-members : goal.returns-clause-members
 returns-clause-members c =
     λ x.
     let places : List ℕ = c.args.places.items in
-    let sorted : List ℕ = c.sort_unstable.new.self.items in
+    let sorted : List ℕ = c.sort.new.self.items in
     let is = dedup_is eqb sorted c.dedup.new.self.items c.dedup.ensures.filtered in (
-      λ held. Contains-permutation sorted places x (IsPermutation-sym places sorted c.sort_unstable.ensures.permutation) (Contains-from_dedup eqb sorted x (subst (λ (l : List ℕ). Contains l x) is held)),
-      λ held. subst (λ (l : List ℕ). Contains l x) (sym is) (Contains-dedup_nat sorted x (Contains-permutation places sorted x c.sort_unstable.ensures.permutation held)),
+      λ held. Contains-permutation sorted places x (IsPermutation-sym places sorted c.sort.ensures.permutation) (Contains-from_dedup eqb sorted x (subst (λ (l : List ℕ). Contains l x) is held)),
+      λ held. subst (λ (l : List ℕ). Contains l x) (sym is) (Contains-dedup_nat sorted x (Contains-permutation places sorted x c.sort.ensures.permutation held)),
     )

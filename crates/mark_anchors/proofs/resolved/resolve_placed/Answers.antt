@@ -18,8 +18,8 @@ invariant_of-result c =
       ends = (
         c.args.marks.items,
         all,
-        ends_of_places c.args.marks.items c.deref-3.result.now c.in_ok-places_of.field-0.items c.in_order.result.items c.deref-3.ensures.value
-            c.in_ok-places_of.ensures.begins c.in_ok-places_of.ensures.ends c.in_order.ensures.rising c.in_order.ensures.members,
+        ends_of_places c.args.marks.items c.deref-3.result.now c.in_ok-places_of.field-0.items c.in_ok-in_order.field-0.items c.deref-3.ensures.value
+            c.in_ok-places_of.ensures.begins c.in_ok-places_of.ensures.ends c.in_ok-in_order.ensures.rising c.in_ok-in_order.ensures.members,
       );
       strong = c.in_ok-marks_of.ensures es operations (read c.deref-4.result.now c.deref-4.ensures.value);
       em = c.in_ok-marks_of-2.ensures es operations (read c.deref-5.result.now c.deref-5.ensures.value);

@@ -4,7 +4,8 @@ use Rattle.std.proofs.lemmas.List.Edits.{map_over_more}
 use Rattle.mark_anchors.proofs.Lists.{read_at}
 use Rattle.mark_places.specs.declared.ranked.RankedMark.{RankedMark}
 use Rattle.mark_places.specs.Ranks.{mark_raised, IsBelow}
-use Rattle.mark_places.proofs.Ranks.{all_of_block, read_over, mapped_all, joined_map}
+use Rattle.mark_places.proofs.Joined.{all_of_block, joined_map}
+use Rattle.mark_places.proofs.Ranks.{read_over, mapped_all}
 use Rattle.mark_places.proofs.places.raise.Goals as goal
 
 pub raise-requires : goal.raise-requires

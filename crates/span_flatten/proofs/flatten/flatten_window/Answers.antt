@@ -16,14 +16,14 @@ loop-cut-init c =
     let es : List Element = c.args.sequence.now.elements in
     let marks : List Op = c.args.resolved.now.marks in
     let text : string_bytes c.new-text.result ≡ [] = search rules in
-    let rows : c.new-rows.result.items ≡ [] = search rules in
+    let rows : c.in_ok-rows.rows.items ≡ [] = search rules in
     record {
       reached = inl (refl, refl);
       behind = let start : c.sweep_from-sweep.result.place ≡ c.args.low = c.sweep_from-sweep.ensures.start in omega arith;
       elements = ap (λ (v : ResolvedMarks). v.elements) c.sweep_from-sweep.ensures.resolution ∙ c.requires.elements;
       marks = ap (λ (v : ResolvedMarks). v.marks) c.sweep_from-sweep.ensures.resolution;
       taken =
-          subst (λ (t : List ℕ). IsTaken es marks low low t c.new-rows.result.items) (sym text)
+          subst (λ (t : List ℕ). IsTaken es marks low low t c.in_ok-rows.rows.items) (sym text)
           (subst (λ (r : List Row). IsTaken es marks low low [] r) (sym rows) (taken_none es marks low));
       formatted = subst (IsLastFormat es marks c.sweep_from-sweep.result.place) (sym rows) (λ d some. absurd (omega arith));
       at = c.visible_from-cursor.ensures;

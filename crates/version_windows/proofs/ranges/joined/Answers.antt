@@ -1,9 +1,10 @@
-use Rattle.std.proofs.Common.{◌≡◌, ◌+◌, ◌≤◌, ◌<◌, ℕ, suc, List, ◌∷◌, ◌++◌, [], Some, length, get_or, refl, sym, ap, subst, ◌∙◌, arith}
+use Rattle.std.proofs.Common.{◌≡◌, ◌+◌, ◌≤◌, ◌<◌, ℕ, suc, List, ◌∷◌, ◌++◌, [], Some, length, get_or, refl, sym, ap, subst, ◌∙◌, arith, All}
 use Rattle.std.specs.List.{slice_get}
+use Rattle.std.proofs.lemmas.List.Elements.{All-push}
 use Rattle.std.proofs.lemmas.Option.{slice_get-get_or}
 use Rattle.mark_places.specs.PlaceRanges.{AreApart}
 use Rattle.mark_places.specs.declared.range.PlaceRange.{PlaceRange}
-use Rattle.version_windows.specs.Joined.{IsCovered}
+use Rattle.version_windows.specs.Joined.{HasEndsOf, IsCovered}
 use Rattle.version_windows.proofs.Joining.{AreJoined, started, widened, moved_on, apart_later, all_covered}
 use Rattle.version_windows.proofs.ranges.joined.Goals as goal
 use Rattle.version_windows.proofs.ranges.joined.Goals.{then-range-last, else-range-last+in_ok-push}
@@ -51,6 +52,12 @@ returns-clause-apart c =
     let joined = c.loop-range.invariant in
     subst (λ (l : List PlaceRange). AreApart l 0 end) (sym c.in_ok-push-2.ensures.items)
     (apart_later (c.loop-range.all.items ++ c.loop-range.last ∷ []) 0 c.loop-range.last.high end joined.apart (joined.below end below))
+
+pub returns-clause-ends : goal.returns-clause-ends
+returns-clause-ends c =
+    let joined = c.loop-range.invariant in
+    subst (All (HasEndsOf c.args.ranges.now)) (sym c.in_ok-push-2.ensures.items)
+    (All-push (HasEndsOf c.args.ranges.now) c.loop-range.all.items c.loop-range.last joined.ends joined.last_ends)
 
 pub returns-clause-covered : goal.returns-clause-covered
 returns-clause-covered c =

@@ -10,10 +10,12 @@ use Rattle.version_glyphs.specs.declared.replacement.Replacement.{Replacement}
 use Rattle.span_flatten.specs.Spans.{Span}
 use Rattle.span_flatten.specs.Version.{IsVersion, spans_of}
 use Rattle.version_glyphs.specs.Glyphs.{glyphs, text_of}
-use Rattle.version_glyphs.specs.Replacements.{AreInOrder, HasMaximalSpans, put_all}
+use Rattle.version_glyphs.specs.Replacements.{AreEdged, AreInOrder, HasMaximalSpans, put_all}
 use Rattle.version_laws.specs.Ranges.{AreGapped, TouchesOneOf}
 use Rattle.version_glyphs.proofs.WindowsMet.{windows_in_order, windows_maximal, text_put}
 use Rattle.version_laws.proofs.Ranging.{kept_between}
+use Rattle.version_windows.specs.Edges.{HasKeptEdges}
+use Rattle.version_windows.proofs.Edging.{windows_edged}
 use Rattle.version_windows.proofs.step.next_version.Goals as goal
 
 pub touched-requires : goal.touched-requires
@@ -31,6 +33,9 @@ module _ (es : List Element) (added : List Op) (ranges read : List PlaceRange) (
 
   touched_read : ((o : Op) → Contains added o → TouchesOneOf es ranges o) → (o : Op) → Contains added o → TouchesOneOf es read o
   touched_read touched o held = subst (λ (l : List PlaceRange). TouchesOneOf es l o) (sym same) (touched o held)
+
+  edges_read : (inner : List PlaceRange) → All (HasKeptEdges es inner) ranges → All (HasKeptEdges es inner) read
+  edges_read inner = subst (All (HasKeptEdges es inner)) (sym same)
 
 pub windows_of-requires : goal.windows_of-requires
 windows_of-requires c =
@@ -71,9 +76,14 @@ with_windows-requires c =
     let now : List Span = spans_of c.args.previous.now in
     let order = windows_in_order ops added old es changed.0 read windows c.args.marks.now step.shows_before step.accepted step.shows step.marks apart touched changed.1 are now c.keeps.ensures.maximal step.version.1.spans in
     let text = text_put ops added old es changed.0 read windows c.args.marks.now step.shows_before step.accepted step.shows step.marks apart touched changed.1 are now c.keeps.ensures.maximal step.version.1.spans in
+    let inner : List PlaceRange = told.edges.0 in
+    let edged =
+    windows_edged ops added c.args.marks.now old es inner step.shows_before step.accepted step.shows step.marks told.edges.1 now c.keeps.ensures.maximal step.version.1.spans
+    changed.0 read windows changed.1 are apart (gapped_read es added ranges read same told.gapped) (edges_read es added ranges read same inner told.edges.2) in
     record {
       order = subst (λ (l : List Replacement). AreInOrder l 0 (length (glyphs now))) (sym c.as_slice.ensures.value) order;
       windows = subst (All HasMaximalSpans) (sym c.as_slice.ensures.value) (windows_maximal old es c.args.marks.now changed.0 read windows are);
+      edged = subst (AreEdged (glyphs now)) (sym c.as_slice.ensures.value) edged;
       short =
           subst (λ (l : List Replacement). length (text_of (put_all l (glyphs now))) ≤ 131072) (sym c.as_slice.ensures.value)
           (subst (λ (t : List ℕ). length t ≤ 131072) (sym text) c.len-count.ensures.bytes);

@@ -1,11 +1,10 @@
-use Rattle.std.proofs.Common.{◌≡◌, ℕ, ◌+◌, ◌^◌, ◌<◌, ◌≤◌, Some, get_or, length, ap, ◌∙◌, arith}
+use Rattle.std.proofs.Common.{◌≡◌, ℕ, ◌+◌, ◌<◌, ◌≤◌, Some, get_or, length, ap, ◌∙◌, arith}
 use Rattle.std.specs.List.{slice_get}
 use Rattle.std.specs.Option.{option_map}
 use Rattle.std.proofs.lemmas.Option.{slice_get-map}
 use Rattle.mark_places.specs.Blocks.{named}
-use Rattle.mark_places.specs.Ranks.{raised, mark_raised, placed, IsBelow}
+use Rattle.mark_places.specs.Ranks.{mark_raised, placed}
 use Rattle.mark_places.specs.declared.ranked.RankedMark.{RankedMark}
-use Rattle.mark_places.proofs.Raising.{all_read}
 use Rattle.mark_places.proofs.Blocks.{ranked_size, block_read, starts_low, ends_low}
 use Rattle.mark_places.proofs.block.PlaceBlock.mark.Goals as goal
 
@@ -27,8 +26,8 @@ index-requires-2 c =
     let size = ranked_size b.offset b.names.items b.starts.items b.ends.items c.self.invariant.starts_sized c.self.invariant.ends_sized in
     omega (arith, size, ap length c.self.view_is, c.self.invariant.ends_sized)
 
-pub overflow_add-start : goal.overflow_add-start
-overflow_add-start c =
+pub overflow_add-self-inside : goal.overflow_add-self-inside
+overflow_add-self-inside c =
     let b = c.self.inside in
     let i = c.args.at in
     let s = c.index.result.now in
@@ -39,8 +38,8 @@ overflow_add-start c =
     let is = c.index.ensures in
     omega (arith, low, below, is)
 
-pub overflow_add-end : goal.overflow_add-end
-overflow_add-end c =
+pub overflow_add-self-inside-2 : goal.overflow_add-self-inside-2
+overflow_add-self-inside-2 c =
     let b = c.self.inside in
     let i = c.args.at in
     let e = c.index-2.result.now in
@@ -51,22 +50,6 @@ overflow_add-end c =
     let is = c.index-2.ensures in
     omega (arith, low, below, is)
 
-pub raised-requires : goal.raised-requires
-raised-requires c =
-    let b = c.self.inside in
-    let i = c.args.at in
-    let below = all_read (λ m. IsBelow (2 ^ 31) (mark_raised c.args.shift.from c.args.shift.by m)) c.args.self.now i _ c.requires.below
-    (block_read b.offset b.least b.greatest b.names.items b.starts.items b.ends.items i _ _ _ c.args.self.now c.self.invariant c.self.view_is c.requires.within c.index-name.ensures c.index.ensures c.index-2.ensures) in
-    omega (arith, below.0)
-
-pub raised-requires-2 : goal.raised-requires-2
-raised-requires-2 c =
-    let b = c.self.inside in
-    let i = c.args.at in
-    let below = all_read (λ m. IsBelow (2 ^ 31) (mark_raised c.args.shift.from c.args.shift.by m)) c.args.self.now i _ c.requires.below
-    (block_read b.offset b.least b.greatest b.names.items b.starts.items b.ends.items i _ _ _ c.args.self.now c.self.invariant c.self.view_is c.requires.within c.index-name.ensures c.index.ensures c.index-2.ensures) in
-    omega (arith, below.1)
-
 pub returns : goal.returns
 returns c =
     let b = c.self.inside in
@@ -74,9 +57,9 @@ returns c =
     let f = mark_raised c.args.shift.from c.args.shift.by in
     let m : RankedMark = named c.index-name.result.now (b.offset + c.index.result.now) (b.offset + c.index-2.result.now) in
     let at : slice_get c.args.self.now i ≡ Some m =
-    block_read b.offset b.least b.greatest b.names.items b.starts.items b.ends.items i _ _ _ c.args.self.now c.self.invariant c.self.view_is c.requires.within c.index-name.ensures c.index.ensures c.index-2.ensures in (
+    block_read b.offset b.least b.greatest b.names.items b.starts.items b.ends.items i _ _ _ c.args.self.now c.self.invariant c.self.view_is c.requires c.index-name.ensures c.index.ensures c.index-2.ensures in (
       f m,
       slice_get-map f c.args.self.now i ∙ ap (option_map f) at,
-      ap (λ (x : ℕ). placed c.args.index (record m { start = x; end = c.raised-2.result })) c.raised.ensures
-          ∙ ap (λ (x : ℕ). placed c.args.index (record m { start = raised c.args.shift.from c.args.shift.by m.start; end = x })) c.raised-2.ensures,
+      ap (λ (x : ℕ). record (placed (f m)) { start = x; end = c.place_of-2.result }) c.place_of.ensures
+          ∙ ap (λ (x : ℕ). record (placed (f m)) { end = x }) c.place_of-2.ensures,
     )

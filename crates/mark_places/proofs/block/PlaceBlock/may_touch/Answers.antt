@@ -1,24 +1,26 @@
-use Rattle.std.proofs.Common.{inl, inr, arith}
-use Rattle.mark_places.proofs.Blocks.{block_apart, block_between}
-use Rattle.mark_places.proofs.block.PlaceBlock.may_touch.Goals.{then-self-ends_from-via-then-self-ends_from, then-self-ends_from-via-else-self-ends_from+then-starts_below-self}
+use Rattle.std.proofs.Common.{All, map, sym, subst, ◌∙◌}
+use Rattle.std.proofs.lemmas.Option.{same_Some, none-some}
+use Rattle.mark_places.specs.Ranks.{mark_raised}
+use Rattle.mark_places.specs.Touching.{IsApart}
+use Rattle.mark_places.specs.declared.range.PlaceRange.{PlaceRange}
+use Rattle.mark_places.proofs.Blocks.{ranges_apart}
 use Rattle.mark_places.proofs.block.PlaceBlock.may_touch.Goals as goal
 
-pub returns-then-self-ends_from : goal.returns-then-self-ends_from
-returns-then-self-ends_from c =
+pub returns-in-Some : goal.returns-in-Some
+returns-in-Some c =
     λ no.
     let b = c.self.inside in
-    let apart =
-    block_apart c.args.shift.from c.args.shift.by c.args.low c.args.high _ _ _ _ (omega arith) (omega arith) c.lowered-starts_below.ensures c.lowered-ends_from.ensures
-    b.offset b.least b.greatest b.names.items b.starts.items b.ends.items c.args.self.now c.self.view_is c.requires c.self.invariant in
-    elim c.then-self-ends_from.branch [
-      | then-self-ends_from-via-then-self-ends_from w ↦ apart (inl w.if-self-ends_from.true)
-      | then-self-ends_from-via-else-self-ends_from+then-starts_below-self w ↦ apart (inr w.if-starts_below-self.true)
-    ]
+    let shift = c.args.shift in
+    let marks = map (mark_raised shift.from shift.by) c.args.self.now in
+    ranges_apart shift.from shift.by c.args.ranges.now b.offset b.least b.greatest b.names.items b.starts.items b.ends.items c.args.self.now c.self.view_is c.self.invariant
+    c.overlapping.result c.place_of-low.result c.place_of-high.result c.place_of-low.ensures c.place_of-high.ensures c.overlapping.ensures
+    (λ h is. subst (λ (z : PlaceRange). All (IsApart z.low z.high) marks) (same_Some c.in-Some.hull h (sym c.in-Some.is ∙ is)) (c.may_touch_between.ensures no))
 
-pub returns : goal.returns
-returns c =
+pub returns-in-None : goal.returns-in-None
+returns-in-None c =
     λ no.
     let b = c.self.inside in
-    block_between c.args.shift.from c.args.shift.by c.args.low c.args.high _ _ _ _ (omega arith) (omega arith) c.lowered-starts_below.ensures c.lowered-ends_from.ensures
-    b.offset _ _ b.names.items b.starts.items b.ends.items c.deref.result.now c.deref-2.result.now c.args.self.now c.self.view_is c.requires
-    (omega arith) (omega arith) c.deref.ensures.value c.deref-2.ensures.value (c.is_any_between.ensures no)
+    let shift = c.args.shift in
+    ranges_apart shift.from shift.by c.args.ranges.now b.offset b.least b.greatest b.names.items b.starts.items b.ends.items c.args.self.now c.self.view_is c.self.invariant
+    c.overlapping.result c.place_of-low.result c.place_of-high.result c.place_of-low.ensures c.place_of-high.ensures c.overlapping.ensures
+    (λ h is. absurd (none-some h (sym c.in-None.is ∙ is)))

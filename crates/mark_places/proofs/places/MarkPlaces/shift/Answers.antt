@@ -1,8 +1,9 @@
 use Rattle.std.proofs.Common.{◌+◌, ◌*◌, ◌++◌, All, ◌^◌, length, map, drop, subst, sym, ap, ◌∙◌, arith}
 use Rattle.std.specs.List.{flat_map}
+use Rattle.std.proofs.lemmas.List.{length-map}
 use Rattle.mark_places.specs.Places.{AreMarkPlaces}
 use Rattle.mark_places.specs.Shifted.{AreShifted}
-use Rattle.mark_places.specs.Ranks.{mark_raised, places_from, IsBelow}
+use Rattle.mark_places.specs.Ranks.{mark_raised, place_of, IsBelow}
 use Rattle.mark_places.proofs.Placing.{far_shifted, places_shifted}
 use Rattle.mark_places.proofs.Raising.{take_first, marks_twice}
 use Rattle.mark_places.proofs.Ranks.{ranks_fit, joined_fit, places_moved}
@@ -26,7 +27,7 @@ invariant_of-self c =
     let from = 2 * c.args.place + 1 in
     let r = c.requires in
     let fit = ranks_fit r.0 r.1.0 (map (mark_raised p.from p.by) marks) from c.args.count (subst (AreMarkPlaces r.0 r.1.0) (sym c.self.view_is) r.1.1) r.1.2 in
-    joined_fit joined.from joined.by p.from p.by from (2 * c.args.count) c.in-Some.ensures marks fit
+    (c.self.invariant.0, joined_fit joined.from joined.by p.from p.by from (2 * c.args.count) c.in-Some.ensures marks fit)
 
 pub returns-in-Some : goal.returns-in-Some
 returns-in-Some c =
@@ -35,7 +36,7 @@ returns-in-Some c =
     let joined = c.in-Some.joined in
     let marks = flat_map (λ b. b) c.self.inside.blocks.items in
     let from = 2 * c.args.place + 1 in
-    subst (λ ms. AreMarkPlaces (front ++ (run ++ back)) operations (places_from 0 ms)) (sym (marks_twice joined.from joined.by p.from p.by from (2 * c.args.count) c.in-Some.ensures marks))
+    subst (λ ms. AreMarkPlaces (front ++ (run ++ back)) operations (map place_of ms)) (sym (marks_twice joined.from joined.by p.from p.by from (2 * c.args.count) c.in-Some.ensures marks))
     (places_moved front run back operations (map (mark_raised p.from p.by) marks) c.args.place c.args.count at many (subst (AreMarkPlaces (front ++ back) operations) (sym c.self.view_is) are))
 
 pub invariant_of-self-2 : goal.invariant_of-self-2
@@ -49,7 +50,10 @@ invariant_of-self-2 c =
     let items = take_first c.self.inside.blocks.len c.raise.new.blocks (drop (length c.raise.new.blocks) blocks) (omega arith) in
     let settled = c.raise.ensures ∙ ap (λ bs. map (mark_raised p.from p.by) (flat_map (λ b. b) bs)) c.deref_mut.ensures.value in
     let fit = ranks_fit r.0 r.1.0 (map (mark_raised p.from p.by) marks) from c.args.count (subst (AreMarkPlaces r.0 r.1.0) (sym c.self.view_is) r.1.1) r.1.2 in
-    subst (λ bs. All (λ m. IsBelow (2 ^ 31) (f m)) (flat_map (λ b. b) bs)) (sym items) (subst (All (λ m. IsBelow (2 ^ 31) (f m))) (sym settled) fit)
+    let same = ap (flat_map (λ b. b)) items ∙ settled in (
+      c.self.invariant.0 ∙ sym (ap length same ∙ length-map marks (mark_raised p.from p.by)),
+      subst (All (λ m. IsBelow (2 ^ 31) (f m))) (sym same) fit,
+    )
 
 pub returns : goal.returns
 returns c =
@@ -60,6 +64,6 @@ returns c =
     let f = mark_raised (2 * c.args.place + 1) (2 * c.args.count) in
     let items = take_first c.self.inside.blocks.len c.raise.new.blocks (drop (length c.raise.new.blocks) blocks) (omega arith) in
     let settled = c.raise.ensures ∙ ap (λ bs. map (mark_raised p.from p.by) (flat_map (λ b. b) bs)) c.deref_mut.ensures.value in
-    subst (λ bs. AreMarkPlaces (front ++ (run ++ back)) operations (places_from 0 (map f (flat_map (λ b. b) bs)))) (sym items)
-    (subst (λ ms. AreMarkPlaces (front ++ (run ++ back)) operations (places_from 0 (map f ms))) (sym settled)
+    subst (λ bs. AreMarkPlaces (front ++ (run ++ back)) operations (map place_of (map f (flat_map (λ b. b) bs)))) (sym items)
+    (subst (λ ms. AreMarkPlaces (front ++ (run ++ back)) operations (map place_of (map f ms))) (sym settled)
     (places_moved front run back operations (map (mark_raised p.from p.by) marks) c.args.place c.args.count at many (subst (AreMarkPlaces (front ++ back) operations) (sym c.self.view_is) are)))

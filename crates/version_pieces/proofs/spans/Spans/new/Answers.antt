@@ -35,6 +35,13 @@ with_window-requires-2-clause-short c =
 pub with_window-requires-2-clause-maximal : goal.with_window-requires-2-clause-maximal
 with_window-requires-2-clause-maximal c = rows_maximal c.args.text.now c.args.rows.now c.requires.whole c.requires.maximal
 
+-- nothing stands before the window or behind it
+pub with_window-requires-2-clause-edges : goal.with_window-requires-2-clause-edges
+with_window-requires-2-clause-edges c = record {
+  front = λ some. absurd (omega arith);
+  back = λ some. absurd (omega (arith, ap (λ (l : List Run). length (formats_of l)) c.in_ok-no_runs.ensures));
+}
+
 pub invariant_of-result : goal.invariant_of-result
 invariant_of-result c =
     let text : List ℕ = c.args.text.now in

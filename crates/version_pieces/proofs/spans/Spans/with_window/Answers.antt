@@ -1,16 +1,18 @@
 use Rattle.std.proofs.Common.{◌≡◌, ◌≤◌, ◌++◌, ℕ, List, length, take, drop, sym, subst, ap, ◌∙◌, arith}
 use Rattle.std.specs.Str.{chars}
+use Rattle.mark_anchors.specs.Formatting.{Format}
+use Rattle.span_flatten.specs.Edges.{KeepEdges}
 use Rattle.span_flatten.specs.declared.version.Row.{Row}
 use Rattle.span_flatten.specs.Spans.{Span}
 use Rattle.span_flatten.specs.Version.{IsWhole, spans_in}
-use Rattle.format_runs.specs.Runs.{Run, formats_in}
+use Rattle.format_runs.specs.Runs.{Run, formats_in, formats_of}
 use Rattle.format_runs.proofs.Formats.{length_rows}
 use Rattle.version_glyphs.specs.declared.replacement.Replacement.{Replacement}
 use Rattle.version_glyphs.specs.Glyphs.{AreMaximal, Glyph, glyphs}
 use Rattle.version_pieces.proofs.Rows.{rows_maximal}
 use Rattle.version_pieces.specs.Along.{IsAlong, paired}
-use Rattle.version_glyphs.specs.Replacements.{glyphs_in}
-use Rattle.version_pieces.proofs.Along.{AreShown, bytes_after, count_along, length_paired, shown, whole_after, window_glyphs}
+use Rattle.version_glyphs.specs.Replacements.{formats, glyphs_in}
+use Rattle.version_pieces.proofs.Along.{AreShown, bytes_after, count_along, formats_along, formats_paired, length_paired, shown, whole_after, window_glyphs}
 use Rattle.version_pieces.proofs.spans.Spans.with_window.Goals as goal
 
 pub text_with-requires-clause-within : goal.text_with-requires-clause-within
@@ -78,6 +80,26 @@ runs_with-requires-clause-short c =
     let size : length (glyphs c.args.self.now) ≡ length cs = ap (λ (l : List Span). length (glyphs l)) (sym c.self.view_is) ∙ count_along cs rs a in
     let within : r.to ≤ length cs = omega (arith, c.requires.within) in
     omega (arith, a.whole, c.requires.few, length_rows rows, told.fits)
+
+pub runs_with-requires-clause-edges : goal.runs_with-requires-clause-edges
+runs_with-requires-clause-edges c =
+    let cs : List ℕ = c.self.inside.text in
+    let rs : List Run = c.self.inside.runs in
+    let a : IsAlong cs rs = c.self.invariant in
+    let r : Replacement = c.args.window.now in
+    let new : List ℕ = chars c.text-new.result.now in
+    let rows : List Row = c.rows-rows.result.now in
+    let whole : IsWhole c.text-new.result.now rows =
+    subst (λ (t : List ℕ). IsWhole t rows) (sym c.text-new.ensures) (subst (λ (l : List Row). IsWhole r.window.text l) (sym c.rows-rows.ensures.value) c.rows-rows.ensures.whole) in
+    let told : AreShown c.text-new.result.now rows = shown c.text-new.result.now rows c.text-new.utf8 whole in
+    let brought : glyphs_in r ≡ paired new (formats_in rows) =
+    ap (λ (t : List ℕ). glyphs (spans_in t r.window.rows)) (sym c.text-new.ensures) ∙ ap (λ (l : List Row). glyphs (spans_in c.text-new.result.now l)) (sym c.rows-rows.ensures.value)
+    ∙ told.glyphs_are in
+    let now : formats (glyphs c.args.self.now) ≡ formats_of rs =
+    ap (λ (l : List Span). formats (glyphs l)) (sym c.self.view_is) ∙ formats_along cs rs a in
+    let brings : formats (glyphs_in r) ≡ formats_in rows = ap formats brought ∙ formats_paired new (formats_in rows) told.fits in
+    subst (λ (l : List Format). KeepEdges (formats_of rs) r.from r.to l) brings
+    (subst (λ (l : List Format). KeepEdges l r.from r.to (formats (glyphs_in r))) now c.requires.edged)
 
 pub runs_with-requires-clause-maximal : goal.runs_with-requires-clause-maximal
 runs_with-requires-clause-maximal c =

@@ -1,6 +1,6 @@
 use Rattle.std.proofs.Common.{List, length}
 use Rattle.version_glyphs.specs.Glyphs.{Glyph, glyphs}
-use Rattle.version_pieces.proofs.Putting.{last_few, last_maximal, last_place, last_put}
+use Rattle.version_pieces.proofs.Putting.{last_edged, last_few, last_maximal, last_place, last_put}
 use Rattle.version_glyphs.proofs.Putting.{IsPlacedLast}
 use Rattle.version_pieces.proofs.spans.Spans.with_windows.Goals as goal
 
@@ -21,6 +21,10 @@ with_window-requires-clause-within c =
 pub with_window-requires-clause-maximal : goal.with_window-requires-clause-maximal
 with_window-requires-clause-maximal c =
     (last_maximal (glyphs c.loop-window.all) c.loop-window.rest.now c.in-Some.before.now c.in-Some.window.now c.loop-window.invariant.can c.in-Some.ensures.cases.0).1
+
+pub with_window-requires-clause-edged : goal.with_window-requires-clause-edged
+with_window-requires-clause-edged c =
+    last_edged (glyphs c.loop-window.all) c.loop-window.rest.now c.in-Some.before.now c.in-Some.window.now c.loop-window.invariant.can c.in-Some.ensures.cases.0
 
 pub with_window-requires-clause-few : goal.with_window-requires-clause-few
 with_window-requires-clause-few c =

@@ -3,7 +3,7 @@ use Rattle.span_flatten.specs.Spans.{Span}
 use Rattle.span_flatten.specs.Version.{Version, spans_of}
 use Rattle.version_glyphs.specs.Glyphs.{Glyph, glyphs, text_of}
 use Rattle.version_glyphs.specs.Laid.{laid}
-use Rattle.version_glyphs.specs.Replacements.{AreInOrder, put_all}
+use Rattle.version_glyphs.specs.Replacements.{AreEdged, AreInOrder, put_all}
 use Rattle.version_glyphs.proofs.Laid.{laid_spans}
 use Rattle.version_glyphs.proofs.Putting.{few_with}
 use Rattle.version_pieces.proofs.Putting.{next_is}
@@ -20,6 +20,7 @@ with_windows-requires c =
     record {
       order = order;
       spans = c.requires.windows;
+      edged = subst (λ (l : List Span). AreEdged (glyphs l) c.args.windows.now) (sym back) c.requires.edged;
       few = few_with c.args.windows.now gs order (omega (arith, glyphs_few c.self.inside.spans c.keeps.ensures, c.self.invariant)) short;
     }
 

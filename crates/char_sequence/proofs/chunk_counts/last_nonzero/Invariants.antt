@@ -1,0 +1,5 @@
+use Rattle.std.proofs.Common.{◌≡◌, slice_range, sum}
+use Rattle.char_sequence.proofs.chunk_counts.last_nonzero.Given as goal
+
+abbrev pub invariant-loop-index : goal.invariant-loop-index
+invariant-loop-index l = sum (slice_range l.numbers l.index l.end) ≡ 0
