@@ -19,7 +19,7 @@ import sys
 from cases import Cases
 from machine import run, slot
 
-NAMES = {40: "BadLine", 41: "Truncated", 42: "Limit", 43: "CharRefused", 44: "WrongPeer", 46: "StaleCounter", 47: "UnknownRef",
+NAMES = {40: "BadLine", 41: "Truncated", 42: "Limit", 43: "CharRefused", 44: "WrongPeer", 45: "OutOfMemory", 46: "StaleCounter", 47: "UnknownRef",
          48: "DocumentFull", 49: "MarksFull", 50: "HistoryFull", 51: "SubscribersFull", 52: "NoSubscriber", 54: "BadCapacity", 55: "NoVersion",
          60: "BadCommand", 61: "LineTooLong", 62: "TextRefused"}
 # The most changes, characters and marks by size; how many bytes are shown at each.
@@ -27,6 +27,8 @@ SIZES = {"small": (4096, 32768, 4096), "large": (65536, 262144, 16384)}
 BYTES, OPERATIONS = 131072, 256
 # Subscribers in all, closed ones counted, and at one time.
 SUBSCRIBERS = {"small": (64, 64), "large": (4096, 256)}
+# How many MiB of a document's memory are left for each change.
+LEFT_FOR_A_CHANGE = {"small": 3, "large": 10}
 COUNTER, NODE, COMMENT, LINK = (1 << 48) - 1, 65535, (1 << 32) - 1, 1024
 
 
@@ -386,7 +388,9 @@ def number_of(word):
 
 
 class Session:
-    def __init__(self, data, reads=False, jump=None, limits=None, size="small"):
+    def __init__(self, data, reads=False, jump=None, limits=None, size="small", memory=None):
+        # With less than is left for one change none is taken; how much a document takes of more than that isn't modelled.
+        self.has_memory = memory is None or memory > LEFT_FOR_A_CHANGE[size]
         self.jump, self.limits, self.used = jump, limits or {}, {"changes": 0, "bytes": 0, "subscribers": 0}
         self.rest, self.text, self.versions, self.subscribers, self.out = data, Text(size), [[]], [], []
         self.reads, self.spellings, self.lines_of_spans, self.places = reads, [], [[]], SUBSCRIBERS[size]
@@ -432,6 +436,8 @@ class Session:
         lines, _ = read_change(gathered)
         self.look_at_counters(lines)
         used = self.use(50, changes=1, bytes=len(gathered.encode()))
+        if not self.has_memory:
+            raise Refused(45)
         self.text.accept(lines)
         self.used.update(used)
         self.versions.append(self.text.spans())
@@ -619,6 +625,8 @@ def options_of(words):
             rest.pop(0)
         elif word == "--counter-jump" and "jump" not in found and rest and re.fullmatch("[0-9]+", rest[0]) and 1 <= int(rest[0]) < 2 ** 64:
             found["jump"] = int(rest.pop(0))
+        elif word == "--memory" and "memory" not in found and rest and re.fullmatch("[0-9]+", rest[0]) and 1 <= int(rest[0]) < 2 ** 32:
+            found["memory"] = int(rest.pop(0))
         elif word == "--per-session" and "limits" not in found and rest:
             parts = [re.fullmatch("(changes|subscribers|bytes)=([0-9]+)", part) for part in rest.pop(0).split(",")]
             if not all(part and int(part[2]) < 2 ** 64 for part in parts) or len({part[1] for part in parts}) < len(parts):

@@ -6,6 +6,7 @@ ghost use Rattle.span_flatten.specs.Version.{IsVersion};
 use change_history::history::History;
 use change_ops::change::read_change;
 use change_ops::size::Size;
+use memory_budget::Budget;
 use std::alloc::Global;
 use version_pieces::version::PieceVersion;
 
@@ -68,10 +69,11 @@ fn follow_change<'a>(
     let Ok(draft) = history.draft(change) else {
         return None;
     };
-    let Ok(version) = history.next_version(alloc, previous, &draft) else {
+    let Ok(next) = history.next_version(alloc, previous, &draft, &mut Budget::unlimited()) else {
         return None;
     };
     history.put(draft);
+    let (version, _) = next.into_parts();
     Some((version, rest))
 }
 

@@ -14,13 +14,13 @@ use Rattle.change_history.specs.Tally.{AreOf, AreShort, IsTally, IsAdmitted, Str
 use Rattle.change_history.specs.declared.refusal.Refusal.{Refusal}
 use Rattle.change_history.specs.declared.tally.Tally.{Tally}
 use Rattle.change_ops.specs.Operations.{id_of}
-use Rattle.mark_anchors.proofs.Lists.{contains_from}
+use Rattle.mark_anchors.proofs.Lists.{contains_from, pushed_here}
 use Rattle.change_history.specs.declared.refusal.ApplyError.{ApplyError}
 use Rattle.change_history.specs.declared.refusal.SubmitError.{SubmitError}
 use Rattle.change_history.specs.declared.refusal.ApplyError.TheVariants as apply
 use Rattle.change_history.specs.declared.refusal.SubmitError.TheVariants as submit
 use Rattle.change_history.specs.declared.history.Draft.{Draft}
-use Rattle.change_history.specs.Kept.{Keeps, IsHistory, IsSpare, IsDraft, StandAt, IsApplied, AreAllAccepted, IsNotAccepted, error_at}
+use Rattle.change_history.specs.Kept.{Keeps, IsHistory, IsSpare, IsLast, IsDraft, StandAt, IsApplied, AreAllAccepted, IsNotAccepted, error_at}
 use Rattle.change_ops.specs.declared.size.Size.{Size}
 use Rattle.change_ops.specs.declared.size.Size.TheVariants.{Large}
 use Rattle.change_ops.specs.Sizes.{most_changes}
@@ -215,9 +215,10 @@ applied_all ops lines count parts whole a =
 module _ {size : Size} where
   -- ---- a change more
   -- the operations of the change were all applied
-  pub drafted : (changes : List Change) (change : Change) (lines : List Line) (draft : Draft) → draft.added ≡ change ∷ [] → lines ≡ change.lines → IsAccepted size changes change → Keeps (operations_of changes ++ ops_of_lines lines) draft.parts → IsDraft size changes change draft
-  drafted changes change lines draft alone e accepted kept = record {
+  pub drafted : (changes : List Change) (change : Change) (lines : List Line) (draft : Draft) → draft.added ≡ change ∷ [] → draft.change ≡ change → lines ≡ change.lines → IsAccepted size changes change → Keeps (operations_of changes ++ ops_of_lines lines) draft.parts → IsDraft size changes change draft
+  drafted changes change lines draft alone of e accepted kept = record {
     added = alone;
+    of = of;
     accepted = accepted;
     kept = subst (λ (ops : List Op). Keeps ops draft.parts) (ap (λ (ls : List Line). operations_of changes ++ ops_of_lines ls) e ∙ sym (operations_of-push changes change)) kept;
   }
@@ -259,9 +260,12 @@ caught_up_last changes change lines new g e k =
     subst (λ (ops : List Op). Keeps ops new) (ap (λ (ls : List Line). operations_of (take (length changes - 1) changes) ++ ops_of_lines ls) e ∙ operations_of-last changes change g) k
 
 -- without a change there is nothing to catch up with
-pub caught_up_none : (changes : List Change) (parts : Parts) → (0 < length changes → ⊥) → Keeps (operations_of (take (length changes - 1) changes)) parts → Keeps (operations_of changes) parts
+pub caught_up_none : (changes : List Change) (parts : Parts) → slice_get changes (length changes - 1) ≡ None → Keeps (operations_of (take (length changes - 1) changes)) parts → Keeps (operations_of changes) parts
 caught_up_none [] parts none k = k
-caught_up_none (c ∷ cs) parts none k = absurd (none (omega arith))
+caught_up_none (c ∷ cs) parts none k =
+    let changes = c ∷ cs in
+    let last = length changes - 1 in
+    absurd (none-some (get_or changes last c) (sym none ∙ slice_get-get_or changes last c (omega arith)))
 
 module _ {size : Size} where
   -- one change more: the parts so far are spare now
@@ -271,6 +275,16 @@ module _ {size : Size} where
       let size : length (changes ++ change ∷ []) - 1 ≡ length changes = omega (arith, length_push changes change) in
       let front : take (length (changes ++ change ∷ []) - 1) (changes ++ change ∷ []) ≡ changes = ap (λ n. take n (changes ++ change ∷ [])) size ∙ take_at changes (change ∷ []) (length changes) refl in
       subst (λ (cs : List Change). Keeps (operations_of cs) p) (sym front) (subst (λ (q : Parts). Keeps (operations_of changes) q) one h.kept)
+
+-- and it is the last
+pub last_after : (changes new : List Change) (change : Change) (last : Option Change) → new ≡ changes ++ change ∷ [] → last ≡ Some change → IsLast new last
+last_after changes new change last put is =
+    let size : length (changes ++ change ∷ []) - 1 ≡ length changes = omega (arith, length_push changes change) in
+    let here : slice_get (changes ++ change ∷ []) (length (changes ++ change ∷ []) - 1) ≡ Some change = ap (slice_get (changes ++ change ∷ [])) size ∙ pushed_here changes change in
+    subst (λ (cs : List Change). IsLast cs last) (sym put) (is ∙ sym here)
+
+pub no_last : (changes : List Change) (last : Option Change) → changes ≡ [] → last ≡ None → IsLast changes last
+no_last changes last none is = subst (λ (cs : List Change). IsLast cs last) (sym none) is
 
 pub no_spare : (changes : List Change) (spare : Option Parts) → spare ≡ None → IsSpare changes spare
 no_spare changes spare is = λ p same. absurd (none-some p (sym is ∙ same))

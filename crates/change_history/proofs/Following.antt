@@ -32,13 +32,17 @@ is_step ops previous lines before parts next = record {
   marks = are_marks (ops ++ ops_of_lines lines) parts.marks next.kept.marks;
 }
 
-pub next_kept : {E : Type 0} (r : Result Version E) (previous : Version) (lines : List Line) (before parts : Parts) (number : ℕ)
-    → IfOk r (λ v. (ops : List Op) → IsStep ops previous before.sequence.elements parts.sequence.elements parts.marks lines → IsVersion (ops ++ ops_of_lines lines) number v)
-    → IfOk r (λ v. (ops : List Op) → AreNextParts ops previous lines before parts → IsVersion (ops ++ ops_of_lines lines) number v)
-next_kept (Ok v) previous lines before parts number h = λ ops next. h ops (is_step ops previous lines before parts next)
-next_kept (Err e) previous lines before parts number h = tt
+pub next_kept : {N E : Type 0} (version_of : N → Version) (r : Result N E) (previous : Version) (lines : List Line) (before parts : Parts) (number : ℕ)
+    → IfOk r (λ n. (ops : List Op) → IsStep ops previous before.sequence.elements parts.sequence.elements parts.marks lines → IsVersion (ops ++ ops_of_lines lines) number (version_of n))
+    → IfOk r (λ n. (ops : List Op) → AreNextParts ops previous lines before parts → IsVersion (ops ++ ops_of_lines lines) number (version_of n))
+next_kept version_of (Ok n) previous lines before parts number h = λ ops next. h ops (is_step ops previous lines before parts next)
+next_kept version_of (Err e) previous lines before parts number h = tt
 
 module _ {size : Size} where
+  -- a draft's lines are those of the change that it is of
+  pub lines_drafted : {changes : List Change} {change : Change} (lines : List Line) (draft : Draft) → IsDraft size changes change draft → lines ≡ draft.change.lines → lines ≡ change.lines
+  lines_drafted lines draft drafted same = same ∙ ap (λ (c : Change). c.lines) drafted.of
+
   -- the parts of a draft
   pub are_next : (changes : List Change) (change : Change) (previous : Version) (lines : List Line) (draft : Draft) (parts : Parts) → Keeps (operations_of changes) parts → (number : ℕ) × IsVersion (operations_of changes) number previous → IsDraft size changes change draft → lines ≡ change.lines
       → AreNextParts (operations_of changes) previous lines parts draft.parts

@@ -1,4 +1,5 @@
 pub mod Chronicle
+pub mod Texts
 pub mod Sizes
 pub mod Trying
 pub mod Few

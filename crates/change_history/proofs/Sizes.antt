@@ -1,5 +1,5 @@
 -- What is accepted at any size is accepted at the large one.
-use Rattle.std.proofs.Common.{ℕ, ◌≤◌, List, length, take, inl, inr, ⊎_elim, arith}
+use Rattle.std.proofs.Common.{◌≡◌, ℕ, ◌≤◌, List, Option, Some, length, take, inl, inr, ⊎_elim, arith}
 use Rattle.std.specs.List.{count_by}
 use Rattle.change_ops.specs.Changes.{Change, operations}
 use Rattle.change_ops.specs.Operations.{is_insert, is_mark}
@@ -8,6 +8,8 @@ use Rattle.change_ops.specs.declared.operation.Op.{Op}
 use Rattle.change_ops.specs.declared.size.Size.{Size}
 use Rattle.change_ops.specs.declared.size.Size.TheVariants.{Small, Large}
 use Rattle.char_sequence.specs.Acceptance.{HasNoRoom, Accepts}
+use Rattle.change_history.specs.declared.parts.Parts.{Parts}
+use Rattle.change_history.specs.Kept.{IsSpare, IsLast, CanCatchUp}
 use Rattle.change_history.specs.Accepted.{operations_of, MayFollow, AllFollow, IsAccepted, AreAccepted}
 
 pub most_characters-large : (size : Size) → most_characters size ≤ 262144
@@ -46,3 +48,11 @@ accepted_large {size} changes change a = record {
 
 pub all_accepted_large : (size : Size) (changes : List Change) → AreAccepted size changes → AreAccepted Large changes
 all_accepted_large size changes all n change here = accepted_large (take n changes) change (all n change here)
+
+-- the last of a history's changes can be applied to the spare parts
+pub can_catch_up : {size : Size} {changes : List Change} {last : Option Change} {spare : Option Parts} (parts : Parts) → AreAccepted size changes → IsSpare changes spare → IsLast changes last → spare ≡ Some parts → CanCatchUp changes last parts
+can_catch_up {size} {changes} {last} {spare} parts all without is there = record {
+  accepted = all_accepted_large size changes all;
+  is = is;
+  kept = without parts there;
+}

@@ -82,8 +82,19 @@ abbrev pub IsSpare : List Change → Option Parts → Type 0
 IsSpare changes spare =
     (parts : Parts) → spare ≡ Some parts → Keeps (operations_of (take (length changes - 1) changes)) parts
 
+-- the last of the changes, none where there are none
+abbrev pub IsLast : List Change → Option Change → Type 0
+IsLast changes last = last ≡ slice_get changes (length changes - 1)
+
+-- the changes are accepted, and the parts are those of all but the last
+pub record CanCatchUp (changes : List Change) (last : Option Change) (parts : Parts) : Type 0 where
+  pub accepted : AreAccepted Large changes
+  pub is : IsLast changes last
+  pub kept : Keeps (operations_of (take (length changes - 1) changes)) parts
+
 -- the draft is of this change, which is accepted after these, and has the parts of them all
 pub record IsDraft (size : Size) (changes : List Change) (change : Change) (draft : Draft) : Type 0 where
   pub added : draft.added ≡ change ∷ []
+  pub of : draft.change ≡ change
   pub accepted : IsAccepted size changes change
   pub kept : Keeps (operations_of (changes ++ change ∷ [])) draft.parts

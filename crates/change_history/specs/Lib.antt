@@ -5,5 +5,6 @@ pub mod Next
 pub mod Tally
 pub mod Room
 pub mod Trial
+pub mod Texts
 pub mod VersionAt
 pub mod Alike

@@ -1,9 +1,10 @@
-ghost use Rattle.std.specs.Prelude.{◌≡◌, ◌<◌, ◌≤◌, ◌+◌, ◌-◌, ◌^◌, ℕ, List, [], ◌++◌, ◌∷◌};
-ghost use Rattle.std.specs.Prelude.{IfOk, MatchResult, MatchOption, length, take, count_by};
+ghost use Rattle.std.specs.Prelude.{◌≡◌, ◌<◌, ◌≤◌, ◌+◌, ◌^◌, ℕ, List, [], ◌++◌, ◌∷◌};
+ghost use Rattle.std.specs.Prelude.{IfOk, MatchResult, MatchOption, length, count_by};
 ghost use Rattle.change_ops.specs.Changes.{Change, operations};
 ghost use Rattle.change_ops.specs.Operations.{is_insert, is_mark};
 ghost use Rattle.change_ops.specs.Runs.{inserts_of};
 ghost use Rattle.change_ops.specs.Lines.{ops_of, ops_of_lines};
+ghost use Rattle.change_ops.specs.Spelling.{change_text};
 ghost use Rattle.change_ops.specs.Sizes.{most_characters, most_marks, most_changes};
 ghost use Rattle.change_ops.specs.declared.operation.Op.{Op};
 ghost use Rattle.change_ops.specs.declared.size.Size.{Size};
@@ -13,15 +14,18 @@ ghost use Rattle.char_sequence.specs.Tree.{Present};
 ghost use Rattle.char_sequence.specs.Newest.{IsLastCounter};
 ghost use Rattle.mark_anchors.specs.Format.{IsFormat};
 ghost use Rattle.span_flatten.specs.Spans.{Span, AreSpans};
-ghost use Rattle.span_flatten.specs.Version.{IsVersion};
+ghost use Rattle.span_flatten.specs.Version.{IsVersion, spans_of};
+ghost use Rattle.version_pieces.specs.Alike.{AreAlike};
 ghost use Rattle.change_history.specs.Accepted.{IsAccepted, IsRefused, AreAccepted, operations_of};
 ghost use Rattle.change_history.specs.Alike.{FormsAreAlike};
 ghost use Rattle.change_history.specs.Kept.{Keeps, AreAllAccepted, AreAcceptedNext, Applies, IsDraft};
-ghost use Rattle.change_history.specs.Kept.{IsApplied, StandAt, parent_at};
+ghost use Rattle.change_history.specs.Kept.{IsApplied, StandAt, CanCatchUp, parent_at};
 
 use crate::admission::admit_all;
+use crate::kept_change::{KeptChange, text_of};
 use crate::parts::Parts;
 use crate::refusal::SubmitError;
+use change_log::text::ChangeText;
 use change_ops::change::Change;
 use change_ops::id::OpId;
 use change_ops::line::Line;
@@ -29,17 +33,20 @@ use change_ops::run::Run;
 use change_ops::size::Size;
 use char_sequence::runs::later;
 use mark_anchors::format::Format;
+use memory_budget::Budget;
 use std::alloc::{AllocError, Global};
 use std::collections::LinkedList;
 use std::marker::Model;
 use std::mem::replace;
-use version_pieces::version::PieceVersion;
+use version_pieces::version::{NextVersion, PieceVersion};
 
 /// The changes that were accepted, in their order, and the text that they make.
 pub struct History {
     size: Size,
     // A linked list, since a draft brings the node of its change: to append it takes no memory.
-    changes: LinkedList<Change>,
+    changes: LinkedList<KeptChange>,
+    // The last of them, with its lines: the others are not read again.
+    last: Option<Change>,
     parts: Parts,
     // The parts without the last change: the next one is applied to these, and those of all changes stay as they are
     // until it is appended. None where they were used up for want of memory; a copy then replaces them.
@@ -52,6 +59,7 @@ impl Drop for History {
         let History {
             size: _,
             changes: _,
+            last: _,
             parts: _,
             spare: _,
         } = self;
@@ -60,13 +68,14 @@ impl Drop for History {
 
 impl Model for History {
     ghost use Rattle.change_history.specs.Chronicle.{Chronicle};
-    ghost use Rattle.change_history.specs.Kept.{IsHistory, IsSpare};
+    ghost use Rattle.change_history.specs.Kept.{IsHistory, IsSpare, IsLast};
 
     ghost Value = { Chronicle };
 
     ghost view = { λ h. record { size = h.size; changes = h.changes } };
 
-    ghost invariant = { λ h. IsHistory h.size h.changes h.parts × IsSpare h.changes h.spare };
+    ghost invariant = { λ h. IsHistory h.size h.changes h.parts × IsSpare h.changes h.spare
+        × IsLast h.changes h.last };
 }
 
 /// What the character of a run at an index stands after.
@@ -133,13 +142,13 @@ fn apply_all(parts: &mut Parts, lines: &[Line]) -> Result<(), AllocError>
     Ok(())
 }
 
-/// Applies the last of the changes to the parts of those before it.
-fn catch_up(parts: &mut Parts, changes: &LinkedList<Change>) -> Result<(), AllocError>
-    requires kept { Keeps (operations_of (take (length changes.now - 1) changes.now)) parts.old }
-    requires accepted { AreAccepted Large changes.now }
-    ensures { IfOk result (λ _. Keeps (operations_of changes.now) parts.new) }
+/// Applies the last of some changes, if there are any, to the parts of those before it.
+fn catch_up(parts: &mut Parts, last: &Option<Change>) -> Result<(), AllocError>
+    requires { (changes : List Change) × CanCatchUp changes last.now parts.old }
+    ensures { (changes : List Change) → CanCatchUp changes last.now parts.old
+        → IfOk result (λ _. Keeps (operations_of changes) parts.new) }
 {
-    match changes.back() {
+    match last {
         Some(change) => apply_all(parts, change.lines()),
         None => Ok(()),
     }
@@ -148,28 +157,18 @@ fn catch_up(parts: &mut Parts, changes: &LinkedList<Change>) -> Result<(), Alloc
 /// A change that is accepted next, with the parts that follow it.
 #[derive(Drop)]
 pub struct Draft {
-    // The change alone.
-    added: LinkedList<Change>,
+    // The change alone, as it is kept.
+    added: LinkedList<KeptChange>,
+    change: Change,
     parts: Parts,
 }
 
-/// The lines of a draft's change.
-fn lines_of(draft: &Draft) -> &[Line]
-    requires { (change : Change) × (draft.now.added ≡ change ∷ []) }
-    ensures { (change : Change) → draft.now.added ≡ change ∷ [] → result.now ≡ change.lines }
-{
-    match draft.added.front() {
-        Some(change) => change.lines(),
-        None => unreachable!(),
-    }
-}
-
 /// A list of the change alone.
-fn alone(alloc: Global, change: Change) -> Result<LinkedList<Change>, AllocError>
-    ensures { IfOk result (λ list. list ≡ change ∷ []) }
+fn alone(alloc: Global, kept: KeptChange) -> Result<LinkedList<KeptChange>, AllocError>
+    ensures { IfOk result (λ list. list ≡ kept ∷ []) }
 {
     let mut list = LinkedList::new(alloc);
-    match list.push_back(change) {
+    match list.push_back(kept) {
         Ok(()) => Ok(list),
         Err(_) => Err(AllocError),
     }
@@ -183,6 +182,7 @@ impl History {
         History {
             size,
             changes: LinkedList::new(alloc),
+            last: None,
             parts: Parts::new(alloc),
             spare: None,
         }
@@ -210,7 +210,7 @@ impl History {
         ensures same { self.new ≡ self.old }
     {
         if let Some(mut spare) = self.spare.take() {
-            if let Ok(()) = catch_up(&mut spare, &self.changes) {
+            if let Ok(()) = catch_up(&mut spare, &self.last) {
                 return Ok(spare);
             }
         }
@@ -245,6 +245,22 @@ impl History {
         )
     }
 
+    /// The draft of a change that was admitted, and of which this is the text.
+    fn draft_admitted(&mut self, change: Change, text: ChangeText) -> Result<Draft, AllocError>
+        requires accepted { IsAccepted self.old.size self.old.changes change }
+        requires spelled { text ≡ change_text change }
+        ensures drafted { IfOk result (IsDraft self.old.size self.old.changes change) }
+        ensures same { self.new ≡ self.old }
+    {
+        let parts = self.parts_after(change.lines())?;
+        let added = alone(*self.changes.allocator(), KeptChange::of(text))?;
+        Ok(Draft {
+            added,
+            change,
+            parts,
+        })
+    }
+
     /// The change with all that it takes to append it, if it is accepted next; nothing is appended yet.
     pub fn draft(&mut self, change: Change) -> Result<Draft, SubmitError>
         ensures drafted { MatchResult result (IsDraft self.old.size self.old.changes change)
@@ -252,9 +268,21 @@ impl History {
         ensures same { self.new ≡ self.old }
     {
         self.admit(&change)?;
-        let parts = self.parts_after(change.lines())?;
-        let added = alone(*self.changes.allocator(), change)?;
-        Ok(Draft { added, parts })
+        let text = text_of(*self.changes.allocator(), &change)?;
+        let draft = self.draft_admitted(change, text)?;
+        Ok(draft)
+    }
+
+    /// The same for a caller that has the change's text, which is kept and not written again.
+    pub fn draft_spelled(&mut self, change: Change, text: ChangeText) -> Result<Draft, SubmitError>
+        requires spelled { text ≡ change_text change }
+        ensures drafted { MatchResult result (IsDraft self.old.size self.old.changes change)
+            (IsRefused self.old.size self.old.changes change) }
+        ensures same { self.new ≡ self.old }
+    {
+        self.admit(&change)?;
+        let draft = self.draft_admitted(change, text)?;
+        Ok(draft)
     }
 
     /// Appends a draft, which takes no memory.
@@ -264,6 +292,7 @@ impl History {
             → self.new ≡ record { size = self.old.size; changes = self.old.changes ++ change ∷ [] } }
     {
         self.changes.append(&mut draft.added).unwrap();
+        self.last = Some(draft.change);
         self.spare = Some(replace(&mut self.parts, draft.parts));
     }
 
@@ -280,32 +309,52 @@ impl History {
         Ok(())
     }
 
-    /// The version that the changes make with the one of a draft, from the version before it.
+    /// The same for a caller that has the change's text, which is kept and not written again.
+    pub fn accept_spelled(&mut self, change: Change, text: ChangeText) -> Result<(), SubmitError>
+        requires spelled { text ≡ change_text change }
+        ensures { MatchResult result (λ _. (self.new ≡ record {
+          size = self.old.size;
+          changes = self.old.changes ++ change ∷ [];
+        }) × IsAccepted self.old.size self.old.changes change)
+            (λ error. (self.new ≡ self.old) × IsRefused self.old.size self.old.changes change error) }
+    {
+        let draft = self.draft_spelled(change, text)?;
+        self.put(draft);
+        Ok(())
+    }
+
+    /// The version that the changes make with the one of a draft, from the version before it. What it doesn't share
+    /// with that one is paid for from the budget.
     pub fn next_version(
         &self,
         alloc: Global,
         previous: &PieceVersion,
         draft: &Draft,
-    ) -> Result<PieceVersion, AllocError>
+        budget: &mut Budget,
+    ) -> Result<NextVersion, AllocError>
         requires drafted { (change : Change) × IsDraft self.now.size self.now.changes change draft.now }
         requires previous { (number : ℕ) × IsVersion (operations_of self.now.changes) number previous.now }
-        ensures { IfOk result (λ version. (change : Change) → IsDraft self.now.size self.now.changes change draft.now
-            → IsVersion (operations_of (self.now.changes ++ change ∷ [])) (length self.now.changes + 1) version) }
+        ensures is { IfOk result (λ next. (change : Change) → IsDraft self.now.size self.now.changes change draft.now
+            → IsVersion (operations_of (self.now.changes ++ change ∷ [])) (length self.now.changes + 1) next.version) }
+        ensures alike { IfOk result (λ next. AreAlike (spans_of previous.now) (spans_of next.version)
+            next.alike.front next.alike.behind) }
+        ensures paid { budget.new ≤ budget.old }
     {
-        let lines = lines_of(draft);
+        let lines = draft.change.lines();
         let number = self.len() as u64 + 1;
         let before = &self.parts;
-        let version = draft
+        let next = draft
             .parts
-            .next_version(alloc, before, previous, lines, number)?;
-        Ok(version)
+            .next_version(alloc, before, previous, lines, number, budget)?;
+        Ok(next)
     }
 
-    /// The version that the changes make: its number is how many they are.
+    /// The version that the changes make: its number is how many they are. It shares nothing with others.
     pub fn version(&self, alloc: Global) -> Result<PieceVersion, AllocError>
         ensures { IfOk result (IsVersion (operations_of self.now.changes) (length self.now.changes)) }
     {
-        self.parts.version(alloc, self.len() as u64)
+        self.parts
+            .version(alloc, self.len() as u64, &mut Budget::unlimited())
     }
 
     /// The format of a character, a removed one too; None where no accepted operation inserted it.

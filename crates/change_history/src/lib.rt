@@ -3,6 +3,7 @@
 
 mod admission;
 pub mod history;
+mod kept_change;
 mod parts;
 pub mod refusal;
 mod room;

@@ -13,7 +13,8 @@ ghost use Rattle.char_sequence.specs.RunElements.{AcceptsRun};
 ghost use Rattle.mark_anchors.specs.Format.{IsFormat};
 ghost use Rattle.mark_places.specs.Places.{AreMarkPlaces};
 ghost use Rattle.span_flatten.specs.Spans.{Span, AreSpans};
-ghost use Rattle.span_flatten.specs.Version.{IsVersion};
+ghost use Rattle.span_flatten.specs.Version.{IsVersion, spans_of};
+ghost use Rattle.version_pieces.specs.Alike.{AreAlike};
 ghost use Rattle.change_history.specs.Accepted.{MayFollow, MayNotFollow};
 ghost use Rattle.char_sequence.specs.Acceptance.{IsUnknown, IsFull};
 ghost use Rattle.change_ops.specs.declared.size.Size.{Size};
@@ -35,9 +36,10 @@ use mark_anchors::format::Format;
 use mark_anchors::marks::{Marks, MarksError};
 use mark_places::boundary::place_of;
 use mark_places::places::MarkPlaces;
+use memory_budget::Budget;
 use span_flatten::flatten::{flatten, same_set_same_spans};
 use std::alloc::{AllocError, Global};
-use version_pieces::version::PieceVersion;
+use version_pieces::version::{NextVersion, PieceVersion};
 use version_windows::step::next_version;
 
 /// What is kept of the operations that were applied.
@@ -253,13 +255,19 @@ impl Parts {
         Ok(count)
     }
 
-    /// The version of the operations that were applied, with this number.
-    pub fn version(&self, alloc: Global, number: u64) -> Result<PieceVersion, AllocError>
+    /// The version of the operations that were applied, with this number. It shares nothing, and is paid for.
+    pub fn version(
+        &self,
+        alloc: Global,
+        number: u64,
+        budget: &mut Budget,
+    ) -> Result<PieceVersion, AllocError>
         requires { (ops : List Op) × Keeps ops self.now }
-        ensures { IfOk result (λ version. (ops : List Op) → Keeps ops self.now → IsVersion ops number version) }
+        ensures is { IfOk result (λ version. (ops : List Op) → Keeps ops self.now → IsVersion ops number version) }
+        ensures paid { budget.new ≤ budget.old }
     {
         let whole = flatten(alloc, &self.sequence, &self.marks, number)?;
-        let version = PieceVersion::from_version(alloc, &whole)?;
+        let version = PieceVersion::from_version(alloc, &whole, budget)?;
         Ok(version)
     }
 
@@ -272,10 +280,14 @@ impl Parts {
         previous: &PieceVersion,
         lines: &[Line],
         number: u64,
-    ) -> Result<PieceVersion, AllocError>
+        budget: &mut Budget,
+    ) -> Result<NextVersion, AllocError>
         requires { (ops : List Op) × AreNextParts ops previous.now lines.now before.now self.now }
-        ensures { IfOk result (λ next. (ops : List Op) → AreNextParts ops previous.now lines.now before.now self.now
-            → IsVersion (ops ++ ops_of_lines lines.now) number next) }
+        ensures is { IfOk result (λ next. (ops : List Op) → AreNextParts ops previous.now lines.now before.now self.now
+            → IsVersion (ops ++ ops_of_lines lines.now) number next.version) }
+        ensures alike { IfOk result (λ next. AreAlike (spans_of previous.now) (spans_of next.version)
+            next.alike.front next.alike.behind) }
+        ensures paid { budget.new ≤ budget.old }
     {
         next_version(
             alloc,
@@ -286,6 +298,7 @@ impl Parts {
             &self.places,
             lines,
             number,
+            budget,
         )
     }
 

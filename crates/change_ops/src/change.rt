@@ -123,7 +123,7 @@ fn lines_of(
     ensures kept { IfOk result (λ x. OwnLines form peer 256 count x.0.items) }
     ensures text { IfOk result (λ x. IsUtf8 x.1.now) }
 {
-    let mut lines: SmallVec<Line, 1> = SmallVec::new(alloc);
+    let mut lines: SmallVec<Line, 1> = SmallVec::with_capacity(alloc, count)?;
     let mut rest: &str = text;
     let mut room = 256;
     for index in 0..count {

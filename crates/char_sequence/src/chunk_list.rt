@@ -56,15 +56,18 @@ impl Spot {
     }
 }
 
-/// Where a full chunk is split for an element at an index: in the middle, but where the element goes to the end, as in
-/// text that is typed on, before the last element, so that chunks stay nearly full.
+/// The least that a part of a chunk has that is split where text is typed on.
+const LEAST_PART: usize = 8;
+
+/// Where a full chunk is split for an element at an index: behind the next element, so that what is typed on fills the
+/// first part, but no part gets less than an eighth of the chunk; near the end before the last element.
 fn split_point(at: usize) -> usize
     ensures { (0 < result) × (result < 64) }
 {
-    if at == CHUNK_LIMIT {
+    if at >= CHUNK_LIMIT - 1 {
         CHUNK_LIMIT - 1
     } else {
-        CHUNK_LIMIT / 2
+        (at + 1).clamp(LEAST_PART, CHUNK_LIMIT - LEAST_PART)
     }
 }
 

@@ -422,6 +422,18 @@ fn counter_jump<'a>(alloc: Global) -> Arg<'a> {
         .help("42 to a change with a counter more than so much above all accepted ones, from 1 on")
 }
 
+/// How much memory the document may take.
+fn memory<'a>(alloc: Global) -> Arg<'a> {
+    Arg::new(alloc, "memory")
+        .long("memory")
+        .value_name("MEBIBYTES")
+        .action(ArgAction::Set)
+        .value_parser(value_parser!(u32).range(1..))
+        .help(
+            "45 to a change, before it is kept, where the document may not take so much more, from 1 on",
+        )
+}
+
 /// What a session may have accepted.
 fn per_session<'a>(alloc: Global) -> Arg<'a> {
     Arg::new(alloc, "per-session")
@@ -448,6 +460,7 @@ refused is answered `no <number> <Name>`, and the session goes on.",
         .arg(workers(alloc))?
         .arg(read(alloc))?
         .arg(counter_jump(alloc))?
+        .arg(memory(alloc))?
         .arg(per_session(alloc))
 }
 
@@ -607,6 +620,7 @@ keeps its changes.",
         .arg(workers(alloc))?
         .arg(read(alloc))?
         .arg(counter_jump(alloc))?
+        .arg(memory(alloc))?
         .arg(per_session(alloc))
 }
 

@@ -53,6 +53,9 @@ const BAD_HOST: &str = "error: `--host` takes an IPv4 or an IPv6 address\n";
 const BAD_LIMITS: &str =
     "error: `--per-session` takes changes=NUMBER,subscribers=NUMBER,bytes=NUMBER or some of these, each once\n";
 
+/// The bytes of a mebibyte.
+const MEBIBYTE: u64 = 1 << 20;
+
 /// Whether the words name this command, behind the program's own name.
 fn is_command<S: AsStr>(words: &[S], name: &str) -> bool {
     match words.get(1) {
@@ -168,12 +171,19 @@ fn limits(alloc: Global, matches: &ArgMatches<'_>) -> Result<SessionLimits, Unre
     }
 }
 
+/// How many bytes the document may take.
+fn memory(matches: &ArgMatches<'_>) -> Option<u64> {
+    let mebibytes = matches.get_one::<u32>("memory")?;
+    Some(u64::from(mebibytes) * MEBIBYTE)
+}
+
 /// What sessions may do.
 fn session_options(alloc: Global, matches: &ArgMatches<'_>) -> Result<SessionOptions, Unread> {
     Ok(SessionOptions {
         reads: matches.get_flag("read"),
         hub: None,
         counter_jump: matches.get_one::<u64>("counter-jump"),
+        memory: memory(matches),
         limits: limits(alloc, matches)?,
     })
 }

@@ -2,6 +2,7 @@
 ghost use Rattle.std.specs.Prelude.{◌≡◌, ◌<◌, ◌++◌, ◌∷◌, [], ℕ, Some, Err, length, MatchOption};
 ghost use mathlib.Core.List.{IsPrefix};
 ghost use Rattle.change_ops.specs.Changes.{Change as ChangeValue};
+ghost use Rattle.change_ops.specs.Spelling.{change_text};
 ghost use Rattle.change_history.specs.Accepted.{IsRefused};
 ghost use Rattle.feeds.specs.Feed.{Subscriber as SubscriberValue};
 ghost use Rattle.feeds.specs.Promise.{Suits};
@@ -19,6 +20,7 @@ use crate::start::Start;
 use call_history::history::History;
 use call_history::knowledge::{HistoryNaming, NextEntry};
 use change_history::refusal::SubmitError;
+use change_log::text::ChangeText;
 use change_ops::change::Change;
 use feeds::batch::Batch;
 use feeds::item::Job;
@@ -119,19 +121,21 @@ impl<'p, N: Naming + HistoryNaming + Ledger, R: Wait + Copy> RecordedCore<'p, N,
     }
 
     /// Accepts a change after those before it and publishes its version, whole; where it is refused the core stays as
-    /// it was.
+    /// it was. The text is the change's, which is kept.
     pub(crate) fn submit(
         &mut self,
         rt: &R,
         board: &CoreBoard,
         me: &mut CoreToken<N>,
         change: Change,
+        text: ChangeText,
     ) -> Result<VersionToken<N>, SubmitError>
-        requires { board.now.table.shared.table_id ≡ N.table }
+        requires here { board.now.table.shared.table_id ≡ N.table }
+        requires spelled { text ≡ change_text change }
         ensures { Records N.size was_sent IsFull closed_end unsent self.old me.old (call.Submit change)
             (reply.Submitted result) self.new me.new }
     {
-        self.submit_as::<Brand>(rt, board, me, change)
+        self.submit_as::<Brand>(rt, board, me, change, text)
     }
 
     /// Submits the change of the call that `A` names.
@@ -141,13 +145,15 @@ impl<'p, N: Naming + HistoryNaming + Ledger, R: Wait + Copy> RecordedCore<'p, N,
         board: &CoreBoard,
         me: &mut CoreToken<N>,
         change: Change,
+        text: ChangeText,
     ) -> Result<VersionToken<N>, SubmitError>
         requires here { board.now.table.shared.table_id ≡ N.table }
+        requires spelled { text ≡ change_text change }
         requires call { A.call ≡ call.Submit change }
         ensures { Records N.size was_sent IsFull closed_end unsent self.old me.old A.call
             (reply.Submitted result) self.new me.new }
     {
-        let submitted = self.core.submit(rt, change);
+        let submitted = self.core.submit_spelled(rt, change, text);
         record::<N, R, Brand, _>(&self.core, &mut self.history, board, me, &submitted);
         submitted
     }

@@ -1,6 +1,7 @@
 //! What each of several callers holds of a core's history.
 ghost use Rattle.std.specs.Prelude.{◌≡◌, ◌+◌, ◌-◌, ◌<◌, ◌≤◌, [], Err, OnOk, OnErr, cond, length};
 ghost use mathlib.Core.List.{IsPrefix};
+ghost use Rattle.change_ops.specs.Spelling.{change_text};
 ghost use Rattle.feeds.specs.Promise.{Suits};
 ghost use Rattle.hub_core.specs.declared.run.Reply.TheVariants as reply;
 ghost use Rattle.call_history.specs.Calls.{AreOwn, IsWhole, TakesIn, looked, own_count};
@@ -13,6 +14,7 @@ use crate::entry::{CoreBoard, CoreToken};
 use crate::recorded_core::RecordedCore;
 use call_history::knowledge::HistoryNaming;
 use change_history::refusal::SubmitError;
+use change_log::text::ChangeText;
 use change_ops::change::Change;
 use feeds::batch::Batch;
 use feeds::item::Job;
@@ -93,15 +95,17 @@ impl<N: Naming + HistoryNaming + Ledger> Share<N> {
         rt: &R,
         board: &CoreBoard,
         change: Change,
+        text: ChangeText,
     ) -> Result<VersionToken<N>, SubmitError>
-        requires { board.now.table.shared.table_id ≡ N.table }
+        requires here { board.now.table.shared.table_id ≡ N.table }
+        requires spelled { text ≡ change_text change }
         ensures records { Records N.size was_sent IsFull closed_end unsent core.old self.old (call.Submit change)
             (reply.Submitted result) core.new self.new }
         ensures ok { OnOk result (accepted_count self.new ≡ accepted_count self.old + 1) }
         ensures err { OnErr result (accepted_count self.new ≡ accepted_count self.old) }
         ensures within { accepted_count self.new ≤ length core.new.core.changes }
     {
-        let submitted = core.submit(rt, board, &mut self.token, change);
+        let submitted = core.submit(rt, board, &mut self.token, change, text);
         // Tells the proof that the history has led to the core's state.
         let _ = core.core();
         self.count += counted(submitted.is_ok());

@@ -9,3 +9,4 @@ pub mod Bytes
 pub mod Alike
 pub mod Reuse
 pub mod Walking
+pub mod Standing

@@ -125,15 +125,19 @@ pub alike_more_back : (older newer : Version) (p q n : ℕ) → ((i : ℕ) → i
 alike_more_back older newer p q n below here = below_more (λ i. AlikeAt older (p - 1 - i) newer (q - 1 - i)) n below here
 
 -- what was compared is a stretch of the two versions
-pub stretch_of : (before after older newer : Version) (p q front back most : ℕ) → before ≡ older → after ≡ newer → p ≡ length before.rows → q ≡ length after.rows
-    → front ≤ most → back ≤ most - front → most ≤ p → most ≤ q → ((i : ℕ) → i < front → AlikeAt before i after i)
-    → ((i : ℕ) → i < back → AlikeAt before (p - 1 - i) after (q - 1 - i)) → IsStretch older newer front back
-stretch_of before after older newer p q front back most o n p_is q_is few rest in_p in_q alike alike_back =
-    let there : IsStretch before after front back = record {
-      within_older = omega arith;
-      within_newer = omega arith;
-      front_alike = alike;
-      back_alike = subst (λ (x : ℕ). (i : ℕ) → i < back → AlikeAt before (x - 1 - i) after (length after.rows - 1 - i)) p_is
-          (subst (λ (y : ℕ). (i : ℕ) → i < back → AlikeAt before (p - 1 - i) after (y - 1 - i)) q_is alike_back);
-    } in
-    subst (λ (x : Version). IsStretch x newer front back) o (subst (λ (y : Version). IsStretch before y front back) n there)
+pub stretch_of : (older newer : Version) (p q front back most : ℕ) → p ≡ length older.rows → q ≡ length newer.rows → front ≤ most → back ≤ most - front → most ≤ p → most ≤ q
+    → ((i : ℕ) → i < front → AlikeAt older i newer i) → ((i : ℕ) → i < back → AlikeAt older (p - 1 - i) newer (q - 1 - i)) → IsStretch older newer front back
+stretch_of older newer p q front back most p_is q_is few rest in_p in_q alike alike_back = record {
+  within_older = omega arith;
+  within_newer = omega arith;
+  front_alike = alike;
+  back_alike = subst (λ (x : ℕ). (i : ℕ) → i < back → AlikeAt older (x - 1 - i) newer (length newer.rows - 1 - i)) p_is
+      (subst (λ (y : ℕ). (i : ℕ) → i < back → AlikeAt older (p - 1 - i) newer (y - 1 - i)) q_is alike_back);
+}
+
+-- the same of copies of the two tokens
+pub stretch_again : (older newer one other : Token Version) (front back : ℕ) → one ≡ older → other ≡ newer → IsStretch older.value newer.value front back
+    → IsStretch one.value other.value front back
+stretch_again older newer one other front back o n stretch =
+    subst (λ (t : Token Version). IsStretch t.value other.value front back) (sym o)
+    (subst (λ (t : Token Version). IsStretch older.value t.value front back) (sym n) stretch)

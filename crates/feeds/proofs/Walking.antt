@@ -33,19 +33,19 @@ utf8_at (x ∷ xs) (suc i) span maximal is = utf8_at xs i span maximal.2 is
 
 -- ---- a span and its row
 -- the row that is seen as a span
-record IsOf (version : Version) (i : ℕ) (view : SpanView) : Type 0 where
+pub record IsOf (version : Version) (i : ℕ) (view : SpanView) : Type 0 where
   pub row : Row
   pub is : slice_get version.rows i ≡ Some row
   pub seen : view_of version i row ≡ view
 
-row_of : (version : Version) (i : ℕ) (view : SpanView) → view_at version i ≡ Some view → IsOf version i view
+pub row_of : (version : Version) (i : ℕ) (view : SpanView) → view_at version i ≡ Some view → IsOf version i view
 row_of version i view there = from (slice_get version.rows i) refl there
   where
     from : (o : Option Row) → slice_get version.rows i ≡ o → option_map (λ row. view_of version i row) o ≡ Some view → IsOf version i view
     from None is e = absurd (none-some view e)
     from (Some row) is e = record { row = row; is = is; seen = same_Some (view_of version i row) view e }
 
-span_of : (version : Version) (i : ℕ) (row : Row) → slice_get version.rows i ≡ Some row → slice_get (spans_of version) i ≡ Some (span_at version.text row)
+pub span_of : (version : Version) (i : ℕ) (row : Row) → slice_get version.rows i ≡ Some row → slice_get (spans_of version) i ≡ Some (span_at version.text row)
 span_of version i row is =
     slice_get-map (λ r. span_at version.text r) version.rows i ∙ ap (option_map (λ r. span_at version.text r)) is
 
@@ -62,7 +62,7 @@ first_at version i row left is from =
 
 -- ---- spans that are alike
 -- a program may be run on a span, the link of which is one
-lent : (version : Version) (i : ℕ) (row : Row) → AreKept version → slice_get version.rows i ≡ Some row → IfSome row.format.link (λ target. IsTrue (is_link target)) → IsSpan (bytes_of (view_of version i row))
+pub lent : (version : Version) (i : ℕ) (row : Row) → AreKept version → slice_get version.rows i ≡ Some row → IfSome row.format.link (λ target. IsTrue (is_link target)) → IsSpan (bytes_of (view_of version i row))
 lent version i row kept is link =
     let view : SpanView = view_of version i row in
     let fits : length version.text ≤ 131072 = kept.short in

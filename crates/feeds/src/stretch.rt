@@ -1,24 +1,16 @@
 //! Which spans of a later version are as they were in an earlier one.
-ghost use Rattle.std.specs.Prelude.{◌≡◌, ◌↔◌, ◌+◌, ◌-◌, ◌<◌, ◌≤◌, ℕ, IfSome, IsTrue, Some, drop, length, slice_get};
-ghost use Rattle.change_ops.specs.Attributes.{is_link};
+ghost use Rattle.std.specs.Prelude.{◌≡◌, ◌↔◌, ◌+◌, ◌-◌, ◌<◌, ◌≤◌, ℕ, IsTrue, Some, drop, length, slice_get};
 ghost use Rattle.span_flatten.specs.Spans.{Span};
-ghost use Rattle.feeds.specs.Kept.{AlikeAt, AreAlike, AreFormattedAlike};
+ghost use Rattle.feeds.specs.Kept.{AlikeAt, AreAlike, AreFormattedAlike, IsStretch};
 
 use mark_anchors::format::Format;
 use std::marker::Model;
+use version_history::links::keeps_link;
 use version_history::published::{Naming, Published, VersionToken};
+use version_pieces::alike::Alike;
 use version_pieces::iter::{SpanTexts, spans_from};
 use version_pieces::span_text::SpanText;
 use version_pieces::version::PieceVersion;
-
-/// The law that a format's link is one.
-fn keeps_link(format: &Format)
-    ensures { IfSome format.now.link (λ target. IsTrue (is_link target)) }
-{
-    if let Some(link) = format.link() {
-        let _target = link.target();
-    }
-}
 
 /// Whether what a program can read of two formats is the same.
 fn are_formatted_alike(older: &Format, newer: &Format) -> bool
@@ -130,6 +122,43 @@ fn alike_back(
     back
 }
 
+/// Compares two versions, span by span from the front, and then from the back.
+fn compared(before: &PieceVersion, after: &PieceVersion) -> Alike
+    ensures { IsStretch before.now after.now result.front result.behind }
+{
+    let before_end = before.span_count();
+    let after_end = after.span_count();
+    let most = before_end.min(after_end);
+    let front = alike_front(before, after, most);
+    let back = alike_back(before, before_end, after, after_end, most - front);
+    Alike {
+        front,
+        behind: back,
+    }
+}
+
+/// How many spans of two versions are alike, as the token of the later one knows it. They are compared where it
+/// doesn't.
+fn known_alike<N: Naming>(
+    published: &Published<'_, N>,
+    older: &VersionToken<N>,
+    newer: &VersionToken<N>,
+) -> Alike
+    ensures { IsStretch older.now.value newer.now.value result.front result.behind }
+{
+    let before = published.look(older);
+    let after = published.look(newer);
+    let Some(alike) = published.alike(older, newer) else {
+        return compared(before, after);
+    };
+    // What the versions and their tokens keep, which the proof needs.
+    before.keeps();
+    after.keeps();
+    older.keeps_links();
+    newer.keeps_links();
+    alike
+}
+
 /// Two versions, and how many of their spans are alike at the front and at the back: what a program can read of them
 /// differs in index, count and number alone.
 pub struct Stretch<N: Naming> {
@@ -161,9 +190,7 @@ impl<N: Naming> Model for Stretch<N> {
 }
 
 impl<N: Naming> Stretch<N> {
-    ghost use Rattle.feeds.specs.Kept.{IsStretch};
-
-    /// Compares two versions, span by span from the front, and then from the back.
+    /// How two versions are alike. None of their spans are compared where the later one's token knows it.
     pub fn between(
         published: &Published<'_, N>,
         older: &VersionToken<N>,
@@ -171,18 +198,12 @@ impl<N: Naming> Stretch<N> {
     ) -> Stretch<N>
         ensures { (result.older ≡ older.now) × (result.newer ≡ newer.now) }
     {
-        let before = published.look(older);
-        let after = published.look(newer);
-        let before_end = before.span_count();
-        let after_end = after.span_count();
-        let most = before_end.min(after_end);
-        let front = alike_front(before, after, most);
-        let back = alike_back(before, before_end, after, after_end, most - front);
+        let alike = known_alike(published, older, newer);
         Stretch {
             older: older.again(),
             newer: newer.again(),
-            front,
-            back,
+            front: alike.front,
+            back: alike.behind,
         }
     }
 

@@ -1,7 +1,7 @@
 -- Runs and the formats of their characters.
 use Rattle.std.proofs.Common.{◌≡◌, ℕ, ◌+◌, ◌<◌, List, [], ◌∷◌, ◌++◌, length, take, replicate, get_or, refl, sym, ap, ◌∙◌, length-append, append_assoc}
 use Rattle.std.proofs.lemmas.Grind.{flat_map-append}
-use Rattle.std.proofs.lemmas.List.{append-nil, length-replicate, replicate-append-replicate, take_more}
+use Rattle.std.proofs.lemmas.List.{append-nil, length-map, length-replicate, replicate-append-replicate, take_more}
 use Rattle.std.proofs.lemmas.List.Sums.{sum_by-append, sum_by-cons}
 use Rattle.span_flatten.specs.declared.version.Row.{Row}
 use Rattle.format_runs.specs.Runs.{Run, character_count, formats_in, formats_of, row_count, runs_in}
@@ -61,3 +61,7 @@ pub count_added : (old new : List Run) (rows : List Row) → formats_of new ≡ 
 count_added old new rows e =
     sym (length_formats new) ∙ ap length e ∙ length-append (formats_of old) (formats_in rows)
     ∙ ap (λ n. n + length (formats_in rows)) (length_formats old) ∙ ap (λ n. character_count old + n) (length_rows rows)
+
+-- there is a run for each row
+pub length_runs : (rows : List Row) → length (runs_in rows) ≡ length rows
+length_runs rows = let run : Row → Run = λ row. record { format = row.format; characters = row.characters } in length-map rows run

@@ -6,3 +6,4 @@ pub mod Windows
 pub mod Edges
 pub mod Putting
 pub mod Walking
+pub mod Over

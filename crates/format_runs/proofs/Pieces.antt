@@ -5,6 +5,7 @@ use Rattle.std.proofs.lemmas.Option.{get_or_from_slice_get, slice_get_within}
 use Rattle.std.proofs.lemmas.Bool.{cases_lt}
 use Rattle.std.proofs.lemmas.List.{append-nil, drop_all, drop_more, get_or_past, take-append-drop, take_all}
 use Rattle.std.proofs.Math.Seq.{take-add}
+use Rattle.std.proofs.lemmas.List.Elements.{All-get_or}
 use Rattle.std.proofs.lemmas.List.Sums.{sum_by-cons}
 use Rattle.piece_tree.specs.Nodes.{pieces_of}
 use Rattle.piece_tree.specs.Spots.{IsReached}
@@ -75,6 +76,27 @@ few_pieces (p ∷ ps) filled =
     let first : 0 < length p = filled 0 p (omega arith) in
     let rest : length ps ≤ length (pieces_of ps) = few_pieces ps (λ k d less. filled (suc k) d (omega arith)) in
     omega (arith, length-append p (pieces_of ps))
+
+-- no piece is longer than each of them may be, and none stands behind the last one
+pub piece_small : (ps : List (List Run)) (k : ℕ) → All (λ p. length p ≤ 32) ps → length (get_or ps k []) ≤ 32
+piece_small ps k small = elim (cases_lt k (length ps)) [
+  | inr past ↦ omega (arith, ap length (get_or_past ps k [] past))
+  | inl inside ↦ All-get_or (λ (p : List Run). length p ≤ 32) ps k [] inside small
+]
+
+-- pieces that are kept have no more runs than all
+pub pieces_kept : (ps : List (List Run)) (from to : ℕ) → from ≤ to
+    → length (pieces_of (take from ps)) + length (pieces_of (drop to ps)) ≤ length (pieces_of ps)
+pieces_kept ps from to order =
+    let sum : to ≡ from + (to - from) = omega arith in
+    let parts : take to ps ≡ take from ps ++ take (to - from) (drop from ps) = ap (λ j. take j ps) sum ∙ take-add from (to - from) ps in
+    let front : length (pieces_of (take to ps)) ≡ length (pieces_of (take from ps)) + length (pieces_of (take (to - from) (drop from ps))) =
+    ap (λ l. length (pieces_of l)) parts ∙ ap length (pieces_append (take from ps) (take (to - from) (drop from ps)))
+    ∙ length-append (pieces_of (take from ps)) (pieces_of (take (to - from) (drop from ps))) in
+    let all : length (pieces_of ps) ≡ length (pieces_of (take to ps)) + length (pieces_of (drop to ps)) =
+    ap (λ l. length (pieces_of l)) (sym (take-append-drop to ps)) ∙ ap length (pieces_append (take to ps) (drop to ps))
+    ∙ length-append (pieces_of (take to ps)) (pieces_of (drop to ps)) in
+    omega arith
 
 -- the runs of a piece in front of those behind it
 pub piece_and_rest : (ps : List (List Run)) (k : ℕ) (p : List Run) (old new : List Run) → slice_get ps k ≡ Some p → new ≡ old ++ p

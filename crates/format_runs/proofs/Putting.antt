@@ -6,10 +6,11 @@ use Rattle.piece_tree.specs.Nodes.{AreShort, pieces_of}
 use Rattle.piece_tree.proofs.Lists.{pieces_append}
 use Rattle.format_runs.specs.Runs.{AreMaximal, AreRuns, Run, character_count, run_size}
 use Rattle.format_runs.proofs.Apart.{few_runs}
-use Rattle.format_runs.proofs.Pieces.{few_pieces, sum_characters, sum_parts}
+use Rattle.format_runs.proofs.Pieces.{few_pieces, pieces_kept, sum_characters, sum_parts}
 
 module _ (ps made : List (List Run)) (from to : ℕ) (runs : List Run) (order : from ≤ to) (within : to ≤ length ps)
     (filled : All (λ p. 0 < length p) ps) (fresh : All (λ p. 0 < length p) made) (flat : pieces_of made ≡ runs)
+    (small : All (λ p. length p ≤ 32) ps) (small_fresh : All (λ p. length p ≤ 32) made)
     (maximal : AreMaximal (pieces_of (take from ps) ++ (runs ++ pieces_of (drop to ps))))
     (short : character_count (pieces_of (take from ps) ++ (runs ++ pieces_of (drop to ps))) ≤ 2097152) where
   abbrev all : List (List Run)
@@ -25,6 +26,9 @@ module _ (ps made : List (List Run)) (from to : ℕ) (runs : List Run) (order : 
     filled =
         All-append (λ (p : List Run). 0 < length p) (take from ps) (made ++ drop to ps) (All-take (λ (p : List Run). 0 < length p) from ps filled)
         (All-append (λ (p : List Run). 0 < length p) made (drop to ps) fresh (All-drop (λ (p : List Run). 0 < length p) to ps filled));
+    small =
+        All-append (λ (p : List Run). length p ≤ 32) (take from ps) (made ++ drop to ps) (All-take (λ (p : List Run). length p ≤ 32) from ps small)
+        (All-append (λ (p : List Run). length p ≤ 32) made (drop to ps) small_fresh (All-drop (λ (p : List Run). length p ≤ 32) to ps small));
     maximal = subst AreMaximal (sym put_pieces) maximal;
   }
 
@@ -49,6 +53,19 @@ module _ (ps made : List (List Run)) (from to : ℕ) (runs : List Run) (order : 
         length-append made (drop to ps),
         length-take-le from ps (omega (arith, order, within)),
         length-drop to ps,
+      )
+
+  -- each piece has a run, so that the root has no more of them than there are runs
+  pub put_rooted : from + length made + (length ps - to) ≤ length (pieces_of ps) + length runs
+  put_rooted = omega (arith, order, within, few_pieces ps filled, few_pieces made fresh, ap length flat)
+
+  pub put_counted : length (pieces_of (take from ps) ++ (runs ++ pieces_of (drop to ps))) ≤ length (pieces_of ps) + length runs
+  put_counted =
+      omega (
+        arith,
+        pieces_kept ps from to order,
+        length-append (pieces_of (take from ps)) (runs ++ pieces_of (drop to ps)),
+        length-append runs (pieces_of (drop to ps)),
       )
 
 -- what stands from the least of two places on

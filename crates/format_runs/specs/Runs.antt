@@ -1,6 +1,6 @@
 -- Runs of characters that have one format.
-use Rattle.std.specs.Prelude.{◌≡◌, ◌≢◌, ◌<◌, ◌+◌, ◌-◌, ℕ, List, [], ◌∷◌, Some, All, flat_map, length, map, replicate}
-use Rattle.std.specs.Prelude.{slice_get, sum_by, take}
+use Rattle.std.specs.Prelude.{◌≡◌, ◌≢◌, ◌<◌, ◌≤◌, ◌+◌, ◌-◌, ℕ, List, [], ◌∷◌, Some, All, flat_map, length, map}
+use Rattle.std.specs.Prelude.{replicate, slice_get, sum_by, take}
 use Rattle.mark_anchors.specs.Formatting.{Format}
 use Rattle.span_flatten.specs.declared.version.Row.{Row}
 use Rattle.piece_tree.specs.Nodes.{pieces_of}
@@ -74,12 +74,19 @@ pub record IsBetween (runs : List Run) (place : ℕ) : Type 0 where
 abbrev pub row_count : List Row → ℕ
 row_count rows = sum_by (λ row. row.characters) rows
 
--- what a list of runs in pieces keeps: each piece has a run, and all runs are maximal
+-- what a list of runs in pieces keeps: each piece has 1 to 32 runs, and all runs are maximal
 pub record AreRuns (pieces : List (List Run)) : Type 0 where
   pub filled : All (λ piece. 0 < length piece) pieces
+  pub small : All (λ piece. length piece ≤ 32) pieces
   pub maximal : AreMaximal (pieces_of pieces)
 
 -- the run of an index, before which so many characters stand
 pub record IsPlaced (runs : List Run) (index : ℕ) (run : Run) (start : ℕ) : Type 0 where
   pub is : slice_get runs index ≡ Some run
   pub starts : start ≡ character_count (take index runs)
+
+-- the runs before the index end at the place or before it, and the run of the index, if there is one, ends behind it
+pub record IsOver (runs : List Run) (place index : ℕ) : Type 0 where
+  pub within : index ≤ length runs
+  pub begun : character_count (take index runs) ≤ place
+  pub unended : index < length runs → place < character_count (take (index + 1) runs)

@@ -1,11 +1,13 @@
 //! Runs cut into pieces.
-ghost use Rattle.std.specs.Prelude.{◌≡◌, ◌<◌, ◌≤◌, ◌^◌, ◌++◌, ◌∷◌, [], IfOk, All, length};
+ghost use Rattle.std.specs.Prelude.{◌≡◌, ◌<◌, ◌≤◌, ◌+◌, ◌-◌, ◌*◌, ◌^◌, ◌⊎◌, ◌++◌, ◌∷◌, [], IfOk, All, length};
 ghost use Rattle.piece_tree.specs.Nodes.{pieces_of};
+ghost use Rattle.format_runs.specs.Budgets.{cut_bytes, piece_bytes};
 ghost use Rattle.format_runs.specs.Runs.{character_count};
 
 use crate::draft::share_all;
 use crate::piece::{FULL, HALF, RunPiece};
 use crate::run::Run;
+use memory_budget::Budget;
 use std::alloc::{AllocError, Global};
 
 /// How many of so many runs the next piece takes.
@@ -13,6 +15,8 @@ fn next_size(rest: usize) -> usize
     requires { 0 < rest }
     ensures some { 0 < result }
     ensures within { result ≤ rest }
+    ensures at_most { result ≤ 32 }
+    ensures half { (16 ≤ result) ⊎ (result ≡ rest) }
 {
     if rest <= FULL {
         rest
@@ -24,13 +28,16 @@ fn next_size(rest: usize) -> usize
 }
 
 /// The piece of these runs.
-fn piece_of(alloc: Global, runs: &[Run]) -> Result<RunPiece, AllocError>
-    requires { character_count runs.now < 2 ^ 62 }
-    ensures { IfOk result (λ piece. piece ≡ runs.now) }
+fn piece_of(alloc: Global, runs: &[Run], budget: &mut Budget) -> Result<RunPiece, AllocError>
+    requires few { length runs.now ≤ 32 }
+    requires short { character_count runs.now < 2 ^ 62 }
+    ensures piece { IfOk result (λ piece. piece ≡ runs.now) }
+    ensures spent { budget.old ≤ budget.new + piece_bytes (length runs.now) }
+    ensures less { budget.new ≤ budget.old }
 {
     let mut part = Vec::with_capacity(alloc, runs.len())?;
     share_all(&mut part, runs)?;
-    RunPiece::new(alloc, part)
+    RunPiece::new(alloc, part, budget)
 }
 
 /// Adds a piece.
@@ -42,16 +49,20 @@ fn add(pieces: &mut Vec<RunPiece>, piece: RunPiece) -> Result<(), AllocError>
 }
 
 /// Pieces that have the runs.
-pub fn cut(alloc: Global, runs: &[Run]) -> Result<Vec<RunPiece>, AllocError>
+pub fn cut(alloc: Global, runs: &[Run], budget: &mut Budget) -> Result<Vec<RunPiece>, AllocError>
     requires { character_count runs.now < 2 ^ 62 }
     ensures flat { IfOk result (λ pieces. pieces_of pieces.items ≡ runs.now) }
     ensures filled { IfOk result (λ pieces. All (λ piece. 0 < length piece) pieces.items) }
+    ensures small { IfOk result (λ pieces. All (λ piece. length piece ≤ 32) pieces.items) }
+    ensures few { IfOk result (λ pieces. 16 * length pieces.items < length runs.now + 16) }
+    ensures spent { budget.old ≤ budget.new + cut_bytes (length runs.now) }
+    ensures less { budget.new ≤ budget.old }
 {
     let mut pieces = Vec::new(alloc);
     let mut at: usize = 0;
     while at < runs.len() {
         let size = next_size(runs.len() - at);
-        let piece = piece_of(alloc, &runs[at..at + size])?;
+        let piece = piece_of(alloc, &runs[at..at + size], budget)?;
         add(&mut pieces, piece)?;
         at += size;
     }

@@ -1,12 +1,14 @@
 //! Runs in the making.
-ghost use Rattle.std.specs.Prelude.{◌≡◌, ◌<◌, ◌≤◌, ◌+◌, ◌^◌, ◌++◌, ◌∷◌, [], IfOk, IfSome, IsFalse, IsTrue};
-ghost use Rattle.std.specs.Prelude.{List, replicate, slice_range};
+ghost use Rattle.std.specs.Prelude.{◌≡◌, ◌<◌, ◌≤◌, ◌+◌, ◌*◌, ◌^◌, ◌++◌, ◌∷◌, [], IfOk, IfSome, IsFalse, IsTrue};
+ghost use Rattle.std.specs.Prelude.{List, length, replicate, slice_range};
 ghost use Rattle.mark_anchors.specs.Formatting.{Format};
 ghost use Rattle.span_flatten.specs.declared.version.Row.{Row};
+ghost use Rattle.format_runs.specs.Budgets.{format_bytes};
 ghost use Rattle.format_runs.specs.Runs.{AreAlike, AreApart, AreMaximal, IsBetween, IsInside, IsLast, character_count};
 ghost use Rattle.format_runs.specs.Runs.{formats_of, runs_in};
 
 use crate::run::Run;
+use memory_budget::Budget;
 use span_flatten::version::Row;
 use std::alloc::{AllocError, Global};
 
@@ -35,6 +37,7 @@ fn lengthen(runs: &mut Vec<Run>, characters: usize) -> Result<(), AllocError>
     ensures formats { (format : Format) → IsLast (formats_of runs.old.items) format → IfOk result (λ _.
         formats_of runs.new.items ≡ formats_of runs.old.items ++ replicate characters format) }
     ensures maximal { IfOk result (λ _. AreMaximal runs.new.items) }
+    ensures count { IfOk result (λ _. length runs.new.items ≤ length runs.old.items) }
 {
     match runs.pop() {
         None => Ok(()),
@@ -52,6 +55,7 @@ pub fn add_runs(runs: &mut Vec<Run>, more: &[Run], join: bool) -> Result<(), All
     requires apart { IsFalse join → AreApart (formats_of runs.old.items) (formats_of more.now) }
     ensures formats { IfOk result (λ _. formats_of runs.new.items ≡ formats_of runs.old.items ++ formats_of more.now) }
     ensures maximal { IfOk result (λ _. AreMaximal runs.new.items) }
+    ensures count { IfOk result (λ _. length runs.new.items ≤ length runs.old.items + length more.now) }
 {
     if !join {
         return share_all(runs, more);
@@ -70,6 +74,7 @@ fn add_some(runs: &mut Vec<Run>, run: &Run, characters: usize) -> Result<(), All
     ensures formats { IfOk result (λ _. formats_of runs.new.items
         ≡ formats_of runs.old.items ++ replicate characters run.now.format) }
     ensures maximal { IfOk result (λ _. AreMaximal runs.new.items) }
+    ensures count { IfOk result (λ _. length runs.new.items ≤ length runs.old.items + 1) }
 {
     if characters == 0 {
         return Ok(());
@@ -83,6 +88,7 @@ pub fn between(alloc: Global, runs: &[Run], from: usize, to: usize) -> Result<Ve
     requires maximal { AreMaximal runs.now }
     ensures formats { IfOk result (λ part. formats_of part.items ≡ slice_range (formats_of runs.now) from to) }
     ensures maximal { IfOk result (λ part. AreMaximal part.items) }
+    ensures count { IfOk result (λ part. length part.items ≤ length runs.now) }
 {
     let mut part = Vec::new(alloc);
     let mut start: usize = 0;
@@ -118,9 +124,17 @@ pub fn is_inside(runs: &[Run], place: usize) -> bool
 /// The run of a row. It shares the format of a run that is known to have the same one. Otherwise it shares that of the
 /// run before the last one where that is cheap to compare and equal: so the formats of marks that come and go are kept
 /// once.
-fn run_of(alloc: Global, runs: &[Run], row: &Row, known: Option<&Run>) -> Result<Run, AllocError>
+fn run_of(
+    alloc: Global,
+    runs: &[Run],
+    row: &Row,
+    known: Option<&Run>,
+    budget: &mut Budget,
+) -> Result<Run, AllocError>
     requires { IfSome known (λ run. run.now.format ≡ row.now.format) }
-    ensures { IfOk result (λ run. run ≡ record { format = row.now.format; characters = row.now.characters }) }
+    ensures run { IfOk result (λ run. run ≡ record { format = row.now.format; characters = row.now.characters }) }
+    ensures spent { budget.old ≤ budget.new + format_bytes }
+    ensures less { budget.new ≤ budget.old }
 {
     if let Some(run) = known {
         return run.of_size(row.characters);
@@ -132,7 +146,7 @@ fn run_of(alloc: Global, runs: &[Run], row: &Row, known: Option<&Run>) -> Result
             return earlier.of_size(row.characters);
         }
     }
-    Run::new(alloc, &row.format, row.characters)
+    Run::new(alloc, &row.format, row.characters, budget)
 }
 
 /// Adds the run of a row.
@@ -141,21 +155,31 @@ fn push_row(
     runs: &mut Vec<Run>,
     row: &Row,
     known: Option<&Run>,
+    budget: &mut Budget,
 ) -> Result<(), AllocError>
     requires { IfSome known (λ run. run.now.format ≡ row.now.format) }
-    ensures { IfOk result (λ _. runs.new.items
+    ensures runs { IfOk result (λ _. runs.new.items
         ≡ runs.old.items ++ record { format = row.now.format; characters = row.now.characters } ∷ []) }
+    ensures spent { budget.old ≤ budget.new + format_bytes }
+    ensures less { budget.new ≤ budget.old }
 {
-    let run = run_of(alloc, runs.as_slice(), row, known)?;
+    let run = run_of(alloc, runs.as_slice(), row, known, budget)?;
     push(runs, run)
 }
 
 /// Adds a run for each row.
-fn push_rows(alloc: Global, runs: &mut Vec<Run>, rows: &[Row]) -> Result<(), AllocError>
-    ensures { IfOk result (λ _. runs.new.items ≡ runs.old.items ++ runs_in rows.now) }
+fn push_rows(
+    alloc: Global,
+    runs: &mut Vec<Run>,
+    rows: &[Row],
+    budget: &mut Budget,
+) -> Result<(), AllocError>
+    ensures runs { IfOk result (λ _. runs.new.items ≡ runs.old.items ++ runs_in rows.now) }
+    ensures spent { budget.old ≤ budget.new + format_bytes * length rows.now }
+    ensures less { budget.new ≤ budget.old }
 {
     for row in rows {
-        push_row(alloc, runs, row, None)?;
+        push_row(alloc, runs, row, None, budget)?;
     }
     Ok(())
 }
@@ -166,23 +190,26 @@ pub fn runs_of(
     rows: &[Row],
     begin: Option<&Run>,
     end: Option<&Run>,
+    budget: &mut Budget,
 ) -> Result<Vec<Run>, AllocError>
     requires begin { IfSome begin (λ run. (row : Row) (others : List Row) → rows.now ≡ row ∷ others
         → run.now.format ≡ row.format) }
     requires end { IfSome end (λ run. (others : List Row) (row : Row) → rows.now ≡ others ++ row ∷ []
         → run.now.format ≡ row.format) }
-    ensures { IfOk result (λ runs. runs.items ≡ runs_in rows.now) }
+    ensures runs { IfOk result (λ runs. runs.items ≡ runs_in rows.now) }
+    ensures spent { budget.old ≤ budget.new + format_bytes * length rows.now }
+    ensures less { budget.new ≤ budget.old }
 {
     let mut runs = Vec::with_capacity(alloc, rows.len())?;
     let Some((first, others)) = rows.split_first() else {
         return Ok(runs);
     };
     let Some((last, middle)) = others.split_last() else {
-        push_row(alloc, &mut runs, first, begin.or(end))?;
+        push_row(alloc, &mut runs, first, begin.or(end), budget)?;
         return Ok(runs);
     };
-    push_row(alloc, &mut runs, first, begin)?;
-    push_rows(alloc, &mut runs, middle)?;
-    push_row(alloc, &mut runs, last, end)?;
+    push_row(alloc, &mut runs, first, begin, budget)?;
+    push_rows(alloc, &mut runs, middle, budget)?;
+    push_row(alloc, &mut runs, last, end, budget)?;
     Ok(runs)
 }

@@ -1,8 +1,10 @@
 //! A piece of a list of runs, which versions share.
-ghost use Rattle.std.specs.Prelude.{◌≡◌, ◌<◌, ◌^◌, IfOk};
+ghost use Rattle.std.specs.Prelude.{◌≡◌, ◌<◌, ◌≤◌, ◌-◌, ◌^◌, IfOk, length};
+ghost use Rattle.format_runs.specs.Budgets.{piece_bytes};
 ghost use Rattle.format_runs.specs.Runs.{character_count};
 
 use crate::run::Run;
+use memory_budget::Budget;
 use piece_tree::piece::{Measure, Piece};
 use std::alloc::{AllocError, Global};
 use std::marker::Model;
@@ -13,6 +15,12 @@ pub const FULL: usize = 32;
 
 /// The least that it has, if it isn't the last one.
 pub const HALF: usize = 16;
+
+/// What a piece takes apart from its runs: the counted value's own allocation and the list's.
+const PIECE_BYTES: usize = 96;
+
+/// What a run takes in the list.
+const RUN_BYTES: usize = 16;
 
 /// Runs, with how many characters they have. Contracts see the runs.
 struct Content {
@@ -90,11 +98,14 @@ impl Content {
 }
 
 impl RunPiece {
-    /// The piece of these runs. It is the one way to make a piece that others don't have already.
-    pub fn new(alloc: Global, runs: Vec<Run>) -> Result<RunPiece, AllocError>
-        requires { character_count runs.items < 2 ^ 62 }
-        ensures { IfOk result (λ piece. piece ≡ runs.items) }
+    /// The piece of these runs. It is the one way to make a piece that others don't have already, and it is paid for.
+    pub fn new(alloc: Global, runs: Vec<Run>, budget: &mut Budget) -> Result<RunPiece, AllocError>
+        requires few { length runs.items ≤ 32 }
+        requires short { character_count runs.items < 2 ^ 62 }
+        ensures piece { IfOk result (λ piece. piece ≡ runs.items) }
+        ensures paid { budget.new ≡ budget.old - piece_bytes (length runs.items) }
     {
+        budget.pay(PIECE_BYTES + RUN_BYTES * runs.len());
         let characters = characters_of(runs.as_slice());
         let content = Content { runs, characters };
         let content = Arc::new(alloc, content)?;

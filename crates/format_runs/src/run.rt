@@ -1,10 +1,15 @@
 //! Characters that have one format.
-ghost use Rattle.std.specs.Prelude.{◌≡◌, ◌<◌, ◌+◌, ◌^◌, IfOk};
+ghost use Rattle.std.specs.Prelude.{◌≡◌, ◌<◌, ◌+◌, ◌-◌, ◌^◌, IfOk};
+ghost use Rattle.format_runs.specs.Budgets.{format_bytes};
 
 use mark_anchors::format::Format;
+use memory_budget::Budget;
 use std::alloc::{AllocError, Global};
 use std::marker::Model;
 use std::sync::Arc;
+
+/// What a format takes that runs share: the counted value, and the handle of its link.
+const FORMAT_BYTES: usize = 128;
 
 /// So many characters of a format, which runs share. Contracts see the format and the number.
 pub struct Run {
@@ -31,10 +36,18 @@ impl Model for Run {
 }
 
 impl Run {
-    /// So many characters of a format.
-    pub(crate) fn new(alloc: Global, format: &Format, characters: usize) -> Result<Run, AllocError>
-        ensures { IfOk result (λ run. run ≡ record { format = format.now; characters = characters }) }
+    /// So many characters of a format. It is the one way to make a format that other runs don't have already, and it is
+    /// paid for.
+    pub(crate) fn new(
+        alloc: Global,
+        format: &Format,
+        characters: usize,
+        budget: &mut Budget,
+    ) -> Result<Run, AllocError>
+        ensures run { IfOk result (λ run. run ≡ record { format = format.now; characters = characters }) }
+        ensures paid { budget.new ≡ budget.old - format_bytes }
     {
+        budget.pay(FORMAT_BYTES);
         let format = Arc::new(alloc, format.clone()?)?;
         Ok(Run { format, characters })
     }

@@ -1,16 +1,19 @@
 //! The runs of a text.
 ghost use Rattle.std.specs.Prelude.{◌≡◌, ◌<◌, ◌≤◌, ◌+◌, ◌^◌, ◌++◌, [], ◌-◌, IfOk, IfSome, IsTrue, MatchOption};
 ghost use Rattle.std.specs.Prelude.{All, Some, drop, get_or, length, replicate, slice_get, slice_range, take};
+ghost use Rattle.piece_tree.specs.Budgets.{root_bytes};
 ghost use Rattle.piece_tree.specs.Nodes.{pieces_of};
 ghost use Rattle.span_flatten.specs.Edges.{KeepEdges};
-ghost use Rattle.format_runs.specs.Runs.{AreMaximal, IsPlaced, character_count, formats_in, formats_of, row_count};
-ghost use Rattle.format_runs.specs.Runs.{runs_in};
+ghost use Rattle.format_runs.specs.Budgets.{put_bytes, rows_bytes};
+ghost use Rattle.format_runs.specs.Runs.{AreMaximal, IsOver, IsPlaced, character_count, formats_in, formats_of};
+ghost use Rattle.format_runs.specs.Runs.{row_count, runs_in};
 
 use crate::cut::cut;
 use crate::draft::{add_runs, between, is_inside, runs_of, share_all};
 use crate::iter::RunsFrom;
 use crate::piece::{HALF, RunPiece, characters_of};
 use crate::run::Run;
+use memory_budget::Budget;
 use piece_tree::piece::Measure;
 use piece_tree::tree::PieceTree;
 use span_flatten::version::Row;
@@ -49,10 +52,11 @@ pub struct Placed<'a> {
 
 impl SharedRuns {
     /// No run.
-    pub fn new(alloc: Global) -> Result<SharedRuns, AllocError>
-        ensures { IfOk result (λ runs. runs ≡ []) }
+    pub fn new(alloc: Global, budget: &mut Budget) -> Result<SharedRuns, AllocError>
+        ensures runs { IfOk result (λ runs. runs ≡ []) }
+        ensures paid { budget.new ≡ budget.old - 96 }
     {
-        let pieces = PieceTree::new(alloc)?;
+        let pieces = PieceTree::new(alloc, budget)?;
         Ok(SharedRuns { pieces })
     }
 
@@ -128,13 +132,15 @@ impl SharedRuns {
     /// formats that stand there. So what is left of a run that is cut has the row's format and joins it, and where a
     /// run begins the one before it has another format. Places tell which of these holds, and no formats are compared
     /// for it. The first and the last row share the formats that stand there, and pieces that the window doesn't touch
-    /// are shared. Where what is made is too small for a piece, it joins the piece behind it.
+    /// are shared. Where what is made is too small for a piece, it joins the piece behind it. So what is paid for is
+    /// the rows, up to 96 runs around them, and the root.
     pub fn with_window(
         &self,
         alloc: Global,
         from: usize,
         to: usize,
         rows: &[Row],
+        budget: &mut Budget,
     ) -> Result<SharedRuns, AllocError>
         requires order { from ≤ to }
         requires within { to ≤ character_count self.now }
@@ -143,6 +149,10 @@ impl SharedRuns {
         requires edges { KeepEdges (formats_of self.now) from to (formats_in rows.now) }
         ensures formats { IfOk result (λ next. formats_of next
             ≡ take from (formats_of self.now) ++ (formats_in rows.now ++ drop to (formats_of self.now))) }
+        ensures count { IfOk result (λ next. length next ≤ length self.now + (length rows.now + 96)) }
+        ensures spent { budget.old ≤ budget.new + (rows_bytes (length rows.now)
+            + root_bytes (length self.now + length rows.now)) }
+        ensures less { budget.new ≤ budget.old }
     {
         // How many runs and characters there are, which the proof needs.
         self.pieces.keeps();
@@ -150,7 +160,13 @@ impl SharedRuns {
         let last = self.pieces.spot(Measure::Characters, to + 1);
         let front = runs_at(&self.pieces, first.index);
         let back = runs_at(&self.pieces, last.index);
-        let fresh = runs_of(alloc, rows, self.run_behind(from), self.run_before(to))?;
+        let fresh = runs_of(
+            alloc,
+            rows,
+            self.run_behind(from),
+            self.run_before(to),
+            budget,
+        )?;
         let mut runs = between(alloc, front, 0, from - first.characters)?;
         let cuts_front = is_inside(front, from - first.characters);
         add_runs(&mut runs, fresh.as_slice(), cuts_front)?;
@@ -159,7 +175,29 @@ impl SharedRuns {
         add_runs(&mut runs, behind.as_slice(), cuts_back)?;
         let end = self.pieces.len().min(last.index + 1);
         let end = fill(&self.pieces, &mut runs, end)?;
-        put(alloc, &self.pieces, first.index, end, runs.as_slice())
+        put(
+            alloc,
+            &self.pieces,
+            first.index,
+            end,
+            runs.as_slice(),
+            budget,
+        )
+    }
+
+    /// The index of the run of the character at a place: how many runs end at the place or before it. From the end of
+    /// the text on these are all.
+    pub fn index_over(&self, place: usize) -> usize
+        ensures { IsOver self.now place result }
+    {
+        // How many runs and characters there are, which the proof needs.
+        self.pieces.keeps();
+        if place >= self.character_count() {
+            return self.count();
+        }
+        let spot = self.pieces.spot(Measure::Characters, place + 1);
+        let runs = self.pieces.piece(spot.index).runs();
+        spot.parts + ended(runs, place - spot.characters)
     }
 
     /// The run of the character at a place, if there is one.
@@ -257,11 +295,13 @@ fn fill(
     runs: &mut Vec<Run>,
     index: usize,
 ) -> Result<usize, AllocError>
-    requires { index ≤ length pieces.now }
+    requires within { index ≤ length pieces.now }
+    requires small { All (λ piece. length piece ≤ 32) pieces.now }
     ensures order { IfOk result (λ end. index ≤ end) }
     ensures within { IfOk result (λ end. end ≤ length pieces.now) }
     ensures same { IfOk result (λ end. runs.new.items ++ pieces_of (drop end pieces.now)
         ≡ runs.old.items ++ pieces_of (drop index pieces.now)) }
+    ensures few { IfOk result (λ _. length runs.new.items ≤ length runs.old.items + 32) }
 {
     if runs.len() >= HALF || index >= pieces.len() {
         return Ok(index);
@@ -277,19 +317,43 @@ fn put(
     from: usize,
     to: usize,
     runs: &[Run],
+    budget: &mut Budget,
 ) -> Result<SharedRuns, AllocError>
     requires order { from ≤ to }
     requires within { to ≤ length pieces.now }
     requires filled { All (λ piece. 0 < length piece) pieces.now }
+    requires small { All (λ piece. length piece ≤ 32) pieces.now }
     requires maximal { AreMaximal (pieces_of (take from pieces.now) ++ (runs.now ++ pieces_of (drop to pieces.now))) }
     requires short { character_count (pieces_of (take from pieces.now) ++ (runs.now ++ pieces_of (drop to pieces.now)))
         ≤ 2097152 }
-    ensures { IfOk result (λ next. next
+    ensures runs { IfOk result (λ next. next
         ≡ pieces_of (take from pieces.now) ++ (runs.now ++ pieces_of (drop to pieces.now))) }
+    ensures count { IfOk result (λ next. length next ≤ length (pieces_of pieces.now) + length runs.now) }
+    ensures spent { budget.old ≤ budget.new + (put_bytes (length runs.now)
+        + root_bytes (length (pieces_of pieces.now) + length runs.now)) }
+    ensures less { budget.new ≤ budget.old }
 {
-    let made = cut(alloc, runs)?;
-    let pieces = pieces.with_window(alloc, from, to, made.as_slice())?;
+    let made = cut(alloc, runs, budget)?;
+    let pieces = pieces.with_window(alloc, from, to, made.as_slice(), budget)?;
     Ok(SharedRuns { pieces })
+}
+
+/// How many of the runs end at the place or before it.
+fn ended(runs: &[Run], place: usize) -> usize
+    requires { character_count runs.now < 2 ^ 62 }
+    ensures { IsOver runs.now place result }
+{
+    let mut count: usize = 0;
+    let mut start: usize = 0;
+    for run in runs {
+        let end = start + run.characters();
+        if place < end {
+            return count;
+        }
+        count += 1;
+        start = end;
+    }
+    count
 }
 
 /// The run that has so many characters from a place on, if there is one.

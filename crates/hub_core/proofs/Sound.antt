@@ -29,9 +29,6 @@ version_of_all changes c v is =
     let all : take (length changes + 1) (changes ++ c ∷ []) ≡ changes ++ c ∷ [] = take_all (length changes + 1) (changes ++ c ∷ []) (omega (arith, length-append changes (c ∷ []))) in
     subst (λ l. IsVersion (operations_of l) (length changes + 1) v) (sym all) is
 
-pub version_along : (changes others : List Change) (c : Change) (v : Version) → changes ≡ others → IsVersion (operations_of (changes ++ c ∷ [])) (length changes + 1) v → IsVersion (operations_of (others ++ c ∷ [])) (length others + 1) v
-version_along changes others c v same is = subst (λ (l : List Change). IsVersion (operations_of (l ++ c ∷ [])) (length l + 1) v) same is
-
 token_at : (versions : List (Token Version)) (n : ℕ) → n < length versions → (token : Token Version) × (slice_get versions n ≡ Some token)
 token_at [] n within = absurd (omega arith)
 token_at (token ∷ versions) zero within = (token, refl)

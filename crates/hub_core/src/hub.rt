@@ -2,6 +2,7 @@ ghost use Rattle.std.specs.Prelude.{◌≡◌, ◌+◌, ◌<◌, ◌≤◌, ◌�
 ghost use Rattle.std.specs.Prelude.{OnOk, MatchOption, ℕ, remove, vec_len, vec_capacity};
 ghost use Rattle.change_ops.specs.Changes.{Change};
 ghost use Rattle.change_ops.specs.Sizes.{most_changes};
+ghost use Rattle.change_ops.specs.Spelling.{change_text};
 ghost use Rattle.char_sequence.specs.Newest.{IsLastCounter};
 ghost use Rattle.semantics.specs.Safe.{Safe};
 ghost use Rattle.span_flatten.specs.Version.{IsVersion};
@@ -20,14 +21,17 @@ ghost use Rattle.hub_core.specs.Machine.{HasNoPlace, HasNone, IsOpen, Misses, Fi
 
 use crate::counts::{Counts, greatest_lag};
 use crate::error::{CommitError, NoSubscriber, SubscribeError};
+use crate::memory::change_bytes;
 use change_history::history::{Draft, History};
 use change_history::refusal::SubmitError;
+use change_log::text::ChangeText;
 use change_ops::change::Change;
 use change_ops::size::Size;
 use feeds::batch::Batch;
 use feeds::item::{Item, Job};
 use feeds::sink::Sink;
 use feeds::subscriber::Subscriber;
+use memory_budget::Budget;
 use std::alloc::{AllocError, Global};
 use std::marker::Model;
 use std::sync::Wait;
@@ -42,6 +46,8 @@ pub struct Core<'p, N: Naming, S: Sink<Item<N>>> {
     versions: Vec<VersionToken<N>>,
     subscribers: Vec<Subscriber<N, S>>,
     open: Vec<usize>,
+    // What the changes and the versions have not taken.
+    budget: Budget,
 }
 
 // By hand, so that a proof of a function that lets a core go sees one call there.
@@ -54,6 +60,7 @@ impl<'p, N: Naming, S: Sink<Item<N>>> Drop for Core<'p, N, S> {
             versions: _,
             subscribers: _,
             open: _,
+            budget: _,
         } = self;
     }
 }
@@ -93,6 +100,7 @@ fn publish_draft<N: Naming, R: Wait>(
     history: &History,
     draft: &Draft,
     versions: &mut Vec<VersionToken<N>>,
+    budget: &mut Budget,
 ) -> Result<VersionToken<N>, AllocError>
     requires drafted { (change : Change) × IsDraft history.now.size history.now.changes change draft.now }
     requires published { HasLatest history.now.changes versions.old.items }
@@ -104,32 +112,33 @@ fn publish_draft<N: Naming, R: Wait>(
     ensures same { versions.new.items ≡ versions.old.items }
 {
     let previous = published.look(&versions[history.len()]);
-    let version = history.next_version(alloc, previous, draft)?;
+    let next = history.next_version(alloc, previous, draft, budget)?;
     versions.reserve(1)?;
-    match published.publish(rt, version) {
+    match published.publish_next(rt, &versions[history.len()], next) {
         Ok(token) => Ok(token),
         Err(_) => Err(AllocError),
     }
 }
 
-/// Takes a change in after those before it, with its version's token. All that can fail comes before the version is
-/// published but that itself, so no version is published without its change; where the change is refused both lists
-/// stay as they were.
-fn accept<N: Naming, R: Wait>(
+/// Appends the draft of a change, with its version's token. All that can fail comes before the version is published but
+/// that itself, so no version is published without its change; where it fails both lists stay as they were.
+fn append_draft<N: Naming, R: Wait>(
     rt: &R,
     alloc: Global,
     published: &Published<'_, N>,
     history: &mut History,
     versions: &mut Vec<VersionToken<N>>,
-    change: Change,
+    draft: Draft,
+    budget: &mut Budget,
 ) -> Result<VersionToken<N>, SubmitError>
-    requires { HasLatest history.old.changes versions.old.items }
-    ensures accepts { Accepts history.old.size history.old.changes versions.old.items change result
-        history.new.changes versions.new.items }
+    requires drafted { (change : Change) × IsDraft history.old.size history.old.changes change draft }
+    requires published { HasLatest history.old.changes versions.old.items }
+    ensures accepts { (change : Change) → IsDraft history.old.size history.old.changes change draft
+        → Accepts history.old.size history.old.changes versions.old.items change result history.new.changes
+        versions.new.items }
     ensures size { history.new.size ≡ history.old.size }
 {
-    let draft = history.draft(change)?;
-    let Ok(token) = publish_draft(rt, alloc, published, history, &draft, versions) else {
+    let Ok(token) = publish_draft(rt, alloc, published, history, &draft, versions, budget) else {
         return Err(SubmitError::OutOfMemory);
     };
     history.put(draft);
@@ -193,6 +202,7 @@ impl<'p, N: Naming, S: Sink<Item<N>>> Core<'p, N, S> {
             versions,
             subscribers: Vec::new(alloc),
             open: Vec::new(alloc),
+            budget: Budget::unlimited(),
         })
     }
 
@@ -205,14 +215,52 @@ impl<'p, N: Naming, S: Sink<Item<N>>> Core<'p, N, S> {
     ) -> Result<VersionToken<N>, SubmitError>
         ensures { Submits self.old change result self.new }
     {
-        accept(
+        let bytes = change_bytes(&change);
+        let draft = self.history.draft(change)?;
+        self.append(rt, draft, bytes)
+    }
+
+    /// The same for a caller that has the change's text, which is kept and not written again.
+    pub fn submit_spelled<R: Wait>(
+        &mut self,
+        rt: &R,
+        change: Change,
+        text: ChangeText,
+    ) -> Result<VersionToken<N>, SubmitError>
+        requires spelled { text ≡ change_text change }
+        ensures { Submits self.old change result self.new }
+    {
+        let bytes = change_bytes(&change);
+        let draft = self.history.draft_spelled(change, text)?;
+        self.append(rt, draft, bytes)
+    }
+
+    /// Appends the draft of a change and publishes its version. Where that fails it is paid for nothing.
+    fn append<R: Wait>(
+        &mut self,
+        rt: &R,
+        draft: Draft,
+        bytes: usize,
+    ) -> Result<VersionToken<N>, SubmitError>
+        requires { (change : Change) × IsDraft self.old.size self.old.changes change draft }
+        ensures { (change : Change) → IsDraft self.old.size self.old.changes change draft
+            → Submits self.old change result self.new }
+    {
+        let mut after = Budget::new(self.budget.left());
+        after.pay(bytes);
+        let token = append_draft(
             rt,
             self.alloc,
             &self.published,
             &mut self.history,
             &mut self.versions,
-            change,
-        )
+            draft,
+            &mut after,
+        );
+        if token.is_ok() {
+            self.budget = after;
+        }
+        token
     }
 
     /// How much the document may hold, which never changes.
@@ -245,6 +293,12 @@ impl<'p, N: Naming, S: Sink<Item<N>>> Core<'p, N, S> {
         ensures { slice_get self.now.versions (length self.now.changes) ≡ Some result }
     {
         self.versions[self.history.len()].again()
+    }
+
+    /// How many bytes the changes and the versions have taken, by what was paid for them. What a refused change was
+    /// paid for is given back.
+    pub fn taken_bytes(&self) -> u64 {
+        u64::MAX - self.budget.left()
     }
 
     /// How much there is of it.

@@ -5,4 +5,5 @@
 pub mod counts;
 pub mod error;
 pub mod hub;
+pub mod memory;
 pub mod run;

@@ -25,6 +25,8 @@ pub struct SessionOptions {
     pub hub: Option<HubId>,
     /// By how much a counter of a change may be above all accepted ones; None for however much.
     pub counter_jump: Option<u64>,
+    /// How many bytes the document may take, with all its versions; None for as many as there are.
+    pub memory: Option<u64>,
     /// What it may have accepted in all.
     pub limits: SessionLimits,
 }
@@ -100,12 +102,14 @@ impl SessionOptions {
         ensures reads { result.reads ≡ reads }
         ensures hub { result.hub ≡ None }
         ensures jump { result.counter_jump ≡ None }
+        ensures memory { result.memory ≡ None }
         ensures limits { result.limits ≡ record { changes = None; subscribers = None; bytes = None } }
     {
         SessionOptions {
             reads,
             hub: None,
             counter_jump: None,
+            memory: None,
             limits: SessionLimits::none(),
         }
     }

@@ -1,7 +1,9 @@
 -- A hub that starts again from what a log keeps.
-use Rattle.std.specs.Prelude.{◌≡◌, List, [], ◌∷◌, Ok}
-use Rattle.change_ops.specs.Changes.{Change}
+use Rattle.std.specs.Prelude.{◌≡◌, ℕ, List, [], ◌∷◌, map, Ok}
+use Rattle.std.specs.List.{AllByRecursion}
+use Rattle.change_ops.specs.Changes.{Change, IsChange}
 use Rattle.change_ops.specs.declared.size.Size.{Size}
+use Rattle.change_ops.specs.Spelling.{change_text}
 use Rattle.core_history.specs.Shares.{accepted_count}
 use Rattle.core_history.specs.Hubs.{Seen}
 use Rattle.ingest_workers.specs.Holdings.{Ingests}
@@ -12,3 +14,9 @@ abbrev pub AreIngested : Size → Seen → List Change → Seen → Type 0
 AreIngested size v [] w = w ≡ v
 AreIngested size v (change ∷ changes) w =
     (u : Seen) × Ingests size v change (Ok (accepted_count u)) u × AreIngested size u changes w
+
+-- whichever changes these are the texts of, they were accepted in this way
+abbrev pub AreRestored : Size → Seen → List (List ℕ) → Seen → Type 0
+AreRestored size v texts w =
+    (changes : List Change) → texts ≡ map change_text changes → AllByRecursion IsChange changes
+    → AreIngested size v changes w

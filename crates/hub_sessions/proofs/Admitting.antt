@@ -1,15 +1,18 @@
 -- What is left to a session, and what a change may be compared with.
-use Rattle.std.proofs.Common.{◌≡◌, ℕ, ◌+◌, ◌&&◌, Option, None, sym, ap, ◌∙◌}
+use Rattle.std.proofs.Common.{◌≡◌, ℕ, ◌+◌, ◌&&◌, Option, None, Some, Result, Ok, Err, sym, ap, ◌∙◌}
+use Rattle.std.specs.Prelude.{IfErr}
 use Rattle.change_ops.specs.Changes.{Change}
 use Rattle.change_ops.specs.declared.size.Size.{Size}
 use Rattle.change_counters.specs.Counters.{greatest_counter, line_above}
 use Rattle.change_history.specs.Accepted.{operations_of}
 use Rattle.hub_requests.specs.Limits.{has_room, less, takes_change, after_change}
 use Rattle.hub_requests.specs.declared.limits.SessionLimits.{SessionLimits}
+use Rattle.hub_requests.specs.declared.limits.SessionOptions.{SessionOptions}
 use Rattle.core_history.specs.Hubs.{Seen}
 use Rattle.ingest_workers.specs.Calls.{IsLook}
 use Rattle.ingest_workers.proofs.Calls.{look_also}
-use Rattle.hub_sessions.specs.Submitting.{jump_line}
+use Rattle.refusals.specs.declared.reason.Reason.{Reason}
+use Rattle.hub_sessions.specs.Submitting.{IsNotAdmitted, jump_line}
 
 -- where bytes have no limit, their number doesn't matter
 pub uncounted : (left : SessionLimits) (n m : ℕ) → left.bytes ≡ None → takes_change left n ≡ takes_change left m
@@ -27,3 +30,10 @@ pub found_jump : (size : Size) (v w : Seen) (jump greatest : ℕ) (change : Chan
 found_jump size v w jump greatest change line look is =
     look_also size v w (λ s. greatest ≡ greatest_counter (operations_of s.changes)) (λ s. jump_line jump s.changes change ≡ line)
     (λ s found. ap (λ n. line_above (n + jump) change) (sym found) ∙ sym is) look
+
+-- why a change is refused whose counters may not be further above all accepted ones than the options say
+pub at_options : {T : Type 0} (size : Size) (v w : Seen) (options : SessionOptions) (jump : ℕ) (change : Change) (r : Result T Reason) → options.counter_jump ≡ Some jump
+    → IfErr r (λ why. (o : SessionOptions) (left : SessionLimits) → o.counter_jump ≡ Some jump → IsNotAdmitted size v w o change left why)
+    → IfErr r (λ why. (left : SessionLimits) → IsNotAdmitted size v w options change left why)
+at_options size v w options jump change (Ok x) is known = tt
+at_options size v w options jump change (Err why) is known = λ left. known options left is

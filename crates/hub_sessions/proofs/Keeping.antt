@@ -8,6 +8,7 @@ use Rattle.change_history.specs.declared.refusal.SubmitError.{SubmitError}
 use Rattle.change_keeping.specs.Kept.{Kept, IsStored, IsUnkept, IsKeptAs}
 use Rattle.hub_requests.specs.Limits.{after_change}
 use Rattle.hub_requests.specs.declared.limits.SessionLimits.{SessionLimits}
+use Rattle.hub_requests.specs.declared.limits.SessionOptions.{SessionOptions}
 use Rattle.core_history.specs.Shares.{accepted_count}
 use Rattle.core_history.specs.Hubs.{Seen}
 use Rattle.ingest_workers.specs.Holdings.{Ingests}
@@ -79,24 +80,24 @@ pub not_accepted_still : (size : Size) (v w : Seen) (kept : Kept) (stores stores
 not_accepted_still size v w kept stores stores' change why same is = subst (λ (b : Bool). IsNotAccepted size v w kept b change why) same is
 
 -- what is answered of a change that the session may not submit
-pub turned_away : (size : Size) (v w : Seen) (kept : Kept) (stores : Bool) (jump : Option ℕ) (change : Change) (left : SessionLimits) (why : Reason) → IsNotAdmitted size v w jump change left why
-    → Submits size v w kept stores jump change left (reply.Refused why) left
-turned_away size v w kept stores jump change left why not = (refl, inl not)
+pub turned_away : (size : Size) (v w : Seen) (kept : Kept) (stores : Bool) (options : SessionOptions) (change : Change) (left : SessionLimits) (why : Reason) → IsNotAdmitted size v w options change left why
+    → Submits size v w kept stores options change left (reply.Refused why) left
+turned_away size v w kept stores options change left why not = (refl, inl not)
 
 -- of one that is not kept
-pub not_kept : (size : Size) (v w : Seen) (kept : Kept) (stores : Bool) (jump : Option ℕ) (change : Change) (left : SessionLimits) (why : Reason) → IsAdmitted size v w jump change left
-    → ((any : Size) (u : Seen) → IsNotAccepted any u u kept stores change why) → Submits size v w kept stores jump change left (reply.Refused why) left
-not_kept size v w kept stores jump change left why admitted not = (refl, inr (w, admitted, not size w))
+pub not_kept : (size : Size) (v w : Seen) (kept : Kept) (stores : Bool) (options : SessionOptions) (change : Change) (left : SessionLimits) (why : Reason) → IsAdmitted size v w options.counter_jump change left
+    → ((any : Size) (u : Seen) → IsNotAccepted any u u kept stores change why) → Submits size v w kept stores options change left (reply.Refused why) left
+not_kept size v w kept stores options change left why admitted not = (refl, inr (w, admitted, not size w))
 
 -- of one that is not shown
-pub not_shown : (size : Size) (v u w : Seen) (kept : Kept) (stores stores' : Bool) (jump : Option ℕ) (change : Change) (left : SessionLimits) (why : Reason) → IsAdmitted size v u jump change left → stores' ≡ stores
-    → IsNotAccepted size u w kept stores' change why → Submits size v w kept stores jump change left (reply.Refused why) left
-not_shown size v u w kept stores stores' jump change left why admitted same not =
+pub not_shown : (size : Size) (v u w : Seen) (kept : Kept) (stores stores' : Bool) (options : SessionOptions) (change : Change) (left : SessionLimits) (why : Reason) → IsAdmitted size v u options.counter_jump change left → stores' ≡ stores
+    → IsNotAccepted size u w kept stores' change why → Submits size v w kept stores options change left (reply.Refused why) left
+not_shown size v u w kept stores stores' options change left why admitted same not =
     (refl, inr (u, admitted, not_accepted_still size u w kept stores stores' change why same not))
 
 -- and of one that is shown
-pub shown : (size : Size) (v u w : Seen) (kept : Kept) (stores stores' : Bool) (jump : Option ℕ) (change : Change) (number : ℕ) (left left' : SessionLimits) → IsAdmitted size v u jump change left → stores' ≡ stores
+pub shown : (size : Size) (v u w : Seen) (kept : Kept) (stores stores' : Bool) (options : SessionOptions) (change : Change) (number : ℕ) (left left' : SessionLimits) → IsAdmitted size v u options.counter_jump change left → stores' ≡ stores
     → (accepted_count w ≤ number) × Ingests size u change (Ok number) w × IsKeptIf kept stores' number change → left' ≡ after_change left (length (change_text change))
-    → Submits size v w kept stores jump change left (reply.Version number) left'
-shown size v u w kept stores stores' jump change number left left' admitted same is spent =
+    → Submits size v w kept stores options change left (reply.Version number) left'
+shown size v u w kept stores stores' options change number left left' admitted same is spent =
     (u, admitted, is.1, is.0, spent, kept_if_still kept stores stores' change number same is.2)

@@ -14,6 +14,7 @@ use Rattle.core_history.specs.Runs.{CoreCall, CoreReply, called}
 use Rattle.core_history.specs.declared.entry.Call.TheVariants as call
 use Rattle.hub_requests.specs.declared.identity.HubId.{HubId}
 use Rattle.hub_requests.specs.declared.limits.SessionLimits.{SessionLimits}
+use Rattle.hub_requests.specs.declared.limits.SessionOptions.{SessionOptions}
 use Rattle.refusals.specs.declared.reason.Reason.{Reason}
 use Rattle.refusals.specs.declared.reason.Reason.TheVariants as reason
 use Rattle.session_lines.specs.declared.query.Query.{Query}
@@ -32,7 +33,7 @@ use Rattle.ingest_workers.specs.Calls.{IsCall, IsLook, Makes}
 use Rattle.ingest_workers.specs.Holdings.{Ingests}
 use Rattle.ingest_workers.proofs.Calls.{makes_same, makes_call, makes_look, makes_then}
 use Rattle.hub_restoring.specs.Restoring.{AreIngested}
-use Rattle.hub_sessions.specs.Submitting.{IsInReach, IsNotAdmitted, IsNotAccepted, Submits}
+use Rattle.hub_sessions.specs.Submitting.{IsInReach, LeapsAt, IsNotAdmitted, IsNotAccepted, Submits}
 use Rattle.hub_sessions.specs.Sessions.{SessionState, Exchange, Answers, Meets, IsAnswered, after, Follow, FallsShort, IsUnread, Ends, ClosesAll, IsSession}
 use Rattle.hub_sessions.specs.declared.conversation.SessionFault.{SessionFault}
 use Rattle.hub_sessions.specs.declared.conversation.SessionFault.TheVariants as fault
@@ -68,12 +69,15 @@ module _ (size : Size) where
   in_reach v w None change is = none_made v w is
   in_reach v w (Some jump) change is = looked v w _ is
 
-  not_admitted : (v w : Seen) (jump : Option ℕ) (change : Change) (left : SessionLimits) (why : Reason) → IsNotAdmitted size v w jump change left why → MakesSome size v w
-  not_admitted v w None change left (reason.Unread (reading.Limit line)) is = absurd is
-  not_admitted v w (Some jump) change left (reason.Unread (reading.Limit line)) is = looked v w _ is
-  not_admitted v w jump change left (reason.Unaccepted error) is = in_reach v w jump change is.0
-  not_admitted v w jump change left reason.OutOfMemory is = in_reach v w jump change is.0
-  not_admitted v w jump change left _ is = absurd is
+  leaps : (v w : Seen) (jump : Option ℕ) (change : Change) (line : ℕ) → LeapsAt size v w jump change line → MakesSome size v w
+  leaps v w None change line is = absurd is
+  leaps v w (Some jump) change line is = looked v w _ is
+
+  not_admitted : (v w : Seen) (options : SessionOptions) (change : Change) (left : SessionLimits) (why : Reason) → IsNotAdmitted size v w options change left why → MakesSome size v w
+  not_admitted v w options change left (reason.Unread (reading.Limit line)) is = leaps v w options.counter_jump change line is
+  not_admitted v w options change left (reason.Unaccepted error) is = in_reach v w options.counter_jump change is.0
+  not_admitted v w options change left reason.OutOfMemory is = in_reach v w options.counter_jump change is.0
+  not_admitted v w options change left _ is = absurd is
 
   not_accepted : (v w : Seen) (kept : Kept) (stores : Bool) (change : Change) (why : Reason) → IsNotAccepted size v w kept stores change why → MakesSome size v w
   not_accepted v w kept true change (reason.Unaccepted error) is = none_made v w is.1
@@ -81,14 +85,14 @@ module _ (size : Size) where
   not_accepted v w kept stores change reason.StoreFailed is = elim is.1 [ inl same ↦ none_made v w same | inr shown ↦ ingests_make v w change shown.0 shown.1 ]
   not_accepted v w kept stores change _ is = absurd is
 
-  submits_make : (v w : Seen) (kept : Kept) (stores : Bool) (jump : Option ℕ) (change : Change) (left : SessionLimits) (answer : Reply) (left' : SessionLimits) → Submits size v w kept stores jump change left answer left' → MakesSome size v w
-  submits_make v w kept stores jump change left (reply.Version number) left' is = then_made v is.0 w (in_reach v is.0 jump change is.1.0) (ingests_make is.0 w change (Ok number) is.2)
-  submits_make v w kept stores jump change left (reply.Refused why) left' is =
+  submits_make : (v w : Seen) (kept : Kept) (stores : Bool) (options : SessionOptions) (change : Change) (left : SessionLimits) (answer : Reply) (left' : SessionLimits) → Submits size v w kept stores options change left answer left' → MakesSome size v w
+  submits_make v w kept stores options change left (reply.Version number) left' is = then_made v is.0 w (in_reach v is.0 options.counter_jump change is.1.0) (ingests_make is.0 w change (Ok number) is.2)
+  submits_make v w kept stores options change left (reply.Refused why) left' is =
       elim is.1 [
-        | inl not ↦ not_admitted v w jump change left why not
-        | inr not ↦ then_made v not.0 w (in_reach v not.0 jump change not.1.0) (not_accepted not.0 w kept stores change why not.2)
+        | inl not ↦ not_admitted v w options change left why not
+        | inr not ↦ then_made v not.0 w (in_reach v not.0 options.counter_jump change not.1.0) (not_accepted not.0 w kept stores change why not.2)
       ]
-  submits_make v w kept stores jump change left _ left' is = absurd is
+  submits_make v w kept stores options change left _ left' is = absurd is
 
   -- subscribers
   refused_for : (v w : Seen) (bytes : List ℕ) (first : Option ℕ) (error : _) → IsRefusedFor size v w bytes first error → MakesSome size v w
@@ -144,30 +148,30 @@ module _ (size : Size) where
   counts_make v w node (reply.Refused (reason.Unread (reading.Limit line))) is = none_made v w is.2
   counts_make v w node _ is = absurd is
 
-  tells_make : (v w : Seen) (id : Option HubId) (query : Query) (text : List ℕ) (answer : Reply) → Tells size v w id query text answer → MakesSome size v w
-  tells_make v w id Latest text (reply.Latest number) is = looked v w _ is.0
-  tells_make v w id Latest text _ is = absurd is
-  tells_make v w id Left text (reply.Left left) is = looked v w _ is.0
-  tells_make v w id Left text _ is = absurd is
-  tells_make v w id Hub text answer is = none_made v w is.2
-  tells_make v w id Stats text (reply.Stats stats) is = looked v w _ is.0
-  tells_make v w id Stats text _ is = absurd is
-  tells_make v w id (Show number first most) text answer is = shows_make v w number first most text answer is
-  tells_make v w id (Changes from most) text answer is = lists_make v w from most text answer is
-  tells_make v w id (Newest node) text answer is = counts_make v w node answer is.0
+  tells_make : (v w : Seen) (id : Option HubId) (memory : Option ℕ) (query : Query) (text : List ℕ) (answer : Reply) → Tells size v w id memory query text answer → MakesSome size v w
+  tells_make v w id memory Latest text (reply.Latest number) is = looked v w _ is.0
+  tells_make v w id memory Latest text _ is = absurd is
+  tells_make v w id memory Left text (reply.Left left) is = looked v w _ is.0
+  tells_make v w id memory Left text _ is = absurd is
+  tells_make v w id memory Hub text answer is = none_made v w is.2
+  tells_make v w id memory Stats text (reply.Stats stats) is = looked v w _ is.0
+  tells_make v w id memory Stats text _ is = absurd is
+  tells_make v w id memory (Show number first most) text answer is = shows_make v w number first most text answer is
+  tells_make v w id memory (Changes from most) text answer is = lists_make v w from most text answer is
+  tells_make v w id memory (Newest node) text answer is = counts_make v w node answer is.0
 
-  reads_make : (v w : Seen) (reads : Bool) (id : Option HubId) (query : Query) (text : List ℕ) (answer : Reply) → Reads size v w reads id query text answer → MakesSome size v w
-  reads_make v w true id query text (reply.Refused reason.OutOfMemory) is = ([], is.1)
-  reads_make v w true id query text answer is = tells_make v w id query text answer is
-  reads_make v w false id query text answer is = none_made v w is.2
+  reads_make : (v w : Seen) (reads : Bool) (id : Option HubId) (memory : Option ℕ) (query : Query) (text : List ℕ) (answer : Reply) → Reads size v w reads id memory query text answer → MakesSome size v w
+  reads_make v w true id memory query text (reply.Refused reason.OutOfMemory) is = ([], is.1)
+  reads_make v w true id memory query text answer is = tells_make v w id memory query text answer is
+  reads_make v w false id memory query text answer is = none_made v w is.2
 
 module _ (size : Size) (kept : Kept) where
   answers_make : (request : SessionRequest) (s : SessionState size kept) (out out' : List ℕ) (answer : Reply) (s' : SessionState size kept) → Answers request s out out' answer s' → MakesSome size s.share s'.share
-  answers_make (asked.Change change) s out out' answer s' is = submits_make size s.share s'.share kept s.stores s.options.counter_jump change s.left answer s'.left is.0
+  answers_make (asked.Change change) s out out' answer s' is = submits_make size s.share s'.share kept s.stores s.options change s.left answer s'.left is.0
   answers_make (asked.Subscribe profile capacity program first) s out out' answer s' is = adds_make size s.share s'.share profile capacity program.items first s.left s.held answer s'.left s'.held is.0
   answers_make (asked.Pull id count) s out out' answer s' is = pulls_make size s.share s'.share s.options.reads id count s.held s'.held out out' answer is.0
   answers_make (asked.Close id) s out out' answer s' is = closes_make size s.share s'.share s.held id answer s'.held is.0
-  answers_make (asked.Read query) s out out' answer s' is = reads_make size s.share s'.share s.options.reads s.options.hub query is.0 answer is.2
+  answers_make (asked.Read query) s out out' answer s' is = reads_make size s.share s'.share s.options.reads s.options.hub s.options.memory query is.0 answer is.2
 
   pub meets_make : (came : Next) (s : SessionState size kept) (out out' : List ℕ) (answer : Reply) (s' : SessionState size kept) → Meets came s out out' answer s' → MakesSome size s.share s'.share
   meets_make (next.Request request) s out out' answer s' is = answers_make request s out out' answer s' is

@@ -57,7 +57,7 @@ session_state size kept stores share held left options =
 abbrev pub Answers : {size : Size} {kept : Kept} → SessionRequest → SessionState size kept → List ℕ → List ℕ → Reply
     → SessionState size kept → Type 0
 Answers {size} {kept} (asked.Change change) s out out' answer s' =
-    Submits size s.share s'.share kept s.stores s.options.counter_jump change s.left answer s'.left
+    Submits size s.share s'.share kept s.stores s.options change s.left answer s'.left
     × (s'.held ≡ s.held) × (out' ≡ out) × (s'.options ≡ s.options) × (s'.stores ≡ s.stores)
 Answers {size} (asked.Subscribe profile capacity program first) s out out' answer s' =
     Adds size s.share s'.share profile capacity program.items first s.left s.held answer s'.left s'.held
@@ -70,7 +70,7 @@ Answers {size} (asked.Close id) s out out' answer s' =
     × (out' ≡ out) × (s'.left ≡ s.left) × (s'.options ≡ s.options) × (s'.stores ≡ s.stores)
 Answers {size} (asked.Read query) s out out' answer s' =
     (text : List ℕ) × (out' ≡ out ++ text)
-    × Reads size s.share s'.share s.options.reads s.options.hub query text answer
+    × Reads size s.share s'.share s.options.reads s.options.hub s.options.memory query text answer
     × (s' ≡ record s { share = s'.share })
 
 -- a request is answered, or what is none is refused and changes nothing

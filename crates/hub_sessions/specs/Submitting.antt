@@ -13,6 +13,7 @@ use Rattle.change_history.specs.declared.refusal.SubmitError.TheVariants as subm
 use Rattle.change_keeping.specs.Kept.{Kept, IsStored, IsUnkept}
 use Rattle.hub_requests.specs.Limits.{takes_change, after_change}
 use Rattle.hub_requests.specs.declared.limits.SessionLimits.{SessionLimits}
+use Rattle.hub_requests.specs.declared.limits.SessionOptions.{SessionOptions}
 use Rattle.core_history.specs.Shares.{accepted_count}
 use Rattle.core_history.specs.Hubs.{Seen}
 use Rattle.ingest_workers.specs.Calls.{IsLook}
@@ -50,16 +51,17 @@ abbrev pub IsKeptIf : Kept → Bool → ℕ → Change → Type 0
 IsKeptIf kept true number change = IsStored kept number (change_text change)
 IsKeptIf kept false number change = ⊤
 
--- why the session may not submit it: a counter is too far above all accepted ones; the session has no room left for it,
--- which is told as a full history is; or no memory was found for its text, whose bytes are looked at only where they
--- have a limit
-abbrev pub IsNotAdmitted : Size → Seen → Seen → Option ℕ → Change → SessionLimits → Reason → Type 0
-IsNotAdmitted size v w jump change left (reason.Unread (reading.Limit line)) = LeapsAt size v w jump change line
-IsNotAdmitted size v w jump change left (reason.Unaccepted error) =
-    IsInReach size v w jump change × IsFalse (has_share left change) × (error ≡ submit.HistoryFull)
-IsNotAdmitted size v w jump change left reason.OutOfMemory =
-    IsInReach size v w jump change × (¬ (left.bytes ≡ None))
-IsNotAdmitted size v w jump change left _ = ⊥
+-- why the session may not submit it: a counter is too far above all accepted ones; the session has no room left for
+-- it, which is told as a full history is; no memory was found for its text, whose bytes are looked at only where they
+-- have a limit; or the document's memory has a limit, and may not be enough
+abbrev pub IsNotAdmitted : Size → Seen → Seen → SessionOptions → Change → SessionLimits → Reason → Type 0
+IsNotAdmitted size v w options change left (reason.Unread (reading.Limit line)) =
+    LeapsAt size v w options.counter_jump change line
+IsNotAdmitted size v w options change left (reason.Unaccepted error) =
+    IsInReach size v w options.counter_jump change × IsFalse (has_share left change) × (error ≡ submit.HistoryFull)
+IsNotAdmitted size v w options change left reason.OutOfMemory =
+    IsInReach size v w options.counter_jump change × ((¬ (left.bytes ≡ None)) ⊎ (¬ (options.memory ≡ None)))
+IsNotAdmitted size v w options change left _ = ⊥
 
 -- the hub refused it, by the one call that was made; with a store, what keeps its changes did, and no call was made
 abbrev pub IsRefusedBy : Size → Seen → Seen → Kept → Bool → Change → SubmitError → Type 0
@@ -78,20 +80,21 @@ IsNotAccepted size v w kept stores change reason.StoreFailed =
     IsTrue stores × ((w ≡ v) ⊎ IsMisshown size v w change)
 IsNotAccepted size v w kept stores change _ = ⊥
 
-abbrev pub IsNotSubmitted : Size → Seen → Seen → Kept → Bool → Option ℕ → Change → SessionLimits → Reason → Type 0
-IsNotSubmitted size v w kept stores jump change left why =
-    IsNotAdmitted size v w jump change left why
-    ⊎ ((u : Seen) × IsAdmitted size v u jump change left × IsNotAccepted size u w kept stores change why)
+abbrev pub IsNotSubmitted : Size → Seen → Seen → Kept → Bool → SessionOptions → Change → SessionLimits → Reason → Type 0
+IsNotSubmitted size v w kept stores options change left why =
+    IsNotAdmitted size v w options change left why
+    ⊎ ((u : Seen) × IsAdmitted size v u options.counter_jump change left
+    × IsNotAccepted size u w kept stores change why)
 
 -- a change is submitted to the hub, which is of this size, by the one call that the share makes, and its number told,
 -- which is no less than the number of the share's own accepted changes; with a store it is kept before; or it is
 -- refused, and what the session has stays
-abbrev pub Submits : Size → Seen → Seen → Kept → Bool → Option ℕ → Change → SessionLimits → Reply → SessionLimits
+abbrev pub Submits : Size → Seen → Seen → Kept → Bool → SessionOptions → Change → SessionLimits → Reply → SessionLimits
     → Type 0
-Submits size v w kept stores jump change left (reply.Version number) left' =
-    (u : Seen) × IsAdmitted size v u jump change left × Ingests size u change (Ok number) w
+Submits size v w kept stores options change left (reply.Version number) left' =
+    (u : Seen) × IsAdmitted size v u options.counter_jump change left × Ingests size u change (Ok number) w
     × (accepted_count w ≤ number) × (left' ≡ after_change left (length (change_text change)))
     × IsKeptIf kept stores number change
-Submits size v w kept stores jump change left (reply.Refused why) left' =
-    (left' ≡ left) × IsNotSubmitted size v w kept stores jump change left why
-Submits size v w kept stores jump change left _ left' = ⊥
+Submits size v w kept stores options change left (reply.Refused why) left' =
+    (left' ≡ left) × IsNotSubmitted size v w kept stores options change left why
+Submits size v w kept stores options change left _ left' = ⊥

@@ -175,6 +175,7 @@ fn answer<
             hub.published,
             hub.options.reads,
             hub.options.hub,
+            hub.options.memory,
             query,
         )),
     }

@@ -1,5 +1,5 @@
 //! The changes that a session submits.
-ghost use Rattle.std.specs.Prelude.{◌≡◌, ◌≤◌, None, Some, Ok, IfOk, IfErr, OnOk, OnErr, length};
+ghost use Rattle.std.specs.Prelude.{◌≡◌, ◌≤◌, None, Some, Ok, IfOk, IfErr, OnOk, OnErr, false, length};
 ghost use Rattle.change_ops.specs.declared.size.Size.{Size};
 ghost use Rattle.change_ops.specs.Spelling.{change_text};
 ghost use Rattle.core_history.specs.Shares.{accepted_count};
@@ -7,6 +7,7 @@ ghost use Rattle.core_history.specs.Hubs.{Seen};
 ghost use Rattle.ingest_workers.specs.Holdings.{Ingests};
 ghost use Rattle.hub_requests.specs.Limits.{takes_change, after_change};
 ghost use Rattle.hub_requests.specs.declared.limits.SessionLimits.{SessionLimits as Limits};
+ghost use Rattle.hub_requests.specs.declared.limits.SessionOptions.{SessionOptions as Options};
 ghost use Rattle.refusals.specs.declared.reason.Reason.TheVariants as reason;
 ghost use Rattle.change_keeping.specs.Kept.{IsKeptAs};
 ghost use Rattle.hub_sessions.specs.Submitting.{IsInReach, IsAdmitted, IsNotAdmitted, IsNotAccepted, Submits};
@@ -58,8 +59,8 @@ fn check_jump<N: Naming + HistoryNaming + Ledger, R: Wait + Copy>(
     change: &Change,
 ) -> Result<(), Reason>
     ensures ok { OnOk result (IsInReach N.size share.old share.new (Some jump) change.now) }
-    ensures err { IfErr result (λ why. (left : Limits)
-        → IsNotAdmitted N.size share.old share.new (Some jump) change.now left why) }
+    ensures err { IfErr result (λ why. (options : Options) (left : Limits) → options.counter_jump ≡ Some jump
+        → IsNotAdmitted N.size share.old share.new options change.now left why) }
 {
     let greatest = hub.hub.greatest_counter(&hub.rt, share);
     match first_jump(change, greatest, jump) {
@@ -76,11 +77,23 @@ fn check_counters<N: Naming + HistoryNaming + Ledger, R: Wait + Copy>(
 ) -> Result<(), Reason>
     ensures ok { OnOk result (IsInReach N.size share.old share.new hub.now.options.counter_jump change.now) }
     ensures err { IfErr result (λ why. (left : Limits)
-        → IsNotAdmitted N.size share.old share.new hub.now.options.counter_jump change.now left why) }
+        → IsNotAdmitted N.size share.old share.new hub.now.options change.now left why) }
 {
     match hub.options.counter_jump {
         None => Ok(()),
         Some(jump) => check_jump(hub, share, jump, change),
+    }
+}
+
+/// Whether the document may take the memory of the session's change, which is counted, and of all others under way.
+fn has_memory<N: Naming + HistoryNaming + Ledger, R: Wait + Copy>(
+    hub: &SessionHub<'_, '_, N, R>,
+) -> bool
+    ensures { result ≡ false → ¬ (hub.now.options.memory ≡ None) }
+{
+    match hub.options.memory {
+        None => true,
+        Some(limit) => hub.hub.has_memory(&hub.rt, limit),
     }
 }
 
@@ -97,17 +110,19 @@ fn admit<N: Naming + HistoryNaming + Ledger, R: Wait + Copy>(
         ≡ takes_change left (length (change_text change.now))) }
     ensures after { IfOk result (λ bytes. after_change left bytes
         ≡ after_change left (length (change_text change.now))) }
-    ensures err { IfErr result (IsNotAdmitted N.size share.old share.new hub.now.options.counter_jump change.now left) }
+    ensures err { IfErr result (IsNotAdmitted N.size share.old share.new hub.now.options change.now left) }
 {
     check_counters(hub, share, change)?;
     let Ok(bytes) = counted_bytes(hub.alloc, left, change) else {
         return Err(Reason::OutOfMemory);
     };
-    if left.takes_change(bytes) {
-        Ok(bytes)
-    } else {
-        Err(Reason::Unaccepted(SubmitError::HistoryFull))
+    if !left.takes_change(bytes) {
+        return Err(Reason::Unaccepted(SubmitError::HistoryFull));
     }
+    if !has_memory(hub) {
+        return Err(Reason::OutOfMemory);
+    }
+    Ok(bytes)
 }
 
 /// Has a change kept, where there is a store, before it is shown. It answers its number among all that are kept.
@@ -181,10 +196,12 @@ pub(crate) fn submit<N: Naming + HistoryNaming + Ledger, R: Wait + Copy, K: Keep
     left: &mut SessionLimits,
     change: Change,
 ) -> Reply
-    ensures submits { Submits N.size share.old share.new K.kept (K.stores keeper.old) hub.now.options.counter_jump
+    ensures submits { Submits N.size share.old share.new K.kept (K.stores keeper.old) hub.now.options
         change left.old result left.new }
     ensures same { K.stores keeper.new ≡ K.stores keeper.old }
 {
+    // It is under way until it is shown or refused.
+    let _counted = hub.hub.begin_change();
     let bytes = match admit(hub, share, *left, &change) {
         Ok(bytes) => bytes,
         Err(why) => return Reply::Refused(why),

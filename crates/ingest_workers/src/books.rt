@@ -117,11 +117,11 @@ impl<'p, N: Naming + HistoryNaming + Ledger, R: Wait + Copy> Books<'p, N, R> {
         if is_full {
             return Err(share.refuse_submit(&mut self.recorded, &self.board, &change));
         }
-        let Ok(text) = next_text(self.alloc, &mut self.texts, &change) else {
+        let Ok((text, kept)) = next_text(self.alloc, &mut self.texts, &change) else {
             return Err(share.refuse_submit(&mut self.recorded, &self.board, &change));
         };
         let greatest = greatest_with(self.greatest, &change);
-        let token = share.submit(&mut self.recorded, rt, &self.board, change);
+        let token = share.submit(&mut self.recorded, rt, &self.board, change, kept);
         self.recorded.core().stays_consistent();
         let token = token?;
         self.texts.push_reserved(text);
@@ -135,6 +135,11 @@ impl<'p, N: Naming + HistoryNaming + Ledger, R: Wait + Copy> Books<'p, N, R> {
         ensures sight { IsSight N.size share.old self.old.core share.new }
     {
         share.look(&mut self.recorded, &self.board);
+    }
+
+    /// How many bytes the changes and the versions have taken.
+    pub fn taken_bytes(&self) -> u64 {
+        self.recorded.core().taken_bytes()
     }
 
     /// Whether as many subscribers were added, closed ones counted, or are open, as the size allows.

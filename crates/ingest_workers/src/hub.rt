@@ -16,8 +16,8 @@ ghost use Rattle.ingest_workers.specs.Sending.{IsOwnSubscriber, Sends};
 
 use crate::books::Books;
 use crate::kept::Kept;
-use crate::open_sessions::{OpenSession, OpenSessions};
 use crate::turns::{Turn, Turns};
+use crate::under_way::{Counted, UnderWay};
 use call_history::knowledge::HistoryNaming;
 use change_log::text::ChangeText;
 use change_ops::size::Size;
@@ -30,6 +30,7 @@ use feeds::item::Job;
 use hub_core::counts::Counts;
 use hub_core::error::{CommitError, NoSubscriber, SubscribeError};
 use hub_core::hub::Core;
+use hub_core::memory::most_bytes;
 use std::alloc::{AllocError, Global};
 use std::sync::ledger::Ledger;
 use std::sync::{Mutex, MutexGuard, Wait};
@@ -44,7 +45,8 @@ pub struct Hub<'p, N: Naming + HistoryNaming + Ledger, R: Wait + Copy> {
     turns: Turns,
     books: Mutex<Books<'p, N, R>>,
     kept: Kept<N>,
-    sessions: OpenSessions,
+    sessions: UnderWay,
+    changes: UnderWay,
 }
 
 /// What lies under a hub's lock, for as long as a turn is held.
@@ -120,7 +122,8 @@ impl<'p, N: Naming + HistoryNaming + Ledger, R: Wait + Copy> Hub<'p, N, R> {
             turns: Turns::new(),
             books: Mutex::new(books),
             kept,
-            sessions: OpenSessions::new(),
+            sessions: UnderWay::new(),
+            changes: UnderWay::new(),
         };
         Ok((hub, given))
     }
@@ -180,13 +183,32 @@ impl<'p, N: Naming + HistoryNaming + Ledger, R: Wait + Copy> Hub<'p, N, R> {
         self.hold(rt).look(share).counts()
     }
 
+    /// How many bytes the changes and the versions have taken, by what was paid for them.
+    pub fn taken_bytes(&self, rt: &R) -> u64 {
+        self.hold(rt).books.taken_bytes()
+    }
+
+    /// Counts a change that a session wants to submit, for as long as what is answered is kept.
+    pub fn begin_change(&self) -> Counted<'_> {
+        self.changes.begin()
+    }
+
+    /// Whether the document, which may take so many bytes in all, may take those of all changes that are under way,
+    /// whatever they touch. So one that is counted first, and then asks, has its memory, whichever comes before it.
+    pub fn has_memory(&self, rt: &R, limit: u64) -> bool {
+        // One that is shown between the two looks is counted twice, and not left out.
+        let changes = self.changes.count();
+        let more = changes.saturating_mul(most_bytes(self.size()));
+        self.taken_bytes(rt).saturating_add(more) <= limit
+    }
+
     /// How many sessions began and didn't end.
     pub fn session_count(&self) -> u64 {
         self.sessions.count()
     }
 
     /// Counts a session for as long as what is answered is kept.
-    pub fn begin_session(&self) -> OpenSession<'_> {
+    pub fn begin_session(&self) -> Counted<'_> {
         self.sessions.begin()
     }
 
@@ -323,6 +345,7 @@ impl<'p, N: Naming + HistoryNaming + Ledger, R: Wait + Copy> Hub<'p, N, R> {
             books,
             kept: _,
             sessions: _,
+            changes: _,
         } = self;
         books.into_inner()
     }

@@ -5,6 +5,6 @@ pub mod books;
 pub mod hub;
 pub mod ingest;
 pub mod kept;
-pub mod open_sessions;
 mod text;
 mod turns;
+pub mod under_way;

@@ -15,18 +15,20 @@ fn text_of(alloc: Global, change: &Change) -> Result<ChangeText, AllocError>
     ChangeText::of(text)
 }
 
-/// The text of a change, once there is room for it behind these.
+/// The text of a change, once there is room for it behind these, and the same text again, which isn't copied.
 pub(crate) fn next_text(
     alloc: Global,
     texts: &mut Vec<ChangeText>,
     change: &Change,
-) -> Result<ChangeText, AllocError>
-    ensures text { IfOk result (λ text. text ≡ change_text change.now) }
+) -> Result<(ChangeText, ChangeText), AllocError>
+    ensures text { IfOk result (λ both. (both.0 ≡ change_text change.now) × (both.1 ≡ change_text change.now)) }
     ensures room { OnOk result (vec_len texts.new < vec_capacity texts.new) }
     ensures same { texts.new.items ≡ texts.old.items }
 {
     texts.reserve(1)?;
-    text_of(alloc, change)
+    let text = text_of(alloc, change)?;
+    let again = text.again()?;
+    Ok((text, again))
 }
 
 /// `most` of these texts from the index `first` on, or as many as there are.

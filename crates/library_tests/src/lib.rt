@@ -3,6 +3,8 @@
 #![tactic(auto)]
 
 #[cfg(test)]
+mod alike_counts;
+#[cfg(test)]
 mod context_layout;
 #[cfg(test)]
 mod cut_changes;

@@ -88,6 +88,13 @@ impl ChosenMarks {
         Ok(())
     }
 
+    /// How many there are.
+    pub fn count(&self) -> usize
+        ensures { result ≡ length self.now.operations }
+    {
+        self.operations.len()
+    }
+
     /// The marks with the places that they cover in the sequence.
     ///
     /// `alloc` is for the lists of the result.

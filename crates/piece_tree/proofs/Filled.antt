@@ -1,6 +1,6 @@
 -- How full nodes are.
-use Rattle.std.proofs.Common.{◌≡◌, ℕ, zero, suc, ◌+◌, ◌<◌, ◌≤◌, List, [], ◌∷◌, ◌++◌, length, take, drop, get_or, sym, ap, subst, arith}
-use Rattle.std.proofs.lemmas.List.{append-nil, length-drop}
+use Rattle.std.proofs.Common.{◌≡◌, ℕ, zero, suc, ◌+◌, ◌*◌, ◌<◌, ◌≤◌, List, [], ◌∷◌, ◌++◌, length, take, drop, get_or, sym, ap, subst, arith}
+use Rattle.std.proofs.lemmas.List.{append-nil, length-drop, length-take}
 use Rattle.std.proofs.Common.{length-append}
 use Rattle.piece_tree.specs.Nodes.{IsSized, IsHalfFull, AreHalfFull, AreFilled, pieces_of}
 
@@ -67,3 +67,34 @@ filled_few {X} (n ∷ []) f =
 filled_few {X} (n ∷ m ∷ ns) f =
     let more : length (m ∷ ns) ≤ length (pieces_of (m ∷ ns)) = filled_few (m ∷ ns) f.1 in
     omega (arith, f.0.0, length-append n (pieces_of (m ∷ ns)))
+
+-- nodes that are half full are few
+pub half_few : {X : Type 0} (ns : List (List X)) → AreHalfFull ns → 16 * length ns ≤ length (pieces_of ns)
+half_few [] h = omega arith
+half_few {X} (n ∷ ns) h = omega (arith, h.0.0, half_few ns h.1, length-append n (pieces_of ns))
+
+-- and so are those of which all but the last are half full
+pub filled_narrow : {X : Type 0} (ns : List (List X)) → AreFilled ns → 16 * length ns < length (pieces_of ns) + 16
+filled_narrow [] f = omega arith
+filled_narrow {X} (n ∷ []) f =
+    let e : length (n ++ []) ≡ length n = ap length (append-nil n) in
+    omega (arith, f.0, e)
+filled_narrow {X} (n ∷ m ∷ ns) f =
+    let more : 16 * length (m ∷ ns) < length (pieces_of (m ∷ ns)) + 16 = filled_narrow (m ∷ ns) f.1 in
+    omega (arith, f.0.0, length-append n (pieces_of (m ∷ ns)))
+
+-- a node has 32 pieces at most, and so have its parts
+pub node_few : {X : Type 0} (ns : List (List X)) (k : ℕ) → AreFilled ns → length (get_or ns k []) ≤ 32
+node_few [] zero f = omega arith
+node_few [] (suc k) f = omega arith
+node_few (n ∷ []) zero f = f.1
+node_few (n ∷ []) (suc zero) f = omega arith
+node_few (n ∷ []) (suc (suc k)) f = omega arith
+node_few (n ∷ m ∷ ns) zero f = f.0.1
+node_few (n ∷ m ∷ ns) (suc k) f = node_few (m ∷ ns) k f.1
+
+pub front_few : {X : Type 0} (ns : List (List X)) (node : List X) (k o : ℕ) → AreFilled ns → node ≡ get_or ns k [] → length (take o node) ≤ 32
+front_few ns node k o f e = omega (arith, node_few ns k f, ap length e, length-take o node)
+
+pub back_few : {X : Type 0} (ns : List (List X)) (node : List X) (k o n : ℕ) → AreFilled ns → node ≡ get_or ns k [] → length (take n (drop o node)) ≤ 32
+back_few ns node k o n f e = omega (arith, node_few ns k f, ap length e, length-take n (drop o node), length-drop o node)

@@ -1,8 +1,10 @@
 //! A node of the tree, which versions share.
-ghost use Rattle.std.specs.Prelude.{◌≡◌, ◌<◌, ◌^◌, IfOk, sum_by};
+ghost use Rattle.std.specs.Prelude.{◌≡◌, ◌<◌, ◌≤◌, ◌-◌, ◌^◌, IfOk, length, sum_by};
+ghost use Rattle.piece_tree.specs.Budgets.{list_bytes};
 ghost use Rattle.piece_tree.specs.Nodes.{AreShort};
 
 use crate::piece::{Measure, Piece};
+use memory_budget::Budget;
 use std::alloc::{AllocError, Global};
 use std::marker::Model;
 use std::sync::Arc;
@@ -12,6 +14,13 @@ pub const FULL: usize = 32;
 
 /// The least that it has, if it isn't the last one.
 pub const HALF: usize = 16;
+
+/// What a counted value with a list takes apart from the list's handles: the value's own allocation and the list's,
+/// each with what the allocator adds to it.
+pub const NODE_BYTES: usize = 96;
+
+/// What a handle in a list takes.
+pub const HANDLE_BYTES: usize = 8;
 
 /// Pieces, with how large they are together. Contracts see the pieces.
 struct Content<T: Piece> {
@@ -94,11 +103,15 @@ impl<T: Piece> Content<T> {
 }
 
 impl<T: Piece> Node<T> {
-    /// A node with these pieces. It is the one way to make a node that others don't have already.
-    pub fn new(alloc: Global, pieces: Vec<T>) -> Result<Node<T>, AllocError>
-        requires { AreShort T.size pieces.items }
-        ensures { IfOk result (λ node. node ≡ pieces.items) }
+    /// A node with these pieces. It is the one way to make a node that others don't have already, and it is paid for:
+    /// the counted value with the sizes, and the list of the pieces' handles.
+    pub fn new(alloc: Global, pieces: Vec<T>, budget: &mut Budget) -> Result<Node<T>, AllocError>
+        requires few { length pieces.items ≤ 32 }
+        requires short { AreShort T.size pieces.items }
+        ensures node { IfOk result (λ node. node ≡ pieces.items) }
+        ensures paid { budget.new ≡ budget.old - list_bytes (length pieces.items) }
     {
+        budget.pay(NODE_BYTES + HANDLE_BYTES * pieces.len());
         let parts = size_of(pieces.as_slice(), Measure::Parts);
         let characters = size_of(pieces.as_slice(), Measure::Characters);
         let content = Content {

@@ -1,13 +1,15 @@
 //! The tree.
 ghost use Rattle.std.specs.Prelude.{◌≡◌, ◌<◌, ◌≤◌, ◌+◌, ◌-◌, ◌^◌, ◌++◌, [], Some, IfOk};
 ghost use Rattle.std.specs.Prelude.{length, take, drop, slice_get, sum_by};
+ghost use Rattle.piece_tree.specs.Budgets.{list_bytes, root_bytes, window_bytes};
 ghost use Rattle.piece_tree.specs.Nodes.{AreFilled, AreShort, pieces_of};
 ghost use Rattle.piece_tree.specs.Spots.{IsReached};
 
-use crate::node::Node;
+use crate::node::{HANDLE_BYTES, NODE_BYTES, Node};
 use crate::piece::{Measure, Piece};
 use crate::spot::{Spot, spot_in};
 use crate::window::{node_reaching, pieces_at, replaced};
+use memory_budget::Budget;
 use std::alloc::{AllocError, Global};
 use std::marker::Model;
 use std::sync::Arc;
@@ -110,18 +112,41 @@ fn size_of_nodes<T: Piece>(nodes: &[Node<T>], measure: Measure) -> usize
 }
 
 impl<T: Piece> PieceTree<T> {
-    /// No piece.
-    pub fn new(alloc: Global) -> Result<PieceTree<T>, AllocError>
-        ensures { IfOk result (λ tree. tree ≡ []) }
+    /// The tree of these nodes. Its root is made anew, and paid for: the counted value with the sizes, and the list of
+    /// the nodes' handles.
+    fn of_nodes(
+        alloc: Global,
+        nodes: Vec<Node<T>>,
+        count: usize,
+        budget: &mut Budget,
+    ) -> Result<PieceTree<T>, AllocError>
+        requires filled { AreFilled nodes.items }
+        requires counted { count ≡ length (pieces_of nodes.items) }
+        requires few { count ≤ 2097152 }
+        requires short { AreShort T.size (pieces_of nodes.items) }
+        ensures pieces { IfOk result (λ tree. tree ≡ pieces_of nodes.items) }
+        ensures paid { budget.new ≡ budget.old - list_bytes (length nodes.items) }
+        ensures spent { budget.old ≤ budget.new + root_bytes count }
     {
+        budget.pay(NODE_BYTES + HANDLE_BYTES * nodes.len());
+        let parts = size_of_nodes(nodes.as_slice(), Measure::Parts);
+        let characters = size_of_nodes(nodes.as_slice(), Measure::Characters);
         let root = Root {
-            nodes: Vec::new(alloc),
-            count: 0,
-            parts: 0,
-            characters: 0,
+            nodes,
+            count,
+            parts,
+            characters,
         };
         let root = Arc::new(alloc, root)?;
         Ok(PieceTree { root })
+    }
+
+    /// No piece.
+    pub fn new(alloc: Global, budget: &mut Budget) -> Result<PieceTree<T>, AllocError>
+        ensures pieces { IfOk result (λ tree. tree ≡ []) }
+        ensures paid { budget.new ≡ budget.old - 96 }
+    {
+        PieceTree::of_nodes(alloc, Vec::new(alloc), 0, budget)
     }
 
     /// The same tree once more: nothing of it is copied.
@@ -175,32 +200,27 @@ impl<T: Piece> PieceTree<T> {
     }
 
     /// The tree with `new` in place of the pieces from `from` up to `to`. Nodes that the window doesn't touch are
-    /// shared.
+    /// shared: what is paid for is the window's nodes and the root.
     pub fn with_window(
         &self,
         alloc: Global,
         from: usize,
         to: usize,
         new: &[T],
+        budget: &mut Budget,
     ) -> Result<PieceTree<T>, AllocError>
         requires order { from ≤ to }
         requires within { to ≤ length self.now }
         requires few { from + length new.now + (length self.now - to) ≤ 2097152 }
         requires short { AreShort T.size (take from self.now ++ (new.now ++ drop to self.now)) }
-        ensures { IfOk result (λ next. next ≡ take from self.now ++ (new.now ++ drop to self.now)) }
+        ensures pieces { IfOk result (λ next. next ≡ take from self.now ++ (new.now ++ drop to self.now)) }
+        ensures spent { budget.old ≤ budget.new + (window_bytes (length new.now)
+            + root_bytes (from + length new.now + (length self.now - to))) }
+        ensures less { budget.new ≤ budget.old }
     {
         self.root.keeps();
         let count = from + new.len() + (self.root.count() - to);
-        let nodes = replaced(alloc, self.root.nodes(), from, to, new)?;
-        let parts = size_of_nodes(nodes.as_slice(), Measure::Parts);
-        let characters = size_of_nodes(nodes.as_slice(), Measure::Characters);
-        let root = Root {
-            nodes,
-            count,
-            parts,
-            characters,
-        };
-        let root = Arc::new(alloc, root)?;
-        Ok(PieceTree { root })
+        let nodes = replaced(alloc, self.root.nodes(), from, to, new, budget)?;
+        PieceTree::of_nodes(alloc, nodes, count, budget)
     }
 }

@@ -1,10 +1,12 @@
 //! A window in a list of nodes.
 ghost use Rattle.std.specs.Prelude.{◌≡◌, ◌<◌, ◌≤◌, ◌+◌, ◌-◌, ◌^◌, ◌⊎◌, ◌++◌, ◌∷◌, [], IfOk, length, take, drop, get_or};
 ghost use Rattle.std.specs.Prelude.{true, false, if◌then◌else◌, sum_by};
+ghost use Rattle.piece_tree.specs.Budgets.{nodes_bytes, window_bytes};
 ghost use Rattle.piece_tree.specs.Nodes.{AreFilled, AreHalfFull, AreShort, pieces_of};
 
 use crate::node::{FULL, HALF, Node};
 use crate::piece::Piece;
+use memory_budget::Budget;
 use std::alloc::{AllocError, Global};
 
 /// Adds the pieces to others, shared.
@@ -71,11 +73,17 @@ fn next_size(rest: usize) -> usize
 }
 
 /// Nodes that have the pieces, as few as they can be, and each at least half full if there are enough pieces.
-pub fn cut<T: Piece>(alloc: Global, pieces: &[T]) -> Result<Vec<Node<T>>, AllocError>
+pub fn cut<T: Piece>(
+    alloc: Global,
+    pieces: &[T],
+    budget: &mut Budget,
+) -> Result<Vec<Node<T>>, AllocError>
     requires { AreShort T.size pieces.now }
     ensures flat { IfOk result (λ nodes. pieces_of nodes.items ≡ pieces.now) }
     ensures filled { IfOk result (λ nodes. AreFilled nodes.items) }
     ensures half { 16 ≤ length pieces.now → IfOk result (λ nodes. AreHalfFull nodes.items) }
+    ensures spent { budget.old ≤ budget.new + nodes_bytes (length pieces.now) }
+    ensures less { budget.new ≤ budget.old }
 {
     let mut nodes = Vec::new(alloc);
     let mut at: usize = 0;
@@ -83,7 +91,7 @@ pub fn cut<T: Piece>(alloc: Global, pieces: &[T]) -> Result<Vec<Node<T>>, AllocE
         let size = next_size(pieces.len() - at);
         let mut part = Vec::with_capacity(alloc, size)?;
         share_all(&pieces[at..at + size], &mut part)?;
-        let node = Node::new(alloc, part)?;
+        let node = Node::new(alloc, part, budget)?;
         add(node, &mut nodes)?;
         at += size;
     }
@@ -105,8 +113,12 @@ fn made_between<T: Piece>(
     new: &[T],
     back: &[T],
     next: &[T],
+    budget: &mut Budget,
 ) -> Result<Made<T>, AllocError>
-    requires { AreShort T.size (front.now ++ (new.now ++ (back.now ++ next.now))) }
+    requires front { length front.now ≤ 32 }
+    requires back { length back.now ≤ 32 }
+    requires next { length next.now ≤ 32 }
+    requires short { AreShort T.size (front.now ++ (new.now ++ (back.now ++ next.now))) }
     ensures flat { IfOk result (λ made. pieces_of made.nodes.items
         ≡ front.now ++ (new.now ++ (back.now ++ (if made.took_next then next.now else [])))) }
     ensures filled { IfOk result (λ made. AreFilled made.nodes.items) }
@@ -114,6 +126,8 @@ fn made_between<T: Piece>(
     ensures half_with_next { IfOk result (λ made. made.took_next ≡ true → 16 ≤ length next.now
         → AreHalfFull made.nodes.items) }
     ensures took_some { IfOk result (λ made. made.took_next ≡ true → 0 < length next.now) }
+    ensures spent { budget.old ≤ budget.new + window_bytes (length new.now) }
+    ensures less { budget.new ≤ budget.old }
 {
     let mut pieces = Vec::new(alloc);
     share_all(front, &mut pieces)?;
@@ -123,7 +137,7 @@ fn made_between<T: Piece>(
     if took_next {
         share_all(next, &mut pieces)?;
     }
-    let nodes = cut(alloc, pieces.as_slice())?;
+    let nodes = cut(alloc, pieces.as_slice(), budget)?;
     Ok(Made { nodes, took_next })
 }
 
@@ -173,6 +187,7 @@ pub fn replaced<T: Piece>(
     from: usize,
     to: usize,
     new: &[T],
+    budget: &mut Budget,
 ) -> Result<Vec<Node<T>>, AllocError>
     requires filled { AreFilled nodes.now }
     requires few { length (pieces_of nodes.now) < 2 ^ 63 }
@@ -182,16 +197,18 @@ pub fn replaced<T: Piece>(
     ensures flat { IfOk result (λ all. pieces_of all.items
         ≡ take from (pieces_of nodes.now) ++ (new.now ++ drop to (pieces_of nodes.now))) }
     ensures filled { IfOk result (λ all. AreFilled all.items) }
+    ensures spent { budget.old ≤ budget.new + window_bytes (length new.now) }
+    ensures less { budget.new ≤ budget.old }
 {
     if nodes.is_empty() {
-        return cut(alloc, new);
+        return cut(alloc, new, budget);
     }
     let first = node_reaching(nodes, from);
     let last = node_reaching(nodes, to);
     let front = &pieces_at(nodes, first.node)[..from - first.start];
     let back = &pieces_at(nodes, last.node)[to - last.start..];
     let next = pieces_at(nodes, last.node + 1);
-    let made = made_between(alloc, front, new, back, next)?;
+    let made = made_between(alloc, front, new, back, next, budget)?;
     let end = if made.took_next {
         last.node + 2
     } else {

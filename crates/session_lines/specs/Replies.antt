@@ -1,5 +1,5 @@
 -- The lines that a session prints, without their LF.
-use Rattle.std.specs.Prelude.{ℕ, List, ◌++◌, codes}
+use Rattle.std.specs.Prelude.{ℕ, List, [], ◌++◌, Option, None, Some, codes}
 use Rattle.std.specs.Fmt.{decimal}
 use Rattle.hex.specs.Hex.{encode_lower}
 use Rattle.refusals.specs.Reasons.{reason_text}
@@ -12,6 +12,7 @@ use Rattle.session_lines.specs.declared.reply.Reply.TheVariants.{Version, Subscr
 use Rattle.session_lines.specs.declared.reply.Reply.TheVariants.{Closed, Latest, Left, Hub, Stats, Spans, Changes}
 use Rattle.session_lines.specs.declared.reply.Reply.TheVariants.{Newest, Refused}
 use Rattle.session_lines.specs.declared.stats.Limits.{Limits}
+use Rattle.session_lines.specs.declared.stats.Memory.{Memory}
 use Rattle.session_lines.specs.declared.stats.PerLimit.{PerLimit}
 use Rattle.session_lines.specs.declared.stats.Stats.{Stats as StatsValue}
 
@@ -44,6 +45,12 @@ limit_stats limits =
     ++ codes " bytes-limit " ++ decimal limits.bytes ++ codes " marks-limit " ++ decimal limits.marks
     ++ codes " subscribers-limit " ++ decimal limits.subscribers ++ codes " open-limit " ++ decimal limits.open_subscribers
 
+-- and of its document's memory, where that has a limit
+abbrev pub memory_stats : Option Memory → List ℕ
+memory_stats None = []
+memory_stats (Some memory) =
+    codes " memory-used " ++ decimal memory.used ++ codes " memory-limit " ++ decimal memory.limit
+
 abbrev pub reply_text : Reply → List ℕ
 reply_text (Version number) = codes "ok version " ++ decimal number
 reply_text (Subscribed id) = codes "ok sub " ++ decimal id
@@ -58,6 +65,7 @@ reply_text (Left left) = left_text left
 reply_text (Hub id) = codes "ok hub " ++ encode_lower id.bytes
 reply_text (Stats stats) =
     text_stats stats ++ user_stats stats ++ used_stats stats.used ++ limit_stats stats.limits
+    ++ memory_stats stats.memory
 reply_text (Spans count) = codes "ok spans " ++ decimal count
 reply_text (Changes count) = codes "ok changes " ++ decimal count
 reply_text (Newest counter) = codes "ok newest " ++ decimal counter

@@ -4,11 +4,11 @@ ghost use Rattle.std.specs.String.{string_capacity};
 ghost use Rattle.std.specs.Fmt.{decimal};
 ghost use Rattle.refusals.specs.Reasons.{location_text};
 ghost use Rattle.session_lines.specs.Replies.{reply_text, reason_of, left_text, text_stats, user_stats};
-ghost use Rattle.session_lines.specs.Replies.{used_stats, limit_stats};
+ghost use Rattle.session_lines.specs.Replies.{used_stats, limit_stats, memory_stats};
 ghost use Rattle.session_lines.specs.declared.reply.Reply.TheVariants as told;
 
 use crate::fault::LineRefusal;
-use crate::stats::{Limits, PerLimit, Stats};
+use crate::stats::{Limits, Memory, PerLimit, Stats};
 use hub_requests::identity::HubId;
 use itoa::Buffer;
 use refusals::reason::{Location, Reason};
@@ -68,8 +68,8 @@ const HUB_ROOM: usize = 8;
 /// Room for the line of what is left: `ok left`, four numbers, each behind a space, and a LF.
 const LEFT_ROOM: usize = 92;
 
-/// Room for the line of a hub's stats: its words, nineteen numbers, and a LF.
-const STATS_ROOM: usize = 630;
+/// Room for the line of a hub's stats: its words, twenty-one numbers, and a LF.
+const STATS_ROOM: usize = 698;
 
 /// Room for `no `, ` line ` or ` slot `, a number of at most 40 digits, and a LF, beside a refusal's number and name.
 const REFUSAL_ROOM: usize = 50;
@@ -246,6 +246,31 @@ fn append_limit_stats(out: &mut String, limits: &Limits)
     append_number(out, " open-limit ", limits.open_subscribers);
 }
 
+/// Appends the memory of a document, if it has a limit, for which there is room.
+fn append_memory_stats(out: &mut String, memory: Option<Memory>)
+    requires { string_len out.old + 68 ≤ string_capacity out.old }
+    ensures bytes { string_bytes out.new ≡ string_bytes out.old ++ memory_stats memory }
+    ensures len { string_len out.new ≤ string_len out.old + 68 }
+    ensures capacity { string_capacity out.old ≤ string_capacity out.new }
+{
+    if let Some(memory) = memory {
+        append_number(out, " memory-used ", memory.used);
+        append_number(out, " memory-limit ", memory.limit);
+    }
+}
+
+/// Appends a hub's limits, and the memory of its document, for which there is room.
+fn append_all_limits(out: &mut String, stats: &Stats)
+    requires { string_len out.old + 278 ≤ string_capacity out.old }
+    ensures bytes { string_bytes out.new ≡ string_bytes out.old
+        ++ (limit_stats stats.now.limits ++ memory_stats stats.now.memory) }
+    ensures len { string_len out.new ≤ string_len out.old + 278 }
+    ensures capacity { string_capacity out.old ≤ string_capacity out.new }
+{
+    append_limit_stats(out, &stats.limits);
+    append_memory_stats(out, stats.memory);
+}
+
 /// Appends the line of how much there is of a hub.
 fn push_stats(out: &mut String, stats: &Stats) -> Result<(), AllocError>
     ensures ok { OnOk result (string_bytes out.new ≡ string_bytes out.old
@@ -256,7 +281,7 @@ fn push_stats(out: &mut String, stats: &Stats) -> Result<(), AllocError>
     append_text_stats(out, stats);
     append_user_stats(out, stats);
     append_used_stats(out, stats.used);
-    append_limit_stats(out, &stats.limits);
+    append_all_limits(out, stats);
     append(out, "\n");
     Ok(())
 }

@@ -30,6 +30,15 @@ pub struct Limits {
     pub open_subscribers: u64,
 }
 
+/// The memory of a document.
+#[derive(Clone, Copy)]
+pub struct Memory {
+    /// The bytes that its changes and its versions have taken.
+    pub used: u64,
+    /// The bytes that it may take.
+    pub limit: u64,
+}
+
 /// How much there is of a hub.
 #[derive(Clone, Copy)]
 pub struct Stats {
@@ -55,4 +64,6 @@ pub struct Stats {
     pub used: PerLimit,
     /// The hub's limits.
     pub limits: Limits,
+    /// None where its document's memory has no limit.
+    pub memory: Option<Memory>,
 }

@@ -1,5 +1,5 @@
 -- How much there is of a hub, and how much it still takes.
-use Rattle.std.specs.Prelude.{◌≡◌, ℕ, ◌*◌, ◌/◌, ◌-◌, min, max, Some, length, chars, slice_get}
+use Rattle.std.specs.Prelude.{◌≡◌, ℕ, ◌*◌, ◌/◌, ◌-◌, min, max, Option, None, Some, length, chars, slice_get}
 use Rattle.change_ops.specs.declared.size.Size.{Size}
 use Rattle.change_ops.specs.Sizes.{most_characters, most_bytes, most_marks, most_changes, most_subscribers, most_open}
 use Rattle.span_flatten.specs.Version.{Version}
@@ -9,6 +9,7 @@ use Rattle.hub_core.specs.Counting.{AreCounts}
 use Rattle.hub_core.specs.declared.counts.Counts.{Counts}
 use Rattle.subscriber_queues.specs.Queue.{QueueSink}
 use Rattle.session_lines.specs.declared.stats.Limits.{Limits}
+use Rattle.session_lines.specs.declared.stats.Memory.{Memory}
 use Rattle.session_lines.specs.declared.stats.PerLimit.{PerLimit}
 use Rattle.session_lines.specs.declared.stats.Stats.{Stats}
 
@@ -66,8 +67,8 @@ limits_of size =
 
 -- what is told of so much, where this is the latest version, and there are so many sessions; a character that was
 -- inserted and isn't visible was removed
-abbrev pub stats_of : Size → Counts → Version → ℕ → Stats
-stats_of size counts latest sessions =
+abbrev pub stats_of : Size → Counts → Version → ℕ → Option Memory → Stats
+stats_of size counts latest sessions memory =
     record {
       versions = counts.changes;
       characters = length (chars latest.text);
@@ -80,12 +81,20 @@ stats_of size counts latest sessions =
       lag = counts.lag;
       used = used_by size counts (length latest.text);
       limits = limits_of size;
+      memory = memory;
     }
 
--- these are those of a hub of this size, but for the number of its sessions, of which nothing is said
-pub record AreStats (size : Size) (s : Core QueueSink) (stats : Stats) : Type 0 where
+-- the limit of the memory that is told
+abbrev pub told_limit : Option Memory → Option ℕ
+told_limit None = None
+told_limit (Some memory) = Some memory.limit
+
+-- these are those of a hub of this size, whose document has this limit of memory, but for the number of its sessions
+-- and the memory that is used, of which nothing is said
+pub record AreStats (size : Size) (limit : Option ℕ) (s : Core QueueSink) (stats : Stats) : Type 0 where
   pub counts : Counts
   pub counted : AreCounts s counts
   pub latest : Token Version
   pub newest : IsLatest s latest
-  pub told : stats ≡ stats_of size counts latest.value stats.sessions
+  pub told : stats ≡ stats_of size counts latest.value stats.sessions stats.memory
+  pub limited : told_limit stats.memory ≡ limit

@@ -59,23 +59,25 @@ Names (Some id) (reply.Hub told) = told ≡ id
 Names None (reply.Refused reason.BadCommand) = Unit {0}
 Names _ _ = ⊥
 
--- what is printed to a query of a hub of this size with this id, and the reply behind it: read off the one state in
--- which the history ended when the share looked
-abbrev pub Tells : Size → Seen → Seen → Option HubId → Query → List ℕ → Reply → Type 0
-Tells size v w id Latest text (reply.Latest number) = IsLook size v (λ s. number ≡ length s.changes) w × (text ≡ [])
-Tells size v w id Latest text _ = ⊥
-Tells size v w id Left text (reply.Left left) = IsLook size v (λ s. IsLeft size s left) w × (text ≡ [])
-Tells size v w id Left text _ = ⊥
-Tells size v w id Hub text answer = Names id answer × (text ≡ []) × (w ≡ v)
-Tells size v w id Stats text (reply.Stats stats) = IsLook size v (λ s. AreStats size s stats) w × (text ≡ [])
-Tells size v w id Stats text _ = ⊥
-Tells size v w id (Show number first most) text answer = Shows size v w number first most text answer
-Tells size v w id (Changes from most) text answer = Lists size v w from most text answer
-Tells size v w id (Newest node) text answer = Counts size v w node answer × (text ≡ [])
+-- what is printed to a query of a hub of this size with this id, whose document has this limit of memory, and the reply
+-- behind it: read off the one state in which the history ended when the share looked
+abbrev pub Tells : Size → Seen → Seen → Option HubId → Option ℕ → Query → List ℕ → Reply → Type 0
+Tells size v w id memory Latest text (reply.Latest number) =
+    IsLook size v (λ s. number ≡ length s.changes) w × (text ≡ [])
+Tells size v w id memory Latest text _ = ⊥
+Tells size v w id memory Left text (reply.Left left) = IsLook size v (λ s. IsLeft size s left) w × (text ≡ [])
+Tells size v w id memory Left text _ = ⊥
+Tells size v w id memory Hub text answer = Names id answer × (text ≡ []) × (w ≡ v)
+Tells size v w id memory Stats text (reply.Stats stats) =
+    IsLook size v (λ s. AreStats size memory s stats) w × (text ≡ [])
+Tells size v w id memory Stats text _ = ⊥
+Tells size v w id memory (Show number first most) text answer = Shows size v w number first most text answer
+Tells size v w id memory (Changes from most) text answer = Lists size v w from most text answer
+Tells size v w id memory (Newest node) text answer = Counts size v w node answer × (text ≡ [])
 
 -- the same, or that no memory was found, and then nothing is printed but that; a hub that isn't read has no such line.
 -- No call is made
-abbrev pub Reads : Size → Seen → Seen → Bool → Option HubId → Query → List ℕ → Reply → Type 0
-Reads size v w true id query text (reply.Refused reason.OutOfMemory) = (text ≡ []) × Makes size v [] w
-Reads size v w true id query text answer = Tells size v w id query text answer
-Reads size v w false id query text answer = (answer ≡ reply.Refused reason.BadCommand) × (text ≡ []) × (w ≡ v)
+abbrev pub Reads : Size → Seen → Seen → Bool → Option HubId → Option ℕ → Query → List ℕ → Reply → Type 0
+Reads size v w true id memory query text (reply.Refused reason.OutOfMemory) = (text ≡ []) × Makes size v [] w
+Reads size v w true id memory query text answer = Tells size v w id memory query text answer
+Reads size v w false id memory query text answer = (answer ≡ reply.Refused reason.BadCommand) × (text ≡ []) × (w ≡ v)

@@ -4,6 +4,7 @@ ghost use Rattle.change_ops.specs.Sizes.{most_changes, most_characters, most_mar
 ghost use Rattle.change_ops.specs.Sizes.{most_bytes};
 ghost use Rattle.hub_core.specs.Counting.{AreWithinLimits};
 ghost use Rattle.session_reads.specs.Counting.{used_of, used_by, left_of, limits_of, IsLeft, AreStats, stats_of};
+ghost use Rattle.session_reads.specs.Counting.{told_limit};
 ghost use Rattle.ingest_workers.specs.Calls.{IsLook};
 
 use call_history::knowledge::HistoryNaming;
@@ -11,7 +12,7 @@ use change_ops::size::{BYTE_LIMIT, Size};
 use core_history::share::Share;
 use hub_core::counts::Counts;
 use ingest_workers::hub::Hub;
-use session_lines::stats::{Limits, PerLimit, Stats};
+use session_lines::stats::{Limits, Memory, PerLimit, Stats};
 use std::sync::Wait;
 use std::sync::ledger::Ledger;
 use version_history::published::{Naming, Published};
@@ -85,10 +86,16 @@ fn limits_of(size: Size) -> Limits
     }
 }
 
-/// What is told of a hub of this size with so much in it, of its latest version, and with so many sessions.
-fn stats_of(size: Size, counts: Counts, version: &PieceVersion, sessions: u64) -> Stats
+/// What is told of a hub of this size with so much in it, of its latest version, with so many sessions and this memory.
+fn stats_of(
+    size: Size,
+    counts: Counts,
+    version: &PieceVersion,
+    sessions: u64,
+    memory: Option<Memory>,
+) -> Stats
     requires { AreWithinLimits size counts }
-    ensures { result ≡ stats_of size counts version.now sessions }
+    ensures { result ≡ stats_of size counts version.now sessions memory }
 {
     let characters = version.character_count() as u64;
     let bytes = text_bytes(version);
@@ -104,7 +111,21 @@ fn stats_of(size: Size, counts: Counts, version: &PieceVersion, sessions: u64) -
         lag: counts.lag,
         used: used_by(size, counts, bytes),
         limits: limits_of(size),
+        memory,
     }
+}
+
+/// The memory of a hub's document, where it has a limit.
+fn memory_of<N: Naming + HistoryNaming + Ledger, R: Wait + Copy>(
+    rt: &R,
+    hub: &Hub<'_, N, R>,
+    limit: Option<u64>,
+) -> Option<Memory>
+    ensures { told_limit result ≡ limit }
+{
+    let limit = limit?;
+    let used = hub.taken_bytes(rt);
+    Some(Memory { used, limit })
 }
 
 /// How much of each limit of a hub is left. Its text is looked at without its lock.
@@ -121,20 +142,23 @@ pub(crate) fn left<N: Naming + HistoryNaming + Ledger, R: Wait + Copy>(
     left_of(hub.size(), counts, bytes)
 }
 
-/// How much there is of a hub. Its text is looked at without its lock.
+/// How much there is of a hub, whose document may take so many bytes. Its text is looked at without its lock.
 pub(crate) fn stats<N: Naming + HistoryNaming + Ledger, R: Wait + Copy>(
     rt: &R,
     hub: &Hub<'_, N, R>,
     share: &mut Share<N>,
     published: &Published<'_, N>,
+    limit: Option<u64>,
 ) -> Stats
-    ensures { IsLook N.size share.old (λ s. AreStats N.size s result) share.new }
+    ensures { IsLook N.size share.old (λ s. AreStats N.size limit s result) share.new }
 {
+    let memory = memory_of(rt, hub, limit);
     let (latest, counts) = hub.counts(rt, share);
     stats_of(
         hub.size(),
         counts,
         published.look(&latest),
         hub.session_count(),
+        memory,
     )
 }

@@ -101,17 +101,18 @@ fn told<'a, N: Naming + HistoryNaming + Ledger, R: Wait + Copy>(
     share: &mut Share<N>,
     published: &'a Published<'_, N>,
     id: Option<HubId>,
+    memory: Option<u64>,
     query: Query,
 ) -> Result<Answer<'a>, AllocError>
     ensures short { OnErr result (Makes N.size share.old [] share.new) }
-    ensures ok { IfOk result (λ answer. Tells N.size share.old share.new id query (found_text answer.found)
+    ensures ok { IfOk result (λ answer. Tells N.size share.old share.new id memory query (found_text answer.found)
         answer.reply) }
 {
     match query {
         Query::Latest => Ok(Answer::line(Reply::Latest(hub.latest(rt, share)))),
         Query::Left => Ok(Answer::line(Reply::Left(left(rt, hub, share, published)))),
         Query::Hub => Ok(Answer::line(name(id))),
-        Query::Stats => Ok(Answer::line(Reply::Stats(stats(rt, hub, share, published)))),
+        Query::Stats => Ok(Answer::line(Reply::Stats(stats(rt, hub, share, published, memory)))),
         Query::Show {
             version,
             first,
@@ -122,9 +123,9 @@ fn told<'a, N: Naming + HistoryNaming + Ledger, R: Wait + Copy>(
     }
 }
 
-/// Reads of a hub with this id, by looks of this share: what is found, and the reply behind it. A hub that isn't read
-/// refuses. Reading changes nothing, and copies nothing of the text: no memory is taken but for a list of up to 64
-/// texts.
+/// Reads of a hub with this id, whose document may take so many bytes, by looks of this share: what is found, and the
+/// reply behind it. A hub that isn't read refuses. Reading changes nothing, and copies nothing of the text: no memory
+/// is taken but for a list of up to 64 texts.
 pub fn read<'a, N: Naming + HistoryNaming + Ledger, R: Wait + Copy>(
     rt: &R,
     hub: &Hub<'_, N, R>,
@@ -132,14 +133,15 @@ pub fn read<'a, N: Naming + HistoryNaming + Ledger, R: Wait + Copy>(
     published: &'a Published<'_, N>,
     reads: bool,
     id: Option<HubId>,
+    memory: Option<u64>,
     query: Query,
 ) -> Answer<'a>
-    ensures { Reads N.size share.old share.new reads id query (found_text result.found) result.reply }
+    ensures { Reads N.size share.old share.new reads id memory query (found_text result.found) result.reply }
 {
     if !reads {
         return Answer::line(Reply::Refused(Reason::BadCommand));
     }
-    match told(rt, hub, share, published, id, query) {
+    match told(rt, hub, share, published, id, memory, query) {
         Ok(answer) => answer,
         Err(_) => Answer::line(Reply::Refused(Reason::OutOfMemory)),
     }

@@ -44,8 +44,8 @@ module _ (size : Size) where
   refused_fault changes text change number OutOfMemory only refused = tt
 
   -- a text of no change is at fault
-  pub no_text_fault : (r : Result Change OpenError) (P : Change → Type 0) (changes : List Change) (text : List ℕ) (number : ℕ) (error : OpenError) → IsErrAnd r (λ e. e ≡ error) → IsNoText text number error → MatchResult r P (IsFaultOf size changes text number)
-  no_text_fault (Ok change) P changes text number error same why = absurd same
+  pub no_text_fault : {R : Type 0} (r : Result R OpenError) (P : R → Type 0) (changes : List Change) (text : List ℕ) (number : ℕ) (error : OpenError) → IsErrAnd r (λ e. e ≡ error) → IsNoText text number error → MatchResult r P (IsFaultOf size changes text number)
+  no_text_fault (Ok x) P changes text number error same why = absurd same
   no_text_fault (Err e) P changes text number LogFailed same why = absurd why
   no_text_fault (Err e) P changes text number (Damaged at) same why = subst (λ (x : OpenError). IsFaultOf size changes text number x) (sym same) (why.0, λ change spelled accepted. why.1 change spelled)
   no_text_fault (Err e) P changes text number fault.OutOfMemory same why = subst (λ (x : OpenError). IsFaultOf size changes text number x) (sym same) tt

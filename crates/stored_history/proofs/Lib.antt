@@ -1,5 +1,4 @@
 pub mod Answering
 pub mod Copies
 pub mod Faults
-pub mod Logs
 pub mod Texts

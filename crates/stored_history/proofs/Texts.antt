@@ -1,7 +1,7 @@
 -- Texts that are accepted again, one after another.
 use Rattle.std.proofs.Common.{◌≡◌, ℕ, ◌+◌, List, [], ◌∷◌, ◌++◌, Some, Result, Ok, Err, IsErrAnd, MatchResult, length, map, take, sym, ap, ◌∙◌, subst, rules}
 use Rattle.std.specs.List.{slice_get, AllByRecursion}
-use Rattle.std.proofs.lemmas.List.{map-append}
+use Rattle.std.proofs.lemmas.List.{map-append, length_push}
 use Rattle.std.proofs.lemmas.Option.{none-some}
 use Rattle.std.proofs.Math.Seq.{take-length}
 use Rattle.change_ops.specs.Changes.{Change, IsChange}
@@ -35,15 +35,12 @@ module _ (size : Size) where
   }
 
   -- the same, where the history has the changes
-  pub read_next : (texts : List (List ℕ)) (changes grown : List Change) (old new : Chronicle) (index : ℕ) (text : List ℕ) (change : Change) → AreTextsOf size (take index texts) changes → slice_get texts index ≡ Some text
-      → old ≡ record { size = size; changes = changes } → FollowsBy old.size text change old.changes new.changes → new.size ≡ old.size → grown ≡ changes ++ change ∷ []
-      → AreTextsOf size (take (index + 1) texts) grown × (new ≡ record { size = size; changes = grown })
-  read_next texts changes grown old new index text change read here same follows kept is =
-      let behind : FollowsBy size text change changes new.changes = subst (λ (h : Chronicle). FollowsBy h.size text change h.changes new.changes) same follows in
-      let sized : new.size ≡ size = kept ∙ ap (λ (h : Chronicle). h.size) same in
-      let whole : new.changes ≡ grown = behind.grown ∙ sym is in (
-        subst (λ (cs : List Change). AreTextsOf size (take (index + 1) texts) cs) (sym is) (read_more texts changes index text change read here behind.spelled behind.accepted),
-        λ i. record { size = sized i; changes = whole i },
+  pub read_next : (texts : List (List ℕ)) (old new : Chronicle) (index : ℕ) (text : List ℕ) → old.size ≡ size → AreTextsOf size (take index texts) old.changes → length old.changes ≡ index → slice_get texts index ≡ Some text
+      → FollowsBy old.size text old.changes new.changes → AreTextsOf size (take (index + 1) texts) new.changes × (length new.changes ≡ index + 1)
+  read_next texts old new index text same read count here follows =
+      let behind : FollowsBy size text old.changes new.changes = subst (λ (s : Size). FollowsBy s text old.changes new.changes) same follows in (
+        subst (λ (cs : List Change). AreTextsOf size (take (index + 1) texts) cs) (sym behind.grown) (read_more texts old.changes index text behind.change read here behind.spelled behind.accepted),
+        ap length behind.grown ∙ length_push old.changes behind.change ∙ ap (λ n. n + 1) count,
       )
 
   pub first_fault : (texts : List (List ℕ)) (changes : List Change) (index : ℕ) (text : List ℕ) → AreTextsOf size (take index texts) changes → length changes ≡ index → slice_get texts index ≡ Some text
@@ -61,13 +58,13 @@ module _ (size : Size) where
   read_all texts changes index whole read = subst (λ (ts : List (List ℕ)). AreTextsOf size ts changes) (ap (λ n. take n texts) whole ∙ take-length texts) read
 
   -- the first text that isn't accepted is the first at fault
-  pub not_read : {R : Type 0} (r : Result R OpenError) (P : R → Type 0) (texts : List (List ℕ)) (changes : List Change) (old : Chronicle) (index : ℕ) (text : List ℕ) (error : OpenError) → IsErrAnd r (λ e. e ≡ error)
-      → AreTextsOf size (take index texts) changes → length changes ≡ index → slice_get texts index ≡ Some text → old ≡ record { size = size; changes = changes }
+  pub not_read : {R : Type 0} (r : Result R OpenError) (P : R → Type 0) (texts : List (List ℕ)) (old : Chronicle) (index : ℕ) (text : List ℕ) (error : OpenError) → IsErrAnd r (λ e. e ≡ error)
+      → old.size ≡ size → AreTextsOf size (take index texts) old.changes → length old.changes ≡ index → slice_get texts index ≡ Some text
       → IsFaultOf old.size old.changes text (index + 1) error → MatchResult r P (IsNotRead size texts)
-  not_read (Ok x) P texts changes old index text error is read count here same why = absurd is
-  not_read (Err e) P texts changes old index text LogFailed is read count here same why = absurd why
-  not_read (Err e) P texts changes old index text (Damaged at) is read count here same why =
-      let fault : IsAtFault size changes text = subst (λ (h : Chronicle). IsAtFault h.size h.changes text) same why.1 in
+  not_read (Ok x) P texts old index text error is same read count here why = absurd is
+  not_read (Err e) P texts old index text LogFailed is same read count here why = absurd why
+  not_read (Err e) P texts old index text (Damaged at) is same read count here why =
+      let fault : IsAtFault size old.changes text = subst (λ (s : Size). IsAtFault s old.changes text) same why.1 in
       subst (λ (x : OpenError). IsNotRead size texts x) (sym is)
-      (subst (λ (n : ℕ). IsFirstAtFault size texts n) (sym why.0) (first_fault texts changes index text read count here fault))
-  not_read (Err e) P texts changes old index text OutOfMemory is read count here same why = subst (λ (x : OpenError). IsNotRead size texts x) (sym is) tt
+      (subst (λ (n : ℕ). IsFirstAtFault size texts n) (sym why.0) (first_fault texts old.changes index text read count here fault))
+  not_read (Err e) P texts old index text OutOfMemory is same read count here why = subst (λ (x : OpenError). IsNotRead size texts x) (sym is) tt

@@ -25,8 +25,9 @@ pub record AreTextsOf (size : Size) (texts : List (List ℕ)) (changes : List Ch
   pub valid : AllByRecursion IsChange changes
   pub accepted : AreAccepted size changes
 
--- the text's change is accepted after these, and they are then these
-pub record FollowsBy (size : Size) (text : List ℕ) (change : Change) (old new : List Change) : Type 0 where
+-- the text is of a change that is accepted after these, and they are then these
+pub record FollowsBy (size : Size) (text : List ℕ) (old new : List Change) : Type 0 where
+  pub change : Change
   pub spelled : IsTextOf text change
   pub accepted : IsAccepted size old change
   pub grown : new ≡ old ++ change ∷ []

@@ -37,7 +37,10 @@ fn accept_one(
     let Ok(written) = write_next(alloc, texts, &change) else {
         return Err(SubmitError::OutOfMemory);
     };
-    history.accept(change)?;
+    let Ok(kept) = written.text.again() else {
+        return Err(SubmitError::OutOfMemory);
+    };
+    history.accept_spelled(change, kept)?;
     texts.push_reserved(written.text);
     let number = history.len() as u64;
     Ok(Accepted {

@@ -3,7 +3,7 @@ ghost use Rattle.change_ops.specs.Spelling.{change_text};
 ghost use Rattle.change_history.specs.Accepted.{AreAccepted};
 ghost use Rattle.stored_history.specs.Answers.{AreAnswered};
 ghost use Rattle.stored_history.specs.Stored.{IsLeft};
-ghost use Rattle.stored_history.specs.Texts.{IsNotOpened, StillKeeps};
+ghost use Rattle.stored_history.specs.Texts.{AreTextsOf, IsNotOpened, StillKeeps};
 
 use crate::answer::Answer;
 use crate::error::{AcceptError, OpenError};
@@ -44,11 +44,11 @@ impl<L: ChangeLog> Model for StoredHistory<L> {
     ghost invariant = { λ s. s.is_failed ≡ false → L.kept s.log (map change_text s.history.changes) };
 }
 
-/// A history whose log was opened, and its changes, for whoever is to be told of them.
+/// A history whose log was opened, and the texts of its changes, for whoever is to be told of them.
 #[derive(Drop)]
 pub struct Opened<L: ChangeLog> {
     pub stored: StoredHistory<L>,
-    pub changes: Vec<Change>,
+    pub texts: Vec<ChangeText>,
 }
 
 /// A log that was not opened, and why.
@@ -130,9 +130,9 @@ impl<L: ChangeLog> StoredHistory<L> {
     /// Accepts the changes whose texts a log keeps, in order, at a size.
     pub fn open(alloc: Global, size: Size, log: L) -> Result<Opened<L>, NotOpened<L>>
         requires { (texts : List (List ℕ)) × L.kept log texts }
-        ensures kept { IfOk result (λ opened. L.kept opened.stored.log (map change_text opened.changes.items)) }
-        ensures accepted { IfOk result (λ opened. AreAccepted size opened.changes.items
-            × (opened.stored.changes ≡ opened.changes.items) × (opened.stored.is_failed ≡ false)) }
+        ensures kept { IfOk result (λ opened. L.kept opened.stored.log opened.texts.items) }
+        ensures accepted { IfOk result (λ opened. AreTextsOf size opened.texts.items opened.stored.changes
+            × (opened.stored.is_failed ≡ false)) }
         ensures size { IfOk result (λ opened. opened.stored.size ≡ size) }
         ensures same { (texts : List (List ℕ)) → L.kept log texts
             → IfOk result (λ opened. L.kept opened.stored.log texts) }
@@ -151,7 +151,7 @@ impl<L: ChangeLog> StoredHistory<L> {
                 };
                 Ok(Opened {
                     stored,
-                    changes: reading.changes,
+                    texts: reading.texts,
                 })
             }
             Err(error) => Err(NotOpened { log, error }),

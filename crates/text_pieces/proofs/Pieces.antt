@@ -204,6 +204,11 @@ pub has_first : (ps : List (List ℕ)) (k : ℕ) (p : List ℕ) → All IsPiece 
 has_first ps k p all is =
     subst (λ (l : List ℕ). 0 < length l) (get_or_from_slice_get ps k p p is) (all k p (slice_get_within ps k p is)).some
 
+-- and few bytes
+pub piece_few : (ps : List (List ℕ)) (k : ℕ) (p : List ℕ) → All IsPiece ps → slice_get ps k ≡ Some p → length (encode_utf8_all p) ≤ 256
+piece_few ps k p all is =
+    subst (λ (l : List ℕ). length (encode_utf8_all l) ≤ 256) (get_or_from_slice_get ps k p p is) (all k p (slice_get_within ps k p is)).few
+
 -- an extract in two, of which the second begins at a place that lies so many characters behind where the first does
 pub extract_parted : (xs ys : List ℕ) (before count left next : ℕ) → count ≤ left → drop next ys ≡ drop (before + count) xs
     → take left (drop before xs) ≡ take count (drop before xs) ++ take (left - count) (drop next ys)

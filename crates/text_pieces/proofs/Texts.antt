@@ -78,8 +78,12 @@ some_chars text utf8 some = from (chars text) refl
         absurd (omega arith)
     from (c ∷ cs) e = omega (arith, ap length e)
 
-pub piece_of : (text : List ℕ) → IsUtf8 text → 0 < length text → IsPiece (chars text)
-piece_of text utf8 some = record { some = some_chars text utf8 some; spelt = (text, utf8, refl) }
+pub piece_of : (text : List ℕ) → IsUtf8 text → 0 < length text → length text ≤ 256 → IsPiece (chars text)
+piece_of text utf8 some few = record {
+  some = some_chars text utf8 some;
+  few = omega (arith, ap length (encodes-chars text utf8));
+  spelt = (text, utf8, refl);
+}
 
 pub chars_none : chars [] ≡ []
 unfolding chars

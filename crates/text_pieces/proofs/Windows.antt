@@ -1,5 +1,5 @@
 -- A window in pieces of a text.
-use Rattle.std.proofs.Common.{◌≡◌, inl, inr, ℕ, zero, suc, ◌+◌, ◌-◌, ◌<◌, ◌≤◌, List, [], ◌∷◌, ◌++◌, length, take, drop, get_or, refl, sym, ap, subst, ◌∙◌, arith, length-append, All, encode_utf8_all, sum_by}
+use Rattle.std.proofs.Common.{◌≡◌, inl, inr, ℕ, zero, suc, ◌+◌, ◌-◌, ◌*◌, ◌<◌, ◌≤◌, List, [], ◌∷◌, ◌++◌, length, take, drop, get_or, refl, sym, ap, ◌∙◌, arith, length-append, All, encode_utf8_all, sum_by}
 use Rattle.std.proofs.lemmas.List.{append-nil, drop_all, nil_from_length, take_all}
 use Rattle.std.proofs.lemmas.List.Elements.{All-append, All-drop, All-take}
 use Rattle.std.proofs.lemmas.Str.{length-le-encodes}
@@ -10,7 +10,8 @@ use Rattle.piece_tree.specs.Nodes.{AreShort, pieces_of}
 use Rattle.piece_tree.specs.Spots.{IsReached}
 use Rattle.piece_tree.proofs.Lists.{length_more}
 use Rattle.piece_tree.proofs.Windows.{IsSpot, window_flat}
-use Rattle.text_pieces.specs.Texts.{IsPiece, text_size}
+use Rattle.text_pieces.specs.Texts.{AreAllLarge, AreLarge, IsPiece, text_size}
+use Rattle.text_pieces.proofs.Large.{large_around, large_few}
 use Rattle.text_pieces.proofs.Pieces.{less_or_past, pieces_append, pieces_few, pieces_short, sum_characters}
 
 low_start : (ps : List (List ℕ)) (place index start : ℕ) → start ≡ length (pieces_of (take index ps)) → (0 < index → start < place) → start ≤ place
@@ -55,58 +56,60 @@ spots_rise ps from to i start j until a b le = elim (less_or_past j i) [
   | inr h ↦ h
 ]
 
--- pieces of the window in place of those that it touches
-pub record IsPut (ps all : List (List ℕ)) (from to : ℕ) (new : List ℕ) : Type 0 where
-  pub flat : pieces_of all ≡ take from (pieces_of ps) ++ (new ++ drop to (pieces_of ps))
+-- the pieces of a text in place of those from `first` up to `end`
+pub record IsPut (all : List (List ℕ)) (whole : List ℕ) : Type 0 where
+  pub flat : pieces_of all ≡ whole
   pub filled : All IsPiece all
+  pub large : AreLarge all
   pub few : length all ≤ 2097152
   pub short : AreShort text_size all
+  pub narrow : 64 * length all ≤ length (encode_utf8_all whole) + 64
 
-put_of : (ps all : List (List ℕ)) (from to : ℕ) (new : List ℕ) → All IsPiece all
-    → pieces_of all ≡ take from (pieces_of ps) ++ (new ++ drop to (pieces_of ps))
-    → length (encode_utf8_all (take from (pieces_of ps) ++ (new ++ drop to (pieces_of ps)))) ≤ 2097152 → IsPut ps all from to new
-put_of ps all from to new every flat short =
-    let bytes : length (encode_utf8_all (pieces_of all)) ≤ 2097152 = subst (λ (l : List ℕ). length (encode_utf8_all l) ≤ 2097152) (sym flat) short in
+pub text_put : (ps made : List (List ℕ)) (text : List ℕ) (first end : ℕ) → All IsPiece ps → AreLarge ps → All IsPiece made → AreLarge made
+    → (end < length ps → AreAllLarge made) → (0 < first → first < length ps) → pieces_of made ≡ text
+    → length (encode_utf8_all (pieces_of (take first ps) ++ (text ++ pieces_of (drop end ps)))) ≤ 2097152
+    → IsPut (take first ps ++ (made ++ drop end ps)) (pieces_of (take first ps) ++ (text ++ pieces_of (drop end ps)))
+text_put ps made text first end filled large filled_made large_made all begins is short =
+    let whole : List ℕ = pieces_of (take first ps) ++ (text ++ pieces_of (drop end ps)) in
+    let every : All IsPiece (take first ps ++ (made ++ drop end ps)) =
+    All-append IsPiece (take first ps) (made ++ drop end ps) (All-take IsPiece first ps filled) (All-append IsPiece made (drop end ps) filled_made (All-drop IsPiece end ps filled)) in
+    let wide : AreLarge (take first ps ++ (made ++ drop end ps)) = large_around ps made first end large begins large_made all in
+    let flat : pieces_of (take first ps ++ (made ++ drop end ps)) ≡ whole =
+    pieces_append (take first ps) (made ++ drop end ps)
+    ∙ ap (λ (l : List ℕ). pieces_of (take first ps) ++ l) (pieces_append made (drop end ps) ∙ ap (λ (l : List ℕ). l ++ pieces_of (drop end ps)) is) in
+    let same : length (encode_utf8_all (pieces_of (take first ps ++ (made ++ drop end ps)))) ≡ length (encode_utf8_all whole) =
+    ap (λ (l : List ℕ). length (encode_utf8_all l)) flat in
     record {
       flat = flat;
       filled = every;
-      few = omega (arith, pieces_few all every, length-le-encodes (pieces_of all));
-      short = pieces_short all bytes;
+      large = wide;
+      few = omega (arith, pieces_few (take first ps ++ (made ++ drop end ps)) every, length-le-encodes (pieces_of (take first ps ++ (made ++ drop end ps))));
+      short = pieces_short (take first ps ++ (made ++ drop end ps)) (omega arith);
+      narrow = omega (arith, large_few (take first ps ++ (made ++ drop end ps)) wide);
     }
 
-pub text_put : (ps made : List (List ℕ)) (new : List ℕ) (from to i start j until end : ℕ) → All IsPiece ps → All IsPiece made
+-- what a window touches, with what stands before and behind it
+pub window_whole : (ps : List (List ℕ)) (touched text new : List ℕ) (from to i start j until end : ℕ)
     → IsSpot ps from i start → IsSpot ps to j until
-    → pieces_of made ++ pieces_of (drop end ps)
-    ≡ (take (from - start) (get_or ps i []) ++ (new ++ drop (to - until) (get_or ps j []))) ++ pieces_of (drop (j + 1) ps)
-    → length (encode_utf8_all (take from (pieces_of ps) ++ (new ++ drop to (pieces_of ps)))) ≤ 2097152
-    → IsPut ps (take i ps ++ (made ++ drop end ps)) from to new
-text_put ps made new from to i start j until end filled filled_made a b is short =
+    → touched ++ pieces_of (drop end ps) ≡ text ++ pieces_of (drop (j + 1) ps)
+    → text ≡ take (from - start) (get_or ps i []) ++ (new ++ drop (to - until) (get_or ps j []))
+    → pieces_of (take i ps) ++ (touched ++ pieces_of (drop end ps)) ≡ take from (pieces_of ps) ++ (new ++ drop to (pieces_of ps))
+window_whole ps touched text new from to i start j until end a b is made =
     let front : List ℕ = take (from - start) (get_or ps i []) in
     let back : List ℕ = drop (to - until) (get_or ps j []) in
-    let touched : List ℕ = front ++ (new ++ back) in
-    let one : List (List ℕ) = touched ∷ [] in
-    let ahead : List ℕ = pieces_of (take i ps) in
+    let one : List (List ℕ) = text ∷ [] in
     let none : List ℕ = [] in
-    let flat_one : pieces_of one ≡ front ++ (new ++ (back ++ none)) = append-nil touched ∙ ap (λ (l : List ℕ). front ++ (new ++ l)) (sym (append-nil back)) in
-    let whole : pieces_of (take i ps ++ (one ++ drop (j + 1) ps)) ≡ take from (pieces_of ps) ++ (new ++ drop to (pieces_of ps)) =
-    window_flat ps one new none from to i start j until (j + 1) a b flat_one refl in
-    let flat : pieces_of (take i ps ++ (made ++ drop end ps)) ≡ take from (pieces_of ps) ++ (new ++ drop to (pieces_of ps)) =
-    pieces_append (take i ps) (made ++ drop end ps) ∙ ap (λ (l : List ℕ). ahead ++ l) (pieces_append made (drop end ps) ∙ is)
-    ∙ sym (pieces_append (take i ps) (one ++ drop (j + 1) ps)) ∙ whole in
-    put_of ps (take i ps ++ (made ++ drop end ps)) from to new
-    (All-append IsPiece (take i ps) (made ++ drop end ps) (All-take IsPiece i ps filled) (All-append IsPiece made (drop end ps) filled_made (All-drop IsPiece end ps filled)))
-    flat short
+    let flat_one : pieces_of one ≡ front ++ (new ++ (back ++ none)) = append-nil text ∙ made ∙ ap (λ (l : List ℕ). front ++ (new ++ l)) (sym (append-nil back)) in
+    ap (λ (l : List ℕ). pieces_of (take i ps) ++ l) is
+    ∙ sym (pieces_append (take i ps) (one ++ drop (j + 1) ps))
+    ∙ window_flat ps one new none from to i start j until (j + 1) a b flat_one refl
 
--- a text where none was
-pub text_put_first : (ps made : List (List ℕ)) (new : List ℕ) (from to : ℕ) → length ps ≡ 0 → All IsPiece ps → All IsPiece made → pieces_of made ≡ new
-    → length (encode_utf8_all (take from (pieces_of ps) ++ (new ++ drop to (pieces_of ps)))) ≤ 2097152
-    → IsPut ps (made ++ ps) from to new
-text_put_first ps made new from to none filled filled_made is short =
+-- where there are no pieces
+pub first_whole : (ps : List (List ℕ)) (new : List ℕ) (from to : ℕ) → length ps ≡ 0
+    → pieces_of (take 0 ps) ++ (new ++ pieces_of (drop 0 ps)) ≡ take from (pieces_of ps) ++ (new ++ drop to (pieces_of ps))
+first_whole ps new from to none =
     let nil : List ℕ = [] in
     let no_pieces : pieces_of ps ≡ nil = ap (λ (l : List (List ℕ)). pieces_of l) (nil_from_length ps none) in
     let no_front : take from (pieces_of ps) ≡ nil = ap (take from) no_pieces ∙ take_all from nil (omega arith) in
     let no_back : drop to (pieces_of ps) ≡ nil = ap (drop to) no_pieces ∙ drop_all to nil (omega arith) in
-    put_of ps (made ++ ps) from to new (All-append IsPiece made ps filled_made filled)
-    (pieces_append made ps ∙ ap (λ (l : List ℕ). l ++ pieces_of ps) is ∙ ap (λ (l : List ℕ). new ++ l) (no_pieces ∙ sym no_back)
-    ∙ ap (λ (l : List ℕ). l ++ (new ++ drop to (pieces_of ps))) (sym no_front))
-    short
+    ap (λ (l : List ℕ). new ++ l) (no_pieces ∙ sym no_back) ∙ ap (λ (l : List ℕ). l ++ (new ++ drop to (pieces_of ps))) (sym no_front)

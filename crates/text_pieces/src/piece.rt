@@ -1,6 +1,8 @@
 //! A piece of a text, which versions share.
-ghost use Rattle.std.specs.Prelude.{◌≡◌, IfOk, chars, length};
+ghost use Rattle.std.specs.Prelude.{◌≡◌, ◌-◌, IfOk, chars, length};
+ghost use Rattle.text_pieces.specs.Budgets.{piece_bytes};
 
+use memory_budget::Budget;
 use piece_tree::piece::{Measure, Piece};
 use std::alloc::{AllocError, Global};
 use std::marker::Model;
@@ -9,8 +11,12 @@ use std::sync::Arc;
 /// The most bytes that a piece has.
 pub const FULL: usize = 256;
 
-/// The least that it has, if it isn't the last one, as far as characters allow.
+/// The least that it has, if it isn't the last one.
 pub const LEAST: usize = 64;
+
+/// What a piece takes apart from its bytes: the counted value's allocation and the text's, each with what the allocator
+/// adds to it.
+const PIECE_BYTES: usize = 96;
 
 /// A text, with how many characters it has. Contracts see the characters.
 struct Content {
@@ -75,11 +81,18 @@ impl Content {
 }
 
 impl TextPiece {
-    /// The piece of this text. It is the one way to make a piece that others don't have already.
-    pub fn new(alloc: Global, text: &str, characters: usize) -> Result<TextPiece, AllocError>
+    /// The piece of this text. It is the one way to make a piece that others don't have already, and it is paid for.
+    pub fn new(
+        alloc: Global,
+        text: &str,
+        characters: usize,
+        budget: &mut Budget,
+    ) -> Result<TextPiece, AllocError>
         requires { characters ≡ length (chars text.now) }
-        ensures { IfOk result (λ piece. piece ≡ chars text.now) }
+        ensures piece { IfOk result (λ piece. piece ≡ chars text.now) }
+        ensures paid { budget.new ≡ budget.old - piece_bytes (length text.now) }
     {
+        budget.pay(PIECE_BYTES + text.len());
         let mut own = String::with_capacity(alloc, text.len())?;
         own.push_str(text)?;
         let content = Content {

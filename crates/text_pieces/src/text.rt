@@ -1,13 +1,15 @@
 //! The text.
-ghost use Rattle.std.specs.Prelude.{◌≡◌, ◌≤◌, ◌++◌, [], IfOk, chars, drop, encode_utf8_all};
-ghost use Rattle.std.specs.Prelude.{length, slice_range, string_bytes, take};
+ghost use Rattle.std.specs.Prelude.{◌≡◌, ◌<◌, ◌≤◌, ◌+◌, ◌-◌, ◌++◌, [], IfOk, All, chars, drop};
+ghost use Rattle.std.specs.Prelude.{encode_utf8_all, length, slice_range, string_bytes, string_len, take};
 ghost use Rattle.piece_tree.specs.Nodes.{pieces_of};
-ghost use Rattle.text_pieces.specs.Texts.{AreCharacters};
+ghost use Rattle.text_pieces.specs.Budgets.{text_bytes, text_root_bytes, touched_bytes};
+ghost use Rattle.text_pieces.specs.Texts.{AreCharacters, AreLarge, IsPiece};
 
 use crate::cut::cut;
 use crate::extract::Extract;
 use crate::piece::{LEAST, TextPiece};
 use crate::split::characters_between;
+use memory_budget::Budget;
 use piece_tree::piece::Measure;
 use piece_tree::tree::PieceTree;
 use std::alloc::{AllocError, Global};
@@ -27,13 +29,13 @@ impl Drop for SharedText {
 impl Model for SharedText {
     ghost use Rattle.std.specs.Prelude.{ℕ, List, All};
     ghost use Rattle.piece_tree.specs.Nodes.{pieces_of};
-    ghost use Rattle.text_pieces.specs.Texts.{IsPiece};
+    ghost use Rattle.text_pieces.specs.Texts.{AreLarge, IsPiece};
 
     ghost Value = { List ℕ };
 
     ghost view = { λ t. pieces_of t.pieces };
 
-    ghost invariant = { λ t. All IsPiece t.pieces };
+    ghost invariant = { λ t. All IsPiece t.pieces × AreLarge t.pieces };
 }
 
 /// Adds the characters of a piece from the one place up to the other.
@@ -45,8 +47,10 @@ fn push_between(
 ) -> Result<(), AllocError>
     requires order { from ≤ to }
     requires within { to ≤ length piece.now }
-    ensures { IfOk result (λ _. chars (string_bytes text.new)
+    ensures added { IfOk result (λ _. chars (string_bytes text.new)
         ≡ chars (string_bytes text.old) ++ slice_range piece.now from to) }
+    ensures size { IfOk result (λ _. string_len text.new
+        ≤ string_len text.old + length (encode_utf8_all piece.now)) }
 {
     let part = characters_between(piece.text(), piece.characters(), from, to);
     text.push_str(part)?;
@@ -64,8 +68,10 @@ fn text_around(
 ) -> Result<String, AllocError>
     requires first { from ≤ length first.now }
     requires last { to ≤ length last.now }
-    ensures { IfOk result (λ text. chars (string_bytes text)
+    ensures text { IfOk result (λ text. chars (string_bytes text)
         ≡ take from first.now ++ (chars new.now ++ drop to last.now)) }
+    ensures size { IfOk result (λ text. string_len text
+        ≤ length (encode_utf8_all first.now) + length new.now + length (encode_utf8_all last.now)) }
 {
     let mut text = String::new(alloc);
     push_between(&mut text, first, 0, from)?;
@@ -87,11 +93,15 @@ fn with_next(
     mut text: String,
     end: usize,
 ) -> Result<Touched, AllocError>
-    requires { end ≤ length pieces.now }
+    requires within { end ≤ length pieces.now }
+    requires filled { All IsPiece pieces.now }
+    requires large { AreLarge pieces.now }
     ensures same { IfOk result (λ made. chars (string_bytes made.text) ++ pieces_of (drop made.end pieces.now)
         ≡ chars (string_bytes text) ++ pieces_of (drop end pieces.now)) }
     ensures order { IfOk result (λ made. end ≤ made.end) }
     ensures within { IfOk result (λ made. made.end ≤ length pieces.now) }
+    ensures size { IfOk result (λ made. string_len made.text ≤ string_len text + 256) }
+    ensures enough { IfOk result (λ made. made.end < length pieces.now → 64 ≤ string_len made.text) }
 {
     // How many pieces there are, which the proof needs.
     pieces.keeps();
@@ -103,12 +113,44 @@ fn with_next(
     Ok(Touched { text, end: end + 1 })
 }
 
+/// The pieces with those of a text in place of the ones from `first` up to `end`.
+fn with_text(
+    pieces: &PieceTree<TextPiece>,
+    alloc: Global,
+    first: usize,
+    end: usize,
+    text: &str,
+    budget: &mut Budget,
+) -> Result<PieceTree<TextPiece>, AllocError>
+    requires begins { 0 < first → first < length pieces.now }
+    requires order { first ≤ end }
+    requires within { end ≤ length pieces.now }
+    requires filled { All IsPiece pieces.now }
+    requires large { AreLarge pieces.now }
+    requires enough { end < length pieces.now → 64 ≤ length text.now }
+    requires short { length (encode_utf8_all (pieces_of (take first pieces.now)
+        ++ (chars text.now ++ pieces_of (drop end pieces.now)))) ≤ 2097152 }
+    ensures flat { IfOk result (λ next. pieces_of next
+        ≡ pieces_of (take first pieces.now) ++ (chars text.now ++ pieces_of (drop end pieces.now))) }
+    ensures filled { IfOk result (λ next. All IsPiece next) }
+    ensures large { IfOk result (λ next. AreLarge next) }
+    ensures spent { budget.old ≤ budget.new + (touched_bytes (length text.now)
+        + text_root_bytes (length (encode_utf8_all (pieces_of (take first pieces.now)
+        ++ (chars text.now ++ pieces_of (drop end pieces.now)))))) }
+    ensures less { budget.new ≤ budget.old }
+{
+    let made = cut(alloc, text, budget)?;
+    let next = pieces.with_window(alloc, first, end, made.as_slice(), budget)?;
+    Ok(next)
+}
+
 impl SharedText {
     /// No character.
-    pub fn new(alloc: Global) -> Result<SharedText, AllocError>
-        ensures { IfOk result (λ text. text ≡ []) }
+    pub fn new(alloc: Global, budget: &mut Budget) -> Result<SharedText, AllocError>
+        ensures text { IfOk result (λ text. text ≡ []) }
+        ensures paid { budget.new ≡ budget.old - 96 }
     {
-        let pieces = PieceTree::new(alloc)?;
+        let pieces = PieceTree::new(alloc, budget)?;
         Ok(SharedText { pieces })
     }
 
@@ -161,25 +203,29 @@ impl SharedText {
     }
 
     /// The text with `new` in place of the characters from `from` up to `to`. Pieces that the window doesn't touch are
-    /// shared. Where what is made is too small for a piece, it joins the piece behind it.
+    /// shared: what is paid for is the window's pieces, their nodes and the root. Where what is made is too small for a
+    /// piece, it joins the piece behind it.
     pub fn with_window(
         &self,
         alloc: Global,
         from: usize,
         to: usize,
         new: &str,
+        budget: &mut Budget,
     ) -> Result<SharedText, AllocError>
         requires order { from ≤ to }
         requires within { to ≤ length self.now }
         requires short { length (encode_utf8_all (take from self.now ++ (chars new.now ++ drop to self.now)))
             ≤ 2097152 }
-        ensures { IfOk result (λ next. next ≡ take from self.now ++ (chars new.now ++ drop to self.now)) }
+        ensures text { IfOk result (λ next. next ≡ take from self.now ++ (chars new.now ++ drop to self.now)) }
+        ensures spent { budget.old ≤ budget.new + (text_bytes (length new.now)
+            + text_root_bytes (length (encode_utf8_all self.now) + length new.now)) }
+        ensures less { budget.new ≤ budget.old }
     {
         // How short the text is, which the proof needs.
         self.pieces.keeps();
         if self.pieces.len() == 0 {
-            let whole = cut(alloc, new)?;
-            let pieces = self.pieces.with_window(alloc, 0, 0, whole.as_slice())?;
+            let pieces = with_text(&self.pieces, alloc, 0, 0, new, budget)?;
             return Ok(SharedText { pieces });
         }
         let first = self.pieces.spot(Measure::Characters, from);
@@ -195,10 +241,14 @@ impl SharedText {
             to - last.characters,
         )?;
         let touched = with_next(&self.pieces, text, last.index + 1)?;
-        let made = cut(alloc, touched.text.as_str())?;
-        let pieces = self
-            .pieces
-            .with_window(alloc, first.index, touched.end, made.as_slice())?;
+        let pieces = with_text(
+            &self.pieces,
+            alloc,
+            first.index,
+            touched.end,
+            touched.text.as_str(),
+            budget,
+        )?;
         Ok(SharedText { pieces })
     }
 }

@@ -8,3 +8,6 @@ pub mod Meeting
 pub mod WindowsMet
 pub mod Made
 pub mod Edged
+pub mod Parting
+pub mod Staying
+pub mod AsOne

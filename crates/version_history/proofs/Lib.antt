@@ -1,1 +1,3 @@
 pub mod Safety
+pub mod Linked
+pub mod Walked

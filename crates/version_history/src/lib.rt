@@ -1,4 +1,5 @@
 //! Published versions and programs, and the tokens that name them.
 #![tactic(auto)]
 
+pub mod links;
 pub mod published;

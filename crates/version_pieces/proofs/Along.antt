@@ -89,10 +89,10 @@ paired_window cs new fs more from to e f =
     length_took (suc n) (x ∷ xs) (y ∷ ys) same = omega (arith, length_took n xs ys (omega arith))
 
 -- ---- spans along runs
-count_cons : (r : Run) (rs : List Run) → character_count (r ∷ rs) ≡ r.characters + character_count rs
+pub count_cons : (r : Run) (rs : List Run) → character_count (r ∷ rs) ≡ r.characters + character_count rs
 count_cons r rs = sum_by-cons (λ (run : Run). run.characters) r rs
 
-parted : (n : ℕ) (cs : List ℕ) → scalars cs ≡ true → (scalars (take n cs) ≡ true) × (scalars (drop n cs) ≡ true)
+pub parted : (n : ℕ) (cs : List ℕ) → scalars cs ≡ true → (scalars (take n cs) ≡ true) × (scalars (drop n cs) ≡ true)
 parted n cs ok =
     let whole : scalars (take n cs ++ drop n cs) ≡ true = ap scalars (take-append-drop n cs) ∙ ok in
     (scalars_left (take n cs) (drop n cs) whole, scalars_right (take n cs) (drop n cs) whole)

@@ -1,2 +1,4 @@
 pub mod Along
 pub mod Putting
+pub mod Alike
+pub mod Budgets

@@ -1,12 +1,13 @@
 //! The spans of a version, one after another.
-ghost use Rattle.std.specs.Prelude.{◌≡◌, drop};
-ghost use Rattle.std.specs.Iterator.{YieldsFirst, item_count};
+ghost use Rattle.std.specs.Prelude.{◌≡◌, drop, map};
+ghost use Rattle.std.specs.Iterator.{YieldsFirst, YieldsFirstRef, item_count};
 ghost use Rattle.span_flatten.specs.Version.{spans_of};
 
 use crate::span_text::SpanText;
 use crate::spans::Spans;
 use crate::version::PieceVersion;
 use format_runs::iter::RunsFrom;
+use mark_anchors::format::Format;
 use std::iter::FusedIterator;
 use std::marker::Model;
 use text_pieces::extract::Extract;
@@ -69,3 +70,51 @@ impl<'a> Iterator for SpanTexts<'a> {
 }
 
 impl<'a> FusedIterator for SpanTexts<'a> {}
+
+/// The formats of the spans of a version that are left, seen as their list. A step takes the next run: the text isn't
+/// looked at.
+#[derive(Drop)]
+pub struct FormatsFrom<'a> {
+    runs: RunsFrom<'a>,
+}
+
+impl<'a> Model for FormatsFrom<'a> {
+    ghost use Rattle.std.specs.Prelude.{List, map};
+    ghost use Rattle.mark_anchors.specs.Formatting.{Format as FormatValue};
+
+    ghost Value = { List FormatValue };
+
+    ghost view = { λ s. map (λ run. run.format) s.runs };
+}
+
+impl Spans {
+    /// The formats of the spans from one on, in order.
+    fn formats_from(&self, index: usize) -> FormatsFrom<'_>
+        ensures { result ≡ drop index (map (λ span. span.format) self.now) }
+    {
+        let (runs, _start) = self.runs.runs_from(index);
+        FormatsFrom { runs }
+    }
+}
+
+/// The formats of the spans of the version from one on, in order.
+pub fn formats_from<'a>(version: &'a PieceVersion, index: usize) -> FormatsFrom<'a>
+    ensures { result ≡ drop index (map (λ span. span.format) (spans_of version.now)) }
+{
+    version.spans.formats_from(index)
+}
+
+impl<'a> Iterator for FormatsFrom<'a> {
+    type Item = &'a Format;
+
+    ghost next_gives = { YieldsFirstRef (λ rest. rest) };
+
+    ghost remaining = { item_count (λ rest. rest) };
+
+    fn next(&mut self) -> Option<&'a Format> {
+        let run = self.runs.next()?;
+        Some(run.format())
+    }
+}
+
+impl<'a> FusedIterator for FormatsFrom<'a> {}

@@ -2,6 +2,7 @@
 //! before it by making anew only the pieces that a window of characters touches.
 #![tactic(auto)]
 
+pub mod alike;
 pub mod iter;
 pub mod laws;
 pub mod span_text;

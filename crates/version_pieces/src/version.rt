@@ -1,13 +1,17 @@
 //! A version in pieces.
-ghost use Rattle.std.specs.Prelude.{◌≡◌, ◌≤◌, IfOk, All, chars, length, slice_get};
+ghost use Rattle.std.specs.Prelude.{◌≡◌, ◌≤◌, ◌+◌, IfOk, All, chars, length, slice_get};
 ghost use Rattle.span_flatten.specs.Version.{IsWhole, spans_of};
 ghost use Rattle.version_glyphs.specs.Laid.{laid};
 ghost use Rattle.version_glyphs.specs.Glyphs.{AreMaximal, glyphs, text_of};
 ghost use Rattle.version_glyphs.specs.Made.{IsMade};
 ghost use Rattle.version_glyphs.specs.Replacements.{AreEdged, AreInOrder, HasMaximalSpans, put_all};
+ghost use Rattle.version_pieces.specs.Alike.{AreAlike};
+ghost use Rattle.version_pieces.specs.Budgets.{roots_bytes, whole_bytes, windows_bytes};
 
+use crate::alike::Alike;
 use crate::span_text::SpanText;
 use crate::spans::Spans;
+use memory_budget::Budget;
 use span_flatten::version::Version;
 use std::alloc::{AllocError, Global};
 use std::marker::Model;
@@ -41,13 +45,44 @@ impl Model for PieceVersion {
     ghost invariant = { λ v. length (joined v.spans) ≤ 131072 };
 }
 
-impl PieceVersion {
-    /// A version in pieces.
-    pub fn from_version(alloc: Global, version: &Version) -> Result<PieceVersion, AllocError>
-        requires { IsMade version.now }
-        ensures { IfOk result (λ made. made ≡ version.now) }
+/// The next version, and how many of its spans stand as they stood in the version before it.
+pub struct NextVersion {
+    pub version: PieceVersion,
+    pub alike: Alike,
+}
+
+impl Drop for NextVersion {
+    fn drop(self) {
+        let NextVersion {
+            version: _,
+            alike: _,
+        } = self;
+    }
+}
+
+impl NextVersion {
+    /// The version, and how many of its spans stand as they stood.
+    pub fn into_parts(self) -> (PieceVersion, Alike)
+        ensures { (result.0 ≡ self.version) × (result.1 ≡ self.alike) }
     {
-        let spans = Spans::new(alloc, version.text(), version.rows())?;
+        let NextVersion { version, alike } = self;
+        (version, alike)
+    }
+}
+
+impl PieceVersion {
+    /// A version in pieces, which shares nothing.
+    pub fn from_version(
+        alloc: Global,
+        version: &Version,
+        budget: &mut Budget,
+    ) -> Result<PieceVersion, AllocError>
+        requires { IsMade version.now }
+        ensures version { IfOk result (λ made. made ≡ version.now) }
+        ensures spent { budget.old ≤ budget.new + whole_bytes (length version.now.text) (length version.now.rows) }
+        ensures less { budget.new ≤ budget.old }
+    {
+        let spans = Spans::new(alloc, version.text(), version.rows(), budget)?;
         // What the spans keep, which the proof needs.
         spans.keeps();
         Ok(PieceVersion {
@@ -109,27 +144,36 @@ impl PieceVersion {
 
     /// The version with this number in which the windows stand in place of the characters that they name. A row joins
     /// its neighbor where formats are equal. Pieces that no window touches are shared, and all of them where no window
-    /// shows anything new.
+    /// shows anything new: what is paid for is what the windows bring, and two roots for each of them. Spans that stand
+    /// as they stood are counted by the windows' places alone.
     pub fn with_windows(
         &self,
         alloc: Global,
         number: u64,
         windows: &[Replacement],
-    ) -> Result<PieceVersion, AllocError>
+        budget: &mut Budget,
+    ) -> Result<NextVersion, AllocError>
         requires order { AreInOrder windows.now 0 (length (glyphs (spans_of self.now))) }
         requires windows { All HasMaximalSpans windows.now }
         requires edged { AreEdged (glyphs (spans_of self.now)) windows.now }
         requires short { length (text_of (put_all windows.now (glyphs (spans_of self.now)))) ≤ 131072 }
-        ensures number { IfOk result (λ next. next.number ≡ number) }
-        ensures glyphs { IfOk result (λ next. glyphs (spans_of next)
+        ensures number { IfOk result (λ next. next.version.number ≡ number) }
+        ensures glyphs { IfOk result (λ next. glyphs (spans_of next.version)
             ≡ put_all windows.now (glyphs (spans_of self.now))) }
-        ensures maximal { IfOk result (λ next. AreMaximal (spans_of next)) }
-        ensures laid { IfOk result (λ next. next ≡ laid number (spans_of next)) }
+        ensures maximal { IfOk result (λ next. AreMaximal (spans_of next.version)) }
+        ensures laid { IfOk result (λ next. next.version ≡ laid number (spans_of next.version)) }
+        ensures alike { IfOk result (λ next. AreAlike (spans_of self.now) (spans_of next.version)
+            next.alike.front next.alike.behind) }
+        ensures spent { budget.old ≤ budget.new + windows_bytes
+            (roots_bytes (length self.now.text) (length self.now.rows) windows.now) windows.now }
+        ensures less { budget.new ≤ budget.old }
     {
         // What the spans keep, which the proof needs.
         self.spans.keeps();
-        let spans = self.spans.with_windows(alloc, windows)?;
+        let alike = self.spans.alike(windows);
+        let spans = self.spans.with_windows(alloc, windows, budget)?;
         spans.keeps();
-        Ok(PieceVersion { number, spans })
+        let version = PieceVersion { number, spans };
+        Ok(NextVersion { version, alike })
     }
 }

@@ -17,6 +17,7 @@ use mark_places::boundary::place_of;
 use mark_places::chosen::chosen_give_formats;
 use mark_places::places::MarkPlaces;
 use mark_places::range::PlaceRange;
+use memory_budget::Budget;
 use span_flatten::flatten::flatten_window;
 use std::alloc::{AllocError, Global};
 use version_glyphs::replacement::Replacement;
@@ -32,6 +33,9 @@ fn place_before(before: &Sequence, sequence: &Sequence, place: usize) -> usize
         None => before.len(),
     }
 }
+
+/// What is paid for each mark that is chosen: the lists of comments that formats share are made of them.
+const COMMENT_BYTES: usize = 160;
 
 /// What a range shows, in place of what was visible of the range that it was before the change.
 fn replacement(
@@ -101,6 +105,7 @@ pub(crate) fn windows_of(
     marks: &Marks,
     places: &MarkPlaces,
     ranges: &[PlaceRange],
+    budget: &mut Budget,
 ) -> Result<Vec<Replacement>, AllocError>
     requires shows { (ops : List Op) × Shows before.now.elements ops }
     requires text { (ops : List Op) × Shows sequence.now.elements ops × AreMarks ops marks.now }
@@ -109,9 +114,10 @@ pub(crate) fn windows_of(
     requires gapped { AreGapped ranges.now }
     requires changed { (olds : List TheRange)
         × AreChangedWithin before.now.elements sequence.now.elements olds ranges.now 0 0 }
-    ensures { IfOk result (λ windows. (olds : List TheRange)
+    ensures replaced { IfOk result (λ windows. (olds : List TheRange)
         → AreChangedWithin before.now.elements sequence.now.elements olds ranges.now 0 0
         → AreReplacements before.now.elements sequence.now.elements marks.now olds ranges.now windows.items) }
+    ensures less { budget.new ≤ budget.old }
 {
     if ranges.is_empty() {
         return Ok(Vec::new(alloc));
@@ -119,6 +125,7 @@ pub(crate) fn windows_of(
     // Chosen marks give the characters of each range the formats that all marks give, which the proof needs.
     chosen_give_formats();
     let chosen = places.choose(alloc, marks.operations(), ranges)?;
+    budget.pay(COMMENT_BYTES.saturating_mul(chosen.count()));
     let resolved = chosen.resolve(alloc, sequence)?;
     let windows = replacements(alloc, before, sequence, &resolved, ranges)?;
     Ok(windows)

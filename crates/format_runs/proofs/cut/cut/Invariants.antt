@@ -1,4 +1,4 @@
-use Rattle.std.proofs.Common.{◌≡◌, ◌<◌, ◌≤◌, ◌-◌, All, length, take}
+use Rattle.std.proofs.Common.{◌≡◌, ◌<◌, ◌≤◌, ◌+◌, ◌-◌, ◌*◌, All, length, take}
 use Rattle.piece_tree.specs.Nodes.{pieces_of}
 use Rattle.format_runs.proofs.cut.cut.Given as goal
 
@@ -7,6 +7,11 @@ invariant-loop-at l = record {
   within : l.at ≤ length l.runs;
   flat : pieces_of l.pieces.items ≡ take l.at l.runs;
   filled : All (λ piece. 0 < length piece) l.pieces.items;
+  small : All (λ piece. length piece ≤ 32) l.pieces.items;
+  few : l.at < length l.runs → 16 * length l.pieces.items ≤ l.at;
+  few_all : 16 * length l.pieces.items < l.at + 16;
+  spent : l.initial.budget ≤ l.budget + (96 * length l.pieces.items + 16 * l.at);
+  less : l.budget ≤ l.initial.budget;
 }
 
 abbrev pub decreases-loop-at : goal.decreases-loop-at

@@ -28,4 +28,5 @@ loop-run-preserved c =
       formats = c.in_ok-add_some.ensures.formats ∙ ap (λ (l : List Format). l ++ replicate k r.format) c.loop-run.invariant.formats
           ∙ sym (part_more runs i r c.args.from c.args.to k c.loop-run-test.true c.run-item.is size);
       maximal = c.in_ok-add_some.ensures.maximal;
+      count = omega (arith, c.in_ok-add_some.ensures.count, c.loop-run.invariant.count);
     }

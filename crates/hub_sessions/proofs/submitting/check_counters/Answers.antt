@@ -1,7 +1,7 @@
 use Rattle.std.proofs.Common.{refl, sym, subst}
-use Rattle.std.specs.Prelude.{IfOk, IfErr}
-use Rattle.hub_requests.specs.declared.limits.SessionLimits.{SessionLimits}
-use Rattle.hub_sessions.specs.Submitting.{IsInReach, IsNotAdmitted}
+use Rattle.std.specs.Prelude.{IfOk}
+use Rattle.hub_sessions.specs.Submitting.{IsInReach}
+use Rattle.hub_sessions.proofs.Admitting.{at_options}
 use Rattle.hub_sessions.proofs.submitting.check_counters.Goals as goal
 
 pub returns-in-None-clause-ok : goal.returns-in-None-clause-ok
@@ -15,7 +15,4 @@ returns-in-Some-clause-ok g c =
 
 pub returns-in-Some-clause-err : goal.returns-in-Some-clause-err
 returns-in-Some-clause-err g c =
-    subst
-    (λ jump. IfErr c.check_jump.result
-    (λ why. (left : SessionLimits) → IsNotAdmitted g.N.Naming.size c.args.share.now c.check_jump.new.share jump c.args.change.now left why))
-    (sym c.in-Some.is) c.check_jump.ensures.err
+    at_options g.N.Naming.size c.args.share.now c.check_jump.new.share c.args.hub.now.options c.in-Some.jump c.args.change.now c.check_jump.result c.in-Some.is c.check_jump.ensures.err

@@ -1,13 +1,14 @@
-use Rattle.std.proofs.Common.{◌≡◌, ℕ, ◌+◌, ◌-◌, ◌⊎◌, inl, inr, List, [], ◌++◌, length, take, drop, get_or, Bool, true, false, sym, ap, subst, ◌∙◌}
+use Rattle.std.proofs.Common.{◌≡◌, ℕ, ◌+◌, ◌-◌, ◌≤◌, ◌⊎◌, inl, inr, List, [], ◌++◌, length, take, drop, get_or, Bool, true, false, sym, ap, subst, ◌∙◌, arith}
 use Rattle.piece_tree.specs.Nodes.{AreShort}
+use Rattle.piece_tree.proofs.Filled.{node_few, front_few, back_few}
 use Rattle.piece_tree.proofs.Windows.{IsSpot, IsReplaced, AreMade, to_end, window_replaced}
 use Rattle.piece_tree.proofs.Shorts.{window_short}
 use Rattle.piece_tree.proofs.window.replaced.Given.{Over}
 use Rattle.piece_tree.proofs.window.replaced.Goals as goal
 use Rattle.piece_tree.proofs.window.replaced.Goals.{then-made, else-made}
 
-pub made_between-requires : goal.made_between-requires
-made_between-requires g c =
+pub made_between-requires-clause-short : goal.made_between-requires-clause-short
+made_between-requires-clause-short g c =
     let ns : List (List g.row.T.Denot) = c.args.nodes.now in
     let o : ℕ = c.args.from - c.node_reaching-first.result.start in
     let p : ℕ = c.args.to - c.node_reaching-last.result.start in
@@ -54,3 +55,17 @@ returns-clause-flat g c = (replaced_is g c).flat
 
 pub returns-clause-filled : goal.returns-clause-filled
 returns-clause-filled g c = (replaced_is g c).filled
+
+pub made_between-requires-clause-front : goal.made_between-requires-clause-front
+made_between-requires-clause-front g c =
+    front_few c.args.nodes.now c.pieces_at.result.now c.node_reaching-first.result.node (c.args.from - c.node_reaching-first.result.start) c.requires.filled c.pieces_at.ensures
+
+pub made_between-requires-clause-back : goal.made_between-requires-clause-back
+made_between-requires-clause-back g c =
+    let p : ℕ = c.args.to - c.node_reaching-last.result.start in
+    back_few c.args.nodes.now c.pieces_at-2.result.now c.node_reaching-last.result.node p (length c.pieces_at-2.result.now - p) c.requires.filled c.pieces_at-2.ensures
+
+pub made_between-requires-clause-next : goal.made_between-requires-clause-next
+made_between-requires-clause-next g c =
+    let few : length (get_or c.args.nodes.now (c.node_reaching-last.result.node + 1) []) ≤ 32 = node_few c.args.nodes.now (c.node_reaching-last.result.node + 1) c.requires.filled in
+    omega (arith, ap length c.pieces_at-next.ensures)

@@ -72,7 +72,7 @@ with_windows-requires c =
     let touched = touched_read es added ranges read same told.touched in
     let changed = kept_between ops added old es read step.shows_before step.shows touched apart in
     let windows : List Replacement = c.in_ok-windows.windows.items in
-    let are = c.in_ok-windows.ensures changed.0 changed.1 in
+    let are = c.in_ok-windows.ensures.replaced changed.0 changed.1 in
     let now : List Span = spans_of c.args.previous.now in
     let order = windows_in_order ops added old es changed.0 read windows c.args.marks.now step.shows_before step.accepted step.shows step.marks apart touched changed.1 are now c.keeps.ensures.maximal step.version.1.spans in
     let text = text_put ops added old es changed.0 read windows c.args.marks.now step.shows_before step.accepted step.shows step.marks apart touched changed.1 are now c.keeps.ensures.maximal step.version.1.spans in
@@ -89,8 +89,8 @@ with_windows-requires c =
           (subst (λ (t : List ℕ). length t ≤ 131072) (sym text) c.len-count.ensures.bytes);
     }
 
-pub returns : goal.returns
-returns c =
+pub returns-clause-is : goal.returns-clause-is
+returns-clause-is c =
     λ ops step.
     let old : List Element = c.args.before.now.elements in
     let es : List Element = c.args.sequence.now.elements in
@@ -103,9 +103,9 @@ returns c =
     let touched = touched_read es added ranges read same told.touched in
     let changed = kept_between ops added old es read step.shows_before step.shows touched apart in
     let windows : List Replacement = c.in_ok-windows.windows.items in
-    let are = c.in_ok-windows.ensures changed.0 changed.1 in
+    let are = c.in_ok-windows.ensures.replaced changed.0 changed.1 in
     let now = glyphs (spans_of c.args.previous.now) in
-    let next = c.in_ok-next.next in
+    let next = c.in_ok-next.next.version in
     let put : glyphs (spans_of next) ≡ put_all windows now =
     c.in_ok-next.ensures.glyphs ∙ ap (λ (l : List Replacement). put_all l now) c.as_slice.ensures.value in
     subst (λ (n : ℕ). IsVersion (ops ++ added) n next) c.in_ok-next.ensures.number

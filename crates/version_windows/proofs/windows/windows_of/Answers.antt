@@ -64,16 +64,16 @@ replacements-requires c = record {
   changed = c.requires.changed;
 }
 
-pub returns-then-is_empty : goal.returns-then-is_empty
-returns-then-is_empty c =
+pub returns-then-is_empty-clause-replaced : goal.returns-then-is_empty-clause-replaced
+returns-then-is_empty-clause-replaced c =
     λ olds changed.
     let ranges : List PlaceRange = c.args.ranges.now in
     let empty = nil_from_length ranges (eqb-true (length ranges) 0 (sym c.is_empty.ensures ∙ c.if-is_empty.true)) in
     subst (AreReplacements c.args.before.now.elements c.args.sequence.now.elements c.args.marks.now olds ranges) (sym c.new.ensures.items)
     (no_windows c.args.before.now.elements c.args.sequence.now.elements c.args.marks.now olds ranges empty changed)
 
-pub returns : goal.returns
-returns c =
+pub returns-clause-replaced : goal.returns-clause-replaced
+returns-clause-replaced c =
     λ olds changed.
     let old : List Element = c.args.before.now.elements in
     let es : List Element = c.args.sequence.now.elements in

@@ -6,11 +6,8 @@ use Rattle.span_flatten.specs.Version.{IsVersion}
 use Rattle.change_history.specs.Chronicle.{Chronicle}
 use Rattle.change_history.specs.Accepted.{operations_of}
 use Rattle.change_history.specs.Kept.{Keeps, IsDraft}
-use Rattle.change_history.proofs.Following.{are_next, all_operations}
+use Rattle.change_history.proofs.Following.{are_next, lines_drafted, all_operations}
 use Rattle.change_history.proofs.history.History.next_version.Goals as goal
-
-pub lines_of-lines-requires : goal.lines_of-lines-requires
-lines_of-lines-requires c = (c.requires.drafted.0, c.requires.drafted.1.added)
 
 pub next_version-requires : goal.next_version-requires
 next_version-requires c =
@@ -18,15 +15,15 @@ next_version-requires c =
     let change : Change = c.requires.drafted.0 in
     let drafted : IsDraft c.args.self.now.size changes change c.args.draft.now = c.requires.drafted.1 in
     let kept : Keeps (operations_of changes) c.self.inside.parts = subst (λ (h : Chronicle). Keeps (operations_of h.changes) c.self.inside.parts) c.self.view_is c.self.invariant.0.kept in
-    (operations_of changes, are_next changes change c.args.previous.now c.lines_of-lines.result.now c.args.draft.now c.self.inside.parts kept c.requires.previous drafted (c.lines_of-lines.ensures change drafted.added))
+    (operations_of changes, are_next changes change c.args.previous.now c.lines-lines.result.now c.args.draft.now c.self.inside.parts kept c.requires.previous drafted (lines_drafted c.lines-lines.result.now c.args.draft.now drafted c.lines-lines.ensures.value))
 
-pub returns : goal.returns
-returns c = λ change drafted.
+pub returns-clause-is : goal.returns-clause-is
+returns-clause-is c = λ change drafted.
     let changes : List Change = c.args.self.now.changes in
-    let lines : List Line = c.lines_of-lines.result.now in
-    let same : lines ≡ change.lines = c.lines_of-lines.ensures change drafted.added in
+    let lines : List Line = c.lines-lines.result.now in
+    let same : lines ≡ change.lines = lines_drafted lines c.args.draft.now drafted c.lines-lines.ensures.value in
     let kept : Keeps (operations_of changes) c.self.inside.parts = subst (λ (h : Chronicle). Keeps (operations_of h.changes) c.self.inside.parts) c.self.view_is c.self.invariant.0.kept in
     let number : c.len.result + 1 ≡ length changes + 1 = ap (λ n. n + 1) c.len.ensures.value in
-    subst (λ (n : ℕ). IsVersion (operations_of (changes ++ change ∷ [])) n c.in_ok-version.version) number
-    (subst (λ (ops : List Op). IsVersion ops (c.len.result + 1) c.in_ok-version.version) (all_operations changes change lines same)
-    (c.in_ok-version.ensures (operations_of changes) (are_next changes change c.args.previous.now lines c.args.draft.now c.self.inside.parts kept c.requires.previous drafted same)))
+    subst (λ (n : ℕ). IsVersion (operations_of (changes ++ change ∷ [])) n c.in_ok-next.next.version) number
+    (subst (λ (ops : List Op). IsVersion ops (c.len.result + 1) c.in_ok-next.next.version) (all_operations changes change lines same)
+    (c.in_ok-next.ensures.is (operations_of changes) (are_next changes change c.args.previous.now lines c.args.draft.now c.self.inside.parts kept c.requires.previous drafted same)))

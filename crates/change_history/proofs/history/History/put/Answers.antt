@@ -4,7 +4,7 @@ use Rattle.change_ops.specs.Sizes.{most_changes}
 use Rattle.change_ops.specs.declared.size.Size.{Size}
 use Rattle.change_history.specs.Chronicle.{Chronicle}
 use Rattle.change_history.specs.Kept.{IsDraft, IsSpare}
-use Rattle.change_history.proofs.Chronicle.{put_appended, history_put, spare_after}
+use Rattle.change_history.proofs.Chronicle.{put_appended, history_put, spare_after, last_after}
 use Rattle.change_history.proofs.Sizes.{most_changes-large}
 use Rattle.change_history.proofs.history.History.put.Goals as goal
 
@@ -24,6 +24,7 @@ invariant_of-self c =
       history_put before c.append.new.self change c.self.inside.parts c.replace.new.dest c.args.draft c.self.invariant.0 draft grown c.replace.ensures.after,
       subst (λ (cs : List Change). IsSpare cs (Some c.replace.result)) (sym grown)
           (spare_after before change c.self.inside.parts (Some c.replace.result) c.self.invariant.0 (ap Some c.replace.ensures.value)),
+      last_after before c.append.new.self change (Some c.args.draft.change) grown (ap Some draft.of),
     )
 
 pub returns : goal.returns

@@ -17,7 +17,7 @@ from_version-requires c =
       is = c.in_ok-whole.ensures c.requires.0 kept.shows (are_marks c.requires.0 c.args.self.now.marks kept.marks);
     }
 
-pub returns : goal.returns
-returns c = λ ops kept.
-    subst (λ (v : Version). IsVersion ops c.args.number v) (sym c.in_ok-version.ensures)
+pub returns-clause-is : goal.returns-clause-is
+returns-clause-is c = λ ops kept.
+    subst (λ (v : Version). IsVersion ops c.args.number v) (sym c.in_ok-version.ensures.version)
     (c.in_ok-whole.ensures ops kept.shows (are_marks ops c.args.self.now.marks kept.marks))

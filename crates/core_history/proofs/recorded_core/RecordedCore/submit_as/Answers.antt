@@ -6,5 +6,5 @@ use Rattle.core_history.proofs.recorded_core.RecordedCore.submit_as.Goals as goa
 
 pub record-requires-clause-led : goal.record-requires-clause-led
 record-requires-clause-led g c =
-    led_as g.N.Naming.size was_sent IsFull closed_end unsent _ _ (call.Submit c.args.change) g.A.Asked.call (reply.Submitted c.submit-submitted.result) _
-    c.requires.call c.self.invariant c.submit-submitted.ensures
+    led_as g.N.Naming.size was_sent IsFull closed_end unsent _ _ (call.Submit c.args.change) g.A.Asked.call (reply.Submitted c.submit_spelled-submitted.result) _
+    c.requires.call c.self.invariant c.submit_spelled-submitted.ensures

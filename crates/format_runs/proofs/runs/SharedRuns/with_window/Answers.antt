@@ -7,9 +7,9 @@ use Rattle.piece_tree.specs.Nodes.{pieces_of}
 use Rattle.span_flatten.specs.Edges.{KeepEdges}
 use Rattle.piece_tree.specs.declared.spot.Spot.{Spot}
 use Rattle.format_runs.specs.Runs.{AreAlike, AreApart, AreMaximal, IsBetween, IsInside, Run, character_count, formats_in, formats_of}
-use Rattle.format_runs.proofs.Formats.{count_added, count_rows, formats_rows, length_formats, length_rows}
+use Rattle.format_runs.proofs.Formats.{count_added, count_rows, formats_rows, length_formats, length_rows, length_runs}
 use Rattle.format_runs.proofs.Slices.{short_part, slice_from_start, slice_to_end}
-use Rattle.format_runs.proofs.Pieces.{counted_around, piece_maximal, sum_characters}
+use Rattle.format_runs.proofs.Pieces.{counted_around, piece_maximal, piece_small, sum_characters}
 use Rattle.format_runs.proofs.Edges.{back_alike, back_apart, first_row, front_alike, front_apart, last_row}
 use Rattle.format_runs.proofs.Putting.{drop_least}
 use Rattle.format_runs.proofs.Windows.{IsAt, IsMade, first_is_at, last_is_at, window_count, window_formats, window_made, window_maximal, window_order}
@@ -57,7 +57,7 @@ add_runs-requires-clause-alike c =
     let front : List Run = c.runs_at-front.result.now in
     let rows : List Format = formats_in c.args.rows.now in
     let spelt : formats_of c.as_slice.result.now ≡ rows =
-    ap formats_of (c.as_slice.ensures.value ∙ c.in_ok-fresh.ensures) ∙ formats_rows c.args.rows.now in
+    ap formats_of (c.as_slice.ensures.value ∙ c.in_ok-fresh.ensures.runs) ∙ formats_rows c.args.rows.now in
     let within : from ≤ character_count (pieces_of ps) = omega (arith, c.requires.order, c.requires.within, ap character_count c.self.view_is) in
     let at : IsAt ps first.index first.characters from = first_is_at ps from first within c.spot-first.ensures in
     let keep : KeepEdges (formats_of (pieces_of ps)) from c.args.to rows =
@@ -79,7 +79,7 @@ add_runs-requires-clause-apart c =
     let front : List Run = c.runs_at-front.result.now in
     let rows : List Format = formats_in c.args.rows.now in
     let spelt : formats_of c.as_slice.result.now ≡ rows =
-    ap formats_of (c.as_slice.ensures.value ∙ c.in_ok-fresh.ensures) ∙ formats_rows c.args.rows.now in
+    ap formats_of (c.as_slice.ensures.value ∙ c.in_ok-fresh.ensures.runs) ∙ formats_rows c.args.rows.now in
     let within : from ≤ character_count (pieces_of ps) = omega (arith, c.requires.order, c.requires.within, ap character_count c.self.view_is) in
     let at : IsAt ps first.index first.characters from = first_is_at ps from first within c.spot-first.ensures in
     let keep : KeepEdges (formats_of (pieces_of ps)) from c.args.to rows =
@@ -119,7 +119,7 @@ add_runs-requires-2-clause-alike c =
     let to : ℕ = c.args.to in
     let rows : List Format = formats_in c.args.rows.now in
     let spelt : formats_of c.as_slice.result.now ≡ rows =
-    ap formats_of (c.as_slice.ensures.value ∙ c.in_ok-fresh.ensures) ∙ formats_rows c.args.rows.now in
+    ap formats_of (c.as_slice.ensures.value ∙ c.in_ok-fresh.ensures.runs) ∙ formats_rows c.args.rows.now in
     let joined : formats_of c.add_runs.new.runs.items ≡ formats_of c.in_ok-runs.runs.items ++ rows =
     c.in_ok-add_runs.ensures.formats ∙ ap (λ (l : List Format). formats_of c.in_ok-runs.runs.items ++ l) spelt in
     let own : List Format = formats_of (get_or ps last.index []) in
@@ -146,7 +146,7 @@ add_runs-requires-2-clause-apart c =
     let to : ℕ = c.args.to in
     let rows : List Format = formats_in c.args.rows.now in
     let spelt : formats_of c.as_slice.result.now ≡ rows =
-    ap formats_of (c.as_slice.ensures.value ∙ c.in_ok-fresh.ensures) ∙ formats_rows c.args.rows.now in
+    ap formats_of (c.as_slice.ensures.value ∙ c.in_ok-fresh.ensures.runs) ∙ formats_rows c.args.rows.now in
     let joined : formats_of c.add_runs.new.runs.items ≡ formats_of c.in_ok-runs.runs.items ++ rows =
     c.in_ok-add_runs.ensures.formats ∙ ap (λ (l : List Format). formats_of c.in_ok-runs.runs.items ++ l) spelt in
     let own : List Format = formats_of (get_or ps last.index []) in
@@ -176,7 +176,7 @@ between-requires-2-clause-maximal c =
     subst AreMaximal (sym c.runs_at-back.ensures) (piece_maximal c.self.inside.pieces c.spot-last.result.index c.self.invariant.maximal)
 
 pub add_runs-requires-clause-maximal_more : goal.add_runs-requires-clause-maximal_more
-add_runs-requires-clause-maximal_more c = subst AreMaximal (sym (c.as_slice.ensures.value ∙ c.in_ok-fresh.ensures)) c.requires.maximal
+add_runs-requires-clause-maximal_more c = subst AreMaximal (sym (c.as_slice.ensures.value ∙ c.in_ok-fresh.ensures.runs)) c.requires.maximal
 
 pub add_runs-requires-clause-few : goal.add_runs-requires-clause-few
 add_runs-requires-clause-few c =
@@ -184,7 +184,7 @@ add_runs-requires-clause-few c =
       arith,
       c.requires.short,
       short_part c.runs_at-front.result.now c.in_ok-runs.runs.items 0 (c.args.from - c.spot-first.result.characters) c.in_ok-runs.ensures.formats,
-      ap character_count (c.as_slice.ensures.value ∙ c.in_ok-fresh.ensures),
+      ap character_count (c.as_slice.ensures.value ∙ c.in_ok-fresh.ensures.runs),
       count_rows c.args.rows.now,
       ap character_count c.runs_at-front.ensures,
       counted_around c.self.inside.pieces c.spot-first.result.index,
@@ -195,7 +195,7 @@ pub add_runs-requires-2-clause-few : goal.add_runs-requires-2-clause-few
 add_runs-requires-2-clause-few c =
     let rows : List Format = formats_in c.args.rows.now in
     let spelt : formats_of c.as_slice.result.now ≡ rows =
-    ap formats_of (c.as_slice.ensures.value ∙ c.in_ok-fresh.ensures) ∙ formats_rows c.args.rows.now in
+    ap formats_of (c.as_slice.ensures.value ∙ c.in_ok-fresh.ensures.runs) ∙ formats_rows c.args.rows.now in
     let joined : formats_of c.add_runs.new.runs.items ≡ formats_of c.in_ok-runs.runs.items ++ rows =
     c.in_ok-add_runs.ensures.formats ∙ ap (λ (l : List Format). formats_of c.in_ok-runs.runs.items ++ l) spelt in
     omega (
@@ -221,7 +221,7 @@ put-requires-clause-order c =
     let to : ℕ = c.args.to in
     let rows : List Format = formats_in c.args.rows.now in
     let spelt : formats_of c.as_slice.result.now ≡ rows =
-    ap formats_of (c.as_slice.ensures.value ∙ c.in_ok-fresh.ensures) ∙ formats_rows c.args.rows.now in
+    ap formats_of (c.as_slice.ensures.value ∙ c.in_ok-fresh.ensures.runs) ∙ formats_rows c.args.rows.now in
     let joined : formats_of c.add_runs.new.runs.items ≡ formats_of c.in_ok-runs.runs.items ++ rows =
     c.in_ok-add_runs.ensures.formats ∙ ap (λ (l : List Format). formats_of c.in_ok-runs.runs.items ++ l) spelt in
     let whole : List Run = c.add_runs-2.new.runs.items in
@@ -252,7 +252,7 @@ put-requires-clause-maximal c =
     let to : ℕ = c.args.to in
     let rows : List Format = formats_in c.args.rows.now in
     let spelt : formats_of c.as_slice.result.now ≡ rows =
-    ap formats_of (c.as_slice.ensures.value ∙ c.in_ok-fresh.ensures) ∙ formats_rows c.args.rows.now in
+    ap formats_of (c.as_slice.ensures.value ∙ c.in_ok-fresh.ensures.runs) ∙ formats_rows c.args.rows.now in
     let joined : formats_of c.add_runs.new.runs.items ≡ formats_of c.in_ok-runs.runs.items ++ rows =
     c.in_ok-add_runs.ensures.formats ∙ ap (λ (l : List Format). formats_of c.in_ok-runs.runs.items ++ l) spelt in
     let whole : List Run = c.add_runs-2.new.runs.items in
@@ -281,7 +281,7 @@ put-requires-clause-short c =
     let to : ℕ = c.args.to in
     let rows : List Format = formats_in c.args.rows.now in
     let spelt : formats_of c.as_slice.result.now ≡ rows =
-    ap formats_of (c.as_slice.ensures.value ∙ c.in_ok-fresh.ensures) ∙ formats_rows c.args.rows.now in
+    ap formats_of (c.as_slice.ensures.value ∙ c.in_ok-fresh.ensures.runs) ∙ formats_rows c.args.rows.now in
     let joined : formats_of c.add_runs.new.runs.items ≡ formats_of c.in_ok-runs.runs.items ++ rows =
     c.in_ok-add_runs.ensures.formats ∙ ap (λ (l : List Format). formats_of c.in_ok-runs.runs.items ++ l) spelt in
     let whole : List Run = c.add_runs-2.new.runs.items in
@@ -309,8 +309,8 @@ put-requires-clause-short c =
       window_count ps from to first.index first.characters last.index last.characters rows whole m within,
     )
 
-pub returns : goal.returns
-returns c =
+pub returns-clause-formats : goal.returns-clause-formats
+returns-clause-formats c =
     let ps : List (List Run) = c.self.inside.pieces in
     let first : Spot = c.spot-first.result in
     let last : Spot = c.spot-last.result in
@@ -318,7 +318,7 @@ returns c =
     let to : ℕ = c.args.to in
     let rows : List Format = formats_in c.args.rows.now in
     let spelt : formats_of c.as_slice.result.now ≡ rows =
-    ap formats_of (c.as_slice.ensures.value ∙ c.in_ok-fresh.ensures) ∙ formats_rows c.args.rows.now in
+    ap formats_of (c.as_slice.ensures.value ∙ c.in_ok-fresh.ensures.runs) ∙ formats_rows c.args.rows.now in
     let joined : formats_of c.add_runs.new.runs.items ≡ formats_of c.in_ok-runs.runs.items ++ rows =
     c.in_ok-add_runs.ensures.formats ∙ ap (λ (l : List Format). formats_of c.in_ok-runs.runs.items ++ l) spelt in
     let whole : List Run = c.add_runs-2.new.runs.items in
@@ -336,9 +336,52 @@ returns c =
     ap (λ (l : List Run). before ++ (l ++ pieces_of (drop c.in_ok-end.end ps))) c.as_slice-3.ensures.value
     ∙ ap (λ (l : List Run). before ++ l)
     (c.in_ok-end.ensures.same ∙ ap (λ (l : List (List Run)). whole ++ pieces_of l) (drop_least ps (last.index + 1) c.min-end.result (omega (arith, c.min-end.ensures, c.len.ensures)))) in
-    record {
-      formats = IfOk-weaker c.put.result _ _
-          (λ _ e. ap formats_of (e ∙ same) ∙ window_formats ps from to first.index first.characters last.index last.characters rows whole m
-          ∙ ap (λ (l : List Run). take from (formats_of l) ++ (rows ++ drop to (formats_of l))) c.self.view_is)
-          c.put.ensures;
-    }
+    IfOk-weaker c.put.result _ _
+    (λ _ e. ap formats_of (e ∙ same) ∙ window_formats ps from to first.index first.characters last.index last.characters rows whole m
+    ∙ ap (λ (l : List Run). take from (formats_of l) ++ (rows ++ drop to (formats_of l))) c.self.view_is)
+    c.put.ensures.runs
+
+-- ---- what is made
+pub returns-clause-count : goal.returns-clause-count
+returns-clause-count c =
+    let few : length c.as_slice-3.result.now ≤ length c.args.rows.now + 96 =
+    omega (
+      arith,
+      piece_small c.self.inside.pieces c.spot-first.result.index c.self.invariant.small,
+      ap length c.runs_at-front.ensures,
+      c.in_ok-runs.ensures.count,
+      ap length (c.as_slice.ensures.value ∙ c.in_ok-fresh.ensures.runs),
+      length_runs c.args.rows.now,
+      c.in_ok-add_runs.ensures.count,
+      piece_small c.self.inside.pieces c.spot-last.result.index c.self.invariant.small,
+      ap length c.runs_at-back.ensures,
+      c.in_ok-behind.ensures.count,
+      ap length c.as_slice-2.ensures.value,
+      c.in_ok-add_runs-2.ensures.count,
+      c.in_ok-end.ensures.few,
+      ap length c.as_slice-3.ensures.value,
+      ap length c.self.view_is,
+    ) in
+    IfOk-weaker c.put.result _ _ (λ _ e. omega (arith, e, few, ap length c.self.view_is)) c.put.ensures.count
+
+pub returns-clause-spent : goal.returns-clause-spent
+returns-clause-spent c =
+    omega (
+      arith,
+      piece_small c.self.inside.pieces c.spot-first.result.index c.self.invariant.small,
+      ap length c.runs_at-front.ensures,
+      c.in_ok-runs.ensures.count,
+      ap length (c.as_slice.ensures.value ∙ c.in_ok-fresh.ensures.runs),
+      length_runs c.args.rows.now,
+      c.in_ok-add_runs.ensures.count,
+      piece_small c.self.inside.pieces c.spot-last.result.index c.self.invariant.small,
+      ap length c.runs_at-back.ensures,
+      c.in_ok-behind.ensures.count,
+      ap length c.as_slice-2.ensures.value,
+      c.in_ok-add_runs-2.ensures.count,
+      c.in_ok-end.ensures.few,
+      ap length c.as_slice-3.ensures.value,
+      ap length c.self.view_is,
+      c.runs_of.ensures.spent,
+      c.put.ensures.spent,
+    )

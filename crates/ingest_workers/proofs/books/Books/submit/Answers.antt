@@ -24,6 +24,9 @@ pub returns-in_default-clause-call : goal.returns-in_default-clause-call
 returns-in_default-clause-call g c =
     made_refused g.N.Naming.size _ _ _ _ _ _ c.core-core.ensures.run c.refuse_submit-in_default.ensures.records c.self.invariant.4 c.self.invariant.7
 
+pub submit-token-requires-clause-spelled : goal.submit-token-requires-clause-spelled
+submit-token-requires-clause-spelled g c = c.in-Ok.ensures.text.1
+
 pub invariant_of-self-in_err-token : goal.invariant_of-self-in_err-token
 invariant_of-self-in_err-token g c =
     kept_same _ g.N.Naming.size _ _ _ _ _ _ c.in_err-token.ensures.records.happens.0 c.next_text.ensures.same c.self.invariant
@@ -45,7 +48,7 @@ invariant_of-self-2 g c =
       subst (IsConsistent was_sent IsFull) c.core.ensures.core c.stays_consistent.ensures.consistent,
       c.push_reserved.ensures.items
           ∙ ap (λ l. l ++ c.in-Ok.text ∷ []) (c.in-Ok.ensures.same ∙ c.self.invariant.5)
-          ∙ ap (λ text. map change_text old ++ text ∷ []) c.in-Ok.ensures.text
+          ∙ ap (λ text. map change_text old ++ text ∷ []) c.in-Ok.ensures.text.0
           ∙ sym (map-append change_text old (c.args.change ∷ []))
           ∙ ap (λ l. map change_text l) (sym added),
       greatest_of_more old new c.args.change c.self.inside.greatest _ added c.self.invariant.6 c.greatest_with-greatest.ensures,

@@ -11,10 +11,10 @@ overflow_add-from c =
 pub invariant_of-result : goal.invariant_of-result
 invariant_of-result c =
     let within : c.args.to ≤ length (pieces_of c.self.inside.pieces) = omega (arith, c.requires.within, ap length c.self.view_is) in
-    ((part_at c.self.inside.pieces c.args.from c.args.to c.spot-spot.result c.self.invariant c.spot-spot.ensures c.requires.order within).extract, tt)
+    ((part_at c.self.inside.pieces c.args.from c.args.to c.spot-spot.result c.self.invariant.0 c.spot-spot.ensures c.requires.order within).extract, tt)
 
 pub returns : goal.returns
 returns c =
     let within : c.args.to ≤ length (pieces_of c.self.inside.pieces) = omega (arith, c.requires.within, ap length c.self.view_is) in
-    (part_at c.self.inside.pieces c.args.from c.args.to c.spot-spot.result c.self.invariant c.spot-spot.ensures c.requires.order within).is
+    (part_at c.self.inside.pieces c.args.from c.args.to c.spot-spot.result c.self.invariant.0 c.spot-spot.ensures c.requires.order within).is
     ∙ ap (λ (l : List ℕ). slice_range l c.args.from c.args.to) c.self.view_is

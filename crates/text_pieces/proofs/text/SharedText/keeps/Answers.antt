@@ -4,7 +4,7 @@ use Rattle.text_pieces.proofs.Pieces.{pieces_spelt, sum_bytes}
 use Rattle.text_pieces.proofs.text.SharedText.keeps.Goals as goal
 
 pub returns-clause-spelt : goal.returns-clause-spelt
-returns-clause-spelt c = subst (λ (l : List ℕ). AreCharacters l) c.self.view_is (pieces_spelt c.self.inside.pieces c.self.invariant)
+returns-clause-spelt c = subst (λ (l : List ℕ). AreCharacters l) c.self.view_is (pieces_spelt c.self.inside.pieces c.self.invariant.0)
 
 pub returns-clause-short : goal.returns-clause-short
 returns-clause-short c =

@@ -15,7 +15,7 @@ use Rattle.version_pieces.proofs.spans.Spans.new.Goals as goal
 pub with_window-requires-clause-short : goal.with_window-requires-clause-short
 with_window-requires-clause-short c =
     let text : List ℕ = c.args.text.now in
-    let same : chars text ++ c.in_ok-no_text.no_text ≡ chars text = ap (λ (l : List ℕ). chars text ++ l) c.in_ok-no_text.ensures ∙ append-nil (chars text) in
+    let same : chars text ++ c.in_ok-no_text.no_text ≡ chars text = ap (λ (l : List ℕ). chars text ++ l) c.in_ok-no_text.ensures.text ∙ append-nil (chars text) in
     omega (arith, ap (λ (l : List ℕ). length (encode_utf8_all l)) same, ap length (encodes-chars text c.utf8.text), c.requires.whole.limits.short)
 
 pub with_window-requires-2-clause-short : goal.with_window-requires-2-clause-short
@@ -25,7 +25,7 @@ with_window-requires-2-clause-short c =
     let told : AreShown text rows = shown text rows c.utf8.text c.requires.whole in
     omega (
       arith,
-      ap (λ (l : List Run). character_count l) c.in_ok-no_runs.ensures,
+      ap (λ (l : List Run). character_count l) c.in_ok-no_runs.ensures.runs,
       length_rows rows,
       told.fits,
       chars_few text c.utf8.text,
@@ -39,7 +39,7 @@ with_window-requires-2-clause-maximal c = rows_maximal c.args.text.now c.args.ro
 pub with_window-requires-2-clause-edges : goal.with_window-requires-2-clause-edges
 with_window-requires-2-clause-edges c = record {
   front = λ some. absurd (omega arith);
-  back = λ some. absurd (omega (arith, ap (λ (l : List Run). length (formats_of l)) c.in_ok-no_runs.ensures));
+  back = λ some. absurd (omega (arith, ap (λ (l : List Run). length (formats_of l)) c.in_ok-no_runs.ensures.runs));
 }
 
 pub invariant_of-result : goal.invariant_of-result
@@ -47,21 +47,21 @@ invariant_of-result c =
     let text : List ℕ = c.args.text.now in
     let rows : List Row = c.args.rows.now in
     let told : AreShown text rows = shown text rows c.utf8.text c.requires.whole in
-    let cs : c.in_ok-own.own ≡ chars text = c.in_ok-own.ensures ∙ ap (λ (l : List ℕ). chars text ++ l) c.in_ok-no_text.ensures ∙ append-nil (chars text) in
+    let cs : c.in_ok-own.own ≡ chars text = c.in_ok-own.ensures.text ∙ ap (λ (l : List ℕ). chars text ++ l) c.in_ok-no_text.ensures.text ∙ append-nil (chars text) in
     let fs : formats_of c.in_ok-runs.runs ≡ formats_in rows =
-    c.in_ok-runs.ensures.formats ∙ ap (λ (l : List Run). formats_in rows ++ formats_of l) c.in_ok-no_runs.ensures ∙ append-nil (formats_in rows) in
+    c.in_ok-runs.ensures.formats ∙ ap (λ (l : List Run). formats_in rows ++ formats_of l) c.in_ok-no_runs.ensures.runs ∙ append-nil (formats_in rows) in
     let whole : character_count c.in_ok-runs.runs ≡ length c.in_ok-own.own =
     sym (length_formats c.in_ok-runs.runs) ∙ ap length fs ∙ sym told.fits ∙ ap length (sym cs) in
     record { spelt = c.keeps.ensures.spelt; maximal = c.keeps-2.ensures.maximal; whole = whole }
 
-pub returns : goal.returns
-returns c =
+pub returns-clause-glyphs : goal.returns-clause-glyphs
+returns-clause-glyphs c =
     let text : List ℕ = c.args.text.now in
     let rows : List Row = c.args.rows.now in
     let told : AreShown text rows = shown text rows c.utf8.text c.requires.whole in
-    let cs : c.in_ok-own.own ≡ chars text = c.in_ok-own.ensures ∙ ap (λ (l : List ℕ). chars text ++ l) c.in_ok-no_text.ensures ∙ append-nil (chars text) in
+    let cs : c.in_ok-own.own ≡ chars text = c.in_ok-own.ensures.text ∙ ap (λ (l : List ℕ). chars text ++ l) c.in_ok-no_text.ensures.text ∙ append-nil (chars text) in
     let fs : formats_of c.in_ok-runs.runs ≡ formats_in rows =
-    c.in_ok-runs.ensures.formats ∙ ap (λ (l : List Run). formats_in rows ++ formats_of l) c.in_ok-no_runs.ensures ∙ append-nil (formats_in rows) in
+    c.in_ok-runs.ensures.formats ∙ ap (λ (l : List Run). formats_in rows ++ formats_of l) c.in_ok-no_runs.ensures.runs ∙ append-nil (formats_in rows) in
     let whole : character_count c.in_ok-runs.runs ≡ length c.in_ok-own.own =
     sym (length_formats c.in_ok-runs.runs) ∙ ap length fs ∙ sym told.fits ∙ ap length (sym cs) in
     glyphs_along c.in_ok-runs.runs c.in_ok-own.own (scalars_are c.in_ok-own.own c.keeps.ensures.spelt) whole
