@@ -20,7 +20,7 @@ get_front [] ys j less = absurd (omega arith)
 get_front (x ∷ xs) ys zero less = refl
 get_front (x ∷ xs) ys (suc j) less = get_front xs ys j (omega arith)
 
-get_run : (f : Format) (n : ℕ) (rest : List Format) (j : ℕ) → j < n → slice_get (replicate n f ++ rest) j ≡ Some f
+pub get_run : (f : Format) (n : ℕ) (rest : List Format) (j : ℕ) → j < n → slice_get (replicate n f ++ rest) j ≡ Some f
 get_run f zero rest j less = absurd (omega arith)
 get_run f (suc n) rest zero less = refl
 get_run f (suc n) rest (suc j) less = get_run f n rest j (omega arith)

@@ -7,3 +7,4 @@ pub mod Edges
 pub mod Putting
 pub mod Walking
 pub mod Over
+pub mod Resized

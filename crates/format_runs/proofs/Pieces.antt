@@ -78,10 +78,10 @@ few_pieces (p ∷ ps) filled =
     omega (arith, length-append p (pieces_of ps))
 
 -- no piece is longer than each of them may be, and none stands behind the last one
-pub piece_small : (ps : List (List Run)) (k : ℕ) → All (λ p. length p ≤ 32) ps → length (get_or ps k []) ≤ 32
+pub piece_small : (ps : List (List Run)) (k : ℕ) → All (λ p. length p ≤ 48) ps → length (get_or ps k []) ≤ 48
 piece_small ps k small = elim (cases_lt k (length ps)) [
   | inr past ↦ omega (arith, ap length (get_or_past ps k [] past))
-  | inl inside ↦ All-get_or (λ (p : List Run). length p ≤ 32) ps k [] inside small
+  | inl inside ↦ All-get_or (λ (p : List Run). length p ≤ 48) ps k [] inside small
 ]
 
 -- pieces that are kept have no more runs than all

@@ -10,7 +10,7 @@ use Rattle.format_runs.proofs.Pieces.{few_pieces, pieces_kept, sum_characters, s
 
 module _ (ps made : List (List Run)) (from to : ℕ) (runs : List Run) (order : from ≤ to) (within : to ≤ length ps)
     (filled : All (λ p. 0 < length p) ps) (fresh : All (λ p. 0 < length p) made) (flat : pieces_of made ≡ runs)
-    (small : All (λ p. length p ≤ 32) ps) (small_fresh : All (λ p. length p ≤ 32) made)
+    (small : All (λ p. length p ≤ 48) ps) (small_fresh : All (λ p. length p ≤ 48) made)
     (maximal : AreMaximal (pieces_of (take from ps) ++ (runs ++ pieces_of (drop to ps))))
     (short : character_count (pieces_of (take from ps) ++ (runs ++ pieces_of (drop to ps))) ≤ 2097152) where
   abbrev all : List (List Run)
@@ -27,8 +27,8 @@ module _ (ps made : List (List Run)) (from to : ℕ) (runs : List Run) (order : 
         All-append (λ (p : List Run). 0 < length p) (take from ps) (made ++ drop to ps) (All-take (λ (p : List Run). 0 < length p) from ps filled)
         (All-append (λ (p : List Run). 0 < length p) made (drop to ps) fresh (All-drop (λ (p : List Run). 0 < length p) to ps filled));
     small =
-        All-append (λ (p : List Run). length p ≤ 32) (take from ps) (made ++ drop to ps) (All-take (λ (p : List Run). length p ≤ 32) from ps small)
-        (All-append (λ (p : List Run). length p ≤ 32) made (drop to ps) small_fresh (All-drop (λ (p : List Run). length p ≤ 32) to ps small));
+        All-append (λ (p : List Run). length p ≤ 48) (take from ps) (made ++ drop to ps) (All-take (λ (p : List Run). length p ≤ 48) from ps small)
+        (All-append (λ (p : List Run). length p ≤ 48) made (drop to ps) small_fresh (All-drop (λ (p : List Run). length p ≤ 48) to ps small));
     maximal = subst AreMaximal (sym put_pieces) maximal;
   }
 

@@ -1,6 +1,6 @@
 -- Runs of characters that have one format.
-use Rattle.std.specs.Prelude.{◌≡◌, ◌≢◌, ◌<◌, ◌≤◌, ◌+◌, ◌-◌, ℕ, List, [], ◌∷◌, Some, All, flat_map, length, map}
-use Rattle.std.specs.Prelude.{replicate, slice_get, sum_by, take}
+use Rattle.std.specs.Prelude.{◌≡◌, ◌≢◌, ◌<◌, ◌≤◌, ◌+◌, ◌-◌, ◌⊎◌, ℕ, List, [], ◌∷◌, Some, All, flat_map, get_or, length}
+use Rattle.std.specs.Prelude.{map, replicate, slice_get, sum_by, take}
 use Rattle.mark_anchors.specs.Formatting.{Format}
 use Rattle.span_flatten.specs.declared.version.Row.{Row}
 use Rattle.piece_tree.specs.Nodes.{pieces_of}
@@ -15,6 +15,10 @@ pub record Run : Type 0 where
 -- how many characters the runs have
 abbrev pub character_count : List Run → ℕ
 character_count runs = sum_by (λ run. run.characters) runs
+
+-- so many characters of the run's format
+abbrev pub of_size : Run → ℕ → Run
+of_size run count = record { format = run.format; characters = count }
 
 -- runs are so many, and have so many characters
 abbrev pub run_size : Measure → List Run → ℕ
@@ -74,10 +78,10 @@ pub record IsBetween (runs : List Run) (place : ℕ) : Type 0 where
 abbrev pub row_count : List Row → ℕ
 row_count rows = sum_by (λ row. row.characters) rows
 
--- what a list of runs in pieces keeps: each piece has 1 to 32 runs, and all runs are maximal
+-- what a list of runs in pieces keeps: each piece has 1 to 48 runs, and all runs are maximal
 pub record AreRuns (pieces : List (List Run)) : Type 0 where
   pub filled : All (λ piece. 0 < length piece) pieces
-  pub small : All (λ piece. length piece ≤ 32) pieces
+  pub small : All (λ piece. length piece ≤ 48) pieces
   pub maximal : AreMaximal (pieces_of pieces)
 
 -- the run of an index, before which so many characters stand
@@ -90,3 +94,19 @@ pub record IsOver (runs : List Run) (place index : ℕ) : Type 0 where
   pub within : index ≤ length runs
   pub begun : character_count (take index runs) ≤ place
   pub unended : index < length runs → place < character_count (take (index + 1) runs)
+
+-- the run of the index has so many characters from a place on
+pub record HasCharacters (runs : List Run) (index place count : ℕ) : Type 0 where
+  pub within : index < length runs
+  pub begun : character_count (take index runs) ≤ place
+  pub unended : place + count ≤ character_count (take (index + 1) runs)
+
+-- one run of a piece, before which so many characters stand, has those from `from` up to `to`, and others stand around
+-- these
+pub record HasWindow (pieces : List (List Run)) (piece start index from to : ℕ) : Type 0 where
+  pub inside : piece < length pieces
+  pub counted : start ≡ character_count (pieces_of (take piece pieces))
+  pub up_to : start ≤ from
+  pub some : from < to
+  pub has : HasCharacters (get_or pieces piece []) index (from - start) (to - from)
+  pub others : (0 < from) ⊎ (to < character_count (pieces_of pieces))

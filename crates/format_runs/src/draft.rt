@@ -1,11 +1,12 @@
 //! Runs in the making.
 ghost use Rattle.std.specs.Prelude.{◌≡◌, ◌<◌, ◌≤◌, ◌+◌, ◌*◌, ◌^◌, ◌++◌, ◌∷◌, [], IfOk, IfSome, IsFalse, IsTrue};
-ghost use Rattle.std.specs.Prelude.{List, length, replicate, slice_range};
+ghost use Rattle.std.specs.Prelude.{List, Some, drop, length, replicate, slice_get, slice_range, take};
 ghost use Rattle.mark_anchors.specs.Formatting.{Format};
 ghost use Rattle.span_flatten.specs.declared.version.Row.{Row};
 ghost use Rattle.format_runs.specs.Budgets.{format_bytes};
-ghost use Rattle.format_runs.specs.Runs.{AreAlike, AreApart, AreMaximal, IsBetween, IsInside, IsLast, character_count};
-ghost use Rattle.format_runs.specs.Runs.{formats_of, runs_in};
+ghost use Rattle.format_runs.specs.Runs.{AreAlike, AreApart, AreMaximal, IsBetween, IsInside, IsLast, Run};
+ghost use Rattle.format_runs.specs.Runs.{character_count};
+ghost use Rattle.format_runs.specs.Runs.{formats_of, of_size, runs_in};
 
 use crate::run::Run;
 use memory_budget::Budget;
@@ -24,10 +25,29 @@ fn push(runs: &mut Vec<Run>, run: Run) -> Result<(), AllocError>
 pub fn share_all(runs: &mut Vec<Run>, more: &[Run]) -> Result<(), AllocError>
     ensures { IfOk result (λ _. runs.new.items ≡ runs.old.items ++ more.now) }
 {
+    runs.reserve(more.len())?;
     for run in more {
         runs.push(run.of_size(run.characters())?)?;
     }
     Ok(())
+}
+
+/// The runs with so many characters in that of an index. No format is copied.
+pub fn sized(
+    alloc: Global,
+    runs: &[Run],
+    index: usize,
+    characters: usize,
+) -> Result<Vec<Run>, AllocError>
+    requires { index < length runs.now }
+    ensures { (run : Run) → slice_get runs.now index ≡ Some run → IfOk result (λ next. next.items
+        ≡ take index runs.now ++ (of_size run characters ∷ drop (index + 1) runs.now)) }
+{
+    let mut next = Vec::with_capacity(alloc, runs.len())?;
+    share_all(&mut next, &runs[..index])?;
+    push(&mut next, runs[index].of_size(characters)?)?;
+    share_all(&mut next, &runs[index + 1..])?;
+    Ok(next)
 }
 
 /// Makes the last run so many characters longer.
@@ -82,15 +102,23 @@ fn add_some(runs: &mut Vec<Run>, run: &Run, characters: usize) -> Result<(), All
     push(runs, run.of_size(characters)?)
 }
 
-/// The runs of the characters from the one place up to the other, as far as there are any.
-pub fn between(alloc: Global, runs: &[Run], from: usize, to: usize) -> Result<Vec<Run>, AllocError>
+/// The runs of the characters from the one place up to the other, as far as there are any, with room for so many more
+/// runs behind them.
+pub fn between(
+    alloc: Global,
+    runs: &[Run],
+    from: usize,
+    to: usize,
+    room: usize,
+) -> Result<Vec<Run>, AllocError>
+    requires room { room < 2 ^ 62 }
     requires short { character_count runs.now < 2 ^ 62 }
     requires maximal { AreMaximal runs.now }
     ensures formats { IfOk result (λ part. formats_of part.items ≡ slice_range (formats_of runs.now) from to) }
     ensures maximal { IfOk result (λ part. AreMaximal part.items) }
     ensures count { IfOk result (λ part. length part.items ≤ length runs.now) }
 {
-    let mut part = Vec::new(alloc);
+    let mut part = Vec::with_capacity(alloc, runs.len() + room)?;
     let mut start: usize = 0;
     for run in runs {
         let end = start + run.characters();

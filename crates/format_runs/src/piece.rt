@@ -10,7 +10,10 @@ use std::alloc::{AllocError, Global};
 use std::marker::Model;
 use std::sync::Arc;
 
-/// The most runs that a piece has.
+/// The most runs that a piece has: those are made where a window changes many runs at once.
+pub const WIDE: usize = 48;
+
+/// The most runs of a piece that is made for a window of few.
 pub const FULL: usize = 32;
 
 /// The least that it has, if it isn't the last one.
@@ -100,7 +103,7 @@ impl Content {
 impl RunPiece {
     /// The piece of these runs. It is the one way to make a piece that others don't have already, and it is paid for.
     pub fn new(alloc: Global, runs: Vec<Run>, budget: &mut Budget) -> Result<RunPiece, AllocError>
-        requires few { length runs.items ≤ 32 }
+        requires few { length runs.items ≤ 48 }
         requires short { character_count runs.items < 2 ^ 62 }
         ensures piece { IfOk result (λ piece. piece ≡ runs.items) }
         ensures paid { budget.new ≡ budget.old - piece_bytes (length runs.items) }

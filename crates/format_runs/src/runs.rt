@@ -1,18 +1,20 @@
 //! The runs of a text.
-ghost use Rattle.std.specs.Prelude.{◌≡◌, ◌<◌, ◌≤◌, ◌+◌, ◌^◌, ◌++◌, [], ◌-◌, IfOk, IfSome, IsTrue, MatchOption};
-ghost use Rattle.std.specs.Prelude.{All, Some, drop, get_or, length, replicate, slice_get, slice_range, take};
-ghost use Rattle.piece_tree.specs.Budgets.{root_bytes};
+ghost use Rattle.std.specs.Prelude.{◌≡◌, ◌<◌, ◌≤◌, ◌+◌, ◌^◌, ◌++◌, [], ◌-◌, ◌↔◌, ℕ, IfOk, IfSome, IsTrue};
+ghost use Rattle.std.specs.Prelude.{All, MatchOption, Some, drop, get_or, length, max, replicate, slice_get};
+ghost use Rattle.std.specs.Prelude.{slice_range, take};
+ghost use Rattle.piece_tree.specs.Budgets.{root_bytes, window_bytes};
 ghost use Rattle.piece_tree.specs.Nodes.{pieces_of};
 ghost use Rattle.span_flatten.specs.Edges.{KeepEdges};
-ghost use Rattle.format_runs.specs.Budgets.{put_bytes, rows_bytes};
-ghost use Rattle.format_runs.specs.Runs.{AreMaximal, IsOver, IsPlaced, character_count, formats_in, formats_of};
-ghost use Rattle.format_runs.specs.Runs.{row_count, runs_in};
+ghost use Rattle.format_runs.specs.Budgets.{piece_bytes, put_bytes, rows_bytes};
+ghost use Rattle.format_runs.specs.Runs.{AreMaximal, AreRuns, HasCharacters, HasWindow, IsOver, IsPlaced, Run};
+ghost use Rattle.format_runs.specs.Runs.{character_count, formats_in, formats_of, row_count, runs_in};
 
 use crate::cut::cut;
-use crate::draft::{add_runs, between, is_inside, runs_of, share_all};
+use crate::draft::{add_runs, between, is_inside, runs_of, share_all, sized};
 use crate::iter::RunsFrom;
 use crate::piece::{HALF, RunPiece, characters_of};
 use crate::run::Run;
+use mark_anchors::format::Format;
 use memory_budget::Budget;
 use piece_tree::piece::Measure;
 use piece_tree::tree::PieceTree;
@@ -48,6 +50,14 @@ impl Model for SharedRuns {
 pub struct Placed<'a> {
     pub run: &'a Run,
     pub start: usize,
+}
+
+/// The run of a piece by its index there, the piece's index, and how many characters stand before the piece.
+#[derive(Clone, Copy)]
+struct RunSpot {
+    piece: usize,
+    start: usize,
+    run: usize,
 }
 
 impl SharedRuns {
@@ -129,12 +139,42 @@ impl SharedRuns {
     }
 
     /// The runs with those of the rows in place of the characters from `from` up to `to`. The rows begin and end with
-    /// formats that stand there. So what is left of a run that is cut has the row's format and joins it, and where a
-    /// run begins the one before it has another format. Places tell which of these holds, and no formats are compared
-    /// for it. The first and the last row share the formats that stand there, and pieces that the window doesn't touch
-    /// are shared. Where what is made is too small for a piece, it joins the piece behind it. So what is paid for is
-    /// the rows, up to 96 runs around them, and the root.
+    /// formats that stand there. Where one run has these characters and there is one row, as for a key, that run alone
+    /// gets another number of characters. What is paid for is the rows, up to 96 runs around them, and the root.
     pub fn with_window(
+        &self,
+        alloc: Global,
+        from: usize,
+        to: usize,
+        rows: &[Row],
+        budget: &mut Budget,
+    ) -> Result<SharedRuns, AllocError>
+        requires order { from ≤ to }
+        requires within { to ≤ character_count self.now }
+        requires short { character_count self.now + row_count rows.now ≤ 2097152 }
+        requires maximal { AreMaximal (runs_in rows.now) }
+        requires edges { KeepEdges (formats_of self.now) from to (formats_in rows.now) }
+        ensures formats { IfOk result (λ next. formats_of next
+            ≡ take from (formats_of self.now) ++ (formats_in rows.now ++ drop to (formats_of self.now))) }
+        ensures count { IfOk result (λ next. length next ≤ length self.now + (length rows.now + 96)) }
+        ensures spent { budget.old ≤ budget.new + (rows_bytes (length rows.now)
+            + root_bytes (length self.now + length rows.now)) }
+        ensures less { budget.new ≤ budget.old }
+    {
+        match window_run(&self.pieces, from, to, rows) {
+            Some(spot) => {
+                let count = rows[0].characters;
+                resized(alloc, &self.pieces, spot, from, to, count, budget)
+            }
+            None => self.with_rows(alloc, from, to, rows, budget),
+        }
+    }
+
+    /// The same for any window. What is left of a run that is cut has the row's format and joins it, and where a run
+    /// begins the one before it has another format. Places tell which of these holds, and no formats are compared for
+    /// it. The first and the last row share the formats that stand there, and pieces that the window doesn't touch are
+    /// shared. Where what is made is too small for a piece, it joins the piece behind it.
+    fn with_rows(
         &self,
         alloc: Global,
         from: usize,
@@ -167,10 +207,11 @@ impl SharedRuns {
             self.run_before(to),
             budget,
         )?;
-        let mut runs = between(alloc, front, 0, from - first.characters)?;
+        let room = rows.len() + back.len();
+        let mut runs = between(alloc, front, 0, from - first.characters, room)?;
         let cuts_front = is_inside(front, from - first.characters);
         add_runs(&mut runs, fresh.as_slice(), cuts_front)?;
-        let behind = between(alloc, back, to - last.characters, self.character_count())?;
+        let behind = between(alloc, back, to - last.characters, self.character_count(), 0)?;
         let cuts_back = is_inside(back, to - last.characters);
         add_runs(&mut runs, behind.as_slice(), cuts_back)?;
         let end = self.pieces.len().min(last.index + 1);
@@ -200,9 +241,21 @@ impl SharedRuns {
         spot.parts + ended(runs, place - spot.characters)
     }
 
+    /// The format of the character at a place, if there is one.
+    pub fn format_at(&self, place: usize) -> Option<&Format>
+        ensures { MatchOption result (length (formats_of self.now) ≤ place)
+            (λ format. slice_get (formats_of self.now) place ≡ Some format.now) }
+    {
+        let Some(run) = self.run_at(place) else {
+            return None;
+        };
+        Some(run.format())
+    }
+
     /// The run of the character at a place, if there is one.
     fn run_at(&self, place: usize) -> Option<&Run>
-        ensures { IfSome result (λ run. slice_get (formats_of self.now) place ≡ Some run.now.format) }
+        ensures { MatchOption result (character_count self.now ≤ place)
+            (λ run. slice_get (formats_of self.now) place ≡ Some run.now.format) }
     {
         // How many characters there are, which the proof needs.
         self.pieces.keeps();
@@ -211,7 +264,7 @@ impl SharedRuns {
         }
         let spot = self.pieces.spot(Measure::Characters, place + 1);
         let runs = self.pieces.piece(spot.index).runs();
-        run_over(runs, place - spot.characters, 1)
+        Some(&runs[ended(runs, place - spot.characters)])
     }
 
     /// The run of the character behind a place, unless nothing stands before that.
@@ -236,6 +289,21 @@ impl SharedRuns {
         self.run_at(place - 1)
     }
 
+    /// How many runs have the characters from `from` up to `to`.
+    fn count_between(&self, from: usize, to: usize) -> usize
+        requires { to ≤ character_count self.now }
+        ensures none { to ≤ from → result ≡ 0 }
+        ensures some { from < to → (first last : ℕ) → IsOver self.now from first → IsOver self.now (to - 1) last
+            → first + result ≡ last + 1 }
+    {
+        // How many runs there are, which the proof needs.
+        self.pieces.keeps();
+        if from >= to {
+            return 0;
+        }
+        self.index_over(to - 1) - self.index_over(from) + 1
+    }
+
     /// Whether the rows are the runs' characters from `from` up to `to`. They are not said to be where more comments
     /// would be compared than `comments`, which falls by those that were.
     pub fn shows(&self, from: usize, to: usize, rows: &[Row], comments: &mut u32) -> bool
@@ -244,6 +312,12 @@ impl SharedRuns {
     {
         // How many characters there are, which the proof needs.
         self.keeps();
+        // Counts tell most of what isn't shown. Formats with many comments are dear to compare.
+        if rows.len() != self.count_between(from, to)
+            || !have_characters(rows, to.saturating_sub(from))
+        {
+            return false;
+        }
         let mut place = from;
         for row in rows {
             if place >= to || !self.shows_at(place, row, comments) {
@@ -288,6 +362,62 @@ fn runs_at(pieces: &PieceTree<RunPiece>, index: usize) -> &[Run]
     }
 }
 
+/// The run that has all characters from `from` up to `to`, for which one row is put, if there is one. The row has its
+/// format, since it begins or ends with what stands there. Where the window takes all of the text, that isn't known.
+fn window_run(pieces: &PieceTree<RunPiece>, from: usize, to: usize, rows: &[Row]) -> Option<RunSpot>
+    requires { to ≤ character_count (pieces_of pieces.now) }
+    ensures one { IfSome result (λ _. length rows.now ≡ 1) }
+    ensures window { IfSome result (λ spot. HasWindow pieces.now spot.piece spot.start spot.run from to) }
+{
+    // How many characters there are, which the proof needs.
+    pieces.keeps();
+    if rows.len() != 1 || from >= to {
+        return None;
+    }
+    if from == 0 && to == pieces.size(Measure::Characters) {
+        return None;
+    }
+    let spot = pieces.spot(Measure::Characters, from + 1);
+    let runs = pieces.piece(spot.index).runs();
+    let run = index_having(runs, from - spot.characters, to - from)?;
+    Some(RunSpot {
+        piece: spot.index,
+        start: spot.characters,
+        run,
+    })
+}
+
+/// The runs with so many characters in place of those from `from` up to `to`, which one run has. Its piece alone is
+/// made anew, and no format is compared or copied.
+fn resized(
+    alloc: Global,
+    pieces: &PieceTree<RunPiece>,
+    spot: RunSpot,
+    from: usize,
+    to: usize,
+    count: usize,
+    budget: &mut Budget,
+) -> Result<SharedRuns, AllocError>
+    requires window { HasWindow pieces.now spot.piece spot.start spot.run from to }
+    requires some { 0 < count }
+    requires kept { AreRuns pieces.now }
+    requires short { character_count (pieces_of pieces.now) + count ≤ 2097152 }
+    ensures formats { (run : Run) → slice_get (get_or pieces.now spot.piece []) spot.run ≡ Some run
+        → IfOk result (λ next. formats_of next ≡ take from (formats_of (pieces_of pieces.now))
+        ++ (replicate count run.format ++ drop to (formats_of (pieces_of pieces.now)))) }
+    ensures count { IfOk result (λ next. length next ≤ length (pieces_of pieces.now) + 48) }
+    ensures spent { budget.old ≤ budget.new + (piece_bytes 48
+        + (window_bytes 1 + root_bytes (length (pieces_of pieces.now) + 48))) }
+    ensures less { budget.new ≤ budget.old }
+{
+    let runs = pieces.piece(spot.piece).runs();
+    let characters = runs[spot.run].characters() - (to - from) + count;
+    let next = sized(alloc, runs, spot.run, characters)?;
+    let piece = RunPiece::new(alloc, next, budget)?;
+    let pieces = pieces.with_window(alloc, spot.piece, spot.piece + 1, &[piece], budget)?;
+    Ok(SharedRuns { pieces })
+}
+
 /// Adds the runs of the piece with this index, where there are too few for a piece of their own. It gives the index of
 /// the first piece that is behind the runs then.
 fn fill(
@@ -296,12 +426,12 @@ fn fill(
     index: usize,
 ) -> Result<usize, AllocError>
     requires within { index ≤ length pieces.now }
-    requires small { All (λ piece. length piece ≤ 32) pieces.now }
+    requires small { All (λ piece. length piece ≤ 48) pieces.now }
     ensures order { IfOk result (λ end. index ≤ end) }
     ensures within { IfOk result (λ end. end ≤ length pieces.now) }
     ensures same { IfOk result (λ end. runs.new.items ++ pieces_of (drop end pieces.now)
         ≡ runs.old.items ++ pieces_of (drop index pieces.now)) }
-    ensures few { IfOk result (λ _. length runs.new.items ≤ length runs.old.items + 32) }
+    ensures few { IfOk result (λ _. length runs.new.items ≤ max (length runs.old.items) 63) }
 {
     if runs.len() >= HALF || index >= pieces.len() {
         return Ok(index);
@@ -322,7 +452,7 @@ fn put(
     requires order { from ≤ to }
     requires within { to ≤ length pieces.now }
     requires filled { All (λ piece. 0 < length piece) pieces.now }
-    requires small { All (λ piece. length piece ≤ 32) pieces.now }
+    requires small { All (λ piece. length piece ≤ 48) pieces.now }
     requires maximal { AreMaximal (pieces_of (take from pieces.now) ++ (runs.now ++ pieces_of (drop to pieces.now))) }
     requires short { character_count (pieces_of (take from pieces.now) ++ (runs.now ++ pieces_of (drop to pieces.now)))
         ≤ 2097152 }
@@ -336,6 +466,20 @@ fn put(
     let made = cut(alloc, runs, budget)?;
     let pieces = pieces.with_window(alloc, from, to, made.as_slice(), budget)?;
     Ok(SharedRuns { pieces })
+}
+
+/// Whether the rows have so many characters.
+fn have_characters(rows: &[Row], count: usize) -> bool
+    ensures { IsTrue result ↔ (row_count rows.now ≡ count) }
+{
+    let mut left = count;
+    for row in rows {
+        if row.characters > left {
+            return false;
+        }
+        left -= row.characters;
+    }
+    left == 0
 }
 
 /// How many of the runs end at the place or before it.
@@ -369,6 +513,26 @@ fn run_over(runs: &[Run], place: usize, count: usize) -> Option<&Run>
         if place < end {
             return if count <= end - place {
                 Some(run)
+            } else {
+                None
+            };
+        }
+        start = end;
+    }
+    None
+}
+
+/// The index of the run that has so many characters from a place on, if there is one.
+fn index_having(runs: &[Run], place: usize, count: usize) -> Option<usize>
+    requires { character_count runs.now < 2 ^ 62 }
+    ensures { IfSome result (λ index. HasCharacters runs.now index place count) }
+{
+    let mut start: usize = 0;
+    for (index, run) in runs.iter().enumerate() {
+        let end = start + run.characters();
+        if place < end {
+            return if count <= end - place {
+                Some(index)
             } else {
                 None
             };

@@ -6,6 +6,7 @@ pub mod Blocks
 pub mod Ranks
 pub mod Joined
 pub mod Touching
+pub mod Uniform
 pub mod Ranges
 pub mod Keeping
 pub mod Filters

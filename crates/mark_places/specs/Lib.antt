@@ -4,6 +4,7 @@ pub mod Shifted
 pub mod Ranks
 pub mod Blocks
 pub mod Touching
+pub mod Uniform
 pub mod PlaceRanges
 pub mod Floors
 pub mod Chosen

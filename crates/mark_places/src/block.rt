@@ -2,11 +2,13 @@
 //! that they are gone through only where the characters come between their ends.
 ghost use Rattle.std.specs.Prelude.{◌≡◌, ◌↔◌, ◌+◌, ◌-◌, ◌<◌, ◌≤◌, ◌^◌, ◌++◌, ◌∷◌, [], ℕ, IfOk, OnOk, OnErr, IsTrue};
 ghost use Rattle.std.specs.Prelude.{Some, false, length, map, take, drop, All, Contains, slice_get, slice_index};
+ghost use Rattle.std.specs.List.{list_all, list_any};
 ghost use Rattle.std.specs.List.Sorted.{IsPermutation};
 ghost use Rattle.mark_places.specs.Blocks.{ranked};
 ghost use Rattle.mark_places.specs.PlaceRanges.{AreApart, CoversAny};
 ghost use Rattle.mark_places.specs.Ranks.{raised, mark_raised, placed, place_of, IsBelow};
 ghost use Rattle.mark_places.specs.Touching.{touching, IsApart};
+ghost use Rattle.mark_places.specs.Uniform.{has_none_between, is_between};
 ghost use Rattle.mark_places.specs.declared.ranked.RankedMark.{RankedMark as TheRankedMark};
 
 use crate::range::{PlaceRange, covers_any, overlapping};
@@ -94,6 +96,20 @@ fn is_any_between(starts: &[u32], ends: &[u32], starts_below: u32, ends_from: u3
         found |= is_between(starts[i], ends[i], starts_below, ends_from);
     }
     found
+}
+
+/// Whether some rank is from `from` on and below `below`.
+fn has_rank_between(ranks: &[u32], from: u32, below: u32) -> bool
+    ensures { result ≡ list_any (is_between from below) ranks.now }
+{
+    let width = below.saturating_sub(from);
+    // The differences of ranks below `from` wrap around to large ones. The least of all takes no branch, so that many
+    // are found at once.
+    let mut least = u32::MAX;
+    for rank in ranks {
+        least = least.min(rank.wrapping_sub(from));
+    }
+    least < width
 }
 
 /// The least of the ranks.
@@ -287,6 +303,18 @@ impl PlaceBlock {
             Some(hull) => self.may_touch_between(shift, hull.low, hull.high),
             None => false,
         }
+    }
+
+    /// Whether no mark has an end with a rank from `from` on and below `below`.
+    pub(crate) fn has_none_between(&self, from: u32, below: u32) -> bool
+        ensures { result ≡ list_all (has_none_between from below) self.now }
+    {
+        if self.greatest < from || below <= self.least {
+            return true;
+        }
+        let from = from.saturating_sub(self.offset);
+        let below = below.saturating_sub(self.offset);
+        !has_rank_between(&self.starts, from, below) && !has_rank_between(&self.ends, from, below)
     }
 
     /// A mark with its places behind the shift.

@@ -1,17 +1,20 @@
 //! Where marks begin and end, kept from change to change: characters that are put into the text shift the places, so
 //! that no anchor is looked up twice.
 ghost use Rattle.std.specs.Prelude.{◌≡◌, ◌==◌, ◌+◌, ◌/◌, ◌%◌, ◌<◌, ◌^◌, ◌++◌, ◌∷◌, [], ℕ, true, List};
-ghost use Rattle.std.specs.Prelude.{◌≤◌, IfOk, OnOk, OnErr, length, map, All};
-ghost use Rattle.std.specs.List.{flat_map};
+ghost use Rattle.std.specs.Prelude.{◌≤◌, IfOk, IsTrue, OnOk, OnErr, length, map, All};
+ghost use Rattle.std.specs.List.{flat_map, list_all};
 ghost use Rattle.std.specs.List.Sorted.{IsPermutation};
 ghost use Rattle.change_ops.specs.Operations.{is_mark, Names};
 ghost use Rattle.char_sequence.specs.declared.sequence.Element.{Element};
 ghost use Rattle.char_sequence.specs.Order.{Shows};
 ghost use Rattle.char_sequence.specs.Tree.{Present};
+ghost use Rattle.mark_anchors.specs.Ranges.{IsUniform};
+ghost use Rattle.mark_places.specs.MarkPlace.{MarkPlace};
 ghost use Rattle.mark_places.specs.PlaceRanges.{AreApart};
 ghost use Rattle.mark_places.specs.Places.{AreMarkPlaces, IsMarkPlace, gives_way};
 ghost use Rattle.mark_places.specs.Ranks.{mark_raised, place_of, IsBelow};
 ghost use Rattle.mark_places.specs.Touching.{touching};
+ghost use Rattle.mark_places.specs.Uniform.{has_none_between, is_whole};
 
 use crate::block::{PLACE_LIMIT, PlaceBlock};
 use crate::boundary::characters_before;
@@ -127,6 +130,15 @@ fn add(blocks: &mut Vec<PlaceBlock>, mark: &RankedMark) -> Result<(), AllocError
     Ok(())
 }
 
+/// Whether no mark of the blocks has an end with a rank from `from` on and below `below`.
+fn have_none_between(blocks: &[PlaceBlock], from: u32, below: u32) -> bool
+    ensures { result ≡ list_all (λ block. list_all (has_none_between from below) block) blocks.now }
+{
+    blocks
+        .iter()
+        .all(|block| block.has_none_between(from, below))
+}
+
 /// Where the marks of a text begin and end. Each block begins where the one before it does or behind that, so that most
 /// characters come between the ends of few blocks, and most places are covered by the marks of few blocks.
 #[derive(Drop)]
@@ -207,6 +219,19 @@ impl MarkPlaces {
         }
         raise(&mut self.blocks, self.pending);
         self.pending = next;
+    }
+
+    /// Whether no mark begins or ends between the first place of the range and its end.
+    pub fn is_uniform(&self, range: PlaceRange) -> bool
+        ensures value { result ≡ list_all (λ (place : MarkPlace). is_whole range place.mark) self.now }
+        ensures uniform { IsTrue result → (es : List Element) (operations : List Op)
+            → AreMarkPlaces es operations self.now → IsUniform es operations range.low range.high }
+    {
+        // No rank of an end reaches the limits.
+        let from = 2 * range.low.min(PLACE_LIMIT) as u32 + 2;
+        let below = 2 * range.high.min(PLACE_LIMIT) as u32;
+        let shift = self.pending;
+        have_none_between(&self.blocks, shift.lowered(from), shift.lowered(below))
     }
 
     /// The marks that cover a place of the ranges.

@@ -85,7 +85,7 @@ pub fn cut<T: Piece>(
     ensures spent { budget.old ≤ budget.new + nodes_bytes (length pieces.now) }
     ensures less { budget.new ≤ budget.old }
 {
-    let mut nodes = Vec::new(alloc);
+    let mut nodes = Vec::with_capacity(alloc, pieces.len().div_ceil(FULL))?;
     let mut at: usize = 0;
     while at < pieces.len() {
         let size = next_size(pieces.len() - at);
@@ -95,6 +95,29 @@ pub fn cut<T: Piece>(
         add(node, &mut nodes)?;
         at += size;
     }
+    Ok(nodes)
+}
+
+/// The nodes that `cut` makes, of a list that is given away: where one node has room for all pieces, it gets the list
+/// itself.
+fn cut_list<T: Piece>(
+    alloc: Global,
+    pieces: Vec<T>,
+    budget: &mut Budget,
+) -> Result<Vec<Node<T>>, AllocError>
+    requires { AreShort T.size pieces.items }
+    ensures flat { IfOk result (λ nodes. pieces_of nodes.items ≡ pieces.items) }
+    ensures filled { IfOk result (λ nodes. AreFilled nodes.items) }
+    ensures half { 16 ≤ length pieces.items → IfOk result (λ nodes. AreHalfFull nodes.items) }
+    ensures spent { budget.old ≤ budget.new + nodes_bytes (length pieces.items) }
+    ensures less { budget.new ≤ budget.old }
+{
+    if pieces.is_empty() || pieces.len() > FULL {
+        return cut(alloc, pieces.as_slice(), budget);
+    }
+    let mut nodes = Vec::with_capacity(alloc, 1)?;
+    let node = Node::new(alloc, pieces, budget)?;
+    add(node, &mut nodes)?;
     Ok(nodes)
 }
 
@@ -129,15 +152,15 @@ fn made_between<T: Piece>(
     ensures spent { budget.old ≤ budget.new + window_bytes (length new.now) }
     ensures less { budget.new ≤ budget.old }
 {
-    let mut pieces = Vec::new(alloc);
+    let kept = new.len().saturating_add(front.len() + back.len());
+    let took_next = kept < HALF && !next.is_empty();
+    let taken: &[T] = if took_next { next } else { &[] };
+    let mut pieces = Vec::with_capacity(alloc, kept.saturating_add(taken.len()))?;
     share_all(front, &mut pieces)?;
     share_all(new, &mut pieces)?;
     share_all(back, &mut pieces)?;
-    let took_next = pieces.len() < HALF && !next.is_empty();
-    if took_next {
-        share_all(next, &mut pieces)?;
-    }
-    let nodes = cut(alloc, pieces.as_slice(), budget)?;
+    share_all(taken, &mut pieces)?;
+    let nodes = cut_list(alloc, pieces, budget)?;
     Ok(Made { nodes, took_next })
 }
 

@@ -3,4 +3,6 @@ pub mod Laying
 pub mod Showing
 pub mod Drafting
 pub mod Taking
+pub mod Between
+pub mod Uniform
 pub mod OneVersion

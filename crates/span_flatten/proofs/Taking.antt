@@ -267,23 +267,25 @@ some_between left from to text text' order grown grew =
     absurd (grew (omega (arith, ap length grown, length-append text (visible_text (take (to - from) left)), bytes, size))))
     (cases_lt from to)
 
-module _ (es : List Element) (marks : List Op) (r : FormattedRange) (text text' : List ℕ) (rows : List Row) (some : r.from < r.to) (of : IsOfFormat es marks r) (grown : text' ≡ text ++ visible_text (slice_range es r.from r.to)) (low : ℕ) (t : IsTaken es marks low r.from text rows) where
-  pub piece_more : (length text ≡ length text' → ⊥) → IsUtf8 text → IsUtf8 text' → IsPiece (more_of r.format (slice_range es r.from r.to)) (record { text = visible_text (slice_range es r.from r.to); format = r.format })
-  piece_more grew utf8 utf8' = record {
-    some = some_of (filter is_visible (slice_range es r.from r.to)) (λ e. grew (omega (arith, ap length grown, length-append text (visible_text (slice_range es r.from r.to)), shown_none (slice_range es r.from r.to) e)));
-    alike = all_as (λ s. s.format ≡ r.format) r.format (filter is_visible (slice_range es r.from r.to)) (λ m x g. refl);
-    spelt = spelt_more r.format (slice_range es r.from r.to);
-    utf8 =
-        let cut : drop (length text) text' ≡ visible_text (slice_range es r.from r.to) = ap (drop (length text)) grown ∙ drop_at text (visible_text (slice_range es r.from r.to)) (length text) refl in
-        let front : take (length text) text' ≡ text = ap (take (length text)) grown ∙ take_at text (visible_text (slice_range es r.from r.to)) (length text) refl in
-        let within : length text ≤ length text' = omega (arith, ap length grown, length-append text (visible_text (slice_range es r.from r.to))) in
-        subst IsUtf8 cut (IsUtf8-drop text' (length text) utf8' (IsCharBoundary-from_take text' (length text) utf8' within (subst IsUtf8 (sym front) utf8)));
-  }
-    where
-      some_of : (xs : List Element) → (xs ≡ [] → ⊥) → 0 < length (map (shown_as r.format) xs)
-      some_of [] not = absurd (not refl)
-      some_of (x ∷ xs) not = omega arith
+-- what is visible of a range is a piece, where the text grew
+pub piece_more : (es : List Element) (r : FormattedRange) (text text' : List ℕ) → text' ≡ text ++ visible_text (slice_range es r.from r.to) → (length text ≡ length text' → ⊥) → IsUtf8 text → IsUtf8 text'
+    → IsPiece (more_of r.format (slice_range es r.from r.to)) (record { text = visible_text (slice_range es r.from r.to); format = r.format })
+piece_more es r text text' grown grew utf8 utf8' = record {
+  some = some_of (filter is_visible (slice_range es r.from r.to)) (λ e. grew (omega (arith, ap length grown, length-append text (visible_text (slice_range es r.from r.to)), shown_none (slice_range es r.from r.to) e)));
+  alike = all_as (λ s. s.format ≡ r.format) r.format (filter is_visible (slice_range es r.from r.to)) (λ m x g. refl);
+  spelt = spelt_more r.format (slice_range es r.from r.to);
+  utf8 =
+      let cut : drop (length text) text' ≡ visible_text (slice_range es r.from r.to) = ap (drop (length text)) grown ∙ drop_at text (visible_text (slice_range es r.from r.to)) (length text) refl in
+      let front : take (length text) text' ≡ text = ap (take (length text)) grown ∙ take_at text (visible_text (slice_range es r.from r.to)) (length text) refl in
+      let within : length text ≤ length text' = omega (arith, ap length grown, length-append text (visible_text (slice_range es r.from r.to))) in
+      subst IsUtf8 cut (IsUtf8-drop text' (length text) utf8' (IsCharBoundary-from_take text' (length text) utf8' within (subst IsUtf8 (sym front) utf8)));
+}
+  where
+    some_of : (xs : List Element) → (xs ≡ [] → ⊥) → 0 < length (map (shown_as r.format) xs)
+    some_of [] not = absurd (not refl)
+    some_of (x ∷ xs) not = omega arith
 
+module _ (es : List Element) (marks : List Op) (r : FormattedRange) (text text' : List ℕ) (rows : List Row) (some : r.from < r.to) (of : IsOfFormat es marks r) (grown : text' ≡ text ++ visible_text (slice_range es r.from r.to)) (low : ℕ) (t : IsTaken es marks low r.from text rows) where
   pub taken_more : (length text ≡ length text' → ⊥) → (rows' : List Row) → IsDraft (t.shown ++ more_of r.format (slice_range es r.from r.to)) text' rows' → length rows' ≤ length rows + 1 → IsTaken es marks low r.to text' rows'
   taken_more grew rows' draft count =
       let first : low ≤ r.from = t.order in
@@ -309,14 +311,20 @@ module _ (es : List Element) (marks : List Op) (r : FormattedRange) (text text' 
         few = omega (arith, few, more, count);
       }
 
+-- the first one
+pub taken_first : (es : List Element) (marks : List Op) (r : FormattedRange) (text : List ℕ) (rows : List Row) → r.from < r.to → IsOfFormat es marks r → text ≡ visible_text (slice_range es r.from r.to) → (length text ≡ 0 → ⊥)
+    → IsDraft (more_of r.format (slice_range es r.from r.to)) text rows → length rows ≤ 1 → IsTaken es marks r.from r.to text rows
+unfolding taken_none
+taken_first es marks r text rows some of spelt grew draft count =
+    taken_more es marks r [] text [] some of spelt r.from (taken_none es marks r.from) (λ same. grew (sym same)) rows draft (omega arith)
+
 -- ---- the whole
-pub taken_whole : (elements : List Element) (marks : List Op) (low place : ℕ) (text : List ℕ) (rows : List Row) → length (visible_text elements) ≤ 131072 → IsTaken elements marks low place text rows → IsWhole text rows
-taken_whole elements marks low place text rows limit t =
-    let d = t.draft in
-    let spelt = ap length t.spelt in
+pub drafted_whole : (elements : List Element) (low place : ℕ) (shown : List Shown) (text : List ℕ) (rows : List Row) → length (visible_text elements) ≤ 131072 → IsDraft shown text rows
+    → text ≡ visible_text (slice_range elements low place) → length rows ≤ length text → IsWhole text rows
+drafted_whole elements low place shown text rows limit d is few =
+    let spelt = ap length is in
     let part = range_bytes elements low place in
     let short : length text ≤ 131072 = omega (arith, spelt, part, limit) in
-    let few : length rows ≤ length text = t.few in
     record {
       layout = layout_back d.spans text rows d.layout;
       limits = record {
@@ -334,6 +342,9 @@ taken_whole elements marks low place text rows limit t =
           subst (λ r. All (λ row. row.characters ≡ length (chars (slice_range text row.start row.end))) r) (sym d.layout.end_to_end)
           (subst (λ x. All (λ row. row.characters ≡ length (chars (slice_range x row.start row.end))) (rows_from 0 d.spans)) (sym d.layout.whole) (cut_counts d.spans));
     }
+
+pub taken_whole : (elements : List Element) (marks : List Op) (low place : ℕ) (text : List ℕ) (rows : List Row) → length (visible_text elements) ≤ 131072 → IsTaken elements marks low place text rows → IsWhole text rows
+taken_whole elements marks low place text rows limit t = drafted_whole elements low place t.shown text rows limit t.draft t.spelt t.few
 
 pub taken_window : (elements : List Element) (marks : List Op) (low place high : ℕ) (text : List ℕ) (rows : List Row) → place ≡ high → IsTaken elements marks low place text rows → IsFlattened elements marks low high (record { text = text; rows = rows })
 taken_window elements marks low place high text rows end t =

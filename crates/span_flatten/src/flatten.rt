@@ -4,7 +4,7 @@ ghost use Rattle.change_ops.specs.declared.operation.Op.{Op};
 ghost use Rattle.char_sequence.specs.declared.sequence.Element.{Element};
 ghost use Rattle.char_sequence.specs.Order.{Shows, SameSet};
 ghost use Rattle.mark_anchors.specs.Marks.{AreMarks};
-ghost use Rattle.mark_anchors.specs.Formatting.{Format};
+ghost use Rattle.mark_anchors.specs.Formatting.{Format as TheFormat};
 ghost use Rattle.mark_anchors.specs.Ranges.{IsFormatAt, IsUniform};
 ghost use Rattle.span_flatten.specs.Spans.{Shown, Span, AreSpans};
 ghost use Rattle.span_flatten.specs.Taken.{IsLastFormat, IsTaken};
@@ -15,6 +15,7 @@ use crate::version::{Row, Version};
 use crate::window::Window;
 use char_sequence::sequence::Sequence;
 use char_sequence::visible_cursor::VisibleCursor;
+use mark_anchors::format::Format;
 use mark_anchors::format_sweep::FormatSweep;
 use mark_anchors::marks::Marks;
 use mark_anchors::resolved::ResolvedMarks;
@@ -56,7 +57,7 @@ fn add_row(
         rows.old.items }
     requires counted { All (λ earlier. earlier.characters ≤ extent.start) rows.old.items }
     requires within { extent.start + extent.characters ≤ extent.end }
-    ensures draft { IfOk result (λ _. (f : Format)
+    ensures draft { IfOk result (λ _. (f : TheFormat)
         × IsFormatAt sweep.old.resolution.elements sweep.old.resolution.marks from f
         × ((shown more : List Shown) (piece : Span) (text text' : List ℕ) → IsPiece more piece → piece.format ≡ f
         → text' ≡ text ++ piece.text → extent.start ≡ length text → extent.end ≡ length text'
@@ -158,6 +159,44 @@ pub fn flatten_window(
         take_in(&mut text, &mut rows, &mut cursor, &mut sweep, from, *cut)?;
         from = *cut;
     }
+    Ok(Window { text, rows })
+}
+
+/// What is visible of the characters from the place `low` up to `high`, of which each has this format: one span, or
+/// none where nothing is visible.
+///
+/// `alloc` is for the window.
+pub fn flatten_uniform(
+    alloc: Global,
+    sequence: &Sequence,
+    format: &Format,
+    low: usize,
+    high: usize,
+) -> Result<Window, AllocError>
+    requires order { low ≤ high }
+    requires within { high ≤ length sequence.now.elements }
+    ensures { IfOk result (λ window. (marks : List Op) (place : ℕ) → low ≤ place → place < high
+        → IsUniform sequence.now.elements marks low high
+        → IsFormatAt sequence.now.elements marks place format.now
+        → IsFlattened sequence.now.elements marks low high window) }
+{
+    let mut text = String::new(alloc);
+    // Its contract bounds the visible text, which the proof needs.
+    let _count = sequence.len();
+    let mut cursor = sequence.visible_from(low);
+    let characters = cursor.push_next(high - low, &mut text)?;
+    let end = text.len();
+    if end == 0 {
+        let rows = Vec::new(alloc);
+        return Ok(Window { text, rows });
+    }
+    let mut rows = Vec::with_capacity(alloc, 1)?;
+    rows.push(Row {
+        start: 0,
+        end,
+        characters,
+        format: format.clone()?,
+    })?;
     Ok(Window { text, rows })
 }
 

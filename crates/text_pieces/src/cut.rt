@@ -70,7 +70,7 @@ pub fn cut(alloc: Global, text: &str, budget: &mut Budget) -> Result<Vec<TextPie
     ensures spent { budget.old ≤ budget.new + pieces_bytes (length text.now) }
     ensures less { budget.new ≤ budget.old }
 {
-    let mut pieces = Vec::new(alloc);
+    let mut pieces = Vec::with_capacity(alloc, text.len() / CUT + 1)?;
     let mut rest = text;
     while rest.len() > FULL {
         let (first, second) = split_near(rest, CUT);

@@ -45,9 +45,13 @@ pub fn characters_between<'a>(text: &'a str, characters: usize, from: usize, to:
     middle
 }
 
-/// How many characters the text has.
+/// How many characters the text has. Where each is one byte, which is tested for several bytes at once, none is
+/// counted.
 pub fn count_characters(text: &str) -> usize
     ensures { result ≡ length (chars text.now) }
 {
+    if text.is_ascii() {
+        return text.len();
+    }
     text.chars().count()
 }

@@ -1,13 +1,13 @@
 //! The text.
-ghost use Rattle.std.specs.Prelude.{◌≡◌, ◌<◌, ◌≤◌, ◌+◌, ◌-◌, ◌++◌, [], IfOk, All, chars, drop};
-ghost use Rattle.std.specs.Prelude.{encode_utf8_all, length, slice_range, string_bytes, string_len, take};
+ghost use Rattle.std.specs.Prelude.{◌≡◌, ◌<◌, ◌≤◌, ◌+◌, ◌-◌, ◌++◌, [], IfOk, All, Some, chars, drop};
+ghost use Rattle.std.specs.Prelude.{encode_utf8_all, length, slice_get, slice_range, string_bytes, string_len, take};
 ghost use Rattle.piece_tree.specs.Nodes.{pieces_of};
 ghost use Rattle.text_pieces.specs.Budgets.{text_bytes, text_root_bytes, touched_bytes};
 ghost use Rattle.text_pieces.specs.Texts.{AreCharacters, AreLarge, IsPiece};
 
 use crate::cut::cut;
 use crate::extract::Extract;
-use crate::piece::{LEAST, TextPiece};
+use crate::piece::{FULL, LEAST, TextPiece};
 use crate::split::characters_between;
 use memory_budget::Budget;
 use piece_tree::piece::Measure;
@@ -57,7 +57,8 @@ fn push_between(
     Ok(())
 }
 
-/// The characters of a piece up to a place, others, and those of a piece from a place on.
+/// The characters of a piece up to a place, others, and those of a piece from a place on. There is room for one piece
+/// more, which may have to be joined.
 fn text_around(
     alloc: Global,
     first: &TextPiece,
@@ -73,11 +74,28 @@ fn text_around(
     ensures size { IfOk result (λ text. string_len text
         ≤ length (encode_utf8_all first.now) + length new.now + length (encode_utf8_all last.now)) }
 {
-    let mut text = String::new(alloc);
+    let mut text = String::with_capacity(alloc, new.len() + 3 * FULL)?;
     push_between(&mut text, first, 0, from)?;
     text.push_str(new)?;
     push_between(&mut text, last, to, last.characters())?;
     Ok(text)
+}
+
+/// The piece with this index. It is looked up unless it is the one that is known.
+fn other_piece<'a>(
+    pieces: &'a PieceTree<TextPiece>,
+    index: usize,
+    known: &'a TextPiece,
+    known_index: usize,
+) -> &'a TextPiece
+    requires within { index < length pieces.now }
+    requires known { slice_get pieces.now known_index ≡ Some known.now }
+    ensures { slice_get pieces.now index ≡ Some result.now }
+{
+    if index == known_index {
+        return known;
+    }
+    pieces.piece(index)
 }
 
 /// What is made of a text, and the index of the piece behind it.
@@ -229,9 +247,13 @@ impl SharedText {
             return Ok(SharedText { pieces });
         }
         let first = self.pieces.spot(Measure::Characters, from);
-        let last = self.pieces.spot(Measure::Characters, to);
+        let last = if to == from {
+            first
+        } else {
+            self.pieces.spot(Measure::Characters, to)
+        };
         let front = self.pieces.piece(first.index);
-        let back = self.pieces.piece(last.index);
+        let back = other_piece(&self.pieces, last.index, front, first.index);
         let text = text_around(
             alloc,
             front,

@@ -1,5 +1,5 @@
 -- A window that begins and ends with characters that a change leaves alone begins and ends with the formats that stood there.
-use Rattle.std.proofs.Common.{◌≡◌, ℕ, zero, suc, ◌+◌, ◌-◌, ◌<◌, ◌≤◌, Bool, true, false, cond, List, [], ◌∷◌, ◌++◌, Some, length, map, take, drop, sym, ap, subst, ◌∙◌, arith, length-drop, All, IsUtf8}
+use Rattle.std.proofs.Common.{◌≡◌, ℕ, zero, suc, ◌+◌, ◌-◌, ◌<◌, ◌≤◌, Bool, true, false, cond, List, [], ◌∷◌, ◌++◌, Some, length, map, take, drop, refl, sym, ap, subst, ◌∙◌, arith, length-drop, All, IsUtf8}
 use Rattle.std.specs.List.{slice_get, slice_range, Contains, count_by, filter}
 use Rattle.std.proofs.lemmas.Option.{same_Some, none-some, get_or_from_slice_get, slice_get_within}
 use Rattle.std.proofs.lemmas.List.{length-map, length-take-le, take_all, take-take}
@@ -12,6 +12,7 @@ use Rattle.char_sequence.specs.Order.{Shows}
 use Rattle.mark_anchors.specs.Format.{IsFormat}
 use Rattle.mark_anchors.specs.Formatting.{Format}
 use Rattle.mark_anchors.specs.Marks.{AreMarks}
+use Rattle.mark_anchors.specs.Ranges.{IsFormatAt}
 use Rattle.mark_anchors.proofs.FormatLaws.{one_format}
 use Rattle.mark_places.specs.declared.range.PlaceRange.{PlaceRange}
 use Rattle.span_flatten.specs.Spans.{Shown, Span, AreSpans}
@@ -30,6 +31,7 @@ use Rattle.version_glyphs.specs.Glyphs.{Glyph, AreMaximal, glyph_of, glyphs}
 use Rattle.version_glyphs.specs.Replacements.{formats, glyphs_in}
 use Rattle.version_glyphs.proofs.Contents.{texts_of}
 use Rattle.version_glyphs.proofs.Meeting.{seen_glyphs}
+use Rattle.version_glyphs.proofs.SameMarks.{format_across}
 
 abbrev visible : List Element → ℕ
 visible es = count_by is_visible es
@@ -58,7 +60,7 @@ shown_at es shown drawn i e g seen =
     (r.0, r.1, ap (λ (z : Element). z.id) r.2)
 
 -- one more is visible behind it
-visible_more : (es : List Element) (i : ℕ) (e : Element) → slice_get es i ≡ Some e → e.visible ≡ true → visible (take (i + 1) es) ≡ visible (take i es) + 1
+pub visible_more : (es : List Element) (i : ℕ) (e : Element) → slice_get es i ≡ Some e → e.visible ≡ true → visible (take (i + 1) es) ≡ visible (take i es) + 1
 visible_more es i e g seen =
     count_by_more_yes is_visible es i e (slice_get_within es i e g) (ap is_visible (get_or_from_slice_get es i e e g) ∙ seen)
 
@@ -92,6 +94,21 @@ module _ {size : Size} (ops added marks : List Op) (old new : List Element) (inn
   one_shown i e g out s t of_s of_t was is =
       let kept = (format_between ops added old new inner shows all later touched i e g out s.format).0 (subst (λ x. IsFormat ops x s.format) of_s was) in
       one_format (ops ++ added) e.id t.format s.format (subst (λ x. IsFormat (ops ++ added) x t.format) of_t is) kept
+
+  -- a visible element that the change leaves alone has the format that stands where it stood
+  pub kept_format : (place at : ℕ) (e : Element) → slice_get old place ≡ Some e → slice_get new at ≡ Some e → e.visible ≡ true → LiesOutside inner at
+      → (format : Format) × (slice_get (formats (glyphs now)) (visible (take place old)) ≡ Some format) × IsFormatAt new marks at format
+  kept_format place at e stood stands seen out =
+      let s = shown_at old spans.0 (visible_drawn ops old spans.0 shows spans.1) place e stood seen in
+      let was : IsFormat ops e.id s.0.format = subst (λ x. IsFormat ops x s.0.format) s.2 (spans.1.formatted s.0 (contains_at spans.0 (visible (take place old)) s.0 s.1)) in
+      let kept : IsFormat (ops ++ added) e.id s.0.format = (format_between ops added old new inner shows all later touched at e stands out s.0.format).0 was in (
+        s.0.format,
+        format_at spans.0 (glyphs now) (seen_glyphs spans.0 now (texts_of now maximal) spans.2) (visible (take place old)) s.0 s.1,
+        λ others f shown are g.
+            let same : e ≡ f = same_Some e f (sym stands ∙ g) in
+            subst (λ (x : Element). IsFormat others x.id s.0.format) same
+            (format_across new marks (ops ++ added) others later held shown are e.id at (e, stands, refl) s.0.format kept),
+      )
 
   module _ (o n : PlaceRange) (r : Replacement) (from : r.from ≡ visible (take o.low old)) (to : r.to ≡ visible (take o.high old)) (flat : IsFlattened new marks n.low n.high r.window) (texts : All (λ s. IsUtf8 s.text) (spans_in r.window.text r.window.rows)) where
     -- a visible element of the range that the change leaves alone shows one format in the window and where it stood

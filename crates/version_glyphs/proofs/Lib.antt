@@ -7,6 +7,7 @@ pub mod Wholes
 pub mod Meeting
 pub mod WindowsMet
 pub mod Made
+pub mod SameMarks
 pub mod Edged
 pub mod Parting
 pub mod Staying

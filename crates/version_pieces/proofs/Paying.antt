@@ -1,5 +1,5 @@
 -- What windows take from a budget.
-use Rattle.std.proofs.Common.{◌≡◌, ℕ, ◌+◌, ◌≤◌, List, [], ◌∷◌, ◌++◌, length, refl, sym, ap, ◌∙◌, arith}
+use Rattle.std.proofs.Common.{◌≡◌, ℕ, ◌+◌, ◌≤◌, List, [], ◌∷◌, ◌++◌, length, ap, ◌∙◌, arith}
 use Rattle.piece_tree.specs.Budgets.{root_bytes}
 use Rattle.text_pieces.specs.Budgets.{text_root_bytes}
 use Rattle.span_flatten.specs.Spans.{Span}

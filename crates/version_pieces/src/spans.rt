@@ -1,6 +1,6 @@
 //! Spans as a text and the runs of its formats.
-ghost use Rattle.std.specs.Prelude.{◌≡◌, ◌≤◌, ◌+◌, ◌++◌, IfOk, List, chars, drop, encode_utf8_all, length, slice_get};
-ghost use Rattle.std.specs.Prelude.{take};
+ghost use Rattle.std.specs.Prelude.{◌≡◌, ◌≤◌, ◌+◌, ◌++◌, IfOk, List, MatchOption, Some, chars, drop, encode_utf8_all};
+ghost use Rattle.std.specs.Prelude.{length, slice_get, take};
 ghost use Rattle.piece_tree.specs.Budgets.{root_bytes};
 ghost use Rattle.text_pieces.specs.Budgets.{text_bytes, text_root_bytes};
 ghost use Rattle.format_runs.specs.Budgets.{rows_bytes};
@@ -13,11 +13,12 @@ ghost use Rattle.version_glyphs.specs.Glyphs.{AreMaximal, glyphs};
 ghost use Rattle.version_pieces.specs.Alike.{AreAlike, AreAround, AreBegun};
 ghost use Rattle.version_pieces.specs.Budgets.{roots_bytes, whole_bytes, window_bytes, windows_bytes};
 ghost use Rattle.version_pieces.specs.Putting.{CanTake};
-ghost use Rattle.version_glyphs.specs.Replacements.{HasMaximalSpans, IsEdged, glyphs_in, put, put_all};
+ghost use Rattle.version_glyphs.specs.Replacements.{HasMaximalSpans, IsEdged, formats, glyphs_in, put, put_all};
 
 use crate::alike::Alike;
 use crate::span_text::SpanText;
 use format_runs::runs::SharedRuns;
+use mark_anchors::format::Format;
 use memory_budget::Budget;
 use span_flatten::version::Row;
 use std::alloc::{AllocError, Global};
@@ -168,6 +169,14 @@ impl Spans {
         ensures { result ≡ length (joined self.now) }
     {
         self.text.byte_count()
+    }
+
+    /// The format of the character at a place, if there is one.
+    pub fn format_at(&self, place: usize) -> Option<&Format>
+        ensures { MatchOption result (length (glyphs self.now) ≤ place)
+            (λ format. slice_get (formats (glyphs self.now)) place ≡ Some format.now) }
+    {
+        self.runs.format_at(place)
     }
 
     /// The span with this index, if there is one.

@@ -1,16 +1,17 @@
 //! A version in pieces.
-ghost use Rattle.std.specs.Prelude.{◌≡◌, ◌≤◌, ◌+◌, IfOk, All, chars, length, slice_get};
+ghost use Rattle.std.specs.Prelude.{◌≡◌, ◌≤◌, ◌+◌, IfOk, All, MatchOption, Some, chars, length, slice_get};
 ghost use Rattle.span_flatten.specs.Version.{IsWhole, spans_of};
 ghost use Rattle.version_glyphs.specs.Laid.{laid};
 ghost use Rattle.version_glyphs.specs.Glyphs.{AreMaximal, glyphs, text_of};
 ghost use Rattle.version_glyphs.specs.Made.{IsMade};
-ghost use Rattle.version_glyphs.specs.Replacements.{AreEdged, AreInOrder, HasMaximalSpans, put_all};
+ghost use Rattle.version_glyphs.specs.Replacements.{AreEdged, AreInOrder, HasMaximalSpans, formats, put_all};
 ghost use Rattle.version_pieces.specs.Alike.{AreAlike};
 ghost use Rattle.version_pieces.specs.Budgets.{roots_bytes, whole_bytes, windows_bytes};
 
 use crate::alike::Alike;
 use crate::span_text::SpanText;
 use crate::spans::Spans;
+use mark_anchors::format::Format;
 use memory_budget::Budget;
 use span_flatten::version::Version;
 use std::alloc::{AllocError, Global};
@@ -140,6 +141,14 @@ impl PieceVersion {
         ensures { result ≡ slice_get (spans_of self.now) index }
     {
         self.spans.span(index)
+    }
+
+    /// The format of the character at a place, if there is one.
+    pub fn format_at(&self, place: usize) -> Option<&Format>
+        ensures { MatchOption result (length (glyphs (spans_of self.now)) ≤ place)
+            (λ format. slice_get (formats (glyphs (spans_of self.now))) place ≡ Some format.now) }
+    {
+        self.spans.format_at(place)
     }
 
     /// The version with this number in which the windows stand in place of the characters that they name. A row joins

@@ -1,7 +1,8 @@
 -- Where the ranges that changed stood before the change.
-use Rattle.std.proofs.Common.{◌≡◌, ℕ, ◌+◌, ◌-◌, ◌<◌, ◌≤◌, List, [], ◌∷◌, ◌++◌, length, take, drop, get_or, refl, sym, ap, subst, ◌∙◌, arith}
+use Rattle.std.proofs.Common.{◌≡◌, ℕ, ◌+◌, ◌-◌, ◌<◌, ◌≤◌, List, [], ◌∷◌, ◌++◌, Some, length, take, drop, get_or, refl, sym, ap, subst, ◌∙◌, arith}
 use Rattle.std.specs.List.{slice_get}
 use Rattle.std.proofs.lemmas.List.{drop_more, take_more, length-drop}
+use Rattle.std.proofs.lemmas.Option.{slice_get-get_or}
 use Rattle.char_sequence.specs.declared.sequence.Element.{Element}
 use Rattle.mark_places.specs.PlaceRanges.{AreApart}
 use Rattle.mark_places.specs.declared.range.PlaceRange.{PlaceRange}
@@ -19,12 +20,12 @@ gapped_rest range (next ∷ ranges) gapped = gapped.1
 
 -- a list of which an item stands in front of what is left
 opened : (xs ys : List PlaceRange) (i : ℕ) (x : PlaceRange) → drop i xs ≡ x ∷ ys
-    → (take (i + 1) xs ≡ take i xs ++ x ∷ []) × (drop (i + 1) xs ≡ ys)
+    → (take (i + 1) xs ≡ take i xs ++ x ∷ []) × (drop (i + 1) xs ≡ ys) × (slice_get xs i ≡ Some x)
 opened xs ys i x is =
     let within : i < length xs = omega (arith, length-drop i xs, ap length is) in
     let left : get_or xs i x ∷ drop (i + 1) xs ≡ x ∷ ys = sym (drop_more xs i x within) ∙ is in
     let item : get_or xs i x ≡ x = cc in
-    (take_more xs i x within ∙ ap (λ (y : PlaceRange). take i xs ++ y ∷ []) item, cc)
+    (take_more xs i x within ∙ ap (λ (y : PlaceRange). take i xs ++ y ∷ []) item, cc, slice_get-get_or xs i x within ∙ ap Some item)
 
 module _ (old new : List Element) where
   -- what stands behind a range stood behind it before
@@ -48,6 +49,7 @@ module _ (old new : List Element) where
   -- where the range at an index stood, and what stands behind it
   pub record IsNext (olds ranges : List PlaceRange) (index a b : ℕ) (range : PlaceRange) : Type 0 where
     pub was : PlaceRange
+    pub at : slice_get olds index ≡ Some was
     pub low : was.low ≡ a + (range.low - b)
     pub order : was.low ≤ was.high
     pub within : was.high ≤ length old
@@ -63,6 +65,7 @@ module _ (old new : List Element) where
       let split = opened olds os index o left_is in
       record {
         was = o;
+        at = split.2;
         low = low_found old new o range os more a b (from, order, same, rest) apart;
         order = order;
         within = old_within old new os more o.high range.high rest;

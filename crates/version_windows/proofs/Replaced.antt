@@ -1,5 +1,5 @@
 -- Windows in place of ranges, one more, and by other marks.
-use Rattle.std.proofs.Common.{◌≡◌, ℕ, zero, suc, ◌<◌, List, [], ◌∷◌, ◌++◌, length, get_or, refl, arith}
+use Rattle.std.proofs.Common.{suc, List, [], ◌∷◌, ◌++◌, refl, arith}
 use Rattle.std.specs.List.{Contains}
 use Rattle.change_ops.specs.declared.operation.Op.{Op}
 use Rattle.char_sequence.specs.declared.sequence.Element.{Element}

@@ -2,3 +2,4 @@ pub mod Joined
 pub mod Step
 pub mod Places
 pub mod Edges
+pub mod Neighbors

@@ -43,7 +43,9 @@ pub fn next_version(
 {
     let ranges = touched(alloc, sequence, lines)?;
     let ranges = ranges.as_slice();
-    let windows = windows_of(alloc, before, sequence, marks, places, ranges, budget)?;
+    let windows = windows_of(
+        alloc, previous, before, sequence, marks, places, ranges, budget,
+    )?;
     // The spans of the version before are maximal and the visible text is bounded, which the proof needs.
     previous.keeps();
     let _count = sequence.len();

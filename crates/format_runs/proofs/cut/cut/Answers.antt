@@ -45,8 +45,8 @@ loop-at-preserved c =
     let paid : length (take ((at + size) - at) (drop at runs)) ≡ size = ap (λ (k : ℕ). length (take k (drop at runs))) width ∙ part in
     let all : All (λ (p : List Run). 0 < length p) (pieces ++ piece ∷ []) =
     All-push (λ (p : List Run). 0 < length p) pieces piece c.loop-at.invariant.filled (omega (arith, long, c.next_size-size.ensures.some)) in
-    let small : All (λ (p : List Run). length p ≤ 32) (pieces ++ piece ∷ []) =
-    All-push (λ (p : List Run). length p ≤ 32) pieces piece c.loop-at.invariant.small (omega (arith, long, c.next_size-size.ensures.at_most)) in
+    let small : All (λ (p : List Run). length p ≤ 48) (pieces ++ piece ∷ []) =
+    All-push (λ (p : List Run). length p ≤ 48) pieces piece c.loop-at.invariant.small (omega (arith, long, c.next_size-size.ensures.at_most)) in
     let few : 16 * length pieces ≤ at = c.loop-at.invariant.few c.loop-at-test.true in
     let count : length c.add.new.pieces.items ≡ length pieces + 1 = ap length c.in_ok-add.ensures ∙ length-append pieces (piece ∷ []) in
     record {
@@ -55,7 +55,7 @@ loop-at-preserved c =
           ∙ ap (λ (l : List Run). l ++ (piece ++ [])) c.loop-at.invariant.flat
           ∙ ap (λ (l : List Run). take at runs ++ l) (append-nil piece ∙ is) ∙ sym (take-add at size runs);
       filled = subst (λ (l : List (List Run)). All (λ (p : List Run). 0 < length p) l) (sym c.in_ok-add.ensures) all;
-      small = subst (λ (l : List (List Run)). All (λ (p : List Run). length p ≤ 32) l) (sym c.in_ok-add.ensures) small;
+      small = subst (λ (l : List (List Run)). All (λ (p : List Run). length p ≤ 48) l) (sym c.in_ok-add.ensures) small;
       few = λ more. elim c.next_size-size.ensures.half [ inl half ↦ omega (arith, few, count, half) | inr last ↦ absurd (omega (arith, last, more)) ];
       few_all = omega (arith, few, count, c.next_size-size.ensures.some);
       spent = omega (arith, count, paid, c.loop-at.invariant.spent);

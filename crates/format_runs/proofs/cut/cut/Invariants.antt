@@ -7,7 +7,7 @@ invariant-loop-at l = record {
   within : l.at ≤ length l.runs;
   flat : pieces_of l.pieces.items ≡ take l.at l.runs;
   filled : All (λ piece. 0 < length piece) l.pieces.items;
-  small : All (λ piece. length piece ≤ 32) l.pieces.items;
+  small : All (λ piece. length piece ≤ 48) l.pieces.items;
   few : l.at < length l.runs → 16 * length l.pieces.items ≤ l.at;
   few_all : 16 * length l.pieces.items < l.at + 16;
   spent : l.initial.budget ≤ l.budget + (96 * length l.pieces.items + 16 * l.at);

@@ -53,7 +53,7 @@ returns-clause-taken c =
     let range : FormattedRange = record { from = from; to = to; format = format } in
     let of = uniform_range es marks from to format some c.requires.within c.requires.uniform told.1 in
     let piece : Span = record { text = visible_text (slice_range es from to); format = format } in
-    let is = piece_more es marks range text text' rows some of grown low t grew (IsUtf8-string_bytes c.args.text.now) (IsUtf8-string_bytes c.push_next.new.text) in
+    let is = piece_more es range text text' grown grew (IsUtf8-string_bytes c.args.text.now) (IsUtf8-string_bytes c.push_next.new.text) in
     let characters = c.in_ok-characters.ensures.characters ∙ ap (λ l. visible_count (take (to - from) l)) c.requires.at ∙ count_spelt (slice_range es from to) is.utf8 in
     let draft = told.2 t.shown (more_of format (slice_range es from to)) piece text text' is refl grown started ended characters t.draft in
     taken_more es marks range text text' rows some of grown low t grew c.add_row.new.rows.items draft c.in_ok-add_row.ensures.count

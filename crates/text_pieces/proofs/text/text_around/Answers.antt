@@ -17,7 +17,7 @@ returns-clause-text c =
     let front : List ℕ = take c.args.from c.args.first.now in
     let back : List ℕ = drop c.args.to c.args.last.now in
     let first : chars begun ≡ front =
-    c.in_ok-push_between.ensures.added ∙ ap (λ (l : List ℕ). chars l ++ slice_range c.args.first.now 0 c.args.from) c.new-text.ensures.bytes
+    c.in_ok-push_between.ensures.added ∙ ap (λ (l : List ℕ). chars l ++ slice_range c.args.first.now 0 c.args.from) c.in_ok-text.ensures.bytes
     ∙ ap (λ (l : List ℕ). l ++ slice_range c.args.first.now 0 c.args.from) chars_none ∙ slice_first c.args.first.now c.args.from in
     let more : chars (string_bytes c.push_str.new.self) ≡ front ++ chars new =
     ap chars c.in_ok-push_str.ensures.bytes ∙ chars-append begun new (IsUtf8-string_bytes c.push_between.new.text) ∙ ap (λ (l : List ℕ). l ++ chars new) first in

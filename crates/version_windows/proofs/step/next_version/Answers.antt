@@ -49,8 +49,7 @@ windows_of-requires c =
     let told = c.in_ok-ranges.ensures in
     let apart = apart_read es added ranges read same told.apart in
     record {
-      shows = (ops, step.shows_before);
-      text = (ops ++ added, step.shows, step.marks);
+      step = (ops, (c.args.lines.now, step, (told.edges.0, told.edges.1, edges_read es added ranges read same told.edges.0 told.edges.2)));
       places = c.requires.places;
       apart = apart;
       gapped = gapped_read es added ranges read same told.gapped;

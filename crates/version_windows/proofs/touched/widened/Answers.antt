@@ -1,7 +1,7 @@
-use Rattle.std.proofs.Common.{◌≡◌, ◌+◌, ◌⊎◌, ℕ, List, Option, Some, None, length, drop, take, inl, inr, sym, subst, ◌∙◌}
+use Rattle.std.proofs.Common.{◌≡◌, ◌⊎◌, ℕ, List, Option, Some, None, take, inl, inr, sym, subst, ◌∙◌}
 use Rattle.std.specs.Option.{MatchOption, unwrap_or}
 use Rattle.char_sequence.specs.declared.sequence.Element.{Element}
-use Rattle.char_sequence.specs.Visible.{visible_count, IsFirstVisible, IsLastVisible}
+use Rattle.char_sequence.specs.Visible.{visible_count, IsLastVisible}
 use Rattle.version_windows.proofs.touched.widened.Goals as goal
 use Rattle.version_windows.proofs.touched.widened.Goals.{in-Some, in-None}
 

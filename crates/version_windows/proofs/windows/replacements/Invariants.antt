@@ -1,8 +1,10 @@
-use Rattle.std.proofs.Common.{ℕ, List, length, take, drop}
+use Rattle.std.proofs.Common.{List, length, take, drop}
+use Rattle.change_ops.specs.declared.operation.Op.{Op}
 use Rattle.mark_places.specs.PlaceRanges.{AreApart}
 use Rattle.mark_places.specs.declared.range.PlaceRange.{PlaceRange}
 use Rattle.version_glyphs.specs.Replacements.{AreReplacements}
 use Rattle.version_laws.specs.Ranges.{AreChangedWithin, AreGapped}
+use Rattle.version_windows.specs.Neighbors.{GiveAllFormats}
 use Rattle.version_windows.proofs.windows.replacements.Given as goal
 
 abbrev pub invariant-loop-range : goal.invariant-loop-range
@@ -11,6 +13,7 @@ invariant-loop-range l = record {
   gapped : AreGapped (drop l.range-index l.ranges);
   ahead : (olds : List PlaceRange) → AreChangedWithin l.before.elements l.sequence.elements olds l.ranges 0 0
       → AreChangedWithin l.before.elements l.sequence.elements (drop l.range-index olds) (drop l.range-index l.ranges) l.old_end l.end;
-  made : (olds : List PlaceRange) → AreChangedWithin l.before.elements l.sequence.elements olds l.ranges 0 0
-      → AreReplacements l.before.elements l.sequence.elements l.resolved.marks (take l.range-index olds) (take l.range-index l.ranges) l.windows.items;
+  made : (olds : List PlaceRange) (marks : List Op) → AreChangedWithin l.before.elements l.sequence.elements olds l.ranges 0 0
+      → GiveAllFormats l.formats l.before.elements l.sequence.elements marks olds l.ranges
+      → AreReplacements l.before.elements l.sequence.elements marks (take l.range-index olds) (take l.range-index l.ranges) l.windows.items;
 }

@@ -1,23 +1,26 @@
-use Rattle.std.proofs.Common.{◌≡◌, ◌≤◌, ◌<◌, ◌++◌, ◌∷◌, [], ℕ, List, length, get_or, eq-eqb, refl, sym, ap, subst, ◌∙◌, arith, ⊎_elim}
+use Rattle.std.proofs.Common.{◌≡◌, ◌≤◌, ◌<◌, ◌++◌, ◌∷◌, [], ℕ, List, Some, All, length, eq-eqb, sym, subst, ◌∙◌, arith, ⊎_elim}
+use Rattle.std.specs.List.{slice_get, Contains}
 use Rattle.std.proofs.lemmas.Bool.{cases_lt, eqb-true, false≢true}
 use Rattle.std.proofs.lemmas.List.{nil_from_length}
-use Rattle.std.proofs.lemmas.List.Elements.{Contains-get_or}
+use Rattle.change_ops.specs.Lines.{ops_of_lines}
+use Rattle.change_ops.specs.declared.line.Line.{Line}
 use Rattle.change_ops.specs.declared.operation.Op.{Op}
 use Rattle.char_sequence.specs.declared.sequence.Element.{Element}
-use Rattle.mark_anchors.specs.Marks.{AreMarks}
-use Rattle.mark_places.specs.Chosen.{AreChosen}
 use Rattle.mark_places.specs.PlaceRanges.{AreApart}
+use Rattle.mark_places.specs.MarkPlace.{MarkPlace}
 use Rattle.mark_places.specs.Places.{AreMarkPlaces}
 use Rattle.mark_places.specs.declared.range.PlaceRange.{PlaceRange}
+use Rattle.mark_anchors.proofs.Alike.{ok_more}
+use Rattle.span_flatten.specs.Version.{Version, spans_of}
+use Rattle.version_glyphs.specs.Glyphs.{AreMaximal, glyphs}
 use Rattle.version_glyphs.specs.Replacements.{AreReplacements}
-use Rattle.version_glyphs.specs.declared.replacement.Replacement.{Replacement}
-use Rattle.version_laws.specs.Ranges.{AreChangedWithin}
-use Rattle.version_windows.proofs.Choosing.{flattened_by_all}
-use Rattle.version_windows.proofs.Replaced.{replaced_by_all}
+use Rattle.version_laws.specs.Ranges.{AreChangedWithin, AreGapped, TouchesOneOf}
+use Rattle.version_windows.specs.Edges.{HasKeptEdges}
+use Rattle.version_windows.specs.Neighbors.{GiveAllFormats, HasNeighbor, IsLikeNeighbor}
+use Rattle.version_windows.specs.Step.{IsStep}
+use Rattle.version_windows.specs.declared.windows.Formats.TheVariants.{OfNeighbors}
+use Rattle.version_windows.proofs.Edging.{have_neighbors}
 use Rattle.version_windows.proofs.windows.windows_of.Goals as goal
-
-abbrev none : PlaceRange
-none = record { low = 0; high = 0 }
 
 -- no window for no range
 no_windows : (old new : List Element) (marks : List Op) (olds ranges : List PlaceRange) → ranges ≡ []
@@ -26,43 +29,25 @@ no_windows old new marks [] [] empty changed = tt
 no_windows old new marks (o ∷ olds) [] empty changed = absurd changed
 no_windows old new marks olds (n ∷ ranges) empty changed = absurd (cc)
 
-pub choose-requires : goal.choose-requires
-choose-requires c =
-    let es : List Element = c.args.sequence.now.elements in
-    record {
-      places = (es, subst (λ ms. AreMarkPlaces es ms c.args.places.now) (sym c.operations.ensures) c.requires.places);
-      apart = (length es, c.requires.apart);
-    }
-
-pub resolve-requires : goal.resolve-requires
-resolve-requires c =
-    let es : List Element = c.args.sequence.now.elements in
+pub marked_windows-requires : goal.marked_windows-requires
+marked_windows-requires c =
     let ranges : List PlaceRange = c.args.ranges.now in
-    let places = subst (λ ms. AreMarkPlaces es ms c.args.places.now) (sym c.operations.ensures) c.requires.places in
-    let marks = subst (AreMarks c.requires.text.0) (sym c.operations.ensures) c.requires.text.2 in
-    let range : PlaceRange = get_or ranges 0 none in
-    let some : 0 < length ranges =
-    ⊎_elim
-    (λ (less : 0 < length ranges). less)
-    (λ (le : length ranges ≤ 0).
-    let empty : length ranges ≡ 0 = omega arith in
-    absurd (false≢true (sym c.if-is_empty.false ∙ c.is_empty.ensures ∙ eq-eqb (length ranges) 0 empty)))
-    (cases_lt 0 (length ranges)) in
-    let law = c.chosen_give_formats.ensures es c.requires.text.0 c.operations.result.now c.in_ok-chosen.chosen.operations range.low range.high c.requires.text.1 marks
-    (c.in_ok-chosen.ensures.chosen es places range (Contains-get_or ranges 0 none some)) in
+    let step = c.requires.step.1.1 in
     record {
-      text = (law.0, law.1, law.2);
-      placed = c.in_ok-chosen.ensures.placed es places;
+      some =
+          ⊎_elim
+          (λ (less : 0 < length ranges). less)
+          (λ (le : length ranges ≤ 0).
+          let empty : length ranges ≡ 0 = omega arith in
+          absurd (false≢true (sym c.if-is_empty.false ∙ c.is_empty.ensures ∙ eq-eqb (length ranges) 0 empty)))
+          (cases_lt 0 (length ranges));
+      shows = (c.requires.step.0, step.shows_before);
+      text = (c.requires.step.0 ++ ops_of_lines c.requires.step.1.0, step.shows, step.marks);
+      places = c.requires.places;
+      apart = c.requires.apart;
+      gapped = c.requires.gapped;
+      changed = c.requires.changed;
     }
-
-pub replacements-requires : goal.replacements-requires
-replacements-requires c = record {
-  elements = c.in_ok-resolved.ensures.elements;
-  shows = c.requires.shows;
-  apart = c.requires.apart;
-  gapped = c.requires.gapped;
-  changed = c.requires.changed;
-}
 
 pub returns-then-is_empty-clause-replaced : goal.returns-then-is_empty-clause-replaced
 returns-then-is_empty-clause-replaced c =
@@ -72,19 +57,58 @@ returns-then-is_empty-clause-replaced c =
     subst (AreReplacements c.args.before.now.elements c.args.sequence.now.elements c.args.marks.now olds ranges) (sym c.new.ensures.items)
     (no_windows c.args.before.now.elements c.args.sequence.now.elements c.args.marks.now olds ranges empty changed)
 
-pub returns-clause-replaced : goal.returns-clause-replaced
-returns-clause-replaced c =
-    λ olds changed.
+-- each range has a neighbor
+neighbors : (ops : List Op) (lines : List Line) (previous : Version) (old es : List Element) (marks : List Op) (inner ranges : List PlaceRange) → IsStep ops previous old es marks lines
+    → ((o : Op) → Contains (ops_of_lines lines) o → TouchesOneOf es inner o) → All (HasKeptEdges es inner) ranges → AreMaximal (spans_of previous) → AreApart ranges 0 (length es) → AreGapped ranges
+    → (places : List MarkPlace) → AreMarkPlaces es marks places → All (IsLikeNeighbor places (length es)) ranges → (olds : List PlaceRange) → AreChangedWithin old es olds ranges 0 0
+    → (k : ℕ) (was range : PlaceRange) → slice_get olds k ≡ Some was → slice_get ranges k ≡ Some range → HasNeighbor (glyphs (spans_of previous)) old es marks was range
+neighbors ops lines previous old es marks inner ranges step touched kept maximal apart gapped places placed like olds changed =
+    have_neighbors ops (ops_of_lines lines) marks old es inner step.shows_before step.accepted step.shows step.marks touched (spans_of previous) maximal step.version.1.spans
+    olds ranges changed apart gapped kept places placed like
+
+pub replacements-requires : goal.replacements-requires
+replacements-requires c =
     let old : List Element = c.args.before.now.elements in
     let es : List Element = c.args.sequence.now.elements in
+    let marks : List Op = c.args.marks.now in
     let ranges : List PlaceRange = c.args.ranges.now in
-    let windows : List Replacement = c.in_ok-windows.windows.items in
-    let marks : c.operations.result.now ≡ c.args.marks.now = c.operations.ensures in
-    let places = subst (λ ms. AreMarkPlaces es ms c.args.places.now) (sym marks) c.requires.places in
-    let chosen : List Op = c.in_ok-chosen.chosen.operations in
-    replaced_by_all old es c.args.marks.now chosen olds ranges windows
-    (λ n w held flat.
-    let are = subst (λ ms. AreChosen es n.low n.high ms chosen) marks (c.in_ok-chosen.ensures.chosen es places n held) in
-    flattened_by_all es c.args.marks.now chosen n.low n.high w
-    (λ all shows text. c.chosen_give_formats.ensures es all c.args.marks.now chosen n.low n.high shows text are) flat)
-    (subst (λ ms. AreReplacements old es ms olds ranges windows) c.in_ok-resolved.ensures.marks (c.in_ok-windows.ensures olds changed))
+    let step = c.requires.step.1.1 in
+    let touched = c.requires.step.1.2 in
+    let places : List MarkPlace = c.args.places.now in
+    let like : All (IsLikeNeighbor places (length es)) ranges =
+    subst (λ (end : ℕ). All (IsLikeNeighbor places end) ranges) c.len.ensures.value (c.are_like_neighbors.ensures c.if-not-are_like_neighbors.false) in
+    record {
+      shows = (c.requires.step.0, step.shows_before);
+      apart = c.requires.apart;
+      gapped = c.requires.gapped;
+      changed = (
+        c.requires.changed.0,
+        c.requires.changed.1,
+        (
+          marks,
+          neighbors c.requires.step.0 c.requires.step.1.0 c.args.previous.now old es marks touched.0 ranges step touched.1 touched.2 c.keeps.ensures.maximal c.requires.apart c.requires.gapped places c.requires.places like
+              c.requires.changed.0 c.requires.changed.1,
+        ),
+      );
+    }
+
+pub returns-clause-replaced : goal.returns-clause-replaced
+returns-clause-replaced c =
+    let old : List Element = c.args.before.now.elements in
+    let es : List Element = c.args.sequence.now.elements in
+    let marks : List Op = c.args.marks.now in
+    let ranges : List PlaceRange = c.args.ranges.now in
+    let step = c.requires.step.1.1 in
+    let touched = c.requires.step.1.2 in
+    let places : List MarkPlace = c.args.places.now in
+    let like : All (IsLikeNeighbor places (length es)) ranges =
+    subst (λ (end : ℕ). All (IsLikeNeighbor places end) ranges) c.len.ensures.value (c.are_like_neighbors.ensures c.if-not-are_like_neighbors.false) in
+    ok_more
+    (λ windows. (olds : List PlaceRange) (ms : List Op) → AreChangedWithin old es olds ranges 0 0 → GiveAllFormats (OfNeighbors c.args.previous) old es ms olds ranges
+    → AreReplacements old es ms olds ranges windows.items)
+    (λ windows. (olds : List PlaceRange) → AreChangedWithin old es olds ranges 0 0 → AreReplacements old es marks olds ranges windows.items)
+    c.replacements.result
+    (λ windows is olds changed.
+    is olds marks changed
+    (neighbors c.requires.step.0 c.requires.step.1.0 c.args.previous.now old es marks touched.0 ranges step touched.1 touched.2 c.keeps.ensures.maximal c.requires.apart c.requires.gapped places c.requires.places like olds changed))
+    c.replacements.ensures
