@@ -1,0 +1,8 @@
+//! Removals of characters in runs, and sets of ids in ranges: what has to be kept so that removals can be taken back.
+#![tactic(auto)]
+
+mod peer_ranges;
+mod peer_runs;
+pub mod ranges;
+mod run;
+pub mod runs;
