@@ -5,3 +5,5 @@ pub mod RunLists
 pub mod Peers
 pub mod RangeLists
 pub mod IdPeers
+pub mod Counting
+pub mod Opening

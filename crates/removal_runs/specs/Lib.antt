@@ -1,3 +1,4 @@
 pub mod Apart
 pub mod Removals
 pub mod IdSets
+pub mod Open

@@ -4,5 +4,6 @@
 mod peer_ranges;
 mod peer_runs;
 pub mod ranges;
+pub mod removals;
 mod run;
 pub mod runs;
